@@ -45,6 +45,7 @@ Leaves-length {unit = unit} {size = size} {P = P} {old = old} first last leaves 
     (λ m both. record {
       others = both.0.others;
       output = both.0.output;
+      unread = both.0.unread;
       crash = λ left may. (left-length size (changes unit m) left both.1 may, both.0.crash left may);
     })
     (each_history unit size first last leaves)

@@ -154,7 +154,7 @@ read-skeleton sig e ids row fits graph read =
 abbrev row-of : List LargeAt → ℕ → Option LargeAt
 row-of rows node = find (λ (r : LargeAt). r.node == node) rows
 
-picked : (o : Option ℕ) (rows : List LargeAt) (large : LargeAt) → option_and_then (row-of rows) o ≡ Some large → (node : ℕ) × (o ≡ Some node) × (row-of rows node ≡ Some large)
+pub picked : (o : Option ℕ) (rows : List LargeAt) (large : LargeAt) → option_and_then (row-of rows) o ≡ Some large → (node : ℕ) × (o ≡ Some node) × (row-of rows node ≡ Some large)
 picked None rows large h = absurd (none-some large h)
 picked (Some n) rows large h = (n, refl, h)
 

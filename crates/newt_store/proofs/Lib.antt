@@ -20,3 +20,4 @@ pub mod Unanswered
 pub mod Ends
 pub mod Larges
 pub mod Leaving
+pub mod Opened

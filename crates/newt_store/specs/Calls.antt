@@ -1,26 +1,46 @@
 -- What calls on a store promise. All of it is this project's own.
-use Rattle.std.specs.Prelude.{◌≡◌, ℕ, Bool, IsTrue, List, Some, None, Result, OnOk, IfOk, IfErr, IsErrOf}
+use Rattle.std.specs.Prelude.{◌≡◌, ℕ, ◌*◌, Bool, IsTrue, List, Option, Some, None, Result, OnOk, IfOk, IfErr, IsErrOf}
 use Rattle.newt_entries.specs.Entry.{stream_graph}
 use Rattle.newt_host.specs.Moments.{Anything, IsDurable, image, Leaves}
-use Rattle.newt_host.specs.Outside.{Outside, NoFault, OnlyReads, Touches, Wears}
+use Rattle.newt_host.specs.Outside.{Outside, NoFault, OnlyReads, Spends, Touches, Wears}
 use Rattle.newt_pagebook.specs.Book.{Numbers, IsOpenFor}
+use Rattle.newt_pagebook.specs.declared.book.BookFault.{BookFault}
 use Rattle.newt_pagebook.specs.declared.book.Stop.{Stop}
 use Rattle.newt_pagebook.specs.declared.book.Stop.TheVariants.{Memory}
 use Rattle.newt_spec_store.specs.ImageStore.{store_of_image}
-use Rattle.newt_store_catalog.specs.Reading.{ReadEnds}
+use Rattle.newt_store_catalog.specs.Readable.{readable}
+use Rattle.newt_store_catalog.specs.Reading.{ReadEnds, ReadsOf, SearchEnds}
 use Rattle.newt_spec_store.specs.Store.{Store as PlainStore}
 use Rattle.newt_spec_store.specs.OfImage.{blocks_of}
 use Rattle.newt_base.specs.Refusals.{first_of}
+use Rattle.newt_base.specs.declared.Refusal.{Refusal}
+use Rattle.newt_objects.specs.Held.{Held, held}
+use Rattle.newt_objects_commit.specs.Names.{AreSoundNames, names_of}
+use Rattle.newt_objects_commit.specs.Places.{AreSoundPlaces, place_of}
+use Rattle.newt_soupdir.specs.Bare.{bare_store}
+use Rattle.newt_spec_image.specs.Objects.{Objects}
+use Rattle.newt_spec_store.specs.Valid.{well_formed}
 use Rattle.newt_store_change.specs.Change.{changed_by, answer_of, first_checks, refusal_of, most_bytes}
 use Rattle.newt_store_change.specs.Faults.{FaultsAt, GoesOn, IsRefused, RefusesWith}
 use Rattle.newt_store_change.specs.declared.change.Change.{Change}
 use Rattle.newt_store_change.specs.declared.fault.StoreFault.{StoreFault}
-use Rattle.newt_store_catalog.specs.Stands.{StandsFor, IsSound}
+use Rattle.newt_store_catalog.specs.Stands.{Describes, IsSound, StandsFor}
 use Rattle.newt_store_catalog.specs.declared.catalog.Catalog.{Catalog}
 use Rattle.newt_store.specs.Next.{IsNextOf, IsPlanOf}
 use Rattle.newt_store.specs.declared.next.Next.{Next}
 use Rattle.newt_store.specs.Stands.{IsBeforeOrChanged}
 use Rattle.newt_store.specs.declared.store.Store.{Store}
+
+-- What holds over every host of what is kept in memory of a store.
+pub record KeepsStore (catalog : Catalog) : Type 0 where
+  pub formed : IsTrue (well_formed (bare_store catalog.directory))
+  pub places : AreSoundPlaces (held catalog.objects) (place_of catalog.places)
+  pub names : AreSoundNames (held catalog.objects) (names_of catalog.names)
+
+-- what is claimed of all stores that some objects and what is kept in memory write down
+abbrev pub ForDescribed : Catalog → (PlainStore → Type 0) → Type 0
+ForDescribed catalog claim = (texts : Objects) (s : PlainStore) →
+    Describes catalog.directory (place_of catalog.places) (names_of catalog.names) texts s → claim s
 
 -- Why a call on a unit's store ends: a device that failed is its own, and the fault was counted;
 -- and where the run goes on, none was.
@@ -42,14 +62,35 @@ pub record FormatsUnit (told : Bool) (unit : ℕ) (fresh : PlainStore) (before a
   pub alone : Touches unit before after
   pub ends : ReadEnds unit before after result
 
+-- the unit that a store is on
+abbrev pub unit_of : {B : Type 0} → (B → ℕ) → Store B → ℕ
+unit_of place store = place store.book
+
+-- what a store keeps in memory
+abbrev pub catalog_of : {B : Type 0} → Store B → Catalog
+catalog_of store = store.catalog
+
 -- the store of this image is the plain one
 abbrev pub Shows : {B : Type 0} → (B → ℕ) → Store B → Outside → PlainStore → Type 0
 Shows place store outside s = StandsFor store.catalog s (image (place store.book) outside.now)
+
+-- what is claimed, where bytes are told, of all plain stores that this one shows
+abbrev pub ForShown : {B : Type 0} → (B → ℕ) → Bool → Store B → Outside →
+    (PlainStore → Type 0) → Type 0
+ForShown place told store outside claim = IsTrue told → (s : PlainStore) →
+    Shows place store outside s → claim s
 
 -- what is claimed, where bytes are told, of all stores that a catalog and an image stand for
 abbrev pub ForStore : Bool → Catalog → List ℕ → (PlainStore → Type 0) → Type 0
 ForStore told catalog now claim = IsTrue told → (s : PlainStore) →
     StandsFor catalog s now → claim s
+
+-- An object that is asked for is found, or this is refused; and it costs so many pages.
+pub record FindsObject (unit : ℕ) (is : ℕ → Type 0) (refusal : Option Refusal) (pages : ℕ)
+    (before after : Outside) (result : Result ℕ StoreFault) : Type 0 where
+  pub found : IfOk result is
+  pub refused : IfErr result (RefusesWith refusal)
+  pub costs : Spends unit 0 (512 * pages) before after
 
 -- What is planned of a change holds of any, and is that of this one; or it is the change's first
 -- refusal but that the unit is full.
@@ -61,14 +102,34 @@ pub record PlansChange (told : Bool) (change : Change) (now : ℕ) (catalog : Ca
       IfErr result (RefusesWith (first_of (first_checks change s))))
 
 module _ {B : Type 0} (place : B → ℕ) (numbers : B → Numbers) (stands : Bool → B → Outside → Type 0) where
-  -- this book stands for the unit, and what is kept in memory is sound
+  -- This book stands for the unit, what is kept in memory is sound, and where bytes are told,
+  -- memory and image stand for a store.
   pub record AreOpen (told : Bool) (at : B) (catalog : Catalog) (outside : Outside) : Type 0 where
     pub book : stands told at outside
     pub sound : IsSound told catalog (numbers at) (place at) outside
+    pub shows : IsTrue told → (s : PlainStore) × StandsFor catalog s (image (place at) outside.now)
 
-  -- a store with both
+  -- a store with all of it
   abbrev pub IsOpen : Bool → Store B → Outside → Type 0
   IsOpen told store outside = AreOpen told store.book store.catalog outside
+
+  -- The opening of a unit's store: it is open there, and it is the one that the image is read as;
+  -- or why there is none.
+  pub record OpensStore (told : Bool) (unit : ℕ) (before after : Outside)
+      (result : Result (Store B) BookFault) : Type 0 where
+    pub is_open : IfOk result (λ store. IsOpen told store after)
+    pub place_is : IfOk result (λ store. place store.book ≡ unit)
+    pub found : IsTrue told → IfOk result (λ store. (s : PlainStore) ×
+        (readable (image unit before.now) ≡ Some s) ×
+        StandsFor store.catalog s (image unit before.now))
+    pub looks : OnlyReads unit before after
+    pub ends : SearchEnds told unit before after result
+
+  -- A call that reads of a store's objects: book and objects are what they were, and why it ends.
+  pub record ReadsObjects {T : Type 0} (told : Bool) (objects : Held) (old new : B)
+      (before after : Outside) (result : Result T StoreFault) : Type 0 where
+    pub book : ReadsOf place numbers stands told objects old new before after
+    pub ends : CallEnds (place old) before after result
 
   -- How a call that changes a store leaves book, catalog and unit: where the run goes on, the book
   -- stands and what is kept in memory is sound; where it is refused, nothing has happened; and after

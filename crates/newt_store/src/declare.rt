@@ -1,16 +1,12 @@
 // What each change of a soup's declarations makes of a store, or why it is refused.
 ghost use Rattle.std.specs.Prelude.{IsTrue, ◌≡◌, ℕ, Some, nat_le, length, IfOk, IfErr};
 ghost use Rattle.newt_base.specs.Refusals.{first_of};
-ghost use Rattle.newt_spec_image.specs.Objects.{Objects};
-ghost use Rattle.newt_objects_commit.specs.Places.{place_of};
-ghost use Rattle.newt_objects_commit.specs.Names.{names_of};
 ghost use Rattle.newt_soupdir.specs.Bare.{bare_store};
 ghost use Rattle.newt_spec_store.specs.Keys.{has_paths, paths_of};
-ghost use Rattle.newt_spec_store.specs.Store.{Store as PlainStore};
 ghost use Rattle.newt_spec_store.specs.Valid.{well_formed, valid_spec};
 ghost use Rattle.newt_store_change.specs.Change.{first_checks};
+ghost use Rattle.newt_store.specs.Calls.{ForDescribed};
 ghost use Rattle.newt_store.specs.Next.{IsNextOf, IsPlanOf, IsNoDevice};
-ghost use Rattle.newt_store_catalog.specs.Stands.{Describes};
 ghost use Rattle.newt_store_change.specs.Faults.{RefusesWith};
 
 use crate::next::{Gone, Next};
@@ -50,13 +46,10 @@ pub(crate) fn plan_add_index(
 ) -> Result<Next, StoreFault>
     requires { IsTrue (well_formed (bare_store catalog.now.directory)) }
     ensures next { IfOk result (IsNextOf catalog.now) }
-    ensures planned { (now : ℕ) (texts : Objects) (s : PlainStore)
-        → Describes catalog.now.directory (place_of catalog.now.places) (names_of catalog.now.names)
-        texts s → IfOk result (IsPlanOf catalog.now (Change.AddIndex sig spec) now s) }
-    ensures refused { (texts : Objects) (s : PlainStore)
-        → Describes catalog.now.directory (place_of catalog.now.places) (names_of catalog.now.names)
-        texts s → IfErr result (RefusesWith (first_of (first_checks (Change.AddIndex sig spec)
-        s))) }
+    ensures planned { (now : ℕ) → ForDescribed catalog.now (λ s.
+        IfOk result (IsPlanOf catalog.now (Change.AddIndex sig spec) now s)) }
+    ensures refused { ForDescribed catalog.now (λ s.
+        IfErr result (RefusesWith (first_of (first_checks (Change.AddIndex sig spec) s)))) }
     ensures cause { IfErr result IsNoDevice }
 {
     let Some(row) = catalog.directory.soup_of(sig) else {
@@ -87,13 +80,10 @@ pub(crate) fn plan_drop_index(
 ) -> Result<Next, StoreFault>
     requires { IsTrue (well_formed (bare_store catalog.now.directory)) }
     ensures next { IfOk result (IsNextOf catalog.now) }
-    ensures planned { (now : ℕ) (texts : Objects) (s : PlainStore)
-        → Describes catalog.now.directory (place_of catalog.now.places) (names_of catalog.now.names)
-        texts s → IfOk result (IsPlanOf catalog.now (Change.DropIndex sig paths.now) now s) }
-    ensures refused { (texts : Objects) (s : PlainStore)
-        → Describes catalog.now.directory (place_of catalog.now.places) (names_of catalog.now.names)
-        texts s → IfErr result (RefusesWith (first_of (first_checks (Change.DropIndex sig paths.now)
-        s))) }
+    ensures planned { (now : ℕ) → ForDescribed catalog.now (λ s.
+        IfOk result (IsPlanOf catalog.now (Change.DropIndex sig paths.now) now s)) }
+    ensures refused { ForDescribed catalog.now (λ s.
+        IfErr result (RefusesWith (first_of (first_checks (Change.DropIndex sig paths.now) s)))) }
     ensures cause { IfErr result IsNoDevice }
 {
     if catalog.directory.soup_of(sig).is_none() {
@@ -117,13 +107,10 @@ pub(crate) fn plan_set_tags(
 ) -> Result<Next, StoreFault>
     requires { IsTrue (well_formed (bare_store catalog.now.directory)) }
     ensures next { IfOk result (IsNextOf catalog.now) }
-    ensures planned { (now : ℕ) (texts : Objects) (s : PlainStore)
-        → Describes catalog.now.directory (place_of catalog.now.places) (names_of catalog.now.names)
-        texts s → IfOk result (IsPlanOf catalog.now (Change.SetTags sig table) now s) }
-    ensures refused { (texts : Objects) (s : PlainStore)
-        → Describes catalog.now.directory (place_of catalog.now.places) (names_of catalog.now.names)
-        texts s → IfErr result (RefusesWith (first_of (first_checks (Change.SetTags sig table)
-        s))) }
+    ensures planned { (now : ℕ) → ForDescribed catalog.now (λ s.
+        IfOk result (IsPlanOf catalog.now (Change.SetTags sig table) now s)) }
+    ensures refused { ForDescribed catalog.now (λ s.
+        IfErr result (RefusesWith (first_of (first_checks (Change.SetTags sig table) s)))) }
     ensures cause { IfErr result IsNoDevice }
 {
     if catalog.directory.soup_of(sig).is_none() {

@@ -1,23 +1,17 @@
 // Bytes of an entry's large binary are read.
-ghost use Rattle.std.specs.Prelude.{IsTrue, ◌≡◌, ◌==◌, ◌*◌, ℕ, List, Some, IsSome, IfOk, IfErr};
+ghost use Rattle.std.specs.Prelude.{◌≡◌, ◌==◌, ◌*◌, ℕ, Some, IsSome, IfOk};
 ghost use Rattle.std.specs.List.{find};
 ghost use Rattle.std.specs.Option.{option_and_then, option_map};
-ghost use Rattle.std.specs.FinMap as map;
 ghost use Rattle.newt_base.specs.Refusals.{first_of};
 ghost use Rattle.newt_host.specs.Moments.{image};
 ghost use Rattle.newt_host.specs.Outside.{Spends};
 ghost use Rattle.newt_spec_graph.specs.Larges.{large_at as reached_at};
-ghost use Rattle.newt_spec_image.specs.Objects.{Objects as Texts};
-ghost use Rattle.newt_objects.specs.Changing.{HoldsObjects};
 ghost use Rattle.newt_objects.specs.Held.{held};
-ghost use Rattle.newt_objects_commit.specs.Commit.{AreKept};
 ghost use Rattle.newt_spec_store.specs.Cost.{range_pages};
-ghost use Rattle.newt_spec_store.specs.Store.{Store as PlainStore, entry_at};
+ghost use Rattle.newt_spec_store.specs.Store.{entry_at};
 ghost use Rattle.newt_store_change.specs.Entries.{ReadsLarge, large_checks, large_fetches};
-ghost use Rattle.newt_store_change.specs.Faults.{RefusesWith};
-ghost use Rattle.newt_store_catalog.specs.Reading.{ReadsOf};
-ghost use Rattle.newt_store_catalog.specs.Stands.{StandsFor, IsSound};
-ghost use Rattle.newt_store.specs.Calls.{CallEnds};
+ghost use Rattle.newt_store_catalog.specs.Calls.{CanRead, ForObject};
+ghost use Rattle.newt_store.specs.Calls.{AreOpen, FindsObject, ForStore, ReadsObjects};
 ghost use Rattle.newt_store.specs.Patch.{IsLargeOf, ReachesNode, ReadsPart, record_pages};
 
 use crate::patch::row_of_node;
@@ -45,8 +39,7 @@ fn row_at_path<'a>(row: &'a EntryRow, path: &Path) -> Option<&'a LargeAt>
     }
 }
 
-// The object of the large binary that a path of an entry's graph reaches. One that is not there is
-// answered as out of memory.
+// The object of the large binary that a path of an entry's graph reaches.
 fn find_by_path<P: PageBook, H: Host>(
     alloc: Global,
     host: &mut H,
@@ -56,22 +49,17 @@ fn find_by_path<P: PageBook, H: Host>(
     uid: Uid,
     path: &Path,
 ) -> Result<u32, StoreFault>
-    requires stands { P.stands H.told book.old (H.outside host.old) }
-    requires sound { IsSound H.told catalog.now (P.numbers book.old) (P.place book.old)
+    requires { AreOpen P.place P.numbers P.stands H.told book.old catalog.now
         (H.outside host.old) }
     ensures there { IfOk result (λ o. IsSome (held catalog.now.objects o)) }
-    ensures found { let now = image (P.place book.old) (H.outside host.old).now in
-        IsTrue H.told → (s : PlainStore) → StandsFor catalog.now s now → IfOk result (λ o.
-        (node : ℕ) × ReachesNode path.now node (entry_at sig uid s) × IsLargeOf catalog.now s sig uid node o) }
-    ensures refused { let now = image (P.place book.old) (H.outside host.old).now in
-        IsTrue H.told → (s : PlainStore) → StandsFor catalog.now s now → (upto : ℕ) →
-        IfErr result (RefusesWith (first_of (large_checks path.now upto (entry_at sig uid s)))) }
-    ensures costs { let now = image (P.place book.old) (H.outside host.old).now in
-        IsTrue H.told → (s : PlainStore) → StandsFor catalog.now s now → Spends (P.place book.old) 0
-        (512 * record_pages (entry_at sig uid s)) (H.outside host.old) (H.outside host.new) }
-    ensures reads { ReadsOf P.place P.numbers P.stands H.told catalog.now.objects book.old book.new
-        (H.outside host.old) (H.outside host.new) }
-    ensures ends { CallEnds (P.place book.old) (H.outside host.old) (H.outside host.new) result }
+    ensures finds { ForStore H.told catalog.now (image (P.place book.old) (H.outside host.old).now)
+        (λ s. (upto : ℕ) → FindsObject (P.place book.old)
+        (λ o. (node : ℕ) × ReachesNode path.now node (entry_at sig uid s) ×
+        IsLargeOf catalog.now s sig uid node o)
+        (first_of (large_checks path.now upto (entry_at sig uid s)))
+        (record_pages (entry_at sig uid s)) (H.outside host.old) (H.outside host.new) result) }
+    ensures reads { ReadsObjects P.place P.numbers P.stands H.told catalog.now.objects
+        book.old book.new (H.outside host.old) (H.outside host.new) result }
 {
     let Some(id) = catalog.places.get(sig, uid) else {
         return Err(StoreFault::Refused(Refusal::Entry));
@@ -80,9 +68,6 @@ fn find_by_path<P: PageBook, H: Host>(
     let Some(large) = row_at_path(&row, path) else {
         return Err(StoreFault::Refused(Refusal::Path));
     };
-    if catalog.objects.length(large.object).is_none() {
-        return Err(StoreFault::Stop(Stop::Memory));
-    }
     Ok(large.object)
 }
 
@@ -96,18 +81,15 @@ fn read_part<P: PageBook, H: Host>(
     at: u32,
     len: u32,
 ) -> Result<Bytes, StoreFault>
-    requires stands { P.stands H.told book.old (H.outside host.old) }
-    requires kept { AreKept H.told objects.now (P.numbers book.old) (P.place book.old)
+    requires can { CanRead P.place P.numbers P.stands H.told objects.now book.old
         (H.outside host.old) }
     requires there { IsSome (held objects.now id) }
-    ensures part { let now = image (P.place book.old) (H.outside host.old).now in
-        IsTrue H.told → (texts : Texts) (text : List ℕ) → HoldsObjects now texts →
-        map.get texts id ≡ Some text → ReadsPart at len text result }
+    ensures part { ForObject H.told (image (P.place book.old) (H.outside host.old).now) id
+        (λ text. ReadsPart at len text result) }
     ensures costs { Spends (P.place book.old) 0 (512 * range_pages len)
         (H.outside host.old) (H.outside host.new) }
-    ensures reads { ReadsOf P.place P.numbers P.stands H.told objects.now book.old book.new
-        (H.outside host.old) (H.outside host.new) }
-    ensures ends { CallEnds (P.place book.old) (H.outside host.old) (H.outside host.new) result }
+    ensures reads { ReadsObjects P.place P.numbers P.stands H.told objects.now
+        book.old book.new (H.outside host.old) (H.outside host.new) result }
 {
     let unit = book.unit();
     match read_range(alloc, host, book, objects, id, at, len) {
@@ -131,18 +113,15 @@ pub(crate) fn read_large<P: PageBook, H: Host>(
     at: u32,
     len: u32,
 ) -> Result<Bytes, StoreFault>
-    requires stands { P.stands H.told book.old (H.outside host.old) }
-    requires sound { IsSound H.told catalog.now (P.numbers book.old) (P.place book.old)
+    requires { AreOpen P.place P.numbers P.stands H.told book.old catalog.now
         (H.outside host.old) }
-    ensures read { let now = image (P.place book.old) (H.outside host.old).now in
-        IsTrue H.told → (s : PlainStore) → StandsFor catalog.now s now →
-        ReadsLarge path.now at len (entry_at sig uid s) result }
-    ensures costs { let now = image (P.place book.old) (H.outside host.old).now in
-        IsTrue H.told → (s : PlainStore) → StandsFor catalog.now s now → Spends (P.place book.old) 0
-        (512 * large_fetches len (entry_at sig uid s)) (H.outside host.old) (H.outside host.new) }
-    ensures reads { ReadsOf P.place P.numbers P.stands H.told catalog.now.objects book.old book.new
-        (H.outside host.old) (H.outside host.new) }
-    ensures ends { CallEnds (P.place book.old) (H.outside host.old) (H.outside host.new) result }
+    ensures read { ForStore H.told catalog.now (image (P.place book.old) (H.outside host.old).now)
+        (λ s. ReadsLarge path.now at len (entry_at sig uid s) result) }
+    ensures costs { ForStore H.told catalog.now (image (P.place book.old) (H.outside host.old).now)
+        (λ s. Spends (P.place book.old) 0 (512 * large_fetches len (entry_at sig uid s))
+        (H.outside host.old) (H.outside host.new)) }
+    ensures reads { ReadsObjects P.place P.numbers P.stands H.told catalog.now.objects
+        book.old book.new (H.outside host.old) (H.outside host.new) result }
 {
     let object = find_by_path(alloc, host, book, catalog, sig, uid, path)?;
     match read_part(alloc, host, book, &catalog.objects, object, at, len) {

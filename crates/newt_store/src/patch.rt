@@ -1,5 +1,5 @@
 // Bytes of an entry's large binary are overwritten.
-ghost use Rattle.std.specs.Prelude.{IsTrue, ◌≡◌, ◌==◌, ◌*◌, ℕ, List, IsSome, IfOk, IfErr};
+ghost use Rattle.std.specs.Prelude.{IsTrue, ◌≡◌, ◌==◌, ◌*◌, ℕ, List, IsSome, IfOk};
 ghost use Rattle.std.specs.List.{find};
 ghost use Rattle.std.specs.Option.{option_map};
 ghost use Rattle.newt_base.specs.Refusals.{first_of};
@@ -9,11 +9,10 @@ ghost use Rattle.newt_pagebook.specs.Book.{IsOpenFor};
 ghost use Rattle.newt_objects.specs.Held.{held};
 ghost use Rattle.newt_spec_store.specs.Store.{Store as PlainStore, entry_at};
 ghost use Rattle.newt_spec_store.specs.OfImage.{blocks_of};
-ghost use Rattle.newt_store_catalog.specs.Reading.{ReadsOf};
-ghost use Rattle.newt_store_catalog.specs.Stands.{StandsFor, IsSound};
+ghost use Rattle.newt_store_catalog.specs.Stands.{StandsFor};
 ghost use Rattle.newt_store_change.specs.Change.{first_checks, pages_of_entry, most_bytes};
-ghost use Rattle.newt_store_change.specs.Faults.{RefusesWith};
-ghost use Rattle.newt_store.specs.Calls.{CallEnds, ForStore, MakesChange};
+ghost use Rattle.newt_store.specs.Calls.{AreOpen, FindsObject, ForStore, MakesChange};
+ghost use Rattle.newt_store.specs.Calls.{ReadsObjects};
 ghost use Rattle.newt_store.specs.Patch.{IsLargeOf, record_pages};
 
 use newt_base::{Refusal, Sig, Uid};
@@ -21,7 +20,7 @@ use newt_entries::LargeAt;
 use newt_graph::Bytes;
 use newt_host::Host;
 use newt_objects_commit::patch_object;
-use newt_pagebook::{PageBook, Stop};
+use newt_pagebook::PageBook;
 use newt_store_catalog::{Catalog, read_row};
 use newt_store_change::{Change, StoreFault};
 use std::alloc::Global;
@@ -33,8 +32,7 @@ pub(crate) fn row_of_node(rows: &[LargeAt], node: u32) -> Option<&LargeAt>
     rows.iter().find(|row| row.node == node)
 }
 
-// The object of an entry's large binary: the node of this number. One that is not there is answered
-// as out of memory.
+// The object of an entry's large binary: the node of this number.
 fn find_large<P: PageBook, H: Host>(
     alloc: Global,
     host: &mut H,
@@ -44,22 +42,16 @@ fn find_large<P: PageBook, H: Host>(
     uid: Uid,
     node: u32,
 ) -> Result<u32, StoreFault>
-    requires stands { P.stands H.told book.old (H.outside host.old) }
-    requires sound { IsSound H.told catalog.now (P.numbers book.old) (P.place book.old)
+    requires { AreOpen P.place P.numbers P.stands H.told book.old catalog.now
         (H.outside host.old) }
     ensures there { IfOk result (λ o. IsSome (held catalog.now.objects o)) }
-    ensures found { ForStore H.told catalog.now (image (P.place book.old) (H.outside host.old).now)
-        (λ s. IfOk result (IsLargeOf catalog.now s sig uid node)) }
-    ensures refused { ForStore H.told catalog.now
-        (image (P.place book.old) (H.outside host.old).now)
-        (λ s. (at : ℕ) (bytes : List ℕ) → IfErr result
-        (RefusesWith (first_of (first_checks (Change.Patch sig uid node at bytes) s)))) }
-    ensures costs { ForStore H.told catalog.now (image (P.place book.old) (H.outside host.old).now)
-        (λ s. Spends (P.place book.old) 0 (512 * record_pages (entry_at sig uid s))
-        (H.outside host.old) (H.outside host.new)) }
-    ensures reads { ReadsOf P.place P.numbers P.stands H.told catalog.now.objects book.old book.new
-        (H.outside host.old) (H.outside host.new) }
-    ensures ends { CallEnds (P.place book.old) (H.outside host.old) (H.outside host.new) result }
+    ensures finds { ForStore H.told catalog.now (image (P.place book.old) (H.outside host.old).now)
+        (λ s. (at : ℕ) (bytes : List ℕ) → FindsObject (P.place book.old)
+        (IsLargeOf catalog.now s sig uid node)
+        (first_of (first_checks (Change.Patch sig uid node at bytes) s))
+        (record_pages (entry_at sig uid s)) (H.outside host.old) (H.outside host.new) result) }
+    ensures reads { ReadsObjects P.place P.numbers P.stands H.told catalog.now.objects
+        book.old book.new (H.outside host.old) (H.outside host.new) result }
 {
     if catalog.directory.soup_of(sig).is_none() {
         return Err(StoreFault::Refused(Refusal::Soup));
@@ -71,9 +63,6 @@ fn find_large<P: PageBook, H: Host>(
     let Some(large) = row_of_node(row.larges.list(), node) else {
         return Err(StoreFault::Refused(Refusal::Path));
     };
-    if catalog.objects.length(large.object).is_none() {
-        return Err(StoreFault::Stop(Stop::Memory));
-    }
     Ok(large.object)
 }
 
@@ -91,8 +80,7 @@ pub(crate) fn patch_entry<P: PageBook, H: Host>(
     at: u32,
     bytes: &Bytes,
 ) -> Result<u32, StoreFault>
-    requires stands { P.stands H.told book.old (H.outside host.old) }
-    requires sound { IsSound H.told catalog.old (P.numbers book.old) (P.place book.old)
+    requires { AreOpen P.place P.numbers P.stands H.told book.old catalog.old
         (H.outside host.old) }
     ensures changes { (now : ℕ) → MakesChange P.place P.numbers P.stands H.told
         (Change.Patch sig uid node at bytes.now) now book.old catalog.old book.new catalog.new

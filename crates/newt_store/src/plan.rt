@@ -5,23 +5,20 @@ ghost use Rattle.std.specs.Prelude.{IsSome};
 ghost use Rattle.newt_base.specs.Refusals.{first_of};
 ghost use Rattle.newt_host.specs.Moments.{image};
 ghost use Rattle.newt_host.specs.Outside.{Spends};
-ghost use Rattle.newt_spec_image.specs.Objects.{Objects as Texts};
 ghost use Rattle.newt_objects.specs.Held.{held};
 ghost use Rattle.newt_spec_graph.specs.Lists.{Among};
 ghost use Rattle.newt_spec_store.specs.Image.{entry_bytes, larges as larges_in};
-ghost use Rattle.newt_spec_store.specs.Store.{Store as PlainStore, soup_of, entry_at};
+ghost use Rattle.newt_spec_store.specs.Store.{soup_of, entry_at};
 ghost use Rattle.newt_spec_store.specs.Valid.{well_formed, valid_entry};
 ghost use Rattle.newt_soupdir.specs.Bare.{bare_soup, bare_store};
 ghost use Rattle.newt_store_change.specs.Change.{first_checks, entry_fetched, is_patch};
 ghost use Rattle.newt_store_change.specs.Change.{pages_of_entry, is_too_large as too_large};
 ghost use Rattle.newt_objects_commit.specs.Batch.{AreOnce, large_ids};
-ghost use Rattle.newt_objects_commit.specs.Names.{names_of, AreSoundNames};
 ghost use Rattle.newt_store.specs.Next.{IsNextOf, IsPlanOf, IsAdding, IsEntryOf, IsNoDevice};
 ghost use Rattle.newt_store_catalog.specs.Reading.{ReadsOf};
-ghost use Rattle.newt_store.specs.Calls.{AreOpen, CallEnds, ForStore, PlansChange};
-ghost use Rattle.newt_store_catalog.specs.Stands.{Describes};
+ghost use Rattle.newt_store.specs.Calls.{AreOpen, CallEnds, ForDescribed, ForStore, KeepsStore};
+ghost use Rattle.newt_store.specs.Calls.{PlansChange};
 ghost use Rattle.newt_store_change.specs.Faults.{RefusesWith};
-ghost use Rattle.newt_objects_commit.specs.Places.{place_of, AreSoundPlaces};
 
 use crate::declare::{plan_add_index, plan_drop_index, plan_set_tags};
 use crate::next::{Gone, Next};
@@ -192,13 +189,10 @@ fn entry_of(
 fn plan_make(alloc: Global, catalog: &Catalog, name: &Name) -> Result<Next, StoreFault>
     requires { IsTrue (well_formed (bare_store catalog.now.directory)) }
     ensures next { IfOk result (IsNextOf catalog.now) }
-    ensures planned { (now : ℕ) (texts : Texts) (s : PlainStore)
-        → Describes catalog.now.directory (place_of catalog.now.places) (names_of catalog.now.names)
-        texts s → IfOk result (IsPlanOf catalog.now (Change.MakeSoup name.now) now s) }
-    ensures refused { (texts : Texts) (s : PlainStore)
-        → Describes catalog.now.directory (place_of catalog.now.places) (names_of catalog.now.names)
-        texts s → IfErr result (RefusesWith (first_of (first_checks (Change.MakeSoup name.now)
-        s))) }
+    ensures planned { (now : ℕ) → ForDescribed catalog.now (λ s.
+        IfOk result (IsPlanOf catalog.now (Change.MakeSoup name.now) now s)) }
+    ensures refused { ForDescribed catalog.now (λ s.
+        IfErr result (RefusesWith (first_of (first_checks (Change.MakeSoup name.now) s)))) }
     ensures cause { IfErr result IsNoDevice }
 {
     if catalog.directory.soup_named(name.list()).is_some() {
@@ -224,12 +218,10 @@ fn plan_make(alloc: Global, catalog: &Catalog, name: &Name) -> Result<Next, Stor
 fn plan_drop(catalog: &Catalog, sig: Sig) -> Result<Next, StoreFault>
     requires { IsTrue (well_formed (bare_store catalog.now.directory)) }
     ensures next { IfOk result (IsNextOf catalog.now) }
-    ensures planned { (now : ℕ) (texts : Texts) (s : PlainStore)
-        → Describes catalog.now.directory (place_of catalog.now.places) (names_of catalog.now.names)
-        texts s → IfOk result (IsPlanOf catalog.now (Change.DropSoup sig) now s) }
-    ensures refused { (texts : Texts) (s : PlainStore)
-        → Describes catalog.now.directory (place_of catalog.now.places) (names_of catalog.now.names)
-        texts s → IfErr result (RefusesWith (first_of (first_checks (Change.DropSoup sig) s))) }
+    ensures planned { (now : ℕ) → ForDescribed catalog.now (λ s.
+        IfOk result (IsPlanOf catalog.now (Change.DropSoup sig) now s)) }
+    ensures refused { ForDescribed catalog.now (λ s.
+        IfErr result (RefusesWith (first_of (first_checks (Change.DropSoup sig) s)))) }
     ensures cause { IfErr result IsNoDevice }
 {
     if catalog.directory.soup_of(sig).is_none() {
@@ -293,17 +285,12 @@ fn plan_add(
     graph: &Graph,
     now: u32,
 ) -> Result<Next, StoreFault>
-    requires formed { IsTrue (well_formed (bare_store catalog.now.directory)) }
-    requires places { AreSoundPlaces (held catalog.now.objects) (place_of catalog.now.places) }
-    requires names { AreSoundNames (held catalog.now.objects) (names_of catalog.now.names) }
+    requires { KeepsStore catalog.now }
     ensures next { IfOk result (IsNextOf catalog.now) }
-    ensures planned { (texts : Texts) (s : PlainStore)
-        → Describes catalog.now.directory (place_of catalog.now.places) (names_of catalog.now.names)
-        texts s → IfOk result (IsPlanOf catalog.now (Change.Add sig graph.now) now s) }
-    ensures refused { (texts : Texts) (s : PlainStore)
-        → Describes catalog.now.directory (place_of catalog.now.places) (names_of catalog.now.names)
-        texts s → IfErr result (RefusesWith (first_of (first_checks (Change.Add sig graph.now)
-        s))) }
+    ensures planned { ForDescribed catalog.now (λ s.
+        IfOk result (IsPlanOf catalog.now (Change.Add sig graph.now) now s)) }
+    ensures refused { ForDescribed catalog.now (λ s.
+        IfErr result (RefusesWith (first_of (first_checks (Change.Add sig graph.now) s)))) }
     ensures cause { IfErr result IsNoDevice }
 {
     let Some(row) = catalog.directory.soup_of(sig) else {
@@ -326,12 +313,10 @@ fn plan_add(
 fn plan_remove(catalog: &Catalog, sig: Sig, uid: Uid) -> Result<Next, StoreFault>
     requires { IsTrue (well_formed (bare_store catalog.now.directory)) }
     ensures next { IfOk result (IsNextOf catalog.now) }
-    ensures planned { (now : ℕ) (texts : Texts) (s : PlainStore)
-        → Describes catalog.now.directory (place_of catalog.now.places) (names_of catalog.now.names)
-        texts s → IfOk result (IsPlanOf catalog.now (Change.Remove sig uid) now s) }
-    ensures refused { (texts : Texts) (s : PlainStore)
-        → Describes catalog.now.directory (place_of catalog.now.places) (names_of catalog.now.names)
-        texts s → IfErr result (RefusesWith (first_of (first_checks (Change.Remove sig uid) s))) }
+    ensures planned { (now : ℕ) → ForDescribed catalog.now (λ s.
+        IfOk result (IsPlanOf catalog.now (Change.Remove sig uid) now s)) }
+    ensures refused { ForDescribed catalog.now (λ s.
+        IfErr result (RefusesWith (first_of (first_checks (Change.Remove sig uid) s)))) }
     ensures cause { IfErr result IsNoDevice }
 {
     if catalog.directory.soup_of(sig).is_none() {
@@ -405,17 +390,12 @@ fn plan_replace(
     graph: &Graph,
     now: u32,
 ) -> Result<Next, StoreFault>
-    requires formed { IsTrue (well_formed (bare_store catalog.now.directory)) }
-    requires places { AreSoundPlaces (held catalog.now.objects) (place_of catalog.now.places) }
-    requires names { AreSoundNames (held catalog.now.objects) (names_of catalog.now.names) }
+    requires { KeepsStore catalog.now }
     ensures next { IfOk result (IsNextOf catalog.now) }
-    ensures planned { (texts : Texts) (s : PlainStore)
-        → Describes catalog.now.directory (place_of catalog.now.places) (names_of catalog.now.names)
-        texts s → IfOk result (IsPlanOf catalog.now (Change.Replace sig uid graph.now) now s) }
-    ensures refused { (texts : Texts) (s : PlainStore)
-        → Describes catalog.now.directory (place_of catalog.now.places) (names_of catalog.now.names)
-        texts s → IfErr result (RefusesWith (first_of (first_checks
-        (Change.Replace sig uid graph.now) s))) }
+    ensures planned { ForDescribed catalog.now (λ s.
+        IfOk result (IsPlanOf catalog.now (Change.Replace sig uid graph.now) now s)) }
+    ensures refused { ForDescribed catalog.now (λ s.
+        IfErr result (RefusesWith (first_of (first_checks (Change.Replace sig uid graph.now) s)))) }
     ensures cause { IfErr result IsNoDevice }
 {
     if catalog.directory.soup_of(sig).is_none() {

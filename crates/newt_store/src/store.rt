@@ -2,7 +2,7 @@
 ghost use Rattle.std.specs.Prelude.{IsTrue, ◌≡◌, ◌≤◌, ◌*◌, ℕ, Some, IfOk, is_some, List};
 ghost use Rattle.std.specs.Option.{option_map};
 ghost use Rattle.newt_host.specs.Moments.{image, IsDurable};
-ghost use Rattle.newt_host.specs.Outside.{OnlyReads, Spends};
+ghost use Rattle.newt_host.specs.Outside.{Spends};
 ghost use Rattle.newt_pagebook.specs.Book.{IsOpenFor};
 ghost use Rattle.newt_spec_store.specs.Store.{Store as PlainStore, soup_of, entry_at, count_in};
 ghost use Rattle.newt_spec_store.specs.Store.{new_store};
@@ -10,10 +10,10 @@ ghost use Rattle.newt_spec_store.specs.OfImage.{blocks_of};
 ghost use Rattle.newt_store_change.specs.Change.{uids_in, entry_fetched, pages_of_entry};
 ghost use Rattle.newt_store_change.specs.Change.{most_bytes};
 ghost use Rattle.newt_store_change.specs.Entries.{ReadsLarge, large_fetches, plain_entry};
-ghost use Rattle.newt_store_catalog.specs.Readable.{readable};
-ghost use Rattle.newt_store_catalog.specs.Reading.{ReadEnds, SearchEnds};
-ghost use Rattle.newt_store_catalog.specs.Stands.{StandsFor, IsSound};
-ghost use Rattle.newt_store.specs.Calls.{CallEnds, Changes, FormatsUnit, IsOpen, Reads, Shows};
+ghost use Rattle.newt_store_catalog.specs.Reading.{ReadEnds};
+ghost use Rattle.newt_store_catalog.specs.Stands.{StandsFor};
+ghost use Rattle.newt_store.specs.Calls.{CallEnds, Changes, FormatsUnit, IsOpen, OpensStore, Reads};
+ghost use Rattle.newt_store.specs.Calls.{ForShown, catalog_of, unit_of};
 
 use crate::carry::carry_out;
 use crate::format::format_unit;
@@ -63,15 +63,8 @@ impl<P: PageBook> Store<P> {
         requires enough { 13 ≤ (H.outside host.old).blocks unit }
         requires not_too_many { (H.outside host.old).blocks unit ≤ 4099 }
         requires at_rest { IsTrue H.told → IsDurable unit (H.outside host.old).now }
-        ensures stands { IfOk result (λ store. P.stands H.told store.book (H.outside host.new)) }
-        ensures place { IfOk result (λ store. P.place store.book ≡ unit) }
-        ensures sound { IfOk result (λ store.
-            IsSound H.told store.catalog (P.numbers store.book) unit (H.outside host.new)) }
-        ensures found { let now = image unit (H.outside host.old).now in
-            IsTrue H.told → IfOk result (λ store.
-            (s : PlainStore) × (readable now ≡ Some s) × StandsFor store.catalog s now) }
-        ensures looks { OnlyReads unit (H.outside host.old) (H.outside host.new) }
-        ensures ends { SearchEnds H.told unit (H.outside host.old) (H.outside host.new) result }
+        ensures { OpensStore P.place P.numbers P.stands H.told unit
+            (H.outside host.old) (H.outside host.new) result }
     {
         let (book, catalog) = open_catalog::<P, H>(alloc, host, unit)?;
         Ok(Store {
@@ -94,11 +87,11 @@ impl<P: PageBook> Store<P> {
             (H.outside host.old) (H.outside host.new) result }
         // what it programs and fetches, whatever the answer, while the bank is not closed and has
         // room for that
-        ensures costs { let image = image (P.place self.old.book) (H.outside host.old).now in
-            IsTrue H.told → (s : PlainStore) → Shows P.place self.old (H.outside host.old) s →
+        ensures costs { let image = image (unit_of P.place self.old) (H.outside host.old).now in
+            ForShown P.place H.told self.old (H.outside host.old) (λ s.
             let most = most_bytes change (blocks_of image) now s in IsOpenFor most image →
-            Spends (P.place self.old.book) most (512 * pages_of_entry (entry_fetched change s))
-            (H.outside host.old) (H.outside host.new) }
+            Spends (unit_of P.place self.old) most (512 * pages_of_entry (entry_fetched change s))
+            (H.outside host.old) (H.outside host.new)) }
     {
         if let Change::Patch(sig, uid, node, at, bytes) = &change {
             return patch_entry(
@@ -133,16 +126,14 @@ impl<P: PageBook> Store<P> {
         uid: Uid,
     ) -> Result<Option<Entry>, Stop>
         requires { IsOpen P.place P.numbers P.stands H.told self.old (H.outside host.old) }
-        ensures entry { IsTrue H.told → (s : PlainStore)
-            → Shows P.place self.old (H.outside host.old) s →
-            IfOk result (λ found. option_map plain_entry found ≡ entry_at soup uid s) }
-        ensures costs { IsTrue H.told → (s : PlainStore)
-            → Shows P.place self.old (H.outside host.old) s →
-            Spends (P.place self.old.book) 0 (512 * pages_of_entry (entry_at soup uid s))
-            (H.outside host.old) (H.outside host.new) }
+        ensures entry { ForShown P.place H.told self.old (H.outside host.old) (λ s.
+            IfOk result (λ found. option_map plain_entry found ≡ entry_at soup uid s)) }
+        ensures costs { ForShown P.place H.told self.old (H.outside host.old) (λ s.
+            Spends (unit_of P.place self.old) 0 (512 * pages_of_entry (entry_at soup uid s))
+            (H.outside host.old) (H.outside host.new)) }
         ensures reads { Reads P.place P.numbers P.stands H.told self.old self.new
             (H.outside host.old) (H.outside host.new) }
-        ensures ends { ReadEnds (P.place self.old.book) (H.outside host.old) (H.outside host.new)
+        ensures ends { ReadEnds (unit_of P.place self.old) (H.outside host.old) (H.outside host.new)
             result }
     {
         match self.catalog.places.get(soup, uid) {
@@ -173,16 +164,14 @@ impl<P: PageBook> Store<P> {
         len: u32,
     ) -> Result<Bytes, StoreFault>
         requires { IsOpen P.place P.numbers P.stands H.told self.old (H.outside host.old) }
-        ensures read { IsTrue H.told → (s : PlainStore)
-            → Shows P.place self.old (H.outside host.old) s →
-            ReadsLarge path.now at len (entry_at soup uid s) result }
-        ensures costs { IsTrue H.told → (s : PlainStore)
-            → Shows P.place self.old (H.outside host.old) s →
-            Spends (P.place self.old.book) 0 (512 * large_fetches len (entry_at soup uid s))
-            (H.outside host.old) (H.outside host.new) }
+        ensures read { ForShown P.place H.told self.old (H.outside host.old) (λ s.
+            ReadsLarge path.now at len (entry_at soup uid s) result) }
+        ensures costs { ForShown P.place H.told self.old (H.outside host.old) (λ s.
+            Spends (unit_of P.place self.old) 0 (512 * large_fetches len (entry_at soup uid s))
+            (H.outside host.old) (H.outside host.new)) }
         ensures reads { Reads P.place P.numbers P.stands H.told self.old self.new
             (H.outside host.old) (H.outside host.new) }
-        ensures ends { CallEnds (P.place self.old.book) (H.outside host.old) (H.outside host.new)
+        ensures ends { CallEnds (unit_of P.place self.old) (H.outside host.old) (H.outside host.new)
             result }
     {
         read_large(
@@ -200,14 +189,14 @@ impl<P: PageBook> Store<P> {
 
     /// The directory: name and signature of the store, and its soups.
     pub fn directory(&self) -> &Directory
-        ensures { result.now ≡ self.now.catalog.directory }
+        ensures { result.now ≡ (catalog_of self.now).directory }
     {
         &self.catalog.directory
     }
 
     /// Whether the soup has the entry.
     pub fn has(&self, soup: Sig, uid: Uid) -> bool
-        ensures { (now : List ℕ) (s : PlainStore) → StandsFor self.now.catalog s now
+        ensures { (now : List ℕ) (s : PlainStore) → StandsFor (catalog_of self.now) s now
             → result ≡ is_some (entry_at soup uid s) }
     {
         self.catalog.places.get(soup, uid).is_some()
@@ -215,7 +204,7 @@ impl<P: PageBook> Store<P> {
 
     /// How many entries the soup has, 0 where there is no such soup.
     pub fn count(&self, soup: Sig) -> u32
-        ensures { (now : List ℕ) (s : PlainStore) → StandsFor self.now.catalog s now
+        ensures { (now : List ℕ) (s : PlainStore) → StandsFor (catalog_of self.now) s now
             → result ≡ count_in (soup_of soup s) }
     {
         let count = self.catalog.places.count(soup);
@@ -224,7 +213,7 @@ impl<P: PageBook> Store<P> {
 
     /// The ids of the soup's entries, in rising order, none where there is no such soup.
     pub fn uids(&self, soup: Sig) -> Result<Vec<Uid>, AllocError>
-        ensures { (now : List ℕ) (s : PlainStore) → StandsFor self.now.catalog s now
+        ensures { (now : List ℕ) (s : PlainStore) → StandsFor (catalog_of self.now) s now
             → IfOk result (λ uids. uids.items ≡ uids_in (soup_of soup s)) }
     {
         let uids = self.catalog.places.uids_of(self.alloc, soup)?;
@@ -233,7 +222,7 @@ impl<P: PageBook> Store<P> {
 
     /// The unit that it is on.
     pub fn unit(&self) -> Unit
-        ensures { result ≡ P.place self.now.book }
+        ensures { result ≡ unit_of P.place self.now }
     {
         self.book.unit()
     }

@@ -9,19 +9,20 @@ use Rattle.newt_pagebook.specs.declared.book.BookFault.{BookFault}
 use Rattle.newt_pagebook.specs.declared.book.BookFault.TheVariants.{NotStore, Memory, Device}
 use Rattle.newt_pagebook.specs.declared.book.Stop.{Stop}
 use Rattle.newt_pagebook.specs.declared.book.Stop.TheVariants as stops
-use Rattle.newt_objects.specs.Calls.{Looks}
+use Rattle.newt_objects.specs.Calls.{Looks, Reads as ObjectReads}
 use Rattle.newt_objects.specs.Held.{Held}
 use Rattle.newt_objects_commit.specs.Commit.{AreKept}
+use Rattle.newt_store_catalog.specs.Calls.{CanRead, Reads}
 use Rattle.newt_store_catalog.specs.Readable.{readable}
 use Rattle.newt_store_catalog.specs.Reading.{BookReads, ReadsOf, ReadEnds, SearchEnds}
 use Rattle.newt_store_catalog.proofs.Kept.{kept-over}
 
 -- the answer is this fault
-abbrev pub Fails : {T : Type 0} → Result T BookFault → BookFault → Type 0
+abbrev pub Fails : {T E : Type 0} → Result T E → E → Type 0
 Fails r f = IsErrAnd r (λ fault. fault ≡ f)
 
 -- then it is no value
-pub no-value : {T : Type 0} (r : Result T BookFault) (f : BookFault) (P : T → Type 0) → Fails r f → IfOk r P
+pub no-value : {T E : Type 0} (r : Result T E) (f : E) (P : T → Type 0) → Fails r f → IfOk r P
 no-value (Ok x) f P fails = absurd fails
 no-value (Err e) f P fails = tt
 
@@ -89,6 +90,11 @@ reads-on x y = record {
   looks = looks-on x.same_place x.looks y.looks;
 }
 
+-- what may be read may be read on
+pub can-on : {B : Type 0} {place : B → ℕ} {numbers : B → Numbers} {stands : Bool → B → Outside → Type 0} {told : Bool} {objects : Held} {a b : B} {before after : Outside}
+    → ReadsOf place numbers stands told objects a b before after → CanRead place numbers stands told objects b after
+can-on x = record { stands = x.stood; kept = x.kept }
+
 -- what the objects promise
 pub of-looks : {B : Type 0} {place : B → ℕ} {numbers : B → Numbers} {spare : B → ℕ} {stands : Bool → B → Outside → Type 0} {told : Bool} {a b : B} {before after : Outside}
     → Looks place numbers spare stands told a b before after → BookReads place numbers stands told a b before after
@@ -106,10 +112,10 @@ with-kept {place = place} {numbers = numbers} {told = told} {objects = objects} 
 
 -- nothing was read
 pub reads-none : {B : Type 0} (place : B → ℕ) (numbers : B → Numbers) (stands : Bool → B → Outside → Type 0) (told : Bool) (objects : Held) (book : B) (outside : Outside)
-    → stands told book outside → AreKept told objects (numbers book) (place book) outside → ReadsOf place numbers stands told objects book book outside outside
-reads-none place numbers stands told objects book outside is kept = record {
-  stood = is;
-  kept = kept;
+    → CanRead place numbers stands told objects book outside → ReadsOf place numbers stands told objects book book outside outside
+reads-none place numbers stands told objects book outside can = record {
+  stood = can.stands;
+  kept = can.kept;
   same_place = λ i. place book;
   same_numbers = λ i. numbers book;
   looks = OnlyReads-refl (place book) outside;
@@ -121,6 +127,11 @@ reads-none place numbers stands told objects book outside is kept = record {
 pub read-fails : {T U : Type 0} {unit : ℕ} {before after : Outside} (r : Result U Stop) (stop : Stop) → IsErrAnd r (λ s. s ≡ stop) → ReadEnds {T = T} unit before after (Err stop) → ReadEnds unit before after r
 read-fails (Ok x) stop fails e = absurd fails
 read-fails {unit = unit} {before = before} {after = after} (Err s) stop fails e = record { cause = subst (StopsAt unit before after) (sym fails) e.cause; no_fault = tt }
+
+-- what a reading of an object says of the catalog's
+pub of-reading : {B : Type 0} {place : B → ℕ} {numbers : B → Numbers} {spare : B → ℕ} {stands : Bool → B → Outside → Type 0} {told : Bool} {objects : Held} {a b : B} {before after : Outside} {T : Type 0} {r : Result T Stop}
+    → AreKept told objects (numbers a) (place a) before → ObjectReads place numbers spare stands told a b before after r → Reads place numbers stands told objects a b before after r
+of-reading kept x = record { book = with-kept kept x.book; ends = record { cause = x.cause; no_fault = x.no_fault } }
 
 -- out of memory
 pub read-memory : {T : Type 0} {unit : ℕ} {before after : Outside} (r : Result T Stop) → IsErrAnd r (λ s. s ≡ stops.Memory) → ReadEnds unit before after r

@@ -5,3 +5,4 @@ pub mod Owning
 pub mod ReadLarges
 pub mod Rows
 pub mod Exits
+pub mod Lying

@@ -43,6 +43,7 @@ use Rattle.newt_entries.specs.Entry.{stream_graph, row_at, said}
 use Rattle.newt_entries.specs.declared.row.EntryRow.{EntryRow}
 use Rattle.newt_entries.specs.declared.row.LargeAt.{LargeAt}
 use Rattle.newt_objects_commit.specs.Commit.{AreKept}
+use Rattle.newt_store_catalog.specs.Calls.{IsDirectory}
 use Rattle.newt_store_catalog.specs.Readable.{readable}
 use Rattle.newt_store_catalog.specs.Opening.{OfObjects, HasObject, IsRoot, IsRow, Owners, objects_named, AreOwned, AreSoundTo, AreFoundTo}
 
@@ -412,20 +413,19 @@ is-none None e = refl
 is-none (Some x) e = absurd (not_true true refl e)
 
 -- what is read as a directory is the root, if the bytes are those of object 0
-pub root-by : (told : Bool) (read_from bytes text : List ℕ) (r : Result Directory BookFault) → OfObjects told read_from (HasObject 0 bytes) → text ≡ bytes → IfOk r (λ d. directory_read text ≡ Some (bare_store d)) → OnOk r (AreBytes text)
-    → IfOk r (λ d. OfObjects told read_from (IsRoot d))
-root-by told read_from bytes text (Ok d) has same read are = λ tells texts h. record { bytes = text; object = has tells texts h ∙ ap (λ (b : List ℕ). let o : Option (List ℕ) = Some b in o) (sym same); read = read; are_bytes = are }
-root-by told read_from bytes text (Err e) has same read are = tt
+pub directory-by : (told : Bool) (read_from bytes text : List ℕ) (r : Result Directory BookFault) → OfObjects told read_from (HasObject 0 bytes) → text ≡ bytes → IfOk r (λ d. directory_read text ≡ Some (bare_store d)) → OnOk r (AreBytes text)
+    → IfOk r (IsDirectory told read_from)
+directory-by told read_from bytes text (Ok d) has same read are = record {
+  root = λ tells texts h. record { bytes = text; object = has tells texts h ∙ ap (λ (b : List ℕ). let o : Option (List ℕ) = Some b in o) (sym same); read = read; are_bytes = are };
+  formed = now-formed text (bare_store d) read;
+}
+directory-by told read_from bytes text (Err e) has same read are = tt
 
 -- and what is read as a record is that of an object
 pub row-by : (told : Bool) (read_from bytes text : List ℕ) (id : ℕ) (r : Result EntryRow BookFault) → OfObjects told read_from (HasObject id bytes) → text ≡ bytes → IfOk r (λ row. record_read stream_graph text ≡ Some (said row)) → OnOk r (AreBytes text)
     → IfOk r (λ row. OfObjects told read_from (IsRow id row))
 row-by told read_from bytes text id (Ok row) has same read are = λ tells texts h. record { bytes = text; object = has tells texts h ∙ ap (λ (b : List ℕ). let o : Option (List ℕ) = Some b in o) (sym same); read = read; are_bytes = are }
 row-by told read_from bytes text id (Err e) has same read are = tt
-
-pub formed-by : (bytes : List ℕ) (r : Result Directory BookFault) → IfOk r (λ d. directory_read bytes ≡ Some (bare_store d)) → IfOk r (λ d. IsTrue (well_formed (bare_store d)))
-formed-by bytes (Ok d) h = now-formed bytes (bare_store d) h
-formed-by bytes (Err e) h = tt
 
 pub some-of : {X : Type 0} (o : Option X) → is_some o ≡ true → (x : X) × (o ≡ Some x)
 some-of None e = absurd (not_true false e refl)

@@ -26,7 +26,7 @@ pub long-is : (o : Option Extent) (size : ℕ) → is_long size o ≡ true → o
 long-is None size e = absurd (not_true false e refl)
 long-is (Some x) size e = ap (λ (n : ℕ). let o : Option ℕ = Some n in o) (eqb-true x.length size e)
 
-is-long : (o : Option Extent) (size : ℕ) → option_map (λ x. x.length) o ≡ Some size → is_long size o ≡ true
+pub is-long : (o : Option Extent) (size : ℕ) → option_map (λ x. x.length) o ≡ Some size → is_long size o ≡ true
 is-long None size e = absurd (none-some size e)
 is-long (Some x) size e = eq-eqb x.length size (some-same x.length size e)
 

@@ -41,7 +41,7 @@ module _ (texts : Objects) (id sig : ℕ) (e : Entry) (ids : List ℕ) (laid : I
   plain-is : (said row).0 ≡ row_of sig e ids
   plain-is = some_inj {A = PlainRow} (said row).0 (row_of sig e ids) (sym (alone stream_graph (entry_bytes sig e ids) (said row).0 row.skeleton read).is_row ∙ record-back sig e ids laid.fits)
 
-  rows-are : map_list row_at row.larges ≡ map_list row_of_large (zip (larges e.graph) ids)
+  pub rows-are : map_list row_at row.larges ≡ map_list row_of_large (zip (larges e.graph) ids)
   rows-are = ap (λ (r : PlainRow). r.larges) plain-is
 
   pub have-bytes : HaveBytes texts row.larges (its_bytes e ids)

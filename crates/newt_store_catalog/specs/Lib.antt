@@ -2,3 +2,4 @@ pub mod Readable
 pub mod Stands
 pub mod Opening
 pub mod Reading
+pub mod Calls

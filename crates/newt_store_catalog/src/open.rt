@@ -3,11 +3,10 @@ ghost use Rattle.std.specs.Prelude.{IsTrue, ◌≡◌, ◌≢◌, ◌+◌, ◌%�
 ghost use Rattle.std.specs.Prelude.{Some, None, OnOk, IfOk, IsErrOf};
 ghost use Rattle.std.specs.List.{list_all};
 ghost use Rattle.newt_host.specs.Moments.{image, IsDurable};
-ghost use Rattle.newt_host.specs.Outside.{OnlyReads};
 ghost use Rattle.newt_spec_nsof.specs.Text.{AreBytes};
 ghost use Rattle.newt_objects.specs.Extents.{IsNextIn};
 ghost use Rattle.newt_objects.specs.Held.{held};
-ghost use Rattle.newt_laws_images.specs.Found.{HasGiven, IsFound};
+ghost use Rattle.newt_laws_images.specs.Found.{HasGiven};
 ghost use Rattle.newt_spec_graph.specs.Lists.{Among};
 ghost use Rattle.newt_spec_store.specs.Store.{Store as PlainStore};
 ghost use Rattle.newt_spec_store.specs.Lies.{directory_read, record_read};
@@ -15,14 +14,16 @@ ghost use Rattle.newt_spec_store.specs.Valid.{well_formed};
 ghost use Rattle.newt_soupdir.specs.Bare.{bare_store};
 ghost use Rattle.newt_entries.specs.Entry.{stream_graph, said};
 ghost use Rattle.newt_objects_commit.specs.Commit.{AreKept};
-ghost use Rattle.newt_objects_commit.specs.Names.{AreSoundNames, names_of};
-ghost use Rattle.newt_objects_commit.specs.Places.{AreSoundPlaces, place_of};
+ghost use Rattle.newt_objects_commit.specs.Names.{names_of};
+ghost use Rattle.newt_objects_commit.specs.Places.{place_of};
+ghost use Rattle.newt_store_catalog.specs.Calls.{CanRead, FindsAll, IsDirectory, IsFoundTo};
+ghost use Rattle.newt_store_catalog.specs.Calls.{OpensCatalog, Searches};
 ghost use Rattle.newt_store_catalog.specs.Readable.{readable};
-ghost use Rattle.newt_store_catalog.specs.Reading.{BookReads, ReadsOf, SearchEnds};
+ghost use Rattle.newt_store_catalog.specs.Reading.{BookReads, SearchEnds};
 ghost use Rattle.newt_store_catalog.specs.Stands.{StandsFor, IsSound};
-ghost use Rattle.newt_store_catalog.specs.Opening.{OfObjects, HasObject, IsRoot, IsRow, has_length};
+ghost use Rattle.newt_store_catalog.specs.Opening.{OfObjects, HasObject, IsRow, has_length};
 ghost use Rattle.newt_store_catalog.specs.Opening.{objects_named, owner_of, OwnsThese, AreOwned};
-ghost use Rattle.newt_store_catalog.specs.Opening.{FindsRow, IsNoRow, AreSoundTo, AreFoundTo};
+ghost use Rattle.newt_store_catalog.specs.Opening.{FindsRow, IsNoRow};
 
 use crate::catalog::Catalog;
 use newt_entries::{EntryFault, EntryRow, LargeAt, read_entry};
@@ -63,16 +64,13 @@ fn read_object<P: PageBook, H: Host>(
     objects: &Objects,
     id: u32,
 ) -> Result<Vec<u8>, BookFault>
-    requires stands { P.stands H.told book.old (H.outside host.old) }
-    requires kept { AreKept H.told objects.now (P.numbers book.old) (P.place book.old)
+    requires can { CanRead P.place P.numbers P.stands H.told objects.now book.old
         (H.outside host.old) }
     requires there { IsSome (held objects.now id) }
     ensures bytes { let now = image (P.place book.old) (H.outside host.old).now in
         IfOk result (λ bytes. OfObjects H.told now (HasObject id bytes.items)) }
     ensures some { IsErrOf result BookFault.NotStore → ⊥ }
-    ensures reads { ReadsOf P.place P.numbers P.stands H.told objects.now book.old book.new
-        (H.outside host.old) (H.outside host.new) }
-    ensures ends { SearchEnds H.told (P.place book.old)
+    ensures searches { Searches P.place P.numbers P.stands H.told objects.now book.old book.new
         (H.outside host.old) (H.outside host.new) result }
 {
     match objects.read(host, book, id) {
@@ -104,15 +102,11 @@ fn read_root<P: PageBook, H: Host>(
     book: &mut P,
     objects: &Objects,
 ) -> Result<Directory, BookFault>
-    requires stands { P.stands H.told book.old (H.outside host.old) }
-    requires kept { AreKept H.told objects.now (P.numbers book.old) (P.place book.old)
+    requires can { CanRead P.place P.numbers P.stands H.told objects.now book.old
         (H.outside host.old) }
-    ensures root { let now = image (P.place book.old) (H.outside host.old).now in
-        IfOk result (λ directory. OfObjects H.told now (IsRoot directory)) }
-    ensures formed { IfOk result (λ directory. IsTrue (well_formed (bare_store directory))) }
-    ensures reads { ReadsOf P.place P.numbers P.stands H.told objects.now book.old book.new
-        (H.outside host.old) (H.outside host.new) }
-    ensures ends { SearchEnds H.told (P.place book.old)
+    ensures root { IfOk result (IsDirectory H.told
+        (image (P.place book.old) (H.outside host.old).now)) }
+    ensures searches { Searches P.place P.numbers P.stands H.told objects.now book.old book.new
         (H.outside host.old) (H.outside host.new) result }
 {
     if objects.length(0).is_none() {
@@ -144,8 +138,7 @@ fn read_record<P: PageBook, H: Host>(
     objects: &Objects,
     id: u32,
 ) -> Result<EntryRow, BookFault>
-    requires stands { P.stands H.told book.old (H.outside host.old) }
-    requires kept { AreKept H.told objects.now (P.numbers book.old) (P.place book.old)
+    requires can { CanRead P.place P.numbers P.stands H.told objects.now book.old
         (H.outside host.old) }
     requires there { IsSome (held objects.now id) }
     requires odd { id % 2 ≡ 1 }
@@ -153,9 +146,7 @@ fn read_record<P: PageBook, H: Host>(
         IfOk result (λ row. OfObjects H.told now (IsRow id row)) }
     ensures even { IfOk result (λ row.
         (o : ℕ) → Among (objects_named row.larges) o → (o % 2 ≡ 0) × (0 < o)) }
-    ensures reads { ReadsOf P.place P.numbers P.stands H.told objects.now book.old book.new
-        (H.outside host.old) (H.outside host.new) }
-    ensures ends { SearchEnds H.told (P.place book.old)
+    ensures searches { Searches P.place P.numbers P.stands H.told objects.now book.old book.new
         (H.outside host.old) (H.outside host.new) result }
 {
     let bytes = read_object(host, book, objects, id)?;
@@ -186,7 +177,7 @@ fn is_there(objects: &Objects, row: &LargeAt) -> bool
 }
 
 /// Whether each object that rows name is there, with the row's length.
-fn are_there(objects: &Objects, rows: &[LargeAt]) -> bool
+pub(crate) fn are_there(objects: &Objects, rows: &[LargeAt]) -> bool
     ensures { result ≡ list_all (λ row. has_length (held objects.now) row) rows.now }
 {
     rows.iter().all(|row| is_there(objects, row))
@@ -323,26 +314,19 @@ fn find_object<P: PageBook, H: Host>(
     last: u32,
     id: u32,
 ) -> Result<(), BookFault>
-    requires stands { P.stands H.told book.old (H.outside host.old) }
-    requires kept { AreKept H.told objects.now (P.numbers book.old) (P.place book.old)
+    requires can { CanRead P.place P.numbers P.stands H.told objects.now book.old
         (H.outside host.old) }
-    requires root { let now = image (P.place book.old) (H.outside host.old).now in
-        OfObjects H.told now (IsRoot directory.now) }
-    requires formed { IsTrue (well_formed (bare_store directory.now)) }
+    requires root { IsDirectory H.told (image (P.place book.old) (H.outside host.old).now)
+        directory.now }
     requires next { IsNextIn (held objects.now) (last + 1) (Some id) }
-    requires sound { AreSoundTo last (held objects.now) (place_of finding.old.places)
+    requires found { IsFoundTo H.told (image (P.place book.old) (H.outside host.old).now)
+        (held objects.now) directory.now last (place_of finding.old.places)
         (names_of finding.old.names) (owner_of finding.old.owners) }
-    requires found { let now = image (P.place book.old) (H.outside host.old).now in
-        OfObjects H.told now (AreFoundTo last (place_of finding.old.places)
-        (names_of finding.old.names) (bare_store directory.now)) }
-    ensures sound { OnOk result (AreSoundTo id (held objects.now) (place_of finding.new.places)
+    ensures found { OnOk result (IsFoundTo H.told
+        (image (P.place book.old) (H.outside host.old).now)
+        (held objects.now) directory.now id (place_of finding.new.places)
         (names_of finding.new.names) (owner_of finding.new.owners)) }
-    ensures found { let now = image (P.place book.old) (H.outside host.old).now in
-        OnOk result (OfObjects H.told now (AreFoundTo id (place_of finding.new.places)
-        (names_of finding.new.names) (bare_store directory.now))) }
-    ensures reads { ReadsOf P.place P.numbers P.stands H.told objects.now book.old book.new
-        (H.outside host.old) (H.outside host.new) }
-    ensures ends { SearchEnds H.told (P.place book.old)
+    ensures searches { Searches P.place P.numbers P.stands H.told objects.now book.old book.new
         (H.outside host.old) (H.outside host.new) result }
 {
     if id % 2 == 0 {
@@ -361,22 +345,14 @@ fn find_records<P: PageBook, H: Host>(
     objects: &Objects,
     directory: &Directory,
 ) -> Result<Finding, BookFault>
-    requires stands { P.stands H.told book.old (H.outside host.old) }
-    requires kept { AreKept H.told objects.now (P.numbers book.old) (P.place book.old)
+    requires can { CanRead P.place P.numbers P.stands H.told objects.now book.old
         (H.outside host.old) }
-    requires root { let now = image (P.place book.old) (H.outside host.old).now in
-        OfObjects H.told now (IsRoot directory.now) }
-    requires formed { IsTrue (well_formed (bare_store directory.now)) }
-    ensures places { IfOk result (λ finding.
-        AreSoundPlaces (held objects.now) (place_of finding.places)) }
-    ensures names { IfOk result (λ finding.
-        AreSoundNames (held objects.now) (names_of finding.names)) }
-    ensures found { let now = image (P.place book.old) (H.outside host.old).now in
-        IfOk result (λ finding. OfObjects H.told now (λ texts. IsFound stream_graph texts
-        (place_of finding.places) (names_of finding.names) (bare_store directory.now))) }
-    ensures reads { ReadsOf P.place P.numbers P.stands H.told objects.now book.old book.new
-        (H.outside host.old) (H.outside host.new) }
-    ensures ends { SearchEnds H.told (P.place book.old)
+    requires root { IsDirectory H.told (image (P.place book.old) (H.outside host.old).now)
+        directory.now }
+    ensures found { IfOk result (λ finding. FindsAll H.told
+        (image (P.place book.old) (H.outside host.old).now) (held objects.now) directory.now
+        (place_of finding.places) (names_of finding.names)) }
+    ensures searches { Searches P.place P.numbers P.stands H.told objects.now book.old book.new
         (H.outside host.old) (H.outside host.new) result }
 {
     let places = PlaceTable::new(alloc);
@@ -448,15 +424,8 @@ pub fn open_catalog<P: PageBook, H: Host>(
     requires enough { 13 ≤ (H.outside host.old).blocks unit }
     requires not_too_many { (H.outside host.old).blocks unit ≤ 4099 }
     requires at_rest { IsTrue H.told → IsDurable unit (H.outside host.old).now }
-    ensures stands { IfOk result (λ found. P.stands H.told found.0 (H.outside host.new)) }
-    ensures place { IfOk result (λ found. P.place found.0 ≡ unit) }
-    ensures sound { IfOk result (λ found.
-        IsSound H.told found.1 (P.numbers found.0) unit (H.outside host.new)) }
-    ensures found { let now = image unit (H.outside host.old).now in
-        IsTrue H.told → IfOk result (λ found.
-        (s : PlainStore) × (readable now ≡ Some s) × StandsFor found.1 s now) }
-    ensures looks { OnlyReads unit (H.outside host.old) (H.outside host.new) }
-    ensures ends { SearchEnds H.told unit (H.outside host.old) (H.outside host.new) result }
+    ensures { OpensCatalog P.place P.numbers P.stands H.told unit
+        (H.outside host.old) (H.outside host.new) result }
 {
     let mut book: P = P::open(alloc, host, unit)?;
     let catalog = find_catalog(alloc, host, &mut book)?;

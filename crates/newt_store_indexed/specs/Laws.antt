@@ -18,7 +18,7 @@ use Rattle.newt_objects_commit.specs.Places.{place_of}
 use Rattle.newt_objects_commit.specs.Names.{names_of}
 use Rattle.newt_store.proofs.Reading.{both, read-back}
 use Rattle.newt_store_catalog.specs.Readable.{readable}
-use Rattle.newt_store_catalog.specs.Stands.{IsSound}
+use Rattle.newt_store_catalog.specs.Stands.{IsSound, StandsFor}
 use Rattle.newt_store_catalog.specs.declared.catalog.Catalog.{Catalog}
 use Rattle.newt_index_ranges.specs.declared.rows.SoupRanges.{SoupRanges}
 use Rattle.newt_store_indexed.specs.declared.store.IndexedStore.{IndexedStore}
@@ -73,6 +73,9 @@ module _ {B : Type 0} (place : B → ℕ) (numbers : B → Numbers) (stands : Bo
     is_open = record {
       book = book_kept told store.store.book old new on.is_open.book same;
       sound = sound_kept told store.store.catalog (numbers store.store.book) (place store.store.book) old new same on.is_open.sound;
+      shows = λ tells.
+          let w = on.is_open.shows tells in
+          (w.0, subst (λ (c : List Event). StandsFor store.store.catalog w.0 (bytes_after c)) (sym (same.changes tells)) w.1);
     };
     plain = one_kept told store.store.catalog store.ranges (place store.store.book) old new same on.plain;
   }

@@ -5,7 +5,7 @@ ghost use Rattle.newt_store_catalog.specs.Reading.{ReadEnds};
 ghost use Rattle.newt_spec_store.specs.Store.{Store as PlainStore, soup_of, entry_at};
 ghost use Rattle.newt_index_ranges.specs.Rows.{no_pairs};
 ghost use Rattle.newt_store_change.specs.Change.{uids_in, pages_of_entry};
-ghost use Rattle.newt_store.specs.Calls.{Shows, IsOpen, Reads};
+ghost use Rattle.newt_store.specs.Calls.{IsOpen, Reads, Shows, unit_of};
 ghost use Rattle.newt_store_indexed.specs.Filling.{with_read, with_all};
 ghost use Rattle.newt_store_change.specs.Change.{pages_listed};
 
@@ -32,9 +32,9 @@ fn fill_entry<P: PageBook, H: Host>(
     ensures reads { Reads P.place P.numbers P.stands H.told store.old store.new
         (H.outside host.old) (H.outside host.new) }
     ensures costs { IsTrue H.told → (s : PlainStore) →
-        Shows P.place store.old (H.outside host.old) s → Spends (P.place store.old.book) 0
+        Shows P.place store.old (H.outside host.old) s → Spends (unit_of P.place store.old) 0
         (512 * pages_of_entry (entry_at soup uid s)) (H.outside host.old) (H.outside host.new) }
-    ensures ends { ReadEnds (P.place store.old.book)
+    ensures ends { ReadEnds (unit_of P.place store.old)
         (H.outside host.old) (H.outside host.new) result }
 {
     match store.entry(host, soup, uid) {
@@ -59,9 +59,9 @@ fn fill_all<P: PageBook, H: Host>(
     ensures reads { Reads P.place P.numbers P.stands H.told store.old store.new
         (H.outside host.old) (H.outside host.new) }
     ensures costs { IsTrue H.told → (s : PlainStore) →
-        Shows P.place store.old (H.outside host.old) s → Spends (P.place store.old.book) 0
+        Shows P.place store.old (H.outside host.old) s → Spends (unit_of P.place store.old) 0
         (512 * pages_listed soup s uids.now) (H.outside host.old) (H.outside host.new) }
-    ensures ends { ReadEnds (P.place store.old.book)
+    ensures ends { ReadEnds (unit_of P.place store.old)
         (H.outside host.old) (H.outside host.new) result }
 {
     let mut left = uids;
@@ -87,10 +87,10 @@ pub(crate) fn filled<P: PageBook, H: Host>(
     ensures reads { Reads P.place P.numbers P.stands H.told store.old store.new
         (H.outside host.old) (H.outside host.new) }
     ensures costs { IsTrue H.told → (s : PlainStore) →
-        Shows P.place store.old (H.outside host.old) s → Spends (P.place store.old.book) 0
+        Shows P.place store.old (H.outside host.old) s → Spends (unit_of P.place store.old) 0
         (512 * pages_listed soup s (uids_in (soup_of soup s))) (H.outside host.old)
         (H.outside host.new) }
-    ensures ends { ReadEnds (P.place store.old.book)
+    ensures ends { ReadEnds (unit_of P.place store.old)
         (H.outside host.old) (H.outside host.new) result }
 {
     let mut range = Index::new(store.alloc(), Some(spec.copy()?));

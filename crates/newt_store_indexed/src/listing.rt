@@ -5,7 +5,7 @@ ghost use Rattle.newt_spec_store.specs.Store.{Store as PlainStore, soup_of, entr
 ghost use Rattle.newt_index_ranges.specs.Rows.{no_ranges};
 ghost use Rattle.newt_index_ranges.specs.Stands.{AreRangesOf};
 ghost use Rattle.newt_store_change.specs.Change.{uids_in};
-ghost use Rattle.newt_store.specs.Calls.{Shows, IsOpen, Reads};
+ghost use Rattle.newt_store.specs.Calls.{IsOpen, Reads, Shows, unit_of};
 ghost use Rattle.newt_store_indexed.specs.Filling.{rows_with, rows_with_all, rows_of_soups};
 
 use newt_base::{Sig, Uid};
@@ -30,7 +30,7 @@ fn list_entry<P: PageBook, H: Host>(
         → OnOk result (ranges.new ≡ rows_with soup uid (entry_at soup uid s) ranges.old) }
     ensures reads { Reads P.place P.numbers P.stands H.told store.old store.new
         (H.outside host.old) (H.outside host.new) }
-    ensures ends { ReadEnds (P.place store.old.book)
+    ensures ends { ReadEnds (unit_of P.place store.old)
         (H.outside host.old) (H.outside host.new) result }
 {
     match store.entry(host, soup, uid) {
@@ -54,7 +54,7 @@ fn list_all<P: PageBook, H: Host>(
         → OnOk result (ranges.new ≡ rows_with_all soup s uids.now ranges.old) }
     ensures reads { Reads P.place P.numbers P.stands H.told store.old store.new
         (H.outside host.old) (H.outside host.new) }
-    ensures ends { ReadEnds (P.place store.old.book)
+    ensures ends { ReadEnds (unit_of P.place store.old)
         (H.outside host.old) (H.outside host.new) result }
 {
     let mut left = uids;
@@ -78,7 +78,7 @@ fn list_soup<P: PageBook, H: Host>(
         → OnOk result (ranges.new ≡ rows_with_all soup s (uids_in (soup_of soup s)) ranges.old) }
     ensures reads { Reads P.place P.numbers P.stands H.told store.old store.new
         (H.outside host.old) (H.outside host.new) }
-    ensures ends { ReadEnds (P.place store.old.book)
+    ensures ends { ReadEnds (unit_of P.place store.old)
         (H.outside host.old) (H.outside host.new) result }
 {
     let uids = store.uids(soup)?;
@@ -98,7 +98,7 @@ fn list_soups<P: PageBook, H: Host>(
         → OnOk result (ranges.new ≡ rows_of_soups s soups.now ranges.old) }
     ensures reads { Reads P.place P.numbers P.stands H.told store.old store.new
         (H.outside host.old) (H.outside host.new) }
-    ensures ends { ReadEnds (P.place store.old.book)
+    ensures ends { ReadEnds (unit_of P.place store.old)
         (H.outside host.old) (H.outside host.new) result }
 {
     let mut left = soups;
@@ -142,7 +142,7 @@ pub(crate) fn ranges_of<P: PageBook, H: Host>(
         → IfOk result (λ ranges. AreRangesOf s ranges) }
     ensures reads { Reads P.place P.numbers P.stands H.told store.old store.new
         (H.outside host.old) (H.outside host.new) }
-    ensures ends { ReadEnds (P.place store.old.book)
+    ensures ends { ReadEnds (unit_of P.place store.old)
         (H.outside host.old) (H.outside host.new) result }
 {
     let soups = signatures(store.alloc(), store.directory().soups.list())?;

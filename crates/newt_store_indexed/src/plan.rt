@@ -6,7 +6,7 @@ ghost use Rattle.newt_store_catalog.specs.Reading.{ReadEnds};
 ghost use Rattle.newt_spec_store.specs.Store.{Store as PlainStore, Entry as PlainEntry, soup_of};
 ghost use Rattle.newt_spec_store.specs.Store.{entry_at};
 ghost use Rattle.newt_store_change.specs.Change.{uids_in, pages_of_entry};
-ghost use Rattle.newt_store.specs.Calls.{Shows, IsOpen, Reads};
+ghost use Rattle.newt_store.specs.Calls.{IsOpen, Reads, Shows, unit_of};
 ghost use Rattle.newt_store_change.specs.Change.{pages_listed};
 ghost use Rattle.newt_store_indexed.specs.Steps.{IsStepOf, IsDeclaring};
 ghost use Rattle.newt_store_change.specs.Change.{pages_read};
@@ -37,9 +37,9 @@ fn moving<P: PageBook, H: Host>(
     ensures reads { Reads P.place P.numbers P.stands H.told store.old store.new
         (H.outside host.old) (H.outside host.new) }
     ensures costs { IsTrue H.told → (s : PlainStore) →
-        Shows P.place store.old (H.outside host.old) s → Spends (P.place store.old.book) 0
+        Shows P.place store.old (H.outside host.old) s → Spends (unit_of P.place store.old) 0
         (512 * pages_of_entry (entry_at source uid s)) (H.outside host.old) (H.outside host.new) }
-    ensures ends { ReadEnds (P.place store.old.book)
+    ensures ends { ReadEnds (unit_of P.place store.old)
         (H.outside host.old) (H.outside host.new) result }
 {
     match store.entry(host, source, uid) {
@@ -62,10 +62,10 @@ fn declaring<P: PageBook, H: Host>(
     ensures reads { Reads P.place P.numbers P.stands H.told store.old store.new
         (H.outside host.old) (H.outside host.new) }
     ensures costs { IsTrue H.told → (s : PlainStore) →
-        Shows P.place store.old (H.outside host.old) s → Spends (P.place store.old.book) 0
+        Shows P.place store.old (H.outside host.old) s → Spends (unit_of P.place store.old) 0
         (512 * pages_listed soup s (uids_in (soup_of soup s))) (H.outside host.old)
         (H.outside host.new) }
-    ensures ends { ReadEnds (P.place store.old.book)
+    ensures ends { ReadEnds (unit_of P.place store.old)
         (H.outside host.old) (H.outside host.new) result }
 {
     match filled(store, host, soup, spec) {
@@ -86,9 +86,9 @@ pub(crate) fn step_of<P: PageBook, H: Host>(
     ensures reads { Reads P.place P.numbers P.stands H.told store.old store.new
         (H.outside host.old) (H.outside host.new) }
     ensures costs { IsTrue H.told → (s : PlainStore) →
-        Shows P.place store.old (H.outside host.old) s → Spends (P.place store.old.book) 0
+        Shows P.place store.old (H.outside host.old) s → Spends (unit_of P.place store.old) 0
         (512 * pages_read change.now s) (H.outside host.old) (H.outside host.new) }
-    ensures ends { ReadEnds (P.place store.old.book)
+    ensures ends { ReadEnds (unit_of P.place store.old)
         (H.outside host.old) (H.outside host.new) result }
 {
     match change {

@@ -9,7 +9,7 @@ ghost use Rattle.newt_spec_store.specs.OfImage.{blocks_of};
 ghost use Rattle.newt_store_change.specs.Change.{changed_by, entry_fetched, pages_of_entry};
 ghost use Rattle.newt_store_change.specs.Change.{most_bytes};
 ghost use Rattle.newt_store_change.specs.Faults.{IsRefused};
-ghost use Rattle.newt_store.specs.Calls.{Shows, IsOpen, Changes};
+ghost use Rattle.newt_store.specs.Calls.{Changes, IsOpen, Shows, catalog_of, unit_of};
 ghost use Rattle.newt_store_indexed.specs.Steps.{IsStepOf};
 
 use crate::listing::ranges_of;
@@ -46,9 +46,9 @@ impl<P: PageBook> Card for IndexedStore<P> {
 
     ghost reads = { readable };
 
-    ghost place = { λ card. P.place card.store.book };
+    ghost place = { λ card. unit_of P.place card.store };
 
-    ghost soups = { λ card. bare_store card.store.catalog.directory };
+    ghost soups = { λ card. bare_store (catalog_of card.store).directory };
 
     ghost stands = { λ told card outside. StandsOn P.place P.numbers P.stands told card outside };
 
@@ -184,10 +184,10 @@ fn change_with<P: PageBook, H: Host>(
     ensures same_ranges { IsRefused result → ranges.new ≡ ranges.old }
     ensures costs { IsTrue H.told → (s : PlainStore)
         → Shows P.place store.old (H.outside host.old) s
-        → IsOpenFor (most_bytes change (blocks_of (image (P.place store.old.book)
-        (H.outside host.old).now)) now s) (image (P.place store.old.book) (H.outside host.old).now)
-        → Spends (P.place store.old.book) (most_bytes change
-        (blocks_of (image (P.place store.old.book) (H.outside host.old).now)) now s)
+        → IsOpenFor (most_bytes change (blocks_of (image (unit_of P.place store.old)
+        (H.outside host.old).now)) now s) (image (unit_of P.place store.old) (H.outside host.old).now)
+        → Spends (unit_of P.place store.old) (most_bytes change
+        (blocks_of (image (unit_of P.place store.old) (H.outside host.old).now)) now s)
         (512 * pages_of_entry (entry_fetched change s)) (H.outside host.old) (H.outside host.new) }
 {
     match store.apply(host, change, now) {

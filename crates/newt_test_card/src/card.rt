@@ -2,7 +2,7 @@
 ghost use Rattle.std.specs.Prelude.{true, IfOk, IfSome, IsSome, IsTrue, OnOk};
 ghost use Rattle.newt_host.specs.Moments.{IsDurable};
 ghost use Rattle.newt_memhost.specs.Outside.{outside_of};
-ghost use Rattle.newt_store_catalog.specs.Stands.{IsSound};
+ghost use Rattle.newt_store.specs.Calls.{IsOpen};
 
 use newt_base::{Name, Sig};
 use newt_host::{Host, Unit};
@@ -75,10 +75,8 @@ pub fn formatted<P: PageBook>(alloc: Global, blocks: u32) -> Result<MemHost, Fai
 /// The store of the card, if there is one.
 pub fn found<P: PageBook>(alloc: Global, host: &mut MemHost) -> Result<Option<Store<P>>, Fail>
     requires { IsDurable 0 (outside_of host.old).now }
-    ensures stands { IfOk result (λ found. IfSome found (λ store. P.stands true store.book
-        (outside_of host.new))) }
-    ensures sound { IfOk result (λ found. IfSome found (λ store. IsSound true store.catalog
-        (P.numbers store.book) (P.place store.book) (outside_of host.new))) }
+    ensures { IfOk result (λ found. IfSome found (λ store.
+        IsOpen P.place P.numbers P.stands true store (outside_of host.new))) }
 {
     if host.blocks(CARD) < 13 || host.blocks(CARD) > 4099 {
         return Err(Fail::new("too few blocks, or too many"));
@@ -93,9 +91,8 @@ pub fn found<P: PageBook>(alloc: Global, host: &mut MemHost) -> Result<Option<St
 /// The store of the card.
 pub fn opened<P: PageBook>(alloc: Global, host: &mut MemHost) -> Result<Store<P>, Fail>
     requires { IsDurable 0 (outside_of host.old).now }
-    ensures stands { IfOk result (λ store. P.stands true store.book (outside_of host.new)) }
-    ensures sound { IfOk result (λ store. IsSound true store.catalog (P.numbers store.book)
-        (P.place store.book) (outside_of host.new)) }
+    ensures { IfOk result (λ store. IsOpen P.place P.numbers P.stands true store
+        (outside_of host.new)) }
 {
     match found(alloc, host)? {
         Some(store) => Ok(store),

@@ -2,7 +2,7 @@
 ghost use Rattle.std.specs.Prelude.{true};
 ghost use Rattle.newt_host.specs.Moments.{IsDurable};
 ghost use Rattle.newt_memhost.specs.Outside.{outside_of};
-ghost use Rattle.newt_store_catalog.specs.Stands.{IsSound};
+ghost use Rattle.newt_store.specs.Calls.{IsOpen};
 
 use crate::card::{found, host_of};
 use crate::digits::used;
@@ -103,12 +103,8 @@ fn push_entry<P: PageBook>(
     uid: u32,
     text: &mut Vec<u8>,
 ) -> Result<(), Fail>
-    requires stands { P.stands true store.old.book (outside_of host.old) }
-    requires sound { IsSound true store.old.catalog (P.numbers store.old.book)
-        (P.place store.old.book) (outside_of host.old) }
-    ensures stands { P.stands true store.new.book (outside_of host.new) }
-    ensures sound { IsSound true store.new.catalog (P.numbers store.new.book)
-        (P.place store.new.book) (outside_of host.new) }
+    requires is_open { IsOpen P.place P.numbers P.stands true store.old (outside_of host.old) }
+    ensures is_open { IsOpen P.place P.numbers P.stands true store.new (outside_of host.new) }
 {
     let is_there = store.has(soup, Uid(uid));
     let entry = store.entry(host, soup, Uid(uid))?;
@@ -123,12 +119,8 @@ fn push_entries<P: PageBook>(
     soup: (Sig, u32),
     text: &mut Vec<u8>,
 ) -> Result<(), Fail>
-    requires stands { P.stands true store.old.book (outside_of host.old) }
-    requires sound { IsSound true store.old.catalog (P.numbers store.old.book)
-        (P.place store.old.book) (outside_of host.old) }
-    ensures stands { P.stands true store.new.book (outside_of host.new) }
-    ensures sound { IsSound true store.new.catalog (P.numbers store.new.book)
-        (P.place store.new.book) (outside_of host.new) }
+    requires is_open { IsOpen P.place P.numbers P.stands true store.old (outside_of host.old) }
+    ensures is_open { IsOpen P.place P.numbers P.stands true store.new (outside_of host.new) }
 {
     for uid in 0..soup.1.min(64) {
         push_entry(alloc, host, store, soup.0, uid, text)?;
@@ -143,12 +135,8 @@ pub(crate) fn contents<P: PageBook>(
     host: &mut MemHost,
     store: &mut Store<P>,
 ) -> Result<Vec<u8>, Fail>
-    requires stands { P.stands true store.old.book (outside_of host.old) }
-    requires sound { IsSound true store.old.catalog (P.numbers store.old.book)
-        (P.place store.old.book) (outside_of host.old) }
-    ensures stands { P.stands true store.new.book (outside_of host.new) }
-    ensures sound { IsSound true store.new.catalog (P.numbers store.new.book)
-        (P.place store.new.book) (outside_of host.new) }
+    requires is_open { IsOpen P.place P.numbers P.stands true store.old (outside_of host.old) }
+    ensures is_open { IsOpen P.place P.numbers P.stands true store.new (outside_of host.new) }
 {
     let mut text = directory_text(alloc, store.directory())?;
     for soup in soups_of(alloc, store.directory())? {

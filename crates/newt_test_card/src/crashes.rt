@@ -1,7 +1,7 @@
 // What a crash leaves within the calls of a change.
 ghost use Rattle.std.specs.Prelude.{true};
 ghost use Rattle.newt_memhost.specs.Outside.{outside_of};
-ghost use Rattle.newt_store_catalog.specs.Stands.{IsSound};
+ghost use Rattle.newt_store.specs.Calls.{IsOpen};
 
 use crate::card::{CARD, has_card, host_of, opened};
 use crate::contents::contents_on;
@@ -75,9 +75,7 @@ fn expect_one_more<P: PageBook>(
     host: &mut MemHost,
     store: &mut Store<P>,
 ) -> Result<(), Fail>
-    requires stands { P.stands true store.old.book (outside_of host.old) }
-    requires sound { IsSound true store.old.catalog (P.numbers store.old.book)
-        (P.place store.old.book) (outside_of host.old) }
+    requires is_open { IsOpen P.place P.numbers P.stands true store.old (outside_of host.old) }
 {
     let trace = changed(alloc, host, store, "add 0 020600 @99")?;
     expect_taken::<P>(alloc, host, &trace)

@@ -1,7 +1,7 @@
 // Changes that are made.
 ghost use Rattle.std.specs.Prelude.{true, OnOk};
 ghost use Rattle.newt_memhost.specs.Outside.{outside_of};
-ghost use Rattle.newt_store_catalog.specs.Stands.{IsSound};
+ghost use Rattle.newt_store.specs.Calls.{IsOpen};
 
 use crate::card::card_bytes;
 use crate::changes::{add_empty, change_of};
@@ -39,12 +39,9 @@ fn outcome_of<P: PageBook>(
     change: Change,
     minute: u32,
 ) -> Result<Outcome, Fail>
-    requires stands { P.stands true store.old.book (outside_of host.old) }
-    requires sound { IsSound true store.old.catalog (P.numbers store.old.book)
-        (P.place store.old.book) (outside_of host.old) }
-    ensures stands { OnOk result (P.stands true store.new.book (outside_of host.new)) }
-    ensures sound { OnOk result (IsSound true store.new.catalog (P.numbers store.new.book)
-        (P.place store.new.book) (outside_of host.new)) }
+    requires is_open { IsOpen P.place P.numbers P.stands true store.old (outside_of host.old) }
+    ensures is_open { OnOk result (IsOpen P.place P.numbers P.stands true store.new
+        (outside_of host.new)) }
 {
     match store.apply(host, change, minute) {
         Ok(answer) => Ok(Outcome::Done(answer)),
@@ -60,12 +57,9 @@ fn traced<P: PageBook>(
     store: &mut Store<P>,
     line: &str,
 ) -> Result<Trace, Fail>
-    requires stands { P.stands true store.old.book (outside_of host.old) }
-    requires sound { IsSound true store.old.catalog (P.numbers store.old.book)
-        (P.place store.old.book) (outside_of host.old) }
-    ensures stands { OnOk result (P.stands true store.new.book (outside_of host.new)) }
-    ensures sound { OnOk result (IsSound true store.new.catalog (P.numbers store.new.book)
-        (P.place store.new.book) (outside_of host.new)) }
+    requires is_open { IsOpen P.place P.numbers P.stands true store.old (outside_of host.old) }
+    ensures is_open { OnOk result (IsOpen P.place P.numbers P.stands true store.new
+        (outside_of host.new)) }
 {
     let before = contents(alloc, host, store)?;
     let from = host.calls();
@@ -100,12 +94,9 @@ pub(crate) fn changed<P: PageBook>(
     store: &mut Store<P>,
     line: &str,
 ) -> Result<Trace, Fail>
-    requires stands { P.stands true store.old.book (outside_of host.old) }
-    requires sound { IsSound true store.old.catalog (P.numbers store.old.book)
-        (P.place store.old.book) (outside_of host.old) }
-    ensures stands { OnOk result (P.stands true store.new.book (outside_of host.new)) }
-    ensures sound { OnOk result (IsSound true store.new.catalog (P.numbers store.new.book)
-        (P.place store.new.book) (outside_of host.new)) }
+    requires is_open { IsOpen P.place P.numbers P.stands true store.old (outside_of host.old) }
+    ensures is_open { OnOk result (IsOpen P.place P.numbers P.stands true store.new
+        (outside_of host.new)) }
 {
     let trace = traced(alloc, host, store, line)?;
     if matches!(trace.outcome, Outcome::Refused(_)) && trace.after != trace.before {
@@ -120,12 +111,8 @@ pub(crate) fn rows<P: PageBook>(
     host: &mut MemHost,
     store: &mut Store<P>,
 ) -> Result<Vec<u8>, Fail>
-    requires stands { P.stands true store.old.book (outside_of host.old) }
-    requires sound { IsSound true store.old.catalog (P.numbers store.old.book)
-        (P.place store.old.book) (outside_of host.old) }
-    ensures stands { P.stands true store.new.book (outside_of host.new) }
-    ensures sound { IsSound true store.new.catalog (P.numbers store.new.book)
-        (P.place store.new.book) (outside_of host.new) }
+    requires is_open { IsOpen P.place P.numbers P.stands true store.old (outside_of host.old) }
+    ensures is_open { IsOpen P.place P.numbers P.stands true store.new (outside_of host.new) }
 {
     let rows = contents(alloc, host, store)?;
     expect_found::<P>(alloc, host, &rows)?;
@@ -150,12 +137,9 @@ pub(crate) fn fill<P: PageBook>(
     store: &mut Store<P>,
     line: &str,
 ) -> Result<Vec<u8>, Fail>
-    requires stands { P.stands true store.old.book (outside_of host.old) }
-    requires sound { IsSound true store.old.catalog (P.numbers store.old.book)
-        (P.place store.old.book) (outside_of host.old) }
-    ensures stands { OnOk result (P.stands true store.new.book (outside_of host.new)) }
-    ensures sound { OnOk result (IsSound true store.new.catalog (P.numbers store.new.book)
-        (P.place store.new.book) (outside_of host.new)) }
+    requires is_open { IsOpen P.place P.numbers P.stands true store.old (outside_of host.old) }
+    ensures is_open { OnOk result (IsOpen P.place P.numbers P.stands true store.new
+        (outside_of host.new)) }
 {
     let (soup, first, count) = three_numbers(line)?;
     for uid in first..first.saturating_add(count) {

@@ -2,7 +2,7 @@
 ghost use Rattle.std.specs.Prelude.{true, OnOk};
 ghost use Rattle.newt_host.specs.Moments.{IsDurable};
 ghost use Rattle.newt_memhost.specs.Outside.{outside_of};
-ghost use Rattle.newt_store_catalog.specs.Stands.{IsSound};
+ghost use Rattle.newt_store.specs.Calls.{IsOpen};
 
 use crate::asked::asked;
 use crate::card::{card_bytes, formatted, host_of, opened};
@@ -21,12 +21,9 @@ fn change_reply<P: PageBook>(
     store: &mut Store<P>,
     line: &str,
 ) -> Result<Vec<u8>, Fail>
-    requires stands { P.stands true store.old.book (outside_of host.old) }
-    requires sound { IsSound true store.old.catalog (P.numbers store.old.book)
-        (P.place store.old.book) (outside_of host.old) }
-    ensures stands { OnOk result (P.stands true store.new.book (outside_of host.new)) }
-    ensures sound { OnOk result (IsSound true store.new.catalog (P.numbers store.new.book)
-        (P.place store.new.book) (outside_of host.new)) }
+    requires is_open { IsOpen P.place P.numbers P.stands true store.old (outside_of host.old) }
+    ensures is_open { OnOk result (IsOpen P.place P.numbers P.stands true store.new
+        (outside_of host.new)) }
 {
     let (mode, line) = split_mode(alloc, host, line)?;
     let trace = changed(alloc, host, store, line)?;
@@ -40,12 +37,9 @@ fn reply_to<P: PageBook>(
     store: &mut Store<P>,
     line: &str,
 ) -> Result<Vec<u8>, Fail>
-    requires stands { P.stands true store.old.book (outside_of host.old) }
-    requires sound { IsSound true store.old.catalog (P.numbers store.old.book)
-        (P.place store.old.book) (outside_of host.old) }
-    ensures stands { OnOk result (P.stands true store.new.book (outside_of host.new)) }
-    ensures sound { OnOk result (IsSound true store.new.catalog (P.numbers store.new.book)
-        (P.place store.new.book) (outside_of host.new)) }
+    requires is_open { IsOpen P.place P.numbers P.stands true store.old (outside_of host.old) }
+    ensures is_open { OnOk result (IsOpen P.place P.numbers P.stands true store.new
+        (outside_of host.new)) }
 {
     let (word, rest) = line.split_once(' ').unwrap_or((line, ""));
     match word {
@@ -68,12 +62,9 @@ fn play_row<P: PageBook>(
     store: &mut Store<P>,
     row: &str,
 ) -> Result<(), Fail>
-    requires stands { P.stands true store.old.book (outside_of host.old) }
-    requires sound { IsSound true store.old.catalog (P.numbers store.old.book)
-        (P.place store.old.book) (outside_of host.old) }
-    ensures stands { OnOk result (P.stands true store.new.book (outside_of host.new)) }
-    ensures sound { OnOk result (IsSound true store.new.catalog (P.numbers store.new.book)
-        (P.place store.new.book) (outside_of host.new)) }
+    requires is_open { IsOpen P.place P.numbers P.stands true store.old (outside_of host.old) }
+    ensures is_open { OnOk result (IsOpen P.place P.numbers P.stands true store.new
+        (outside_of host.new)) }
 {
     let (line, wanted) = row.split_once(" => ").unwrap_or((row, ""));
     let reply = reply_to(alloc, host, store, line)?;
@@ -90,9 +81,7 @@ fn play_rows<P: PageBook>(
     store: &mut Store<P>,
     table: &str,
 ) -> Result<(), Fail>
-    requires stands { P.stands true store.old.book (outside_of host.old) }
-    requires sound { IsSound true store.old.catalog (P.numbers store.old.book)
-        (P.place store.old.book) (outside_of host.old) }
+    requires is_open { IsOpen P.place P.numbers P.stands true store.old (outside_of host.old) }
 {
     for row in table.lines() {
         if !row.is_empty() {

@@ -6,7 +6,7 @@ use Rattle.newt_spec_image.specs.Pages.{Change, Pages, pages}
 use Rattle.newt_spec_image.specs.Objects.{Extent, Objects}
 use Rattle.newt_pagebook.specs.Batch.{puts_one}
 use Rattle.newt_pagebook.specs.Book.{Numbers, changed_numbers}
-use Rattle.newt_objects.specs.Held.{Held, WouldHold}
+use Rattle.newt_objects.specs.Held.{Held, WouldHold, held}
 use Rattle.newt_vbo.specs.Ranges.{numbers_met}
 
 -- the numbers that are put
@@ -32,3 +32,11 @@ pub record PutsRange (object : Option Extent) (at count : ℕ) (numbers : Number
   pub few : length new.puts ≤ length old.puts + ((count + 499) / 500 + 1)
   pub deletes : new.deletes ≡ old.deletes
   pub same_numbers : changed_numbers new numbers ≡ changed_numbers old numbers
+
+-- A patch of an object is planned, and the pages of its range are put. Where bytes are told, the
+-- object would have the bytes once the changes are committed.
+pub record PlansPatch (told : Bool) (objects : Held) (id at : ℕ) (bytes : List ℕ)
+    (numbers : Numbers) (image : List ℕ) (old new : Change) : Type 0 where
+  pub patched : IsTrue told → (live : Pages) → pages image ≡ Some live →
+      WouldPatch objects id at bytes old new live
+  pub puts : PutsRange (held objects id) at (length bytes) numbers old new

@@ -1,15 +1,14 @@
 // Bytes of an object are replaced.
-ghost use Rattle.std.specs.Prelude.{IsTrue, ◌≡◌, ◌+◌, ◌<◌, ◌≤◌, true, false, length, Some, IsSome};
+ghost use Rattle.std.specs.Prelude.{◌≡◌, ◌+◌, ◌<◌, ◌≤◌, true, false, length, Some, IsSome};
 ghost use Rattle.std.specs.Prelude.{OnOk, IsErrOf};
 ghost use Rattle.std.specs.FinSet as set;
 ghost use Rattle.newt_host.specs.Moments.{image, overwritten};
-ghost use Rattle.newt_spec_image.specs.Pages.{Pages, pages};
 ghost use Rattle.newt_spec_image.specs.Objects.{Extent};
 ghost use Rattle.newt_pagebook.specs.Batch.{names};
 ghost use Rattle.newt_objects.specs.Extents.{IsUnnamed};
 ghost use Rattle.newt_objects.specs.Held.{held, AreOf};
 ghost use Rattle.newt_vbo.specs.Calls.{ReadsPart, ReadsRange};
-ghost use Rattle.newt_vbo.specs.Patches.{WouldPatch, PutsPatched, PutsRange};
+ghost use Rattle.newt_vbo.specs.Patches.{PlansPatch, PutsPatched};
 
 use crate::RangeFault;
 use crate::range::{check_range, parts_met, piece_in};
@@ -73,11 +72,8 @@ pub fn plan_patch<P: PageBook, H: Host>(
     requires stands { P.stands H.told book.old (H.outside host.old) }
     requires objects { AreOf H.told (held objects.now) (P.numbers book.old) (P.place book.old)
         (H.outside host.old) }
-    ensures patched { IsTrue H.told → (live : Pages) →
-        pages (image (P.place book.old) (H.outside host.old).now) ≡ Some live →
-        OnOk result (WouldPatch objects.now id at bytes.now batch.old batch.new live) }
-    ensures puts { OnOk result (PutsRange (held objects.now id) at (length bytes.now)
-        (P.numbers book.old) batch.old batch.new) }
+    ensures plans { OnOk result (PlansPatch H.told objects.now id at bytes.now (P.numbers book.old)
+        (image (P.place book.old) (H.outside host.old).now) batch.old batch.new) }
     ensures unchanged { IsErrOf result RangeFault.Range →
         (book.new ≡ book.old) × (host.new ≡ host.old) × (batch.new ≡ batch.old) }
     ensures reads { ReadsRange P.place P.numbers P.spare P.stands H.told (held objects.now id)

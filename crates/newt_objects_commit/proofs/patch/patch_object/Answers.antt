@@ -54,11 +54,11 @@ returns-in-Ok g c =
     let count : ℕ = length bytes in
     let batch : Change = c.plan_patch.new.batch in
     let e = c.in-Ok.ensures in
-    let low : batch_bytes batch ≤ patch_bytes count = few-bytes batch c.new-batch.result count c.new-batch.ensures e.puts.few e.puts.deletes in
-    let same : changed_numbers batch (p.numbers book) ≡ p.numbers book = e.puts.same_numbers ∙ ap (λ (first : Change). changed_numbers first (p.numbers book)) c.new-batch.ensures in
+    let low : batch_bytes batch ≤ patch_bytes count = few-bytes batch c.new-batch.result count c.new-batch.ensures e.plans.puts.few e.plans.puts.deletes in
+    let same : changed_numbers batch (p.numbers book) ≡ p.numbers book = e.plans.puts.same_numbers ∙ ap (λ (first : Change). changed_numbers first (p.numbers book)) c.new-batch.ensures in
     let within : (x : Extent) → held objects c.args.id ≡ Some x → c.args.at + count ≤ x.length = inside _ (held objects c.args.id) (c.args.at + count) e.reads.past (λ is. no-error is) in
     let patch : IsTrue told → (live : Pages) → pages (image (p.place book) before.now) ≡ Some live → WouldPatch objects c.args.id c.args.at bytes no_change batch live =
-    λ tells live is. subst (λ (first : Change). WouldPatch objects c.args.id c.args.at bytes first batch live) c.new-batch.ensures (e.patched tells live is) in
+    λ tells live is. subst (λ (first : Change). WouldPatch objects c.args.id c.args.at bytes first batch live) c.new-batch.ensures (e.plans.patched tells live is) in
     let done = batch-at p.place p.numbers p.stands c.commit_batch.result e.reads.book.same_place e.reads.book.same_numbers c.commit_batch.ensures in
     record {
       commits = commits-patched p.place p.numbers p.spare p.stands told objects book mid before between c.requires.kept e.reads.book batch new after c.commit_batch.result done

@@ -9,7 +9,7 @@ use Rattle.newt_store_change.specs.Faults.{RefusesWith}
 use Rattle.newt_store_change.specs.declared.fault.StoreFault.{StoreFault}
 use Rattle.newt_store_change.specs.declared.fault.StoreFault.TheVariants.{Refused, Stop}
 use Rattle.std.proofs.Common.{Option, Ok, ◌+◌}
-use Rattle.newt_store_catalog.proofs.Exits.{reads-on}
+use Rattle.newt_store_catalog.proofs.Exits.{can-on, reads-on}
 use Rattle.newt_store_catalog.proofs.Opening.{same-image}
 use Rattle.newt_store.proofs.Ends.{ends-fails, ends-after}
 use Rattle.newt_store.proofs.Larges.{large-spent, reads-large, record-spent}
@@ -24,21 +24,20 @@ refused-as path at many e (Err f) fault fails due = go f (subst (RefusesWith (fi
   go (Refused refusal) due = due
   go (Stop stop) due = tt
 
-pub read_part-requires-clause-stands : goal.read_part-requires-clause-stands
-read_part-requires-clause-stands g c = c.find_by_path.ensures.reads.stood
-
-pub read_part-requires-clause-kept : goal.read_part-requires-clause-kept
-read_part-requires-clause-kept g c = c.find_by_path.ensures.reads.kept
+pub read_part-requires-clause-can : goal.read_part-requires-clause-can
+read_part-requires-clause-can g c = can-on c.find_by_path.ensures.reads.book
 
 pub returns-in_err-object : goal.returns-in_err-object
 returns-in_err-object g c =
     let o = g.H.Host.outside in
     record {
       read = λ tells s stands. refused-as c.args.path.now c.args.at c.args.len (entry_at c.args.sig c.args.uid s) c.from_residual.result c.in_err-object.field-0.0 c.from_residual.ensures.1
-          (c.in_err-object.ensures.refused tells s stands (c.args.at + c.args.len));
-      costs = λ tells s stands. record-spent c.args.len (g.P.PageBook.place c.args.book.now) (entry_at c.args.sig c.args.uid s) (o c.args.host.now) (o c.find_by_path.new.host) (c.find_by_path.ensures.costs tells s stands);
-      reads = c.find_by_path.ensures.reads;
-      ends = ends-fails c.from_residual.result c.in_err-object.field-0.0 c.from_residual.ensures.1 c.in_err-object.ensures.ends;
+          (c.in_err-object.ensures.finds tells s stands (c.args.at + c.args.len)).refused;
+      costs = λ tells s stands. record-spent c.args.len (g.P.PageBook.place c.args.book.now) (entry_at c.args.sig c.args.uid s) (o c.args.host.now) (o c.find_by_path.new.host) (c.find_by_path.ensures.finds tells s stands (c.args.at + c.args.len)).costs;
+      reads = record {
+        book = c.find_by_path.ensures.reads.book;
+        ends = ends-fails c.from_residual.result c.in_err-object.field-0.0 c.from_residual.ensures.1 c.in_err-object.ensures.reads.ends;
+      };
     }
 
 pub returns-in-Ok : goal.returns-in-Ok
@@ -49,19 +48,23 @@ returns-in-Ok g c =
     let m : Moment = (o c.args.host.now).now in
     let m' : Moment = (o c.find_by_path.new.host).now in
     let one = c.in_ok-object.ensures in
-    let e : image u' m' ≡ image u m = same-image u u' m m' one.reads.same_place one.reads.looks.moment in
+    let e : image u' m' ≡ image u m = same-image u u' m m' one.reads.book.same_place one.reads.book.looks.moment in
     let cat = c.args.catalog.now in
     let x : ℕ = c.in_ok-object.object in
     record {
       read = λ tells s stands.
-          let f = one.found tells s stands in
+          let finds = one.finds tells s stands (c.args.at + c.args.len) in
+          let f = finds.found in
           reads-large cat s c.args.sig c.args.uid f.0 x c.args.path.now f.2 f.1 c.args.at c.args.len (Ok c.in-Ok.bytes)
           (c.in-Ok.ensures.part tells stands.texts f.2.bytes (subst (λ (b : List ℕ). HoldsObjects b stands.texts) (sym e) stands.holds) (text-there cat s (image u m) stands c.args.sig c.args.uid f.0 x f.2));
       costs = λ tells s stands.
-          let f = one.found tells s stands in
-          large-spent cat s c.args.sig c.args.uid f.0 x c.args.path.now f.2 f.1 c.args.len u u' (o c.args.host.now) (o c.find_by_path.new.host) (o c.read_part.new.host) one.reads.same_place (one.costs tells s stands) c.read_part.ensures.costs;
-      reads = reads-on one.reads c.read_part.ensures.reads;
-      ends = ends-after _ one.reads.same_place one.reads.looks (one.ends.no_fault tt) c.in-Ok.ensures.ends;
+          let finds = one.finds tells s stands (c.args.at + c.args.len) in
+          let f = finds.found in
+          large-spent cat s c.args.sig c.args.uid f.0 x c.args.path.now f.2 f.1 c.args.len u u' (o c.args.host.now) (o c.find_by_path.new.host) (o c.read_part.new.host) one.reads.book.same_place finds.costs c.read_part.ensures.costs;
+      reads = record {
+        book = reads-on one.reads.book c.read_part.ensures.reads.book;
+        ends = ends-after _ one.reads.book.same_place one.reads.book.looks (one.reads.ends.no_fault tt) c.in-Ok.ensures.reads.ends;
+      };
     }
 
 pub returns-in-Err : goal.returns-in-Err
@@ -72,17 +75,21 @@ returns-in-Err g c =
     let m : Moment = (o c.args.host.now).now in
     let m' : Moment = (o c.find_by_path.new.host).now in
     let one = c.in_ok-object.ensures in
-    let e : image u' m' ≡ image u m = same-image u u' m m' one.reads.same_place one.reads.looks.moment in
+    let e : image u' m' ≡ image u m = same-image u u' m m' one.reads.book.same_place one.reads.book.looks.moment in
     let cat = c.args.catalog.now in
     let x : ℕ = c.in_ok-object.object in
     record {
       read = λ tells s stands.
-          let f = one.found tells s stands in
+          let finds = one.finds tells s stands (c.args.at + c.args.len) in
+          let f = finds.found in
           reads-large cat s c.args.sig c.args.uid f.0 x c.args.path.now f.2 f.1 c.args.at c.args.len (Err c.in-Err.fault)
           (c.in-Err.ensures.part tells stands.texts f.2.bytes (subst (λ (b : List ℕ). HoldsObjects b stands.texts) (sym e) stands.holds) (text-there cat s (image u m) stands c.args.sig c.args.uid f.0 x f.2));
       costs = λ tells s stands.
-          let f = one.found tells s stands in
-          large-spent cat s c.args.sig c.args.uid f.0 x c.args.path.now f.2 f.1 c.args.len u u' (o c.args.host.now) (o c.find_by_path.new.host) (o c.read_part.new.host) one.reads.same_place (one.costs tells s stands) c.read_part.ensures.costs;
-      reads = reads-on one.reads c.read_part.ensures.reads;
-      ends = ends-after _ one.reads.same_place one.reads.looks (one.ends.no_fault tt) c.in-Err.ensures.ends;
+          let finds = one.finds tells s stands (c.args.at + c.args.len) in
+          let f = finds.found in
+          large-spent cat s c.args.sig c.args.uid f.0 x c.args.path.now f.2 f.1 c.args.len u u' (o c.args.host.now) (o c.find_by_path.new.host) (o c.read_part.new.host) one.reads.book.same_place finds.costs c.read_part.ensures.costs;
+      reads = record {
+        book = reads-on one.reads.book c.read_part.ensures.reads.book;
+        ends = ends-after _ one.reads.book.same_place one.reads.book.looks (one.reads.ends.no_fault tt) c.in-Err.ensures.reads.ends;
+      };
     }

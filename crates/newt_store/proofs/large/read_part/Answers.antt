@@ -15,14 +15,13 @@ returns-in-Ok g c =
     let e = c.in-Ok.ensures in
     record {
       part = λ tells texts text holds is. (
-        part-inside g.H.Host.told c.args.objects.now (g.P.PageBook.numbers c.args.book.now) u (o c.args.host.now) c.requires.kept tells texts holds c.args.id text is (c.args.at + c.args.len)
+        part-inside g.H.Host.told c.args.objects.now (g.P.PageBook.numbers c.args.book.now) u (o c.args.host.now) c.requires.can.kept tells texts holds c.args.id text is (c.args.at + c.args.len)
             (never Range c.in-Ok.bytes (held c.args.objects.now c.args.id) (c.args.at + c.args.len) e.reads.past),
-        c.of.ensures ∙ part-is g.H.Host.told c.args.objects.now (g.P.PageBook.numbers c.args.book.now) u (o c.args.host.now) c.requires.kept tells texts holds c.args.id text is c.args.at c.args.len c.in-Ok.bytes.items
-            (e.bytes tells c.requires.kept.are.live (c.requires.kept.are.are.of_image tells)),
+        c.of.ensures ∙ part-is g.H.Host.told c.args.objects.now (g.P.PageBook.numbers c.args.book.now) u (o c.args.host.now) c.requires.can.kept tells texts holds c.args.id text is c.args.at c.args.len c.in-Ok.bytes.items
+            (e.bytes tells c.requires.can.kept.are.live (c.requires.can.kept.are.are.of_image tells)),
       );
       costs = range-spent c.args.at c.args.len u (o c.args.host.now) (o c.read_range.new.host) e.reads.costs;
-      reads = with-kept c.requires.kept c.read_range.ensures.reads.book;
-      ends = ends-refused tt (e.reads.no_fault tt);
+      reads = record { book = with-kept c.requires.can.kept c.read_range.ensures.reads.book; ends = ends-refused tt (e.reads.no_fault tt) };
     }
 
 pub returns-in-Err-Range : goal.returns-in-Err-Range
@@ -34,11 +33,10 @@ returns-in-Err-Range g c =
     record {
       part = λ tells texts text holds is. (
         refl,
-        part-past g.H.Host.told c.args.objects.now (g.P.PageBook.numbers c.args.book.now) u (o c.args.host.now) c.requires.kept tells texts holds c.args.id text is (c.args.at + c.args.len) (e.reads.range is-range),
+        part-past g.H.Host.told c.args.objects.now (g.P.PageBook.numbers c.args.book.now) u (o c.args.host.now) c.requires.can.kept tells texts holds c.args.id text is (c.args.at + c.args.len) (e.reads.range is-range),
       );
       costs = range-spent c.args.at c.args.len u (o c.args.host.now) (o c.read_range.new.host) e.reads.costs;
-      reads = with-kept c.requires.kept e.reads.book;
-      ends = ends-refused tt (e.reads.no_fault (subst (λ r. GoesOn r) (sym is-range) tt));
+      reads = record { book = with-kept c.requires.can.kept e.reads.book; ends = ends-refused tt (e.reads.no_fault (subst (λ r. GoesOn r) (sym is-range) tt)) };
     }
 
 pub returns-in-Err-Memory : goal.returns-in-Err-Memory
@@ -47,8 +45,7 @@ returns-in-Err-Memory g c =
     record {
       part = λ tells texts text holds is. tt;
       costs = range-spent c.args.at c.args.len (g.P.PageBook.place c.args.book.now) (o c.args.host.now) (o c.read_range.new.host) c.read_range.ensures.reads.costs;
-      reads = with-kept c.requires.kept c.read_range.ensures.reads.book;
-      ends = record { cause = tt; no_fault = λ goes. absurd goes };
+      reads = record { book = with-kept c.requires.can.kept c.read_range.ensures.reads.book; ends = record { cause = tt; no_fault = λ goes. absurd goes } };
     }
 
 pub returns-in-Err-Device : goal.returns-in-Err-Device
@@ -57,6 +54,5 @@ returns-in-Err-Device g c =
     record {
       part = λ tells texts text holds is. tt;
       costs = range-spent c.args.at c.args.len (g.P.PageBook.place c.args.book.now) (o c.args.host.now) (o c.read_range.new.host) c.read_range.ensures.reads.costs;
-      reads = with-kept c.requires.kept c.read_range.ensures.reads.book;
-      ends = record { cause = (c.unit-unit.ensures, c.read_range.ensures.reads.cause (the-fault c.in-Err-Device.is c.in-Err-Device.field-0-is)); no_fault = λ goes. absurd goes };
+      reads = record { book = with-kept c.requires.can.kept c.read_range.ensures.reads.book; ends = record { cause = (c.unit-unit.ensures, c.read_range.ensures.reads.cause (the-fault c.in-Err-Device.is c.in-Err-Device.field-0-is)); no_fault = λ goes. absurd goes } };
     }

@@ -9,7 +9,14 @@ use Rattle.newt_store_change.specs.Change.{first_checks, entry_fetched, pages_of
 use Rattle.newt_store.specs.Next.{IsPlanOf}
 use Rattle.newt_store_change.specs.Faults.{RefusesWith}
 use Rattle.newt_store.proofs.Planned.{reads-nothing}
+use Rattle.newt_store.proofs.Opened.{can-open, keeps-store}
 use Rattle.newt_store.proofs.plan.plan_change.Goals as goal
+
+pub plan_add-requires : goal.plan_add-requires
+plan_add-requires g c = keeps-store c.requires.is_open.sound
+
+pub plan_replace-requires : goal.plan_replace-requires
+plan_replace-requires g c = keeps-store c.requires.is_open.sound
 
 pub returns-in-MakeSoup-clause-costs : goal.returns-in-MakeSoup-clause-costs
 returns-in-MakeSoup-clause-costs g c = λ tells s stands. reads-nothing (g.P.PageBook.place c.args.book.now) (512 * pages_of_entry (entry_fetched c.args.change s)) (g.H.Host.outside c.args.host.now)
@@ -41,49 +48,49 @@ pub returns-in-SetTags-clause-costs : goal.returns-in-SetTags-clause-costs
 returns-in-SetTags-clause-costs g c = λ tells s stands. reads-nothing (g.P.PageBook.place c.args.book.now) (512 * pages_of_entry (entry_fetched c.args.change s)) (g.H.Host.outside c.args.host.now)
 
 pub returns-in-MakeSoup-clause-reads : goal.returns-in-MakeSoup-clause-reads
-returns-in-MakeSoup-clause-reads g c = reads-none g.P.PageBook.place g.P.PageBook.numbers g.P.PageBook.stands g.H.Host.told c.args.catalog.now.objects c.args.book.now (g.H.Host.outside c.args.host.now) c.requires.is_open.book c.requires.is_open.sound.kept
+returns-in-MakeSoup-clause-reads g c = reads-none g.P.PageBook.place g.P.PageBook.numbers g.P.PageBook.stands g.H.Host.told c.args.catalog.now.objects c.args.book.now (g.H.Host.outside c.args.host.now) (can-open c.requires.is_open)
 
 pub returns-in-MakeSoup-clause-ends : goal.returns-in-MakeSoup-clause-ends
 returns-in-MakeSoup-clause-ends g c = ends-none c.plan_make.result c.plan_make.ensures.cause (NoFault-refl (g.H.Host.outside c.args.host.now))
 
 pub returns-in-DropSoup-clause-reads : goal.returns-in-DropSoup-clause-reads
-returns-in-DropSoup-clause-reads g c = reads-none g.P.PageBook.place g.P.PageBook.numbers g.P.PageBook.stands g.H.Host.told c.args.catalog.now.objects c.args.book.now (g.H.Host.outside c.args.host.now) c.requires.is_open.book c.requires.is_open.sound.kept
+returns-in-DropSoup-clause-reads g c = reads-none g.P.PageBook.place g.P.PageBook.numbers g.P.PageBook.stands g.H.Host.told c.args.catalog.now.objects c.args.book.now (g.H.Host.outside c.args.host.now) (can-open c.requires.is_open)
 
 pub returns-in-DropSoup-clause-ends : goal.returns-in-DropSoup-clause-ends
 returns-in-DropSoup-clause-ends g c = ends-none c.plan_drop.result c.plan_drop.ensures.cause (NoFault-refl (g.H.Host.outside c.args.host.now))
 
 pub returns-in-Add-clause-reads : goal.returns-in-Add-clause-reads
-returns-in-Add-clause-reads g c = reads-none g.P.PageBook.place g.P.PageBook.numbers g.P.PageBook.stands g.H.Host.told c.args.catalog.now.objects c.args.book.now (g.H.Host.outside c.args.host.now) c.requires.is_open.book c.requires.is_open.sound.kept
+returns-in-Add-clause-reads g c = reads-none g.P.PageBook.place g.P.PageBook.numbers g.P.PageBook.stands g.H.Host.told c.args.catalog.now.objects c.args.book.now (g.H.Host.outside c.args.host.now) (can-open c.requires.is_open)
 
 pub returns-in-Add-clause-ends : goal.returns-in-Add-clause-ends
 returns-in-Add-clause-ends g c = ends-none c.plan_add.result c.plan_add.ensures.cause (NoFault-refl (g.H.Host.outside c.args.host.now))
 
 pub returns-in-Remove-clause-reads : goal.returns-in-Remove-clause-reads
-returns-in-Remove-clause-reads g c = reads-none g.P.PageBook.place g.P.PageBook.numbers g.P.PageBook.stands g.H.Host.told c.args.catalog.now.objects c.args.book.now (g.H.Host.outside c.args.host.now) c.requires.is_open.book c.requires.is_open.sound.kept
+returns-in-Remove-clause-reads g c = reads-none g.P.PageBook.place g.P.PageBook.numbers g.P.PageBook.stands g.H.Host.told c.args.catalog.now.objects c.args.book.now (g.H.Host.outside c.args.host.now) (can-open c.requires.is_open)
 
 pub returns-in-Remove-clause-ends : goal.returns-in-Remove-clause-ends
 returns-in-Remove-clause-ends g c = ends-none c.plan_remove.result c.plan_remove.ensures.cause (NoFault-refl (g.H.Host.outside c.args.host.now))
 
 pub returns-in-Replace-clause-reads : goal.returns-in-Replace-clause-reads
-returns-in-Replace-clause-reads g c = reads-none g.P.PageBook.place g.P.PageBook.numbers g.P.PageBook.stands g.H.Host.told c.args.catalog.now.objects c.args.book.now (g.H.Host.outside c.args.host.now) c.requires.is_open.book c.requires.is_open.sound.kept
+returns-in-Replace-clause-reads g c = reads-none g.P.PageBook.place g.P.PageBook.numbers g.P.PageBook.stands g.H.Host.told c.args.catalog.now.objects c.args.book.now (g.H.Host.outside c.args.host.now) (can-open c.requires.is_open)
 
 pub returns-in-Replace-clause-ends : goal.returns-in-Replace-clause-ends
 returns-in-Replace-clause-ends g c = ends-none c.plan_replace.result c.plan_replace.ensures.cause (NoFault-refl (g.H.Host.outside c.args.host.now))
 
 pub returns-in-AddIndex-clause-reads : goal.returns-in-AddIndex-clause-reads
-returns-in-AddIndex-clause-reads g c = reads-none g.P.PageBook.place g.P.PageBook.numbers g.P.PageBook.stands g.H.Host.told c.args.catalog.now.objects c.args.book.now (g.H.Host.outside c.args.host.now) c.requires.is_open.book c.requires.is_open.sound.kept
+returns-in-AddIndex-clause-reads g c = reads-none g.P.PageBook.place g.P.PageBook.numbers g.P.PageBook.stands g.H.Host.told c.args.catalog.now.objects c.args.book.now (g.H.Host.outside c.args.host.now) (can-open c.requires.is_open)
 
 pub returns-in-AddIndex-clause-ends : goal.returns-in-AddIndex-clause-ends
 returns-in-AddIndex-clause-ends g c = ends-none c.plan_add_index.result c.plan_add_index.ensures.cause (NoFault-refl (g.H.Host.outside c.args.host.now))
 
 pub returns-in-DropIndex-clause-reads : goal.returns-in-DropIndex-clause-reads
-returns-in-DropIndex-clause-reads g c = reads-none g.P.PageBook.place g.P.PageBook.numbers g.P.PageBook.stands g.H.Host.told c.args.catalog.now.objects c.args.book.now (g.H.Host.outside c.args.host.now) c.requires.is_open.book c.requires.is_open.sound.kept
+returns-in-DropIndex-clause-reads g c = reads-none g.P.PageBook.place g.P.PageBook.numbers g.P.PageBook.stands g.H.Host.told c.args.catalog.now.objects c.args.book.now (g.H.Host.outside c.args.host.now) (can-open c.requires.is_open)
 
 pub returns-in-DropIndex-clause-ends : goal.returns-in-DropIndex-clause-ends
 returns-in-DropIndex-clause-ends g c = ends-none c.plan_drop_index.result c.plan_drop_index.ensures.cause (NoFault-refl (g.H.Host.outside c.args.host.now))
 
 pub returns-in-SetTags-clause-reads : goal.returns-in-SetTags-clause-reads
-returns-in-SetTags-clause-reads g c = reads-none g.P.PageBook.place g.P.PageBook.numbers g.P.PageBook.stands g.H.Host.told c.args.catalog.now.objects c.args.book.now (g.H.Host.outside c.args.host.now) c.requires.is_open.book c.requires.is_open.sound.kept
+returns-in-SetTags-clause-reads g c = reads-none g.P.PageBook.place g.P.PageBook.numbers g.P.PageBook.stands g.H.Host.told c.args.catalog.now.objects c.args.book.now (g.H.Host.outside c.args.host.now) (can-open c.requires.is_open)
 
 pub returns-in-SetTags-clause-ends : goal.returns-in-SetTags-clause-ends
 returns-in-SetTags-clause-ends g c = ends-none c.plan_set_tags.result c.plan_set_tags.ensures.cause (NoFault-refl (g.H.Host.outside c.args.host.now))

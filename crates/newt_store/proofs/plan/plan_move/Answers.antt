@@ -21,6 +21,7 @@ use Rattle.newt_store.proofs.Planned.{reads-nothing, seen-some}
 use Rattle.newt_store.proofs.Adding.{row-is, row-room, last-ids}
 use Rattle.newt_store.proofs.Moving.{move-no-source, move-no-target, move-no-entry, move-ids, move-planned}
 use Rattle.newt_store.proofs.Entries.{found-at}
+use Rattle.newt_store.proofs.Opened.{can-open, has-record}
 use Rattle.newt_store.proofs.plan.plan_move.Goals as goal
 
 pub next_with-requires-clause-row : goal.next_with-requires-clause-row
@@ -29,8 +30,11 @@ next_with-requires-clause-row g c = (row-is (bare_store c.args.catalog.now.direc
 pub next_with-requires-clause-room : goal.next_with-requires-clause-room
 next_with-requires-clause-room g c = row-room (bare_store c.args.catalog.now.directory) c.args.target (bare_soup c.in-Some.row.now) c.requires.is_open.sound.formed (sym c.in-Some.ensures) c.if-row-eq-LAST_ID.false
 
-pub read_whole-requires-clause-there : goal.read_whole-requires-clause-there
-read_whole-requires-clause-there g c = c.requires.is_open.sound.places.there c.args.source c.args.uid c.in-Some-get.id (sym c.get.ensures ∙ c.in-Some-get.is)
+pub read_whole-requires-clause-can : goal.read_whole-requires-clause-can
+read_whole-requires-clause-can g c = can-open c.requires.is_open
+
+pub read_whole-requires-clause-entry : goal.read_whole-requires-clause-entry
+read_whole-requires-clause-entry g c = has-record c.requires.is_open c.args.source c.args.uid c.in-Some-get.id (sym c.get.ensures ∙ c.in-Some-get.is)
 
 pub returns-then-is_none-clause-costs : goal.returns-then-is_none-clause-costs
 returns-then-is_none-clause-costs g c = λ tells s stands. reads-nothing (g.P.PageBook.place c.args.book.now) (512 * pages_of_entry (entry_at c.args.source c.args.uid s)) (g.H.Host.outside c.args.host.now)
@@ -50,7 +54,7 @@ returns-in_err-entry-clause-costs g c = λ tells s stands.
     let cat = c.args.catalog.now in
     let f = found-at cat.directory (place_of cat.places) (names_of cat.names) stands.texts s stands.describes c.args.source c.args.uid c.in-Some-get.id (sym c.get.ensures ∙ c.in-Some-get.is) in
     subst (λ (n : ℕ). Spends (g.P.PageBook.place c.args.book.now) 0 (512 * n) (o c.args.host.now) (o c.read_whole.new.host)) (sym (ap pages_of_entry f.found))
-    (c.read_whole.ensures.costs tells stands.texts c.args.source f.entry (names_of cat.names c.in-Some-get.id) stands.holds f.laid)
+    (c.read_whole.ensures.entry tells stands.texts c.args.source f.entry (names_of cat.names c.in-Some-get.id) stands.holds f.laid).costs
 
 pub returns-in_err-next-clause-costs : goal.returns-in_err-next-clause-costs
 returns-in_err-next-clause-costs g c = λ tells s stands.
@@ -58,7 +62,7 @@ returns-in_err-next-clause-costs g c = λ tells s stands.
     let cat = c.args.catalog.now in
     let f = found-at cat.directory (place_of cat.places) (names_of cat.names) stands.texts s stands.describes c.args.source c.args.uid c.in-Some-get.id (sym c.get.ensures ∙ c.in-Some-get.is) in
     subst (λ (n : ℕ). Spends (g.P.PageBook.place c.args.book.now) 0 (512 * n) (o c.args.host.now) (o c.read_whole.new.host)) (sym (ap pages_of_entry f.found))
-    (c.read_whole.ensures.costs tells stands.texts c.args.source f.entry (names_of cat.names c.in-Some-get.id) stands.holds f.laid)
+    (c.read_whole.ensures.entry tells stands.texts c.args.source f.entry (names_of cat.names c.in-Some-get.id) stands.holds f.laid).costs
 
 pub returns-clause-costs : goal.returns-clause-costs
 returns-clause-costs g c = λ tells s stands.
@@ -66,49 +70,49 @@ returns-clause-costs g c = λ tells s stands.
     let cat = c.args.catalog.now in
     let f = found-at cat.directory (place_of cat.places) (names_of cat.names) stands.texts s stands.describes c.args.source c.args.uid c.in-Some-get.id (sym c.get.ensures ∙ c.in-Some-get.is) in
     subst (λ (n : ℕ). Spends (g.P.PageBook.place c.args.book.now) 0 (512 * n) (o c.args.host.now) (o c.read_whole.new.host)) (sym (ap pages_of_entry f.found))
-    (c.read_whole.ensures.costs tells stands.texts c.args.source f.entry (names_of cat.names c.in-Some-get.id) stands.holds f.laid)
+    (c.read_whole.ensures.entry tells stands.texts c.args.source f.entry (names_of cat.names c.in-Some-get.id) stands.holds f.laid).costs
 
 pub returns-then-is_none-clause-reads : goal.returns-then-is_none-clause-reads
-returns-then-is_none-clause-reads g c = reads-none g.P.PageBook.place g.P.PageBook.numbers g.P.PageBook.stands g.H.Host.told c.args.catalog.now.objects c.args.book.now (g.H.Host.outside c.args.host.now) c.requires.is_open.book c.requires.is_open.sound.kept
+returns-then-is_none-clause-reads g c = reads-none g.P.PageBook.place g.P.PageBook.numbers g.P.PageBook.stands g.H.Host.told c.args.catalog.now.objects c.args.book.now (g.H.Host.outside c.args.host.now) (can-open c.requires.is_open)
 
 pub returns-then-is_none-clause-ends : goal.returns-then-is_none-clause-ends
 returns-then-is_none-clause-ends g c = ends-refused tt (NoFault-refl (g.H.Host.outside c.args.host.now))
 
 pub returns-in_default-clause-reads : goal.returns-in_default-clause-reads
-returns-in_default-clause-reads g c = reads-none g.P.PageBook.place g.P.PageBook.numbers g.P.PageBook.stands g.H.Host.told c.args.catalog.now.objects c.args.book.now (g.H.Host.outside c.args.host.now) c.requires.is_open.book c.requires.is_open.sound.kept
+returns-in_default-clause-reads g c = reads-none g.P.PageBook.place g.P.PageBook.numbers g.P.PageBook.stands g.H.Host.told c.args.catalog.now.objects c.args.book.now (g.H.Host.outside c.args.host.now) (can-open c.requires.is_open)
 
 pub returns-in_default-clause-ends : goal.returns-in_default-clause-ends
 returns-in_default-clause-ends g c = ends-refused tt (NoFault-refl (g.H.Host.outside c.args.host.now))
 
 pub returns-in_default-get-clause-reads : goal.returns-in_default-get-clause-reads
-returns-in_default-get-clause-reads g c = reads-none g.P.PageBook.place g.P.PageBook.numbers g.P.PageBook.stands g.H.Host.told c.args.catalog.now.objects c.args.book.now (g.H.Host.outside c.args.host.now) c.requires.is_open.book c.requires.is_open.sound.kept
+returns-in_default-get-clause-reads g c = reads-none g.P.PageBook.place g.P.PageBook.numbers g.P.PageBook.stands g.H.Host.told c.args.catalog.now.objects c.args.book.now (g.H.Host.outside c.args.host.now) (can-open c.requires.is_open)
 
 pub returns-in_default-get-clause-ends : goal.returns-in_default-get-clause-ends
 returns-in_default-get-clause-ends g c = ends-refused tt (NoFault-refl (g.H.Host.outside c.args.host.now))
 
 pub returns-then-row-eq-LAST_ID-clause-reads : goal.returns-then-row-eq-LAST_ID-clause-reads
-returns-then-row-eq-LAST_ID-clause-reads g c = reads-none g.P.PageBook.place g.P.PageBook.numbers g.P.PageBook.stands g.H.Host.told c.args.catalog.now.objects c.args.book.now (g.H.Host.outside c.args.host.now) c.requires.is_open.book c.requires.is_open.sound.kept
+returns-then-row-eq-LAST_ID-clause-reads g c = reads-none g.P.PageBook.place g.P.PageBook.numbers g.P.PageBook.stands g.H.Host.told c.args.catalog.now.objects c.args.book.now (g.H.Host.outside c.args.host.now) (can-open c.requires.is_open)
 
 pub returns-then-row-eq-LAST_ID-clause-ends : goal.returns-then-row-eq-LAST_ID-clause-ends
 returns-then-row-eq-LAST_ID-clause-ends g c = ends-refused tt (NoFault-refl (g.H.Host.outside c.args.host.now))
 
 pub returns-in_err-entry-clause-reads : goal.returns-in_err-entry-clause-reads
-returns-in_err-entry-clause-reads g c = c.read_whole.ensures.reads
+returns-in_err-entry-clause-reads g c = c.read_whole.ensures.reads.book
 
 pub returns-in_err-next-clause-reads : goal.returns-in_err-next-clause-reads
-returns-in_err-next-clause-reads g c = c.read_whole.ensures.reads
+returns-in_err-next-clause-reads g c = c.read_whole.ensures.reads.book
 
 pub returns-clause-reads : goal.returns-clause-reads
-returns-clause-reads g c = c.read_whole.ensures.reads
+returns-clause-reads g c = c.read_whole.ensures.reads.book
 
 pub returns-in_err-entry-clause-ends : goal.returns-in_err-entry-clause-ends
-returns-in_err-entry-clause-ends g c = ends-stop c.from_residual.result c.in_err-entry.field-0.0 c.from_residual.ensures.1 c.in_err-entry.ensures.ends
+returns-in_err-entry-clause-ends g c = ends-stop c.from_residual.result c.in_err-entry.field-0.0 c.from_residual.ensures.1 c.in_err-entry.ensures.reads.ends
 
 pub returns-in_err-next-clause-ends : goal.returns-in_err-next-clause-ends
 returns-in_err-next-clause-ends g c = ends-memory c.from_residual-in_err-next.result c.in_err-next.field-0.0 c.from_residual-in_err-next.ensures.1 c.in_err-next.ensures.only
 
 pub returns-clause-ends : goal.returns-clause-ends
-returns-clause-ends g c = ends-refused tt c.in_ok-entry.ensures.ends.no_fault
+returns-clause-ends g c = ends-refused tt c.in_ok-entry.ensures.reads.ends.no_fault
 
 pub returns-then-is_none-clause-plans : goal.returns-then-is_none-clause-plans
 returns-then-is_none-clause-plans g c = record {
@@ -152,7 +156,7 @@ returns-clause-plans g c = record {
       let at : place_of cat.places c.args.source c.args.uid ≡ Some c.in-Some-get.id = sym c.get.ensures ∙ c.in-Some-get.is in
       let time : c.args.now < 4294967296 = omega (arith, c.ranges.now.fits) in
       let f = found-at cat.directory (place_of cat.places) (names_of cat.names) stands.texts s stands.describes c.args.source c.args.uid c.in-Some-get.id at in
-      let same = c.in_ok-entry.ensures.entry tells stands.texts c.args.source f.entry (names_of cat.names c.in-Some-get.id) stands.holds f.laid in
+      let same = (c.in_ok-entry.ensures.entry tells stands.texts c.args.source f.entry (names_of cat.names c.in-Some-get.id) stands.holds f.laid).entry in
       let graph : c.in_ok-entry.entry.graph ≡ f.entry.graph = ap (λ (x : Entry). x.graph) same in
       move-planned cat stands.texts s c.args.source c.args.uid c.args.target c.in-Some-get.id c.args.now f.entry row c.in_ok-next.next c.requires.is_open.sound.places c.requires.is_open.sound.names stands.describes
       (seen-some _ c.soup_of.result (soup_of c.args.source (bare_store c.args.catalog.now.directory)) c.soup_of.ensures ∙ c.is_none.ensures ∙ ap not c.if-is_none.false) (sym c.in-Some.ensures)

@@ -10,7 +10,8 @@ use Rattle.newt_spec_store.specs.Lies.{Places}
 use Rattle.newt_laws_changes.specs.Written.{Names}
 use Rattle.newt_objects_commit.specs.Names.{names_of}
 use Rattle.newt_objects_commit.specs.Places.{place_of}
-use Rattle.newt_store_catalog.specs.Opening.{OfObjects, IsRow, Owners, objects_named, owner_of, AreSoundTo, AreFoundTo, FindsRow}
+use Rattle.newt_store_catalog.specs.Opening.{OfObjects, IsRow, Owners, objects_named, owner_of, FindsRow}
+use Rattle.newt_store_catalog.specs.Calls.{IsFoundTo}
 use Rattle.newt_store_catalog.proofs.Exits.{Fails, no-value, on-done, reads-none, search-value, search-fails}
 use Rattle.newt_store_catalog.proofs.Opening.{record-not-given, record-twice, record-missing, record-owned}
 use Rattle.newt_store_catalog.proofs.Owning.{all-there, not-there, named-there}
@@ -24,12 +25,16 @@ returns-then-id-eq0 g c =
     let place : Places = place_of c.args.finding.now.places in
     let names : Names = names_of c.args.finding.now.names in
     record {
-      sound = sound-even c.args.last c.args.id (c.requires.next.found c.args.id refl).1 (held c.args.objects.now) place names (owner_of c.args.finding.now.owners) c.requires.sound;
-      found = λ tells texts h.
-          even-next g.H.Host.told c.args.objects.now (g.P.PageBook.numbers c.args.book.now) u o c.requires.kept tells texts h
-          (bare_store c.args.directory.now) c.args.last c.args.id c.requires.next place names c.if-id-eq0.true (c.requires.found tells texts h);
-      reads = reads-none g.P.PageBook.place g.P.PageBook.numbers g.P.PageBook.stands g.H.Host.told c.args.objects.now c.args.book.now o c.requires.stands c.requires.kept;
-      ends = search-value (NoFault-refl o);
+      found = record {
+        sound = sound-even c.args.last c.args.id (c.requires.next.found c.args.id refl).1 (held c.args.objects.now) place names (owner_of c.args.finding.now.owners) c.requires.found.sound;
+        found = λ tells texts h.
+            even-next g.H.Host.told c.args.objects.now (g.P.PageBook.numbers c.args.book.now) u o c.requires.can.kept tells texts h
+            (bare_store c.args.directory.now) c.args.last c.args.id c.requires.next place names c.if-id-eq0.true (c.requires.found.found tells texts h);
+      };
+      searches = record {
+        book = reads-none g.P.PageBook.place g.P.PageBook.numbers g.P.PageBook.stands g.H.Host.told c.args.objects.now c.args.book.now o c.requires.can;
+        ends = search-value (NoFault-refl o);
+      };
     }
 
 pub returns-in_err-row : goal.returns-in_err-row
@@ -39,10 +44,8 @@ returns-in_err-row g c =
     let r : Result (Unit {0}) BookFault = c.from_residual.result in
     let fails : Fails r fault = c.from_residual.ensures.1 in
     record {
-      sound = no-value r fault _ fails;
       found = no-value r fault _ fails;
-      reads = e.reads;
-      ends = search-fails r fault fails c.in_err-row.ensures.ends;
+      searches = record { book = e.searches.book; ends = search-fails r fault fails c.in_err-row.ensures.searches.ends };
     }
 
 pub returns : goal.returns
@@ -70,21 +73,23 @@ returns g c =
     let r : Result (Unit {0}) BookFault = c.find_row.result in
     let Finds : Type 0 = FindsRow table d id row place names owner place' names' owner' in
     record {
-      sound = on-done r Finds (AreSoundTo id table place' names' owner') c.find_row.ensures.found
-          (λ f. sound-next place place' row.soup row.uid id f.placed f.other_places last there.1 names names' (objects_named row.larges) f.named f.other_names table owner owner' c.requires.sound there.0 odd f.free f.owns
-          (named-there table row.larges (all-there table row.larges f.there)) even);
-      found = on-done r Finds (OfObjects g.H.Host.told (image u o.now) (AreFoundTo id place' names' d)) c.find_row.ensures.found
-          (λ f tells texts h. row-next g.H.Host.told objects numbers u o c.requires.kept tells texts h d last id c.requires.next place names row (is_row tells texts h) odd f.given even (all-there table row.larges f.there)
-          place' names' f.free f.placed f.other_places f.named f.other_names (c.requires.found tells texts h));
-      reads = e.reads;
-      ends = record {
-        not_store = λ is tells. elim (c.find_row.ensures.bad is) [
-          | inl none ↦ record-not-given g.H.Host.told objects numbers u o c.requires.kept tells c.args.directory.now c.requires.root id odd row is_row none
-          | inr (inl other) ↦ record-twice g.H.Host.told objects numbers u o c.requires.kept tells c.args.directory.now c.requires.root id odd row is_row last place names owner c.requires.sound c.requires.found there.1 other.0 other.1
-          | inr (inr (inl not)) ↦ (let l = not-there table row.larges not in record-missing g.H.Host.told objects numbers u o c.requires.kept tells c.args.directory.now c.requires.root id odd row is_row l.0 l.1 l.2)
-          | inr (inr (inr owned)) ↦ record-owned g.H.Host.told objects numbers u o c.requires.kept tells c.args.directory.now c.requires.root id odd row is_row last place names owner c.requires.sound c.requires.found there.1 owned
-        ];
-        cause = λ is. absurd (c.find_row.ensures.no_device is);
-        no_fault = λ opening. c.in_ok-row.ensures.ends.no_fault tt;
+      found = on-done r Finds (IsFoundTo g.H.Host.told (image u o.now) table c.args.directory.now id place' names' owner') c.find_row.ensures.found (λ f. record {
+        sound = sound-next place place' row.soup row.uid id f.placed f.other_places last there.1 names names' (objects_named row.larges) f.named f.other_names table owner owner' c.requires.found.sound there.0 odd f.free f.owns
+            (named-there table row.larges (all-there table row.larges f.there)) even;
+        found = λ tells texts h. row-next g.H.Host.told objects numbers u o c.requires.can.kept tells texts h d last id c.requires.next place names row (is_row tells texts h) odd f.given even (all-there table row.larges f.there)
+            place' names' f.free f.placed f.other_places f.named f.other_names (c.requires.found.found tells texts h);
+      });
+      searches = record {
+        book = e.searches.book;
+        ends = record {
+          not_store = λ is tells. elim (c.find_row.ensures.bad is) [
+            | inl none ↦ record-not-given g.H.Host.told objects numbers u o c.requires.can.kept tells c.args.directory.now c.requires.root.root id odd row is_row none
+            | inr (inl other) ↦ record-twice g.H.Host.told objects numbers u o c.requires.can.kept tells c.args.directory.now c.requires.root.root id odd row is_row last place names owner c.requires.found.sound c.requires.found.found there.1 other.0 other.1
+            | inr (inr (inl not)) ↦ (let l = not-there table row.larges not in record-missing g.H.Host.told objects numbers u o c.requires.can.kept tells c.args.directory.now c.requires.root.root id odd row is_row l.0 l.1 l.2)
+            | inr (inr (inr owned)) ↦ record-owned g.H.Host.told objects numbers u o c.requires.can.kept tells c.args.directory.now c.requires.root.root id odd row is_row last place names owner c.requires.found.sound c.requires.found.found there.1 owned
+          ];
+          cause = λ is. absurd (c.find_row.ensures.no_device is);
+          no_fault = λ opening. c.in_ok-row.ensures.searches.ends.no_fault tt;
+        };
       };
     }

@@ -10,7 +10,8 @@ use Rattle.newt_entries.specs.Entry.{stream_graph}
 use Rattle.newt_objects_commit.specs.Names.{AreSoundNames, names_of}
 use Rattle.newt_objects_commit.specs.Places.{AreSoundPlaces, place_of}
 use Rattle.newt_store_catalog.specs.declared.open.Finding.{Finding}
-use Rattle.newt_store_catalog.specs.Opening.{OfObjects, owner_of, IsRoot, AreFoundTo}
+use Rattle.newt_store_catalog.specs.Opening.{owner_of}
+use Rattle.newt_store_catalog.specs.Calls.{IsDirectory, IsFoundTo}
 use Rattle.newt_store_catalog.proofs.Opening.{kept-none, kept-there, large-not-named, same-image}
 use Rattle.newt_store_catalog.proofs.Exits.{Fails, no-value, reads-none, reads-on, search-value, search-none, search-fails, search-after}
 use Rattle.newt_store_catalog.proofs.OpeningPlaces.{sound-none, found-none, found-all}
@@ -18,10 +19,12 @@ use Rattle.newt_store_catalog.proofs.open.find_records.Goals as goal
 
 pub loop-id-init : goal.loop-id-init
 loop-id-init g c = record {
-  reads = reads-none g.P.PageBook.place g.P.PageBook.numbers g.P.PageBook.stands g.H.Host.told c.args.objects.now c.args.book.now (g.H.Host.outside c.args.host.now) c.requires.stands c.requires.kept;
+  reads = reads-none g.P.PageBook.place g.P.PageBook.numbers g.P.PageBook.stands g.H.Host.told c.args.objects.now c.args.book.now (g.H.Host.outside c.args.host.now) c.requires.can;
   no_fault = NoFault-refl (g.H.Host.outside c.args.host.now);
-  sound = sound-none (held c.args.objects.now) (place_of c.new-places.result) (names_of c.new-names.result) (owner_of c.no_owners-owners.result) c.new-places.ensures c.new-names.ensures c.no_owners-owners.ensures;
-  found = λ tells texts h. found-none texts (bare_store c.args.directory.now) (place_of c.new-places.result) (names_of c.new-names.result) c.new-places.ensures;
+  found = record {
+    sound = sound-none (held c.args.objects.now) (place_of c.new-places.result) (names_of c.new-names.result) (owner_of c.no_owners-owners.result) c.new-places.ensures c.new-names.ensures c.no_owners-owners.ensures;
+    found = λ tells texts h. found-none texts (bare_store c.args.directory.now) (place_of c.new-places.result) (names_of c.new-names.result) c.new-places.ensures;
+  };
 }
 
 pub loop-id-smaller : goal.loop-id-smaller
@@ -32,7 +35,7 @@ loop-id-smaller g c =
 pub find_object-requires-clause-root : goal.find_object-requires-clause-root
 find_object-requires-clause-root g c =
     let i = c.loop-id.invariant in
-    subst (λ (b : List ℕ). OfObjects g.H.Host.told b (IsRoot c.args.directory.now)) (sym (same-image _ _ _ _ i.reads.same_place i.reads.looks.moment)) c.requires.root
+    subst (λ (b : List ℕ). IsDirectory g.H.Host.told b c.args.directory.now) (sym (same-image _ _ _ _ i.reads.same_place i.reads.looks.moment)) c.requires.root
 
 pub find_object-requires-clause-next : goal.find_object-requires-clause-next
 find_object-requires-clause-next g c = subst (λ (n : Option ℕ). IsNextIn (held c.args.objects.now) (c.loop-id.last + 1) n) c.in-Some.is c.next_after.ensures
@@ -40,17 +43,16 @@ find_object-requires-clause-next g c = subst (λ (n : Option ℕ). IsNextIn (hel
 pub find_object-requires-clause-found : goal.find_object-requires-clause-found
 find_object-requires-clause-found g c =
     let i = c.loop-id.invariant in
-    subst (λ (b : List ℕ). OfObjects g.H.Host.told b (AreFoundTo c.loop-id.last (place_of c.loop-id.finding.places) (names_of c.loop-id.finding.names) (bare_store c.args.directory.now))) (sym (same-image _ _ _ _ i.reads.same_place i.reads.looks.moment)) i.found
+    subst (λ (b : List ℕ). IsFoundTo g.H.Host.told b (held c.args.objects.now) c.args.directory.now c.loop-id.last (place_of c.loop-id.finding.places) (names_of c.loop-id.finding.names) (owner_of c.loop-id.finding.owners)) (sym (same-image _ _ _ _ i.reads.same_place i.reads.looks.moment)) i.found
 
 pub loop-id-preserved : goal.loop-id-preserved
 loop-id-preserved g c =
     let i = c.loop-id.invariant in
     let e = c.in_ok-find_object.ensures in
     record {
-      reads = reads-on i.reads e.reads;
-      no_fault = NoFault-append i.no_fault (e.ends.no_fault tt);
-      sound = e.sound;
-      found = subst (λ (b : List ℕ). OfObjects g.H.Host.told b (AreFoundTo c.in-Some.id (place_of c.find_object.new.finding.places) (names_of c.find_object.new.finding.names) (bare_store c.args.directory.now)))
+      reads = reads-on i.reads e.searches.book;
+      no_fault = NoFault-append i.no_fault (e.searches.ends.no_fault tt);
+      found = subst (λ (b : List ℕ). IsFoundTo g.H.Host.told b (held c.args.objects.now) c.args.directory.now c.in-Some.id (place_of c.find_object.new.finding.places) (names_of c.find_object.new.finding.names) (owner_of c.find_object.new.finding.owners))
           (same-image _ _ _ _ i.reads.same_place i.reads.looks.moment) e.found;
     }
 
@@ -58,50 +60,48 @@ pub returns-then-not-are_owned : goal.returns-then-not-are_owned
 returns-then-not-are_owned g c =
     let i = c.loop-id.invariant in
     record {
-      places = tt;
-      names = tt;
       found = tt;
-      reads = i.reads;
-      ends = search-none
-          (λ tells.
-          let o = c.are_owned.ensures.not_owned c.if-not-are_owned.true in
-          large-not-named g.H.Host.told c.args.objects.now (g.P.PageBook.numbers c.args.book.now) (g.P.PageBook.place c.args.book.now) (g.H.Host.outside c.args.host.now) c.requires.kept tells
-          c.loop-id.last (place_of c.loop-id.finding.places) (names_of c.loop-id.finding.names) (owner_of c.loop-id.finding.owners) (bare_store c.args.directory.now) i.sound i.found
-          (λ q from. c.next_after.ensures.none q c.in_default.is from) o.0 o.1 o.2 o.3 o.4)
-          i.no_fault;
+      searches = record {
+        book = i.reads;
+        ends = search-none
+            (λ tells.
+            let o = c.are_owned.ensures.not_owned c.if-not-are_owned.true in
+            large-not-named g.H.Host.told c.args.objects.now (g.P.PageBook.numbers c.args.book.now) (g.P.PageBook.place c.args.book.now) (g.H.Host.outside c.args.host.now) c.requires.can.kept tells
+            c.loop-id.last (place_of c.loop-id.finding.places) (names_of c.loop-id.finding.names) (owner_of c.loop-id.finding.owners) (bare_store c.args.directory.now) i.found.sound i.found.found
+            (λ q from. c.next_after.ensures.none q c.in_default.is from) o.0 o.1 o.2 o.3 o.4)
+            i.no_fault;
+      };
     }
 
 pub returns : goal.returns
 returns g c =
     let i = c.loop-id.invariant in
     record {
-      places = i.sound.places;
-      names = i.sound.named;
-      found = λ tells texts h.
-          found-all texts c.args.directory.now c.loop-id.last (held c.args.objects.now) (place_of c.loop-id.finding.places) (names_of c.loop-id.finding.names) (owner_of c.loop-id.finding.owners) (c.requires.root tells texts h)
-          i.sound (i.found tells texts h)
-          (λ q from. kept-none g.H.Host.told c.args.objects.now (g.P.PageBook.numbers c.args.book.now) (g.P.PageBook.place c.args.book.now) (g.H.Host.outside c.args.host.now) c.requires.kept tells texts h q
-          (c.next_after.ensures.none q c.in_default.is from))
-          (λ id bytes at n even. c.are_owned.ensures.owned c.if-not-are_owned.false id
-          (kept-there g.H.Host.told c.args.objects.now (g.P.PageBook.numbers c.args.book.now) (g.P.PageBook.place c.args.book.now) (g.H.Host.outside c.args.host.now) c.requires.kept tells texts h id bytes at) n even);
-      reads = i.reads;
-      ends = search-value i.no_fault;
+      found = record {
+        places = i.found.sound.places;
+        names_are = i.found.sound.named;
+        found = λ tells texts h.
+            found-all texts c.args.directory.now c.loop-id.last (held c.args.objects.now) (place_of c.loop-id.finding.places) (names_of c.loop-id.finding.names) (owner_of c.loop-id.finding.owners) (c.requires.root.root tells texts h)
+            i.found.sound (i.found.found tells texts h)
+            (λ q from. kept-none g.H.Host.told c.args.objects.now (g.P.PageBook.numbers c.args.book.now) (g.P.PageBook.place c.args.book.now) (g.H.Host.outside c.args.host.now) c.requires.can.kept tells texts h q
+            (c.next_after.ensures.none q c.in_default.is from))
+            (λ id bytes at n even. c.are_owned.ensures.owned c.if-not-are_owned.false id
+            (kept-there g.H.Host.told c.args.objects.now (g.P.PageBook.numbers c.args.book.now) (g.P.PageBook.place c.args.book.now) (g.H.Host.outside c.args.host.now) c.requires.can.kept tells texts h id bytes at) n even);
+      };
+      searches = record { book = i.reads; ends = search-value i.no_fault };
     }
 
 pub returns-in_err-find_object : goal.returns-in_err-find_object
 returns-in_err-find_object g c =
     let i = c.loop-id.invariant in
     let e = c.find_object.ensures in
-    let o = g.H.Host.outside in
-    let u : ℕ = g.P.PageBook.place c.args.book.now in
-    let first = o c.args.host.now in
     let fault : BookFault = c.in_err-find_object.field-0.0 in
     let r : Result Finding BookFault = c.from_residual.result in
     let fails : Fails r fault = c.from_residual.ensures.1 in
     record {
-      places = no-value r fault (λ finding. AreSoundPlaces (held c.args.objects.now) (place_of finding.places)) fails;
-      names = no-value r fault (λ finding. AreSoundNames (held c.args.objects.now) (names_of finding.names)) fails;
-      found = no-value r fault (λ finding. OfObjects g.H.Host.told (image u first.now) (λ texts. IsFound stream_graph texts (place_of finding.places) (names_of finding.names) (bare_store c.args.directory.now))) fails;
-      reads = reads-on i.reads e.reads;
-      ends = search-after i.reads.same_place i.reads.looks i.no_fault (search-fails r fault fails c.in_err-find_object.ensures.ends);
+      found = no-value r fault _ fails;
+      searches = record {
+        book = reads-on i.reads e.searches.book;
+        ends = search-after i.reads.same_place i.reads.looks i.no_fault (search-fails r fault fails c.in_err-find_object.ensures.searches.ends);
+      };
     }

@@ -20,10 +20,10 @@ returns-in_err-book g c =
     let r : Result (g.row.P.Denot × Catalog) BookFault = c.from_residual.result in
     let fails : Fails r fault = c.from_residual.ensures.1 in
     record {
-      stands = no-value r fault (λ found. g.P.PageBook.stands g.H.Host.told found.0 last) fails;
-      place = no-value r fault (λ found. g.P.PageBook.place found.0 ≡ c.args.unit) fails;
-      sound = no-value r fault (λ found. IsSound g.H.Host.told found.1 (g.P.PageBook.numbers found.0) c.args.unit last) fails;
-      found = λ tells. no-value r fault (λ found. (s : Store) × (readable now ≡ Some s) × StandsFor found.1 s now) fails;
+      stands = no-value r fault _ fails;
+      place_is = no-value r fault _ fails;
+      sound = no-value r fault _ fails;
+      found = λ tells. no-value r fault _ fails;
       looks = e.reads;
       ends = search-fails r fault fails (record {
         not_store = λ is tells. no-pages now (c.in_err-book.ensures.not_store is tells);
@@ -46,10 +46,10 @@ returns-in_err-catalog g c =
     let r : Result (g.row.P.Denot × Catalog) BookFault = c.from_residual-in_err-catalog.result in
     let fails : Fails r fault = c.from_residual-in_err-catalog.ensures.1 in
     record {
-      stands = no-value r fault (λ found. g.P.PageBook.stands g.H.Host.told found.0 last) fails;
-      place = no-value r fault (λ found. g.P.PageBook.place found.0 ≡ unit) fails;
-      sound = no-value r fault (λ found. IsSound g.H.Host.told found.1 (g.P.PageBook.numbers found.0) unit last) fails;
-      found = λ tells. no-value r fault (λ found. (s : Store) × (readable now ≡ Some s) × StandsFor found.1 s now) fails;
+      stands = no-value r fault _ fails;
+      place_is = no-value r fault _ fails;
+      sound = no-value r fault _ fails;
+      found = λ tells. no-value r fault _ fails;
       looks = looks-on b.place_is b.reads e.reads.looks;
       ends = search-after b.place_is b.reads (b.no_fault tt) (search-fails r fault fails c.in_err-catalog.ensures.ends);
     }
@@ -67,7 +67,7 @@ returns g c =
     let catalog : Catalog = c.in_ok-catalog.catalog in
     record {
       stands = e.reads.stood;
-      place = place;
+      place_is = place;
       sound = subst (λ (u : ℕ). IsSound g.H.Host.told catalog (g.P.PageBook.numbers c.find_catalog.new.book) u last) place c.in_ok-catalog.ensures.sound;
       found = λ tells. subst (λ (now : List ℕ). (s : Store) × (readable now ≡ Some s) × StandsFor catalog s now) (same-image unit v first.now mid.now b.place_is b.reads.moment) (c.in_ok-catalog.ensures.found tells);
       looks = looks-on b.place_is b.reads e.reads.looks;

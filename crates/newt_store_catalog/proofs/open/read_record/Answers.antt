@@ -20,8 +20,7 @@ returns-in_err-bytes g c =
     record {
       row = no-value r fault (λ row. OfObjects g.H.Host.told now (IsRow c.args.id row)) fails;
       even = no-value r fault (λ row. (o : ℕ) → Among (objects_named row.larges) o → (o % 2 ≡ 0) × (0 < o)) fails;
-      reads = e.reads;
-      ends = search-fails r fault fails c.in_err-bytes.ensures.ends;
+      searches = record { book = e.searches.book; ends = search-fails r fault fails c.in_err-bytes.ensures.searches.ends };
     }
 
 pub returns : goal.returns
@@ -36,12 +35,14 @@ returns g c =
     record {
       row = row-by g.H.Host.told (image u o.now) bytes text c.args.id r c.in_ok-bytes.ensures.bytes same c.record_of.ensures.read c.record_of.ensures.are_bytes;
       even = even-by text r c.record_of.ensures.read;
-      reads = e.reads;
-      ends = record {
-        not_store = λ is tells.
-            record-bad g.H.Host.told c.args.objects.now (g.P.PageBook.numbers c.args.book.now) u o c.requires.kept tells c.args.id bytes c.in_ok-bytes.ensures.bytes c.requires.odd
-            (ap (record_read stream_graph) (sym same) ∙ c.record_of.ensures.bad is);
-        cause = λ is. absurd (c.record_of.ensures.no_device is);
-        no_fault = λ opening. c.in_ok-bytes.ensures.ends.no_fault tt;
+      searches = record {
+        book = e.searches.book;
+        ends = record {
+          not_store = λ is tells.
+              record-bad g.H.Host.told c.args.objects.now (g.P.PageBook.numbers c.args.book.now) u o c.requires.can.kept tells c.args.id bytes c.in_ok-bytes.ensures.bytes c.requires.odd
+              (ap (record_read stream_graph) (sym same) ∙ c.record_of.ensures.bad is);
+          cause = λ is. absurd (c.record_of.ensures.no_device is);
+          no_fault = λ opening. c.in_ok-bytes.ensures.searches.ends.no_fault tt;
+        };
       };
     }

@@ -7,9 +7,9 @@ use Rattle.newt_spec_store.specs.Lies.{directory_read}
 use Rattle.newt_spec_store.specs.Valid.{well_formed}
 use Rattle.newt_soupdir.specs.Bare.{bare_store}
 use Rattle.newt_soupdir.specs.declared.rows.Directory.{Directory}
-use Rattle.newt_store_catalog.specs.Opening.{OfObjects, IsRoot}
+use Rattle.newt_store_catalog.specs.Calls.{IsDirectory}
 use Rattle.newt_store_catalog.proofs.Exits.{Fails, no-value, reads-none, search-fails, search-none}
-use Rattle.newt_store_catalog.proofs.Opening.{root-missing, root-bad, root-by, mapped-none, is-none, formed-by}
+use Rattle.newt_store_catalog.proofs.Opening.{root-missing, root-bad, directory-by, mapped-none, is-none}
 use Rattle.newt_store_catalog.proofs.open.read_root.Goals as goal
 
 pub returns-then-is_none : goal.returns-then-is_none
@@ -18,12 +18,13 @@ returns-then-is_none g c =
     let u : ℕ = g.P.PageBook.place c.args.book.now in
     record {
       root = tt;
-      formed = tt;
-      reads = reads-none g.P.PageBook.place g.P.PageBook.numbers g.P.PageBook.stands g.H.Host.told c.args.objects.now c.args.book.now o c.requires.stands c.requires.kept;
-      ends = search-none
-          (λ tells. root-missing g.H.Host.told c.args.objects.now (g.P.PageBook.numbers c.args.book.now) u o c.requires.kept tells
-          (mapped-none (λ x. x.length) (held c.args.objects.now 0) (sym c.length.ensures ∙ is-none c.length.result c.if-is_none.ensures)))
-          (NoFault-refl o);
+      searches = record {
+        book = reads-none g.P.PageBook.place g.P.PageBook.numbers g.P.PageBook.stands g.H.Host.told c.args.objects.now c.args.book.now o c.requires.can;
+        ends = search-none
+            (λ tells. root-missing g.H.Host.told c.args.objects.now (g.P.PageBook.numbers c.args.book.now) u o c.requires.can.kept tells
+            (mapped-none (λ x. x.length) (held c.args.objects.now 0) (sym c.length.ensures ∙ is-none c.length.result c.if-is_none.ensures)))
+            (NoFault-refl o);
+      };
     }
 
 pub returns-in_err-bytes : goal.returns-in_err-bytes
@@ -34,10 +35,8 @@ returns-in_err-bytes g c =
     let r : Result Directory BookFault = c.from_residual.result in
     let fails : Fails r fault = c.from_residual.ensures.1 in
     record {
-      root = no-value r fault (λ directory. OfObjects g.H.Host.told now (IsRoot directory)) fails;
-      formed = no-value r fault (λ directory. IsTrue (well_formed (bare_store directory))) fails;
-      reads = e.reads;
-      ends = search-fails r fault fails c.in_err-bytes.ensures.ends;
+      root = no-value r fault (IsDirectory g.H.Host.told now) fails;
+      searches = record { book = e.searches.book; ends = search-fails r fault fails c.in_err-bytes.ensures.searches.ends };
     }
 
 pub returns : goal.returns
@@ -50,13 +49,14 @@ returns g c =
     let same : text ≡ bytes = c.deref.ensures.value in
     let r : Result Directory BookFault = c.root_of.result in
     record {
-      root = root-by g.H.Host.told (image u o.now) bytes text r c.in_ok-bytes.ensures.bytes same c.root_of.ensures.read c.root_of.ensures.are_bytes;
-      formed = formed-by text r c.root_of.ensures.read;
-      reads = e.reads;
-      ends = record {
-        not_store = λ is tells.
-            root-bad g.H.Host.told c.args.objects.now (g.P.PageBook.numbers c.args.book.now) u o c.requires.kept tells bytes c.in_ok-bytes.ensures.bytes (ap directory_read (sym same) ∙ c.root_of.ensures.bad is);
-        cause = λ is. absurd (c.root_of.ensures.no_device is);
-        no_fault = λ opening. c.in_ok-bytes.ensures.ends.no_fault tt;
+      root = directory-by g.H.Host.told (image u o.now) bytes text r c.in_ok-bytes.ensures.bytes same c.root_of.ensures.read c.root_of.ensures.are_bytes;
+      searches = record {
+        book = e.searches.book;
+        ends = record {
+          not_store = λ is tells.
+              root-bad g.H.Host.told c.args.objects.now (g.P.PageBook.numbers c.args.book.now) u o c.requires.can.kept tells bytes c.in_ok-bytes.ensures.bytes (ap directory_read (sym same) ∙ c.root_of.ensures.bad is);
+          cause = λ is. absurd (c.root_of.ensures.no_device is);
+          no_fault = λ opening. c.in_ok-bytes.ensures.searches.ends.no_fault tt;
+        };
       };
     }

@@ -1,48 +1,106 @@
-use Rattle.std.proofs.Common.{◌≡◌, sym, ◌∙◌, ap}
+use Rattle.std.proofs.Common.{◌≡◌, ℕ, List, sym, ◌∙◌, ap, subst}
+use Rattle.std.specs.List.{list_all}
+use Rattle.newt_objects.specs.Held.{held}
+use Rattle.newt_pagebook.specs.Stops.{StopsAt}
 use Rattle.newt_spec_store.specs.Lies.{record_read}
 use Rattle.newt_entries.specs.Entry.{stream_graph}
-use Rattle.newt_store_catalog.proofs.Exits.{with-kept, read-fails}
+use Rattle.newt_store_catalog.specs.Calls.{AreThere}
+use Rattle.newt_store_catalog.specs.Opening.{has_length}
+use Rattle.newt_store_catalog.proofs.Exits.{with-kept, read-fails, no-value}
+use Rattle.newt_store_catalog.proofs.Lying.{is-record, are-there}
+use Rattle.newt_store_catalog.proofs.Opening.{not_true, the-fault}
 use Rattle.newt_store_catalog.proofs.Rows.{read-is, read-costs}
 use Rattle.newt_store_catalog.proofs.read.read_row.Goals as goal
 
-pub returns-in_err-bytes-clause-costs : goal.returns-in_err-bytes-clause-costs
-returns-in_err-bytes-clause-costs g c = λ tells texts bytes holds at.
+pub lies-requires : goal.lies-requires
+lies-requires g c = λ tells.
+    let objects = c.args.objects.now in
+    let there : AreThere objects c.in-Ok.row.larges = are-there g.H.Host.told objects (g.P.PageBook.numbers c.args.book.now) (g.P.PageBook.place c.args.book.now) (g.H.Host.outside c.args.host.now) c.requires.can.kept tells c.args.id (c.requires.entry.lies tells)
+    c.in_ok-bytes.bytes.items (c.in_ok-bytes.ensures.bytes tells) c.in-Ok.row (ap (record_read stream_graph) (sym c.deref.ensures.value) ∙ c.in-Ok.ensures.found) in
+    not_true _ (ap (list_all (λ l. has_length (held objects) l)) c.list.ensures ∙ there) (sym c.are_there.ensures ∙ c.if-not-are_there.true)
+
+pub lies-requires-in-Err-Bad : goal.lies-requires-in-Err-Bad
+lies-requires-in-Err-Bad g c = λ tells.
+    is-record g.H.Host.told c.args.objects.now (g.P.PageBook.numbers c.args.book.now) (g.P.PageBook.place c.args.book.now) (g.H.Host.outside c.args.host.now) c.requires.can.kept tells c.args.id (c.requires.entry.lies tells) c.in_ok-bytes.bytes.items
+    (c.in_ok-bytes.ensures.bytes tells) (ap (record_read stream_graph) (sym c.deref.ensures.value) ∙ c.read_entry.ensures.bad (the-fault c.in-Err-Bad.is c.in-Err-Bad.field-0-is))
+
+pub returns-in_err-bytes : goal.returns-in_err-bytes
+returns-in_err-bytes g c =
     let o = g.H.Host.outside in
-    read-costs g.H.Host.told c.args.objects.now (g.P.PageBook.numbers c.args.book.now) (g.P.PageBook.place c.args.book.now) (o c.args.host.now) c.requires.kept tells texts holds c.args.id bytes at (o c.args.host.now) (o c.read.new.host) c.read.ensures.costs
+    let r = c.from_residual.result in
+    let kept = c.requires.can.kept in
+    record {
+      row = λ tells texts bytes holds at. record {
+        row = no-value r c.in_err-bytes.field-0.0 _ c.from_residual.ensures.1;
+        costs = read-costs g.H.Host.told c.args.objects.now (g.P.PageBook.numbers c.args.book.now) (g.P.PageBook.place c.args.book.now) (o c.args.host.now) kept tells texts holds c.args.id bytes at (o c.args.host.now) (o c.read.new.host) c.read.ensures.costs;
+      };
+      any = no-value r c.in_err-bytes.field-0.0 _ c.from_residual.ensures.1;
+      reads = record {
+        book = with-kept kept c.read.ensures.reads.book;
+        ends = read-fails {T = Unit {0}} r c.in_err-bytes.field-0.0 c.from_residual.ensures.1 (record { cause = c.in_err-bytes.ensures.reads.cause; no_fault = tt });
+      };
+    }
 
-pub returns-in-Ok-clause-costs : goal.returns-in-Ok-clause-costs
-returns-in-Ok-clause-costs g c = λ tells texts bytes holds at.
+pub returns-then-not-are_there : goal.returns-then-not-are_there
+returns-then-not-are_there g c =
     let o = g.H.Host.outside in
-    read-costs g.H.Host.told c.args.objects.now (g.P.PageBook.numbers c.args.book.now) (g.P.PageBook.place c.args.book.now) (o c.args.host.now) c.requires.kept tells texts holds c.args.id bytes at (o c.args.host.now) (o c.read.new.host) c.read.ensures.costs
+    let u : ℕ = g.P.PageBook.place c.args.book.now in
+    let kept = c.requires.can.kept in
+    record {
+      row = λ tells texts bytes holds at. record {
+        row = tt;
+        costs = read-costs g.H.Host.told c.args.objects.now (g.P.PageBook.numbers c.args.book.now) u (o c.args.host.now) kept tells texts holds c.args.id bytes at (o c.args.host.now) (o c.read.new.host) c.read.ensures.costs;
+      };
+      any = tt;
+      reads = record { book = with-kept kept c.read.ensures.reads.book; ends = record { cause = subst (StopsAt u (o c.args.host.now) (o c.read.new.host)) (sym c.lies.ensures) tt; no_fault = tt } };
+    }
 
-pub returns-clause-costs : goal.returns-clause-costs
-returns-clause-costs g c = λ tells texts bytes holds at.
+pub returns-in-Ok : goal.returns-in-Ok
+returns-in-Ok g c =
     let o = g.H.Host.outside in
-    read-costs g.H.Host.told c.args.objects.now (g.P.PageBook.numbers c.args.book.now) (g.P.PageBook.place c.args.book.now) (o c.args.host.now) c.requires.kept tells texts holds c.args.id bytes at (o c.args.host.now) (o c.read.new.host) c.read.ensures.costs
+    let objects = c.args.objects.now in
+    let u : ℕ = g.P.PageBook.place c.args.book.now in
+    let numbers = g.P.PageBook.numbers c.args.book.now in
+    let kept = c.requires.can.kept in
+    record {
+      row = λ tells texts bytes holds at.
+          let same : bytes ≡ c.in_ok-bytes.bytes.items = read-is g.H.Host.told objects numbers u (o c.args.host.now) kept tells texts holds c.args.id bytes at c.in_ok-bytes.bytes.items (c.in_ok-bytes.ensures.bytes tells) in
+          record {
+            row = ap (record_read stream_graph) (same ∙ sym c.deref.ensures.value) ∙ c.in-Ok.ensures.found;
+            costs = read-costs g.H.Host.told objects numbers u (o c.args.host.now) kept tells texts holds c.args.id bytes at (o c.args.host.now) (o c.read.new.host) c.read.ensures.costs;
+          };
+      any = record {
+        bytes = c.deref.result.now;
+        read = c.in-Ok.ensures.found;
+        fits = c.in-Ok.ensures.fit;
+        there = ap (list_all (λ l. has_length (held objects) l)) (sym c.list.ensures) ∙ sym c.are_there.ensures ∙ c.if-not-are_there.false;
+      };
+      reads = record { book = with-kept kept c.read.ensures.reads.book; ends = record { cause = tt; no_fault = c.in_ok-bytes.ensures.reads.no_fault } };
+    }
 
-pub returns-in_err-bytes-clause-reads : goal.returns-in_err-bytes-clause-reads
-returns-in_err-bytes-clause-reads g c = with-kept c.requires.kept c.read.ensures.reads.book
-
-pub returns-in-Ok-clause-reads : goal.returns-in-Ok-clause-reads
-returns-in-Ok-clause-reads g c = with-kept c.requires.kept c.read.ensures.reads.book
-
-pub returns-clause-reads : goal.returns-clause-reads
-returns-clause-reads g c = with-kept c.requires.kept c.read.ensures.reads.book
-
-pub returns-in_err-bytes-clause-ends : goal.returns-in_err-bytes-clause-ends
-returns-in_err-bytes-clause-ends g c = read-fails {T = Unit {0}} c.from_residual.result c.in_err-bytes.field-0.0 c.from_residual.ensures.1 (record { cause = c.in_err-bytes.ensures.reads.cause; no_fault = tt })
-
-pub returns-in-Ok-clause-ends : goal.returns-in-Ok-clause-ends
-returns-in-Ok-clause-ends g c = record { cause = tt; no_fault = c.in_ok-bytes.ensures.reads.no_fault }
-
-pub returns-clause-ends : goal.returns-clause-ends
-returns-clause-ends g c = record { cause = tt; no_fault = tt }
-
-pub returns-in-Ok-clause-row : goal.returns-in-Ok-clause-row
-returns-in-Ok-clause-row g c = λ tells texts bytes holds at.
+pub returns-in-Err-Bad : goal.returns-in-Err-Bad
+returns-in-Err-Bad g c =
     let o = g.H.Host.outside in
-    let same : bytes ≡ c.in_ok-bytes.bytes.items = read-is g.H.Host.told c.args.objects.now (g.P.PageBook.numbers c.args.book.now) (g.P.PageBook.place c.args.book.now) (o c.args.host.now) c.requires.kept tells texts holds c.args.id bytes at c.in_ok-bytes.bytes.items (c.in_ok-bytes.ensures.bytes tells) in
-    ap (record_read stream_graph) (same ∙ sym c.deref.ensures.value) ∙ c.in-Ok.ensures.found
+    let u : ℕ = g.P.PageBook.place c.args.book.now in
+    let kept = c.requires.can.kept in
+    record {
+      row = λ tells texts bytes holds at. record {
+        row = tt;
+        costs = read-costs g.H.Host.told c.args.objects.now (g.P.PageBook.numbers c.args.book.now) u (o c.args.host.now) kept tells texts holds c.args.id bytes at (o c.args.host.now) (o c.read.new.host) c.read.ensures.costs;
+      };
+      any = tt;
+      reads = record { book = with-kept kept c.read.ensures.reads.book; ends = record { cause = subst (StopsAt u (o c.args.host.now) (o c.read.new.host)) (sym c.lies-in-Err-Bad.ensures) tt; no_fault = tt } };
+    }
 
-pub returns-in-Ok-clause-any : goal.returns-in-Ok-clause-any
-returns-in-Ok-clause-any g c = (c.deref.result.now, c.in-Ok.ensures.found)
+pub returns : goal.returns
+returns g c =
+    let o = g.H.Host.outside in
+    let kept = c.requires.can.kept in
+    record {
+      row = λ tells texts bytes holds at. record {
+        row = tt;
+        costs = read-costs g.H.Host.told c.args.objects.now (g.P.PageBook.numbers c.args.book.now) (g.P.PageBook.place c.args.book.now) (o c.args.host.now) kept tells texts holds c.args.id bytes at (o c.args.host.now) (o c.read.new.host) c.read.ensures.costs;
+      };
+      any = tt;
+      reads = record { book = with-kept kept c.read.ensures.reads.book; ends = record { cause = tt; no_fault = tt } };
+    }

@@ -23,4 +23,4 @@ returns-clause-objects g c =
     let r = c.in_ok-reserve.ensures.same in
     patched_out c.args.objects.now 7 c.args.at c.args.bytes.now c.new-batch.result c.plan_patch.new.batch (numbers c.args.book.now) (numbers c.reserve.new.self) (numbers c.commit.new.self)
     (place c.args.book.now) (place c.reserve.new.self) (outside_of c.args.host.now) (outside_of c.plan_patch.new.host) (outside_of c.commit.new.host) c.new-batch.ensures c.requires.there c.requires.book.1
-    (r.0 ∙ e.reads.book.same_place ∙ c.requires.book.1) (r.1 ∙ e.reads.book.same_numbers) e.reads.book.looks.moment c.requires.objects (e.patched refl) e.puts.same_numbers c.in_ok-commit.ensures.numbers_are (c.in_ok-commit.ensures.committed refl)
+    (r.0 ∙ e.reads.book.same_place ∙ c.requires.book.1) (r.1 ∙ e.reads.book.same_numbers) e.reads.book.looks.moment c.requires.objects (e.plans.patched refl) e.plans.puts.same_numbers c.in_ok-commit.ensures.numbers_are (c.in_ok-commit.ensures.committed refl)

@@ -18,7 +18,7 @@ use Rattle.newt_objects.proofs.Whole.{image_whole}
 use Rattle.newt_vbo.specs.declared.fault.RangeFault.{RangeFault}
 use Rattle.newt_vbo.specs.declared.fault.RangeFault.TheVariants.{Range}
 use Rattle.newt_vbo.specs.Ranges.{parts_met, before_part, numbers_met}
-use Rattle.newt_vbo.specs.Patches.{numbers_put, WouldPatch, PutsRange}
+use Rattle.newt_vbo.specs.Patches.{numbers_put, WouldPatch}
 use Rattle.newt_vbo.proofs.Counts.{met_begins, met_few, met_within, before_first, before_end}
 use Rattle.newt_vbo.proofs.Exits.{Fails, no_done, no_fault, the_fault, spends_none, spends_part, all_met, count_met}
 use Rattle.newt_vbo.proofs.Parts.{HasWhole, part_at, part_live, data_whole, unnamed_whole, spends_more, for_some, of_some}
@@ -180,8 +180,7 @@ returns-in_err-check_range g c =
     let fails : Fails r fault = c.from_residual.ensures.1 in
     let e = c.in_err-check_range.ensures in
     record {
-      patched = λ told live is. no_done r fault (WouldPatch c.args.objects.now c.args.id at c.args.bytes.now c.args.batch.now c.args.batch.now live) fails;
-      puts = no_done r fault (PutsRange (held c.args.objects.now c.args.id) at n (g.P.PageBook.numbers c.args.book.now) c.args.batch.now c.args.batch.now) fails;
+      plans = no_done r fault _ fails;
       unchanged = λ same. (refl, refl, refl);
       reads = range_past g.P.PageBook.place g.P.PageBook.numbers g.P.PageBook.spare g.P.PageBook.stands g.H.Host.told (held c.args.objects.now c.args.id) at n r fault c.args.book.now o fails e.only e.past c.requires.stands;
     }
@@ -203,8 +202,7 @@ returns-in_err-put_patched g c =
     let mid = outside c.loop-part.host in
     let new = outside c.put_patched.new.host in
     record {
-      patched = λ told live is. no_done r fault (WouldPatch c.args.objects.now c.args.id at c.args.bytes.now c.args.batch.now c.put_patched.new.batch live) fails;
-      puts = no_done r fault (PutsRange (held c.args.objects.now c.args.id) at n (g.P.PageBook.numbers c.args.book.now) c.args.batch.now c.put_patched.new.batch) fails;
+      plans = no_done r fault _ fails;
       unchanged = λ same. absurd (c.in_err-put_patched.ensures.reads.no_range (ap Err (the_fault r fault Range fails same)));
       reads = range_failed g.P.PageBook.place g.P.PageBook.numbers g.P.PageBook.spare g.P.PageBook.stands g.H.Host.told (held c.args.objects.now c.args.id) at n r fault fails refl c.in_ok-check_range.ensures.within i.book c.in_err-put_patched.ensures.reads
           (spends_part unit at n part c.parts_met.result old mid new c.parts_met.ensures c.loop-part.auto.part c.loop-part-test.true i.costs
@@ -224,13 +222,15 @@ returns g c =
     let count : part - at / 500 ≡ parts_met at n = count_met at n part last in
     let all : take (before_part part at (at + n)) bytes ≡ bytes = ap (λ (k : ℕ). take (before_part k at (at + n)) bytes) last ∙ ap (λ (k : ℕ). take k bytes) (before_end at n) ∙ take_all n bytes (omega arith) in
     record {
-      patched = λ told live is. subst (λ (l : List ℕ). WouldPatch c.args.objects.now c.args.id at l c.args.batch.now c.loop-part.batch live) all (i.so_far told live is);
-      puts = record {
-        puts = for_some (held c.args.objects.now c.args.id) (λ x. numbers_put c.loop-part.batch ≡ numbers_put c.args.batch.now ++ numbers_met x at n)
-            (λ x there. i.put x there ∙ ap (λ (k : ℕ). numbers_put c.args.batch.now ++ take k (drop (at / 500) x.numbers)) count);
-        few = omega (arith, i.count, count, met_few at n);
-        deletes = i.deletes;
-        same_numbers = i.same_live;
+      plans = record {
+        patched = λ told live is. subst (λ (l : List ℕ). WouldPatch c.args.objects.now c.args.id at l c.args.batch.now c.loop-part.batch live) all (i.so_far told live is);
+        puts = record {
+          puts = for_some (held c.args.objects.now c.args.id) (λ x. numbers_put c.loop-part.batch ≡ numbers_put c.args.batch.now ++ numbers_met x at n)
+              (λ x there. i.put x there ∙ ap (λ (k : ℕ). numbers_put c.args.batch.now ++ take k (drop (at / 500) x.numbers)) count);
+          few = omega (arith, i.count, count, met_few at n);
+          deletes = i.deletes;
+          same_numbers = i.same_live;
+        };
       };
       unchanged = λ same. absurd (no_fault same);
       reads = range_done g.P.PageBook.place g.P.PageBook.numbers g.P.PageBook.spare g.P.PageBook.stands g.H.Host.told (held c.args.objects.now c.args.id) at n c.in_ok-check_range.ensures.within i.book i.no_fault

@@ -1,4 +1,4 @@
-use Rattle.std.proofs.Common.{◌≡◌, ◌*◌, ◌≤◌, ◌<◌, ℕ, List, None, IfOk, IfErr, OnOk, sym, ◌∙◌, subst}
+use Rattle.std.proofs.Common.{◌≡◌, ◌*◌, ◌≤◌, ◌<◌, ℕ, List, IsTrue, None, Err, IfOk, IfErr, OnOk, sym, ◌∙◌, subst}
 use Rattle.newt_host.specs.Moments.{Moment, image, Leaves}
 use Rattle.newt_spec_image.specs.Pages.{cap}
 use Rattle.newt_spec_store.specs.Cost.{cost}
@@ -9,7 +9,7 @@ use Rattle.newt_store_change.specs.Change.{changed_by, answer_of, refusal_of}
 use Rattle.newt_store.specs.Calls.{MakesChange}
 use Rattle.newt_store.specs.Next.{IsEitherStore}
 use Rattle.newt_store_catalog.specs.Stands.{StandsFor}
-use Rattle.newt_store_change.specs.Faults.{RefusesWith}
+use Rattle.newt_store_change.specs.Faults.{IsRefused, RefusesWith}
 use Rattle.newt_store.specs.Stands.{IsBeforeOrChanged}
 use Rattle.newt_host.specs.Outside.{Touches, Spends, Wears}
 use Rattle.newt_host.proofs.Outside.{Touches-append}
@@ -20,6 +20,7 @@ use Rattle.newt_store.specs.Next.{turn_bytes}
 use Rattle.newt_store_catalog.proofs.Opening.{same-image}
 use Rattle.newt_store.proofs.Applying.{no-patch, spends-more, spends-both, wears-both, none-due, full-due, refuses-full, refuses-first, from-err, sound-over, leaves-changed, leaves-before}
 use Rattle.newt_store.proofs.Unanswered.{no-value}
+use Rattle.newt_store.proofs.Opened.{open-over, refused-on, shows-made, shows-still}
 use Rattle.newt_store.proofs.store.Store.apply.Goals as goal
 
 pub returns-in-Patch-clause-changes : goal.returns-in-Patch-clause-changes
@@ -33,13 +34,7 @@ pub returns-in_err-next-clause-changes : goal.returns-in_err-next-clause-changes
 returns-in_err-next-clause-changes g c =
     let ends = ends-fails c.from_residual.result c.in_err-next.field-0.0 c.from_residual.ensures.1 c.in_err-next.ensures.ends in
     record {
-      is_open = λ goes. record {
-        book = c.plan_change.ensures.reads.stood;
-        sound = (
-            let o = g.H.Host.outside in
-            sound-over g.H.Host.told c.args.self.now.catalog (g.P.PageBook.numbers c.args.self.now.book) (g.P.PageBook.numbers c.plan_change.new.book) (g.P.PageBook.place c.args.self.now.book) (g.P.PageBook.place c.plan_change.new.book)
-            (o c.args.host.now) (o c.plan_change.new.host) c.plan_change.ensures.reads.same_place c.plan_change.ensures.reads.same_numbers c.plan_change.ensures.reads.looks.moment c.requires.sound);
-      };
+      is_open = λ goes. open-over c.requires c.plan_change.ensures.reads;
       same_place = c.plan_change.ensures.reads.same_place;
       accepted = λ tells s stands. no-value c.from_residual.result _ c.from_residual.ensures.0;
       answer = λ tells s stands. no-value c.from_residual.result _ c.from_residual.ensures.0;
@@ -63,8 +58,26 @@ returns-in_err-next-clause-changes g c =
 pub returns-in-Ok-clause-changes : goal.returns-in-Ok-clause-changes
 returns-in-Ok-clause-changes g c =
     let ends = ends-after _ c.plan_change.ensures.reads.same_place c.plan_change.ensures.reads.looks (c.in_ok-next.ensures.ends.no_fault tt) c.in-Ok.ensures.leaves.ends in
+    let changed : IsTrue g.H.Host.told → (s : PlainStore) → StandsFor c.args.self.now.catalog s (image (g.P.PageBook.place c.args.self.now.book) (g.H.Host.outside c.args.host.now).now)
+    → StandsFor c.carry_out.new.catalog (changed_by c.args.change c.args.now s) (image (g.P.PageBook.place c.args.self.now.book) (g.H.Host.outside c.carry_out.new.host).now) = λ tells s stands.
+    let o = g.H.Host.outside in
+    let u : ℕ = g.P.PageBook.place c.args.self.now.book in
+    let u' : ℕ = g.P.PageBook.place c.plan_change.new.book in
+    let m : Moment = (o c.args.host.now).now in
+    let m' : Moment = (o c.plan_change.new.host).now in
+    let e : image u' m' ≡ image u m = same-image u u' m m' c.plan_change.ensures.reads.same_place c.plan_change.ensures.reads.looks.moment in
+    let cat = c.args.self.now.catalog in
+    let stands' : StandsFor cat s (image u' m') = subst (λ (b : List ℕ). StandsFor cat s b) (sym e) stands in
+    let t : PlainStore = changed_by c.args.change c.args.now s in
+    let plan = c.in_ok-next.ensures.plans.planned tells s stands in
+    subst (λ (v : ℕ). StandsFor c.carry_out.new.catalog t (image v (o c.carry_out.new.host).now)) c.plan_change.ensures.reads.same_place (c.in-Ok.ensures.makes.changed tells s t stands' plan.turns) in
     record {
-      is_open = λ goes. record { book = c.in-Ok.ensures.leaves.book tt; sound = c.in-Ok.ensures.leaves.sound tt };
+      is_open = λ goes. record {
+        book = c.in-Ok.ensures.leaves.book tt;
+        sound = c.in-Ok.ensures.leaves.sound tt;
+        shows = shows-made c.requires (λ s. changed_by c.args.change c.args.now s) c.carry_out.new.catalog (g.P.PageBook.place c.carry_out.new.book) (g.H.Host.outside c.carry_out.new.host)
+            (c.carry_out.ensures.leaves.same_place ∙ c.plan_change.ensures.reads.same_place) (λ s tells stands. changed tells s stands);
+      };
       same_place = c.carry_out.ensures.leaves.same_place ∙ c.plan_change.ensures.reads.same_place;
       accepted = λ tells s stands.
           let o = g.H.Host.outside in
@@ -79,18 +92,7 @@ returns-in-Ok-clause-changes g c =
           let plan = c.in_ok-next.ensures.plans.planned tells s stands in
           none-due c.args.change (blocks_of (image u m)) c.args.now s plan.accepted (subst (λ (b : List ℕ). cost t ≤ cap (blocks_of b)) e (c.in-Ok.ensures.makes.fits tells s t stands' plan.turns));
       answer = λ tells s stands. c.in-Ok.ensures.makes.answer ∙ (c.in_ok-next.ensures.plans.planned tells s stands).answer;
-      changed = λ tells s stands.
-          let o = g.H.Host.outside in
-          let u : ℕ = g.P.PageBook.place c.args.self.now.book in
-          let u' : ℕ = g.P.PageBook.place c.plan_change.new.book in
-          let m : Moment = (o c.args.host.now).now in
-          let m' : Moment = (o c.plan_change.new.host).now in
-          let e : image u' m' ≡ image u m = same-image u u' m m' c.plan_change.ensures.reads.same_place c.plan_change.ensures.reads.looks.moment in
-          let cat = c.args.self.now.catalog in
-          let stands' : StandsFor cat s (image u' m') = subst (λ (b : List ℕ). StandsFor cat s b) (sym e) stands in
-          let t : PlainStore = changed_by c.args.change c.args.now s in
-          let plan = c.in_ok-next.ensures.plans.planned tells s stands in
-          subst (λ (v : ℕ). StandsFor c.carry_out.new.catalog t (image v (o c.carry_out.new.host).now)) c.plan_change.ensures.reads.same_place (c.in-Ok.ensures.makes.changed tells s t stands' plan.turns);
+      changed = changed;
       refused = λ tells s stands. tt;
       still = λ tells s stands is. absurd is;
       nothing_done = λ is. absurd is;
@@ -135,8 +137,28 @@ returns-in-Ok-clause-changes g c =
 pub returns-in-Err-clause-changes : goal.returns-in-Err-clause-changes
 returns-in-Err-clause-changes g c =
     let ends = ends-after _ c.plan_change.ensures.reads.same_place c.plan_change.ensures.reads.looks (c.in_ok-next.ensures.ends.no_fault tt) c.in-Err.ensures.leaves.ends in
+    let still : IsTrue g.H.Host.told → (s : PlainStore) → StandsFor c.args.self.now.catalog s (image (g.P.PageBook.place c.args.self.now.book) (g.H.Host.outside c.args.host.now).now) → IsRefused {T = ℕ} (Err c.in-Err.fault)
+    → StandsFor c.carry_out.new.catalog s (image (g.P.PageBook.place c.args.self.now.book) (g.H.Host.outside c.args.host.now).now) = λ tells s stands is.
+    let o = g.H.Host.outside in
+    let u : ℕ = g.P.PageBook.place c.args.self.now.book in
+    let u' : ℕ = g.P.PageBook.place c.plan_change.new.book in
+    let m : Moment = (o c.args.host.now).now in
+    let m' : Moment = (o c.plan_change.new.host).now in
+    let e : image u' m' ≡ image u m = same-image u u' m m' c.plan_change.ensures.reads.same_place c.plan_change.ensures.reads.looks.moment in
+    let cat = c.args.self.now.catalog in
+    let stands' : StandsFor cat s (image u' m') = subst (λ (b : List ℕ). StandsFor cat s b) (sym e) stands in
+    let t : PlainStore = changed_by c.args.change c.args.now s in
+    let plan = c.in_ok-next.ensures.plans.planned tells s stands in
+    subst (λ (b : List ℕ). StandsFor c.carry_out.new.catalog s b) e (c.in-Err.ensures.makes.still is tells s t stands' plan.turns) in
     record {
-      is_open = λ goes. record { book = c.in-Err.ensures.leaves.book goes; sound = c.in-Err.ensures.leaves.sound goes };
+      is_open = λ goes. record {
+        book = c.in-Err.ensures.leaves.book goes;
+        sound = c.in-Err.ensures.leaves.sound goes;
+        shows =
+            let is = refused-on c.in-Err.fault goes in
+            shows-still c.requires c.carry_out.new.catalog (g.P.PageBook.place c.carry_out.new.book) (g.H.Host.outside c.carry_out.new.host) (c.carry_out.ensures.leaves.same_place ∙ c.plan_change.ensures.reads.same_place)
+            (c.in-Err.ensures.leaves.nothing_done is ∙ c.plan_change.ensures.reads.looks.moment) (λ s tells stands. still tells s stands is);
+      };
       same_place = c.carry_out.ensures.leaves.same_place ∙ c.plan_change.ensures.reads.same_place;
       accepted = λ tells s stands. tt;
       answer = λ tells s stands. tt;
@@ -154,18 +176,7 @@ returns-in-Err-clause-changes g c =
           let plan = c.in_ok-next.ensures.plans.planned tells s stands in
           refuses-full c.in-Err.fault c.in-Err.ensures.makes.only (λ is. full-due c.args.change (blocks_of (image u m)) c.args.now s (no-patch c.args.change c.in_default.not-Patch) plan.accepted stands.fits
           (subst (λ (b : List ℕ). cap (blocks_of b) < cost t) e (c.in-Err.ensures.makes.full is tells s t stands' plan.turns)));
-      still = λ tells s stands is.
-          let o = g.H.Host.outside in
-          let u : ℕ = g.P.PageBook.place c.args.self.now.book in
-          let u' : ℕ = g.P.PageBook.place c.plan_change.new.book in
-          let m : Moment = (o c.args.host.now).now in
-          let m' : Moment = (o c.plan_change.new.host).now in
-          let e : image u' m' ≡ image u m = same-image u u' m m' c.plan_change.ensures.reads.same_place c.plan_change.ensures.reads.looks.moment in
-          let cat = c.args.self.now.catalog in
-          let stands' : StandsFor cat s (image u' m') = subst (λ (b : List ℕ). StandsFor cat s b) (sym e) stands in
-          let t : PlainStore = changed_by c.args.change c.args.now s in
-          let plan = c.in_ok-next.ensures.plans.planned tells s stands in
-          subst (λ (b : List ℕ). StandsFor c.carry_out.new.catalog s b) e (c.in-Err.ensures.makes.still is tells s t stands' plan.turns);
+      still = still;
       nothing_done = λ is. c.in-Err.ensures.leaves.nothing_done is ∙ c.plan_change.ensures.reads.looks.moment;
       any_moment = λ tells s stands.
           let o = g.H.Host.outside in

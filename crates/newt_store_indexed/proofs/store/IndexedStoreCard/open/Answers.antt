@@ -43,7 +43,7 @@ returns-in-Ok g c =
     let e = c.in_ok-store.ensures in
     let r = c.in-Ok.ensures in
     let b = c.in_ok-store.store in
-    let there : image (place b.book) (o c.open.new.host).now ≡ image c.args.unit (o c.args.host.now).now = same-image c.args.unit (place b.book) (o c.args.host.now).now (o c.open.new.host).now e.place e.looks.moment in
+    let there : image (place b.book) (o c.open.new.host).now ≡ image c.args.unit (o c.args.host.now).now = same-image c.args.unit (place b.book) (o c.args.host.now).now (o c.open.new.host).now e.place_is e.looks.moment in
     record {
       stands = record {
         is_open = r.reads.is_open;
@@ -56,9 +56,9 @@ returns-in-Ok g c =
               ranges = r.listed tells f.0 shows;
             };
       };
-      place_is = r.reads.same_place ∙ e.place;
+      place_is = r.reads.same_place ∙ e.place_is;
       not_store = λ is. never-ok _ _ is;
-      looks = looks-on e.place e.looks r.reads.looks;
+      looks = looks-on e.place_is e.looks r.reads.looks;
       cause = λ is. never-ok _ _ is;
       no_fault = λ opening. NoFault-append (e.ends.no_fault tt) r.ends.no_fault;
     }
@@ -74,7 +74,7 @@ returns-in-Err-Memory g c =
       stands = tt;
       place_is = tt;
       not_store = λ is. never-err _ _ memory-apart.0 is;
-      looks = looks-on e.place e.looks r.looks;
+      looks = looks-on e.place_is e.looks r.looks;
       cause = λ is. never-err _ _ memory-apart.1 is;
       no_fault = λ opening. absurd opening;
     }
@@ -90,7 +90,7 @@ returns g c =
       stands = tt;
       place_is = tt;
       not_store = λ is. never-err _ _ device-apart is;
-      looks = looks-on e.place e.looks r.looks;
-      cause = λ is. rose-on (o c.ranges_of.new.host) e.place e.looks (rw c.in-Err-Device.field-0-is at c.in-Err-Device.ensures.ends.cause).1;
+      looks = looks-on e.place_is e.looks r.looks;
+      cause = λ is. rose-on (o c.ranges_of.new.host) e.place_is e.looks (rw c.in-Err-Device.field-0-is at c.in-Err-Device.ensures.ends.cause).1;
       no_fault = λ opening. absurd opening;
     }
