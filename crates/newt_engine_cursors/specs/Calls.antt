@@ -18,9 +18,9 @@ use Rattle.newt_engine_cursors.specs.World.{world_with}
 use Rattle.newt_engine_cursors.specs.declared.show.Shown.{Shown}
 
 -- A world is this one, and what a cursor shows there is shown.
-pub record Shows (w v : World) (n : ℕ) (shown : Shown) : Type 0 where
+pub record Shows (w v : World) (n : ℕ) (answer : Shown) : Type 0 where
   pub world : v ≡ w
-  pub shown : shown_reply shown ≡ or_nil (current w) (cursor w n)
+  pub shown : shown_reply answer ≡ or_nil (current w) (cursor w n)
 
 module _ {C : Type 0} (reads : List ℕ → Option Store) (place : C → ℕ) (standing : Bool → C → Outside → Type 0) where
   -- A call that settles the cursors `was`, which are then `is`. The units are read alone and the places fit; the world with its cursors has become what is
