@@ -3,10 +3,10 @@ use Rattle.std.specs.Prelude.{◌≡◌, ℕ, Bool, IsTrue, List, Option, Result
 use Rattle.newt_host.specs.Outside.{Outside, NoFault}
 use Rattle.newt_pagebook.specs.Stops.{HasStopCause}
 use Rattle.newt_pagebook.specs.declared.book.Stop.{Stop}
-use Rattle.newt_spec_query.specs.Cursor.{Cursor, Place}
+use Rattle.newt_spec_query.specs.Cursor.{Cursor}
 use Rattle.newt_spec_store.specs.Store.{Store}
 use Rattle.newt_spec_world.specs.Answer.{current, or_nil}
-use Rattle.newt_spec_world.specs.World.{World, cursor, flat}
+use Rattle.newt_spec_world.specs.World.{World, cursor}
 use Rattle.newt_laws_world.specs.Settled.{MountedApart}
 use Rattle.newt_store_change.specs.Faults.{GoesOn, HasFaultCause}
 use Rattle.newt_store_change.specs.declared.fault.StoreFault.{StoreFault}

@@ -29,7 +29,7 @@ returns-in-Err-Limit g c =
         refl,
         c.in-Err-Limit.ensures.limit.0 (ap Err c.in-Err-Limit.field-0-is),
         ap (with_cursors c.open.new.self) (read.read.world t)
-        ∙ ap (λ (ks : List (Option Cursor)). with_cursors ks (world_of g.C.Card.reads c.args.units.now (g.H.Host.outside c.args.host.now))) same,
+            ∙ ap (λ (ks : List (Option Cursor)). with_cursors ks (world_of g.C.Card.reads c.args.units.now (g.H.Host.outside c.args.host.now))) same,
       );
       cause = tt;
       no_fault = λ goes. read.no_fault;
