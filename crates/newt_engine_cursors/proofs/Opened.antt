@@ -1,6 +1,6 @@
 -- What the world answers to the commands that open a cursor.
 use Rattle.std.proofs.Common.{◌≡◌, refl, ap, sym, ◌∙◌, ℕ, ◌+◌, ◌<◌, List, [], ◌∷◌, ◌++◌, Bool, true, false, ◌||◌, drop, Option, Some, None, option_map, option_and_then}
-use Rattle.std.specs.Prelude.{Result, Ok, Err, not, is_none, is_some, slice_set}
+use Rattle.std.specs.Prelude.{Result, Ok, Err, not, is_none, is_some}
 use Rattle.std.specs.List.{list_any, cons_option}
 use Rattle.newt_base.specs.Refusals.{Checks, first_of}
 use Rattle.newt_base.specs.declared.Refusal.TheVariants.{Unit as NoUnit, Notmounted, Soup as NoSoup, Limit}
@@ -8,16 +8,14 @@ use Rattle.newt_graph.specs.Graph.{RawGraph}
 use Rattle.newt_spec_graph.proofs.Lists.{none-some}
 use Rattle.newt_spec_store.specs.Store.{Store, Soup, soup_named}
 use Rattle.newt_spec_query.specs.Hits.{Query}
-use Rattle.newt_spec_query.specs.Cursor.{Cursor, Place, first_place}
 use Rattle.newt_spec_world.specs.declared.command.Command.{Command}
 use Rattle.newt_spec_world.specs.declared.command.Command.TheVariants as command
 use Rattle.newt_spec_world.specs.Reply.{Reply}
 use Rattle.newt_spec_world.specs.First.{unit_numbers}
-use Rattle.newt_spec_world.specs.World.{World, Device, device, free_cursor, hits_of, mounted, mounted_store, settle, soup_in, store_if_mounted}
-use Rattle.newt_spec_world.specs.Changed.{changed, open_at, opened, query_of, sig_of}
+use Rattle.newt_spec_world.specs.World.{World, Device, device, free_cursor, mounted, mounted_store, settle, soup_in, store_if_mounted}
+use Rattle.newt_spec_world.specs.Changed.{changed, opened, query_of, sig_of}
 use Rattle.newt_spec_world.specs.Refused.{checks, no_free_cursor, no_soup_anywhere}
 use Rattle.newt_spec_world.specs.Answer.{answer, fields, or_nil}
-use Rattle.newt_laws_world.specs.Cursors.{with_cursors}
 use Rattle.newt_laws_answers.specs.Tests.{soup_checks}
 use Rattle.newt_laws_answers.proofs.Firsts.{first-found}
 use Rattle.newt_cursor.specs.declared.query.Query as code
@@ -37,16 +35,6 @@ pub first-on : (xs ys : Checks) → first_of xs ≡ None → first_of (xs ++ ys)
 first-on [] ys e = refl
 first-on ((r, true) ∷ xs) ys e = absurd (none-some r (sym e))
 first-on ((r, false) ∷ xs) ys e = first-on xs ys e
-
--- a cursor is opened where a number is free, on the first hit
-pub opens-there : (w v : World) (q : Query) (n : ℕ) (p : Place) (desk : List (Option Cursor)) → free_cursor w ≡ Some n → p ≡ first_place (hits_of w q)
-    → desk ≡ slice_set w.cursors n (Some (record { query = q; place = p })) → v ≡ settle (with_cursors desk w) → Opens w v q (Ok n)
-opens-there w v q n p desk free at is after = (
-  free,
-  after ∙ ap (λ (ks : List (Option Cursor)). settle (with_cursors ks w)) is
-      ∙ ap (λ (p : Place). settle (with_cursors (slice_set w.cursors n (Some (record { query = q; place = p }))) w)) at
-      ∙ ap (λ (o : Option ℕ). settle (open_at w (record { query = q; place = first_place (hits_of w q) }) o)) (sym free),
-)
 
 -- ---- a cursor that is opened
 

@@ -1,5 +1,5 @@
 -- Commands after which a settled world is settled by itself: another cursor that stands where one stands, and one cursor less.
-use Rattle.std.proofs.Common.{◌≡◌, refl, ap, sym, ◌∙◌, subst, ℕ, zero, suc, List, [], ◌∷◌, map, Option, Some, None, option_map}
+use Rattle.std.proofs.Common.{◌≡◌, refl, ap, sym, ◌∙◌, subst, ℕ, zero, suc, List, [], ◌∷◌, map, Option, option_map}
 use Rattle.std.specs.Prelude.{slice_get, slice_set}
 use Rattle.newt_spec_query.specs.Cursor.{Cursor}
 use Rattle.newt_spec_world.specs.World.{World, cursor, flat, settle, settle_cursor}

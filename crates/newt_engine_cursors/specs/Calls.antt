@@ -3,10 +3,10 @@ use Rattle.std.specs.Prelude.{◌≡◌, ℕ, Bool, IsTrue, List, Option, Result
 use Rattle.newt_host.specs.Outside.{Outside, NoFault}
 use Rattle.newt_pagebook.specs.Stops.{HasStopCause}
 use Rattle.newt_pagebook.specs.declared.book.Stop.{Stop}
-use Rattle.newt_spec_query.specs.Cursor.{Cursor, Place}
+use Rattle.newt_spec_query.specs.Cursor.{Cursor}
 use Rattle.newt_spec_store.specs.Store.{Store}
 use Rattle.newt_spec_world.specs.Answer.{current, or_nil}
-use Rattle.newt_spec_world.specs.World.{World, cursor, flat}
+use Rattle.newt_spec_world.specs.World.{World, cursor}
 use Rattle.newt_laws_world.specs.Settled.{MountedApart}
 use Rattle.newt_store_change.specs.Faults.{GoesOn, HasFaultCause}
 use Rattle.newt_store_change.specs.declared.fault.StoreFault.{StoreFault}
@@ -18,9 +18,9 @@ use Rattle.newt_engine_cursors.specs.World.{world_with}
 use Rattle.newt_engine_cursors.specs.declared.show.Shown.{Shown}
 
 -- A world is this one, and what a cursor shows there is shown.
-pub record Shows (w v : World) (n : ℕ) (shown : Shown) : Type 0 where
+pub record Shows (w v : World) (n : ℕ) (answer : Shown) : Type 0 where
   pub world : v ≡ w
-  pub shown : shown_reply shown ≡ or_nil (current w) (cursor w n)
+  pub shown : shown_reply answer ≡ or_nil (current w) (cursor w n)
 
 module _ {C : Type 0} (reads : List ℕ → Option Store) (place : C → ℕ) (standing : Bool → C → Outside → Type 0) where
   -- A call that settles the cursors `was`, which are then `is`. The units are read alone and the places fit; the world with its cursors has become what is

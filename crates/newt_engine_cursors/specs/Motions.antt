@@ -28,9 +28,9 @@ MotionFits index (motion.Key key) = IsKeyOf index key
 MotionFits index _ = Unit {0}
 
 -- A cursor of the index may be moved so from this place. (this project's own)
-pub record CanMove (index : IndexSpec) (place : Place) (motion : Motion) : Type 0 where
-  pub place : PlaceFits index place
-  pub motion : MotionFits index motion
+pub record CanMove (index : IndexSpec) (from : Place) (by : Motion) : Type 0 where
+  pub place : PlaceFits index from
+  pub motion : MotionFits index by
 
 -- A cursor of the world w that is open is stepped, all are settled, which makes the world v, and it is shown. One that is not open is refused, and nothing has
 -- changed. (this project's own)

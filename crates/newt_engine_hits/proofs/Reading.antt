@@ -1,6 +1,6 @@
 -- Units and devices that are read alone, call after call.
 use Rattle.std.proofs.Common.{arith, ◌≡◌, refl, sym, ◌∙◌, ap, subst, ℕ, Bool, List, Option}
-use Rattle.std.specs.Prelude.{Result, Ok, Err, IfErr}
+use Rattle.std.specs.Prelude.{Result, Ok, Err}
 use Rattle.newt_host.specs.Outside.{Outside, NoFault, OnDevices}
 use Rattle.newt_host.proofs.Outside.{NoFault-append, OnDevices-refl, OnDevices-append}
 use Rattle.newt_pagebook.specs.Stops.{HasStopCause}

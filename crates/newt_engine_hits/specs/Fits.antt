@@ -1,5 +1,4 @@
 -- The places that a query has.
-use Rattle.std.specs.Prelude.{◌≡◌}
 use Rattle.newt_spec_store.specs.Keys.{IndexSpec}
 use Rattle.newt_spec_query.specs.Cursor.{Place, on}
 use Rattle.newt_keys.specs.KeyForm.{IsKeyOf}

@@ -10,6 +10,7 @@ use Rattle.newt_spec_world.specs.Reply.{Reply}
 use Rattle.newt_store_change.specs.declared.fault.StoreFault.{StoreFault}
 use Rattle.newt_engine_units.specs.Answers.{Answers}
 use Rattle.newt_engine_hits.proofs.Reading.{read-more}
+use Rattle.newt_engine_cursors.specs.World.{world_with}
 use Rattle.newt_engine_cursors.proofs.Answered.{open-alike, count-closed, count-open, count-said}
 use Rattle.newt_engine_cursors.proofs.Calls.{stays, walks-end, walks-settled, settles-reads, settles-after}
 use Rattle.newt_engine_cursors.proofs.commands.count.Goals as goal
@@ -37,5 +38,5 @@ returns g c =
     walks-settled (settles-after read.read read.no_fault c.in_ok-settle.ensures) (λ t apart s. count-open _ _ c.args.cursor (Reply.number c.in_ok-count.count)
     (open-alike (λ q. query_of q.now) (λ (k : Cursor). k.query) c.query.result (flat (slice_get c.args.desk.now c.args.cursor)) true c.query.ensures.query (ap is_some c.in-Some.is))
     s
-    (count-said _ (flat (slice_get c.args.desk.now c.args.cursor)) (query_of c.in-Some.query.now) c.in_ok-count.count
+    (count-said (world_with g.C.Card.reads c.args.units.now c.args.desk.now (g.H.Host.outside c.args.host.now)) (flat (slice_get c.args.desk.now c.args.cursor)) (query_of c.in-Some.query.now) c.in_ok-count.count
     (ap (option_map (λ q. query_of q.now)) (sym c.in-Some.is) ∙ c.query.ensures.query) (c.in_ok-count.ensures.count t apart)))

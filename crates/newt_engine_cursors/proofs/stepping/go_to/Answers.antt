@@ -25,7 +25,7 @@ use Rattle.newt_engine_cursors.proofs.stepping.go_to.Goals as goal
 
 pub returns-in_err-find_unit : goal.returns-in_err-find_unit
 returns-in_err-find_unit g c = stays c.requires.stands c.requires.desk
-    (handed (λ fault. NoDevice fault) c.from_residual.result _ (err_from_is_err_and c.from_residual.result c.from_residual.ensures.1) (none-refused _ _ c.in_err-find_unit.ensures)) (λ t apart.
+    (handed (λ fault. NoDevice fault) c.from_residual.result _ (err_from_is_err_and c.from_residual.result c.from_residual.ensures.1) (none-refused (known_unit c.args.units.now.slots.items c.args.unit) _ c.in_err-find_unit.ensures)) (λ t apart.
     let laws : Laws g.C.Card.reads g.C.Card.place g.C.Card.soups g.C.Card.stands = record { formed = g.met.C.Card.formed; plain = g.met.C.Card.plain; durable = g.met.C.Card.durable; banks = g.met.C.Card.banks; kept = g.met.C.Card.kept } in
     let o = g.H.Host.outside c.args.host.now in
     let eight : Eight (g.H.Host.outside c.args.host.now) = record { eight = g.met.H.Host.eight c.args.host.now; none = g.met.H.Host.none c.args.host.now } in
