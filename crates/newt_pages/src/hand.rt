@@ -1,11 +1,8 @@
 // The page at hand.
-ghost use Rattle.std.specs.Prelude.{IsTrue, ◌≡◌, ◌≤◌, ◌+◌, ℕ, List, [], Some, IsSome, IfOk};
+ghost use Rattle.std.specs.Prelude.{IsTrue, ◌≡◌, [], IfOk};
 ghost use Rattle.newt_host.specs.Moments.{image};
-ghost use Rattle.newt_spec_image.specs.Records.{records};
 ghost use Rattle.newt_journal.specs.Calls.{Reads};
 ghost use Rattle.newt_journal.specs.Journal.{Stands};
-ghost use Rattle.newt_journal.specs.Places.{first_place};
-ghost use Rattle.newt_pagelog.specs.Placed.{page_of};
 ghost use Rattle.newt_pages.specs.Disk.{Brings, EachIsPageAtPlace, LiesAt, bytes_fetched, shown_in};
 
 use lru::LruCache;

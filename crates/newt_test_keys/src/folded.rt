@@ -2,21 +2,17 @@
 use crate::calls::Call;
 use crate::keys::literal;
 use newt_fold::{has_text, has_word, units_to_text};
-use newt_graph::{Graph, Node};
+use newt_graph::Node;
 use newt_test_tables::expect_rows;
 use std::alloc::Global;
 use std::test::*;
 
-fn text_in(alloc: Global, graph: &Graph) -> Result<String, Fail> {
-    match graph.nodes() {
+/// The text of the units of a string.
+pub(crate) fn unit_text(alloc: Global, text: &str) -> Result<String, Fail> {
+    match literal(alloc, text)?.nodes() {
         [Node::Str(units)] => Ok(units_to_text(alloc, units.list())?),
         _ => Err("a string".into()),
     }
-}
-
-/// The text of the units of a string.
-pub(crate) fn unit_text(alloc: Global, text: &str) -> Result<String, Fail> {
-    text_in(alloc, &literal(alloc, text)?)
 }
 
 /// Whether the text has a part, has a word that begins so, and has a word that is so.

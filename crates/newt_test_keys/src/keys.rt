@@ -87,26 +87,18 @@ fn told(alloc: Global, found: &Option<Key>) -> Result<String, Fail> {
     Ok(out)
 }
 
-fn key_told(alloc: Global, graph: &Graph, spec: &IndexSpec) -> Result<String, Fail> {
-    told(alloc, &key_of(alloc, graph, spec)?)
-}
-
 /// The key that a graph has.
 pub(crate) fn key(alloc: Global, declared: &Declared, text: &str) -> Result<String, Fail> {
     let spec = spec_of(alloc, declared)?;
     let graph = literal(alloc, text)?;
-    key_told(alloc, &graph, &spec)
-}
-
-fn written_told(alloc: Global, graph: &Graph, spec: &IndexSpec) -> Result<String, Fail> {
-    told(alloc, &key_from(alloc, graph, graph.root(), spec)?)
+    told(alloc, &key_of(alloc, &graph, &spec)?)
 }
 
 /// The key that a value writes down.
 pub(crate) fn written(alloc: Global, declared: &Declared, text: &str) -> Result<String, Fail> {
     let spec = spec_of(alloc, declared)?;
     let graph = literal(alloc, text)?;
-    written_told(alloc, &graph, &spec)
+    told(alloc, &key_from(alloc, &graph, graph.root(), &spec)?)
 }
 
 /// Strings are cut at 39 units, a pair too, and then folded, and a folded text may be longer.

@@ -62,15 +62,11 @@ fn rise(keys: &[Key], spec: &IndexSpec) -> bool {
     })
 }
 
-fn are_rising(alloc: Global, keys: &[Key], spec: &IndexSpec) -> Result<String, Fail> {
-    Ok(format!(in alloc; "{}", rise(keys, spec))?)
-}
-
 /// Whether keys of four integers rise.
 pub(crate) fn rising(alloc: Global, order: Order, text: &str) -> Result<String, Fail> {
     let spec = four(alloc, order)?;
     let keys = keys(alloc, &spec, text)?;
-    are_rising(alloc, &keys, &spec)
+    Ok(format!(in alloc; "{}", rise(&keys, &spec))?)
 }
 
 const ASCENDING: &str = "

@@ -2,19 +2,14 @@
 //! tested where literals are read.
 use crate::calls::Call;
 use crate::keys::literal;
-use newt_graph::Graph;
 use newt_path::{Path, PathFault, set_at, value_at};
 use newt_test_tables::expect_rows;
 use std::alloc::Global;
 use std::test::*;
 
-fn told(alloc: Global, path: &Path, copy: &Path) -> Result<String, Fail> {
-    Ok(format!(in alloc; "{} {}", copy.list().len(), copy.same(path))?)
-}
-
 fn copied(alloc: Global, path: &Path) -> Result<String, Fail> {
     let copy = path.copy()?;
-    told(alloc, path, &copy)
+    Ok(format!(in alloc; "{} {}", copy.list().len(), copy.same(path))?)
 }
 
 /// How many names a path has, and whether its copy is the same path, or the fault.
@@ -26,27 +21,19 @@ pub(crate) fn named(alloc: Global, text: &str) -> Result<String, Fail> {
     }
 }
 
-fn are_same(alloc: Global, path: &Path, other: &Path) -> Result<String, Fail> {
-    Ok(format!(in alloc; "{}", path.same(other))?)
-}
-
 /// Whether a path is `Name.last`.
 pub(crate) fn is_same(alloc: Global, text: &str) -> Result<String, Fail> {
     let path = Path::read(alloc, b"Name.last")?;
     let other = Path::read(alloc, text.as_bytes())?;
-    are_same(alloc, &path, &other)
-}
-
-fn reached_by(alloc: Global, graph: &Graph, path: &Path) -> Result<String, Fail> {
-    let fault = set_at(alloc, graph, path, graph).err();
-    Ok(format!(in alloc; "{:?} {fault:?}", value_at(graph, path))?)
+    Ok(format!(in alloc; "{}", path.same(&other))?)
 }
 
 /// What the path `a` reaches in a graph, and how a change there is refused.
 pub(crate) fn reached(alloc: Global, text: &str) -> Result<String, Fail> {
     let graph = literal(alloc, text)?;
     let path = Path::read(alloc, b"a")?;
-    reached_by(alloc, &graph, &path)
+    let fault = set_at(alloc, &graph, &path, &graph).err();
+    Ok(format!(in alloc; "{:?} {fault:?}", value_at(&graph, &path))?)
 }
 
 /// Up to eight identifiers of up to 254 characters, with points between them.

@@ -4,6 +4,7 @@ ghost use Rattle.newt_spec_store.specs.Keys.{whole};
 ghost use Rattle.newt_spec_store.specs.declared.Order.TheVariants as order;
 ghost use Rattle.newt_test_keys.specs.Trials.{integers};
 
+use crate::walks::id;
 use newt_base::Uid;
 use newt_graph::Bytes;
 use newt_index::{Index, Probe};
@@ -239,14 +240,6 @@ fn is_sorted(alloc: Global, order: Order) -> Result<bool, AllocError> {
 fn two_hundred_entries_are_the_sorted_list(rt: HostRuntime) {
     assert!(rt; matches!(is_sorted(rt.alloc(), Order::Ascend), Ok(true)));
     assert!(rt; matches!(is_sorted(rt.alloc(), Order::Descend), Ok(true)));
-}
-
-/// The id of a pair.
-fn id(found: &Option<(&Key, Uid)>) -> Option<u32> {
-    match found {
-        Some((_, uid)) => Some(uid.0),
-        None => None,
-    }
 }
 
 /// The ids behind 6 and 7, and the first one.

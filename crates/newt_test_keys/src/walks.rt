@@ -56,7 +56,7 @@ fn probe(alloc: Global, spec: &IndexSpec, entry: &Graph) -> Result<Probe, Fail> 
 }
 
 /// The id of a pair.
-fn id(found: &Option<(&Key, Uid)>) -> Option<u32> {
+pub(crate) fn id(found: &Option<(&Key, Uid)>) -> Option<u32> {
     match found {
         Some((_, uid)) => Some(uid.0),
         None => None,
