@@ -186,6 +186,7 @@ module _ (w : World) (u to : ℕ) (name target : List ℕ) (sig into uid : ℕ) 
   pub both-moments : (reads : List ℕ → Option Store) (now : World) (n : ℕ) (a b c : Moment) → WasAdded now n
       → Always (Answering reads w between_answer.0 a) a b → Always (Answering reads now between_answer.0 b) b c → Always (Answering reads w between_answer.0 a) a c
   both-moments reads now n a b c was first second = Always-append first (Always-map (λ m at. record {
+    unread = at.unread ∙ last.unread;
     quiet = at.quiet ∙ last.quiet;
     stores = λ j y left d may. stores m at j y left d may (same-or-not j to);
     others = λ j d i. at.others j (none-there j d (same-or-not j to)) i ∙ last.others j d i;

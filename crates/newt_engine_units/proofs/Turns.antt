@@ -119,6 +119,7 @@ module _ {C : Type 0} {reads : List ℕ → Option Store} {place : C → ℕ} {s
   -- nothing has happened
   pub now-moment : (v : World) → Answering reads w v o.now o.now
   now-moment v = record {
+    unread = refl;
     quiet = refl;
     stores = λ j x left h may. inl (left-alone j x o.now left h refl may);
     others = λ j h k. refl;
@@ -131,6 +132,7 @@ module _ {C : Type 0} {reads : List ℕ → Option Store} {place : C → ℕ} {s
   pub either-moments : (u : ℕ) (a b : Store) (tests : Checks) (v : World) (now : Moment) → store_on_unit w u ≡ Some a → (first_of tests ≡ None → store_on_unit v u ≡ Some b)
       → Leaves u (LeavesEither reads tests a b) o.now now → Always (Answering reads w v o.now) o.now now
   either-moments u a b tests v now has makes leaves = Always-map (λ m at. record {
+    unread = at.unread;
     quiet = at.output;
     stores = λ j x left h may. stores m at j x left h may (same-or-not j u);
     others = λ j h k. others m at j h (same-or-not j u);
@@ -154,6 +156,7 @@ module _ {C : Type 0} {reads : List ℕ → Option Store} {place : C → ℕ} {s
   -- a call on one unit that has no store, and has one afterwards
   pub anything-moments : (u : ℕ) (b : Store) (v : World) (now : Moment) → store_on_unit w u ≡ None → store_on_unit v u ≡ Some b → Leaves u Anything o.now now → Always (Answering reads w v o.now) o.now now
   anything-moments u b v now has makes leaves = Always-map (λ m at. record {
+    unread = at.unread;
     quiet = at.output;
     stores = λ j x left h may. inl (left-alone j x m left h (at.others j (λ e. none-some x (sym (ap (store_on_unit w) e ∙ has) ∙ h))) may);
     others = λ j h k. at.others j (λ e. none-some b (sym k ∙ ap (store_on_unit v) e ∙ makes));
