@@ -1,15 +1,11 @@
 //! Commands with the cursors settled after them.
-ghost use Rattle.std.specs.Prelude.{◌≡◌, false, true, IsTrue, IfErr, OnOk, IfOk};
-ghost use Rattle.newt_laws_world.specs.Settled.{MountedApart, moves_keys};
+ghost use Rattle.std.specs.Prelude.{◌≡◌, false, true};
+ghost use Rattle.newt_laws_world.specs.Settled.{moves_keys};
 ghost use Rattle.newt_laws_world.specs.Cursors.{uses_cursors};
-ghost use Rattle.newt_spec_world.specs.World.{settle};
-ghost use Rattle.newt_store_change.specs.Faults.{IsEnd};
 ghost use Rattle.newt_engine_units.specs.Stands.{Stands};
 ghost use Rattle.newt_engine_cursors.specs.Fits.{DeskFits};
-ghost use Rattle.newt_engine_units.specs.Calls.{AreRead, Ended};
 ghost use Rattle.newt_laws_world.specs.Worlds.{has_form};
-ghost use Rattle.newt_engine_cursors.specs.World.{world_with};
-ghost use Rattle.newt_engine.specs.Calls.{Served};
+ghost use Rattle.newt_engine.specs.Calls.{Served, Settles};
 ghost use Rattle.newt_engine.specs.Standing.{Standing};
 
 use crate::world::World;
@@ -73,16 +69,8 @@ impl<C: Card> World<C> {
     fn settled<H: Host>(&mut self, host: &mut H, reply: Reply) -> Result<Reply, StoreFault>
         requires stands { Stands C.place C.stands H.told self.old.units (H.outside host.old) }
         requires desk { DeskFits self.old.desk }
-        ensures read { AreRead C.reads C.place C.stands H.told self.old.units self.new.units
-            (H.outside host.old) (H.outside host.new) }
-        ensures desk { DeskFits self.new.desk }
-        ensures settled { IsTrue H.told
-            → let w = world_with C.reads self.old.units self.old.desk (H.outside host.old) in
-            MountedApart w → OnOk result
-            (world_with C.reads self.new.units self.new.desk (H.outside host.new) ≡ settle w) }
-        ensures same { IfOk result (λ same. same ≡ reply) }
-        ensures ends { Ended result (H.outside host.old) (H.outside host.new) }
-        ensures only { IfErr result (λ fault. IsEnd fault) }
+        ensures { Settles C.reads C.place C.stands H.told reply self.old self.new
+            (H.outside host.old) (H.outside host.new) result }
     {
         match settle(&mut self.units, &mut self.desk, host) {
             Ok(()) => Ok(reply),
