@@ -5,7 +5,7 @@ ghost use Rattle.newt_engine_units.specs.Stands.{Stands};
 ghost use Rattle.newt_engine_cursors.specs.Fits.{DeskFits};
 ghost use Rattle.newt_engine.specs.Calls.{Served, Walked};
 ghost use Rattle.newt_engine.specs.Groups.{on_place};
-ghost use Rattle.newt_engine.specs.Standing.{Standing};
+ghost use Rattle.newt_engine.specs.Standing.{IsStanding};
 
 use crate::replies::{done, numbered, opened, shown, sided};
 use crate::world::World;
@@ -23,7 +23,7 @@ impl<C: Card> World<C> {
         host: &mut H,
         command: &Command,
     ) -> Result<Reply, StoreFault>
-        requires stands { Standing C.reads C.place C.stands H.told self.old.units self.old.desk
+        requires stands { IsStanding C.reads C.place C.stands H.told self.old
             (H.outside host.old) }
         requires on_cursor { uses_cursors command.now ≡ true }
         ensures { Served C.reads C.place C.stands H.told command.now self.old self.new

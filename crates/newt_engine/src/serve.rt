@@ -6,7 +6,7 @@ ghost use Rattle.newt_engine_units.specs.Stands.{Stands};
 ghost use Rattle.newt_engine_cursors.specs.Fits.{DeskFits};
 ghost use Rattle.newt_laws_world.specs.Worlds.{has_form};
 ghost use Rattle.newt_engine.specs.Calls.{Served, Settles};
-ghost use Rattle.newt_engine.specs.Standing.{Standing};
+ghost use Rattle.newt_engine.specs.Standing.{IsStanding};
 
 use crate::world::World;
 use newt_engine_card::Card;
@@ -23,7 +23,7 @@ impl<C: Card> World<C> {
         host: &mut H,
         command: Command,
     ) -> Result<Reply, StoreFault>
-        requires stands { Standing C.reads C.place C.stands H.told self.old.units self.old.desk
+        requires stands { IsStanding C.reads C.place C.stands H.told self.old
             (H.outside host.old) }
         requires form { has_form command ≡ true }
         ensures { Served C.reads C.place C.stands H.told command self.old self.new
@@ -45,7 +45,7 @@ impl<C: Card> World<C> {
         host: &mut H,
         command: Command,
     ) -> Result<Reply, StoreFault>
-        requires stands { Standing C.reads C.place C.stands H.told self.old.units self.old.desk
+        requires stands { IsStanding C.reads C.place C.stands H.told self.old
             (H.outside host.old) }
         requires no_cursor { uses_cursors command ≡ false }
         requires form { has_form command ≡ true }

@@ -8,7 +8,7 @@ ghost use Rattle.newt_spec_world.specs.Answer.{answer};
 ghost use Rattle.newt_spec_world.specs.First.{world_of};
 ghost use Rattle.newt_engine_cursors.specs.World.{world_with};
 ghost use Rattle.newt_engine.specs.Calls.{Applied};
-ghost use Rattle.newt_engine.specs.Standing.{Standing};
+ghost use Rattle.newt_engine.specs.Standing.{IsStanding, Standing, stood_for};
 ghost use Rattle.newt_engine.specs.Laws.{laws_of, still_stands, same_world, leaves_store};
 ghost use Rattle.newt_engine.specs.Laws.{stays_there};
 
@@ -44,9 +44,9 @@ impl<C: Card> World<C> {
         requires distinct { AreDistinct (map string_bytes names.now) }
         requires free { (unit : ℕ) → (H.outside host.old).card unit ≡ None }
         ensures stands { IfOk result (λ it.
-            Standing C.reads C.place C.stands H.told it.units it.desk (H.outside host.new)) }
+            IsStanding C.reads C.place C.stands H.told it (H.outside host.new)) }
         ensures world { IsTrue H.told → IfOk result (λ it.
-            world_with C.reads it.units it.desk (H.outside host.new)
+            stood_for C.reads it (H.outside host.new)
             ≡ world_of C.reads (held (H.outside host.old)) (map string_bytes names.now)) }
         ensures attached { AreAttached H.told (map string_bytes names.now)
             (H.outside host.old) (H.outside host.new) }
@@ -62,7 +62,7 @@ impl<C: Card> World<C> {
     /// `Stop::Memory`, where memory was refused, and `Stop::Device`, where the device of a unit
     /// failed; after one the world is spent, and no further command may be given.
     pub fn apply<H: Host>(&mut self, host: &mut H, command: Command) -> Result<Reply, Stop>
-        requires stands { Standing C.reads C.place C.stands H.told self.old.units self.old.desk
+        requires stands { IsStanding C.reads C.place C.stands H.told self.old
             (H.outside host.old) }
         requires form { IsTrue (has_form command) }
         ensures { Applied C.reads C.place C.stands H.told command self.old self.new

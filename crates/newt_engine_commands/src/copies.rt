@@ -3,7 +3,7 @@ ghost use Rattle.std.specs.Prelude.{◌≡◌, ◌≢◌, true};
 ghost use Rattle.newt_spec_world.specs.Reply.{Reply};
 ghost use Rattle.newt_spec_world.specs.declared.command.Command.{Command};
 ghost use Rattle.newt_engine_units.specs.Calls.{Obeys};
-ghost use Rattle.newt_engine_units.specs.Stands.{Stands, mounted_in};
+ghost use Rattle.newt_engine_units.specs.Stands.{Stands, is_mounted};
 ghost use Rattle.newt_engine_commands.specs.Calls.{MovesEntry};
 
 use newt_base::{Name, Refusal, Sig, Uid};
@@ -66,7 +66,7 @@ fn move_inside<C: Card, H: Host>(
     into: Sig,
 ) -> Result<u32, StoreFault>
     requires stands { Stands C.place C.stands H.told units.old (H.outside host.old) }
-    requires mounted { mounted_in units.old.slots.items unit ≡ true }
+    requires mounted { is_mounted units.old unit ≡ true }
     ensures { MovesEntry C.reads C.place C.stands H.told unit soup uid unit into
         units.old units.new (H.outside host.old) (H.outside host.new) result }
 {
@@ -88,8 +88,8 @@ fn move_between<C: Card, H: Host>(
     into: Sig,
 ) -> Result<u32, StoreFault>
     requires stands { Stands C.place C.stands H.told units.old (H.outside host.old) }
-    requires mounted { mounted_in units.old.slots.items unit ≡ true }
-    requires target { mounted_in units.old.slots.items to ≡ true }
+    requires mounted { is_mounted units.old unit ≡ true }
+    requires target { is_mounted units.old to ≡ true }
     requires apart { to ≢ unit }
     ensures { MovesEntry C.reads C.place C.stands H.told unit soup uid to into
         units.old units.new (H.outside host.old) (H.outside host.new) result }

@@ -10,6 +10,7 @@ use Rattle.newt_store_change.specs.declared.fault.StoreFault.{StoreFault}
 use Rattle.newt_store_change.specs.declared.fault.StoreFault.TheVariants.{Refused, Stop as Ends}
 use Rattle.newt_store_change.specs.Faults.{IsEnd}
 use Rattle.newt_engine_units.specs.declared.units.Slot.{Slot}
+use Rattle.newt_engine_units.specs.declared.units.Units.{Units}
 use Rattle.newt_engine_units.specs.Stands.{card_at}
 
 module _ {C : Type 0} (soups : C → Store) where
@@ -20,6 +21,10 @@ module _ {C : Type 0} (soups : C → Store) where
   -- the faces of the eight units
   abbrev pub card_faces : List (Slot C) → List Face
   card_faces slots = map (λ u. card_face (card_at slots u)) unit_numbers
+
+  -- those of these units
+  abbrev pub faces_of : Units C → List Face
+  faces_of units = card_faces units.slots.items
 
 -- The default after a unit is no longer mounted: the first that is mounted where it was the default, else as before.
 abbrev pub default_after : List Face → Option ℕ → ℕ → Option ℕ

@@ -4,7 +4,7 @@ ghost use Rattle.newt_spec_store.specs.Store.{Store as Plain, entry_at};
 ghost use Rattle.newt_laws_answers.specs.There.{OnUnit};
 ghost use Rattle.newt_store_change.specs.Entries.{ReadsEntry};
 ghost use Rattle.newt_engine_units.specs.Calls.{AreRead, Changes, Ended, Fetches, FetchesLarge};
-ghost use Rattle.newt_engine_units.specs.Stands.{Stands, mounted_in, world_of};
+ghost use Rattle.newt_engine_units.specs.Stands.{Stands, world_of, is_mounted};
 
 use crate::units::Units;
 use newt_base::{Refusal, Sig, Uid};
@@ -25,7 +25,7 @@ impl<C: Card> Units<C> {
         change: Change,
     ) -> Result<u32, StoreFault>
         requires stands { Stands C.place C.stands H.told self.old (H.outside host.old) }
-        requires mounted { mounted_in self.old.slots.items unit ≡ true }
+        requires mounted { is_mounted self.old unit ≡ true }
         ensures { Changes C.reads C.place C.stands H.told unit change self.old self.new
             (H.outside host.old) (H.outside host.new) result }
     {
@@ -45,7 +45,7 @@ impl<C: Card> Units<C> {
         uid: Uid,
     ) -> Result<Option<Entry>, Stop>
         requires stands { Stands C.place C.stands H.told self.old (H.outside host.old) }
-        requires mounted { mounted_in self.old.slots.items unit ≡ true }
+        requires mounted { is_mounted self.old unit ≡ true }
         ensures { Fetches C.reads C.place C.stands H.told unit soup uid self.old self.new
             (H.outside host.old) (H.outside host.new) result }
     {
@@ -64,7 +64,7 @@ impl<C: Card> Units<C> {
         uid: Uid,
     ) -> Result<Entry, StoreFault>
         requires stands { Stands C.place C.stands H.told self.old (H.outside host.old) }
-        requires mounted { mounted_in self.old.slots.items unit ≡ true }
+        requires mounted { is_mounted self.old unit ≡ true }
         ensures looks { AreRead C.reads C.place C.stands H.told self.old self.new
             (H.outside host.old) (H.outside host.new) }
         ensures read { IsTrue H.told → (blocks : ℕ) (s : Plain)
@@ -93,7 +93,7 @@ impl<C: Card> Units<C> {
         len: u32,
     ) -> Result<Bytes, StoreFault>
         requires stands { Stands C.place C.stands H.told self.old (H.outside host.old) }
-        requires mounted { mounted_in self.old.slots.items unit ≡ true }
+        requires mounted { is_mounted self.old unit ≡ true }
         ensures { FetchesLarge C.reads C.place C.stands H.told unit soup uid path.now at len
             self.old self.new (H.outside host.old) (H.outside host.new) result }
     {

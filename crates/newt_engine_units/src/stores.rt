@@ -17,7 +17,7 @@ use newt_store_change::StoreFault;
 impl<C: Card> Units<C> {
     /// Whether the unit has a device with banks and is not mounted, or why not.
     pub(crate) fn find_ready<H: Host>(&self, host: &H, unit: Unit) -> Result<(), StoreFault>
-        ensures { FindsReady self.now.slots.items ((H.outside host.now).blocks unit) unit result }
+        ensures { FindsReady self.now ((H.outside host.now).blocks unit) unit result }
     {
         if !self.is_attached(unit) {
             return Err(StoreFault::Refused(Refusal::Unit));
@@ -35,7 +35,7 @@ impl<C: Card> Units<C> {
     /// Opens the store of a unit, if it has a readable one.
     pub(crate) fn open<H: Host>(&self, host: &mut H, unit: Unit) -> Result<Option<C>, StoreFault>
         requires stands { Stands C.place C.stands H.told self.now (H.outside host.old) }
-        requires free { IsFree self.now.slots.items ((H.outside host.old).blocks unit) unit }
+        requires free { IsFree self.now ((H.outside host.old).blocks unit) unit }
         ensures looks { AreRead C.reads C.place C.stands H.told self.now self.now
             (H.outside host.old) (H.outside host.new) }
         ensures opened { FindsCard
@@ -54,7 +54,7 @@ impl<C: Card> Units<C> {
     /// Whether the unit has a readable store.
     fn has_store<H: Host>(&self, host: &mut H, unit: Unit) -> Result<bool, StoreFault>
         requires stands { Stands C.place C.stands H.told self.now (H.outside host.old) }
-        requires free { IsFree self.now.slots.items ((H.outside host.old).blocks unit) unit }
+        requires free { IsFree self.now ((H.outside host.old).blocks unit) unit }
         ensures looks { AreRead C.reads C.place C.stands H.told self.now self.now
             (H.outside host.old) (H.outside host.new) }
         ensures has { FindsStore H.told
@@ -97,7 +97,7 @@ impl<C: Card> Units<C> {
         sig: Sig,
     ) -> Result<(), StoreFault>
         requires stands { Stands C.place C.stands H.told self.now (H.outside host.old) }
-        requires free { IsFree self.now.slots.items ((H.outside host.old).blocks unit) unit }
+        requires free { IsFree self.now ((H.outside host.old).blocks unit) unit }
         requires sig { sig_fits sig ≡ true }
         ensures { Makes C.reads C.place C.stands H.told unit name.now sig self.now
             (H.outside host.old) (H.outside host.new) result }
