@@ -96,13 +96,13 @@ returns-in_err-change g c =
           let added = add-said k.blocks c.read_entry.new.self.minute c.args.into k.store k.soup k.by_sig entry.graph in
           let uid_is = added-uid k.blocks c.read_entry.new.self.minute c.args.into k.store k.soup k.by_sig entry.graph in
           let was = was-added w c.args.unit c.args.to name target c.args.soup c.args.into c.args.uid h k refl entry found c.requires.apart _ _ _ same
-              (said-made first t there added (λ n. n ≡ k.soup.next_uid) (λ n is. is ∙ uid_is)) in
+          (said-made first t there added (λ n. n ≡ k.soup.next_uid) (λ n is. is ∙ uid_is)) in
           let then = on-then w c.args.unit c.args.to name target c.args.soup c.args.into c.args.uid h k refl entry found c.requires.apart _ _ was in
           let removed = remove-said h.blocks c.change.new.self.minute c.args.soup h.store h.soup h.by_sig c.args.uid entry found in
           let way = first-moments w c.args.unit c.args.to name target c.args.soup c.args.into c.args.uid h k refl entry found c.requires.apart g.C.Card.reads _
-              (o c.args.host.now).now (o c.read_entry.new.host).now (o c.change.new.host).now same read.looks.moment
-              (said-moments first t there added (answer w (command.Move c.args.unit name c.args.uid c.args.to target)).0
-              (added-makes w c.args.unit c.args.to name target c.args.soup c.args.into c.args.uid h k refl entry found c.requires.apart _ same)) in
+          (o c.args.host.now).now (o c.read_entry.new.host).now (o c.change.new.host).now same read.looks.moment
+          (said-moments first t there added (answer w (command.Move c.args.unit name c.args.uid c.args.to target)).0
+          (added-makes w c.args.unit c.args.to name target c.args.soup c.args.into c.args.uid h k refl entry found c.requires.apart _ same)) in
           record {
             answered = subst (λ r. Answers w (world_of g.C.Card.reads c.change-2.new.self (o c.change-2.new.host)) (command.Move c.args.unit name c.args.uid c.args.to target) (λ n. Reply.number n) r) (sym (is-err _ _ p))
                 (never-refused w _ _ (change_store (world_of g.C.Card.reads c.change.new.self (o c.change.new.host)) c.args.unit (change_soup h.soup.name (remove_entry c.args.uid))) _
@@ -135,13 +135,13 @@ returns g c =
           let added = add-said k.blocks c.read_entry.new.self.minute c.args.into k.store k.soup k.by_sig entry.graph in
           let uid_is = added-uid k.blocks c.read_entry.new.self.minute c.args.into k.store k.soup k.by_sig entry.graph in
           let was = was-added w c.args.unit c.args.to name target c.args.soup c.args.into c.args.uid h k refl entry found c.requires.apart _ _ _ same
-              (said-made first t there added (λ n. n ≡ k.soup.next_uid) (λ n is. is ∙ uid_is)) in
+          (said-made first t there added (λ n. n ≡ k.soup.next_uid) (λ n is. is ∙ uid_is)) in
           let then = on-then w c.args.unit c.args.to name target c.args.soup c.args.into c.args.uid h k refl entry found c.requires.apart _ _ was in
           let removed = remove-said h.blocks c.change.new.self.minute c.args.soup h.store h.soup h.by_sig c.args.uid entry found in
           let way = first-moments w c.args.unit c.args.to name target c.args.soup c.args.into c.args.uid h k refl entry found c.requires.apart g.C.Card.reads _
-              (o c.args.host.now).now (o c.read_entry.new.host).now (o c.change.new.host).now same read.looks.moment
-              (said-moments first t there added (answer w (command.Move c.args.unit name c.args.uid c.args.to target)).0
-              (added-makes w c.args.unit c.args.to name target c.args.soup c.args.into c.args.uid h k refl entry found c.requires.apart _ same)) in
+          (o c.args.host.now).now (o c.read_entry.new.host).now (o c.change.new.host).now same read.looks.moment
+          (said-moments first t there added (answer w (command.Move c.args.unit name c.args.uid c.args.to target)).0
+          (added-makes w c.args.unit c.args.to name target c.args.soup c.args.into c.args.uid h k refl entry found c.requires.apart _ same)) in
           record {
             answered = between-answers w c.args.unit c.args.to name target c.args.soup c.args.into c.args.uid h k refl entry found c.requires.apart _ _ _ was (said-made second t then removed (λ _. ⊤) (λ n is. tt)).2;
             moments = both-moments w c.args.unit c.args.to name target c.args.soup c.args.into c.args.uid h k refl entry found c.requires.apart g.C.Card.reads _ _

@@ -92,8 +92,8 @@ returns g c =
           let v = (answer w (command.Format c.args.unit c.args.name.now c.args.sig)).0 in
           let blank = sym (e.has t) ∙ c.if-branch.false in
           let way = c.make.ensures.moments t v
-              (subst (λ (x : World). store_on_unit x c.args.unit ≡ None) (sym same) (format-blank w w c.args.unit _ found c.args.name.now c.args.sig ready refl blank))
-              (format-makes w w c.args.unit _ found c.args.name.now c.args.sig ready refl blank) in
+          (subst (λ (x : World). store_on_unit x c.args.unit ≡ None) (sym same) (format-blank w w c.args.unit _ found c.args.name.now c.args.sig ready refl blank))
+          (format-makes w w c.args.unit _ found c.args.name.now c.args.sig ready refl blank) in
           subst (λ (k : Moment). Always (Answering g.C.Card.reads w v k) k p.now) e.looks.moment
           (subst (λ (x : World). Always (Answering g.C.Card.reads x v m.now) m.now p.now) same way);
       open_after = λ t goes u. same-before u o.now m.now p.now (ap (changes u) e.looks.moment) (c.make.ensures.open_after t goes u);
