@@ -1,5 +1,5 @@
 -- The entry is read, its graph is added to the target, and then it is removed.
-use Rattle.std.proofs.Common.{refl, sym, subst, ◌≡◌, ◌∙◌}
+use Rattle.std.proofs.Common.{refl, sym, subst, ℕ, ◌≡◌, ◌∙◌}
 use Rattle.std.proofs.lemmas.Result.{err_from_is_err_and}
 use Rattle.newt_spec_store.specs.Store.{Entry, change_soup, remove_entry}
 use Rattle.newt_spec_world.specs.Reply.{Reply}
@@ -57,7 +57,7 @@ returns-in_err-added g c =
     let first = c.in_err-added.ensures in
     let p = err_from_is_err_and c.from_residual-in_err-added.result c.from_residual-in_err-added.ensures.1 in
     record {
-      stands = λ goes. first.stands (fault-goes _ p goes);
+      stands = λ goes. first.stands (fault-goes ℕ _ p goes);
       moved = λ t name target h k.
           let found = read-found c.args.soup c.args.uid h.store h.soup c.in_ok-graph.field-0 c.in_ok-graph.field-0.graph refl h.by_sig (read.read t h.blocks h.store h.on) in
           let entry : Entry = record { uid = c.in_ok-graph.field-0.uid; time = c.in_ok-graph.field-0.time; graph = c.in_ok-graph.field-0.graph } in
@@ -87,7 +87,7 @@ returns-in_err-change g c =
     let second = c.in_err-change.ensures in
     let p = err_from_is_err_and c.from_residual-in_err-change.result c.from_residual-in_err-change.ensures.1 in
     record {
-      stands = λ goes. second.stands (fault-goes _ p goes);
+      stands = λ goes. second.stands (fault-goes ℕ _ p goes);
       moved = λ t name target h k.
           let found = read-found c.args.soup c.args.uid h.store h.soup c.in_ok-graph.field-0 c.in_ok-graph.field-0.graph refl h.by_sig (read.read t h.blocks h.store h.on) in
           let entry : Entry = record { uid = c.in_ok-graph.field-0.uid; time = c.in_ok-graph.field-0.time; graph = c.in_ok-graph.field-0.graph } in

@@ -49,7 +49,7 @@ returns-in_err-has_store g c =
     let p = err_from_is_err_and c.from_residual-in_err-has_store.result c.from_residual-in_err-has_store.ensures.1 in
     record {
       stands = λ goes. e.looks.stand;
-      answered = λ t. end-answers _ _ p e.has;
+      answered = λ t. end-answers _ _ _ _ _ _ p e.has;
       moments = λ t. still at t _ _ e.looks.moment;
       open_after = λ t goes u. inr (ap (changes u) e.looks.moment);
       ends = handed-ends _ p e.ends;
