@@ -28,3 +28,11 @@ module _ {C : Type 0} (reads : List ℕ → Option Store) (place : C → ℕ) (s
 -- the world that it stands for
 abbrev pub stood_for : {C : Type 0} → (List ℕ → Option Store) → World C → Outside → plain.World
 stood_for reads world outside = world_with reads world.units world.desk outside
+
+-- its units stand for a host
+abbrev pub UnitsStand : {C : Type 0} → (C → ℕ) → (Bool → C → Outside → Type 0) → Bool → World C → Outside → Type 0
+UnitsStand place stands told world outside = Stands place stands told world.units outside
+
+-- the places for cursors of the engine's world are what they are to be
+abbrev pub CursorsFit : {C : Type 0} → World C → Type 0
+CursorsFit world = DeskFits world.desk

@@ -2,11 +2,9 @@
 ghost use Rattle.std.specs.Prelude.{◌≡◌, false, true};
 ghost use Rattle.newt_laws_world.specs.Settled.{moves_keys};
 ghost use Rattle.newt_laws_world.specs.Cursors.{uses_cursors};
-ghost use Rattle.newt_engine_units.specs.Stands.{Stands};
-ghost use Rattle.newt_engine_cursors.specs.Fits.{DeskFits};
 ghost use Rattle.newt_laws_world.specs.Worlds.{has_form};
 ghost use Rattle.newt_engine.specs.Calls.{Served, Settles};
-ghost use Rattle.newt_engine.specs.Standing.{IsStanding};
+ghost use Rattle.newt_engine.specs.Standing.{CursorsFit, IsStanding, UnitsStand};
 
 use crate::world::World;
 use newt_engine_card::Card;
@@ -67,8 +65,8 @@ impl<C: Card> World<C> {
 
     /// Settles the cursors, and hands a reply on.
     fn settled<H: Host>(&mut self, host: &mut H, reply: Reply) -> Result<Reply, StoreFault>
-        requires stands { Stands C.place C.stands H.told self.old.units (H.outside host.old) }
-        requires desk { DeskFits self.old.desk }
+        requires stands { UnitsStand C.place C.stands H.told self.old (H.outside host.old) }
+        requires desk { CursorsFit self.old }
         ensures { Settles C.reads C.place C.stands H.told reply self.old self.new
             (H.outside host.old) (H.outside host.new) result }
     {

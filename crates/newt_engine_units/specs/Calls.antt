@@ -87,8 +87,8 @@ module _ {C : Type 0} (reads : List ℕ → Option Store) (place : C → ℕ) (s
     pub cause : IfErr result (λ fault. HasFaultCause fault before after)
     pub no_fault : GoesOn result → NoFault before after
 
-  -- The device of a unit without a store is made one with a store without soups, or the run ends. At
-  -- each moment a crash leaves the other stores, whatever world is to have the new one there.
+  -- The device of a unit that has no store is made one with a store without soups, or the run ends;
+  -- at each moment a crash leaves every other store as it was.
   pub record Makes (told : Bool) (unit : ℕ) (name : List ℕ) (sig : ℕ) (units : Units C) (before after : Outside) (result : Result (Unit {0}) StoreFault) : Type 0 where
     pub stands : GoesOn result → Stands place standing told units after
     pub made : IsTrue told → OnOk result (world_of reads units after ≡ formatted (world_of reads units before) unit name sig)
@@ -98,8 +98,8 @@ module _ {C : Type 0} (reads : List ℕ → Option Store) (place : C → ℕ) (s
     pub open_after : IsTrue told → GoesOn result → (u : ℕ) → IsOpenOrSame u before.now after.now
     pub ends : Ended result before after
 
-  -- A format that is commanded promises what every command does, but for how much it programs: it
-  -- leaves each bank that is not closed, or as it was.
+  -- A format that is commanded promises what every command does but how much it programs: where the
+  -- run goes on, each bank is not closed or is as it was.
   pub record Formats (told : Bool) (unit : ℕ) (name : List ℕ) (sig : ℕ) (old new : Units C) (before after : Outside) (result : Result (Unit {0}) StoreFault) : Type 0 where
     pub stands : GoesOn result → Stands place standing told new after
     pub answered : IsTrue told → Answers (world_of reads old before) (world_of reads new after) (command.Format unit name sig) (λ _. Reply.done) result

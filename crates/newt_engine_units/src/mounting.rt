@@ -10,7 +10,7 @@ ghost use Rattle.newt_engine_units.specs.Calls.{AreRead, Ended, Obeys};
 ghost use Rattle.newt_engine_units.specs.Faces.{Admits, Opens, default_after, faces_of};
 ghost use Rattle.newt_engine_units.specs.Faces.{with_card};
 ghost use Rattle.newt_engine_units.specs.Looks.{IsFree, is_attached};
-ghost use Rattle.newt_engine_units.specs.Stands.{Eight, Stands, world_of, is_mounted};
+ghost use Rattle.newt_engine_units.specs.Stands.{Eight, Stands, default_of, is_mounted, world_of};
 
 use crate::units::Units;
 use newt_base::{Name, Refusal, Sig};
@@ -74,7 +74,7 @@ impl<C: Card> Units<C> {
     fn put(&mut self, unit: Unit, card: C)
         requires { is_attached self.old unit ≡ true }
         ensures slots { self.new.slots.items ≡ with_card unit (Some card) self.old.slots.items }
-        ensures default { self.new.default ≡ Some (unwrap_or self.old.default unit) }
+        ensures default { default_of self.new ≡ Some (unwrap_or (default_of self.old) unit) }
         ensures minute { self.new.minute ≡ self.old.minute }
     {
         self.slots[unit.0 as usize].card = Some(card);
@@ -105,7 +105,7 @@ impl<C: Card> Units<C> {
     fn take(&mut self, unit: Unit)
         requires { is_mounted self.old unit ≡ true }
         ensures slots { self.new.slots.items ≡ with_card unit None self.old.slots.items }
-        ensures default { self.new.default ≡ self.old.default }
+        ensures default { default_of self.new ≡ default_of self.old }
         ensures minute { self.new.minute ≡ self.old.minute }
     {
         self.slots[unit.0 as usize].card = None;
@@ -113,8 +113,7 @@ impl<C: Card> Units<C> {
 
     /// The default unit after this one is no longer mounted.
     fn default_after(&self, unit: Unit) -> Option<Unit>
-        ensures { result ≡ default_after (faces_of C.soups self.now) self.now.default
-            unit }
+        ensures { result ≡ default_after (faces_of C.soups self.now) (default_of self.now) unit }
     {
         let default = self.default?;
         if unit == default {
