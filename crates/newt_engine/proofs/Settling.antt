@@ -124,7 +124,7 @@ module _ {C : Type 0} {reads : List ℕ → Option Store} {place : C → ℕ} {s
 
   pub moments_with : (now : Moment) → Always (Answering reads w (answer w c).0 o.now) o.now now → Always (Answering reads (with_cursors ks w) (answer (with_cursors ks w) c).0 o.now) o.now now
   moments_with now h = subst (λ (a : World × plain.Reply). Always (Answering reads (with_cursors ks w) a.0 o.now) o.now now) (sym whole)
-      (Always-map (λ m a. record { quiet = a.quiet; stores = a.stores; others = a.others }) h)
+      (Always-map (λ m a. record { unread = a.unread; quiet = a.quiet; stores = a.stores; others = a.others }) h)
 
 -- units and cursors stand after a command as they did before
 pub stands_after : {T C : Type 0} {reads : List ℕ → Option Store} {place : C → ℕ} {stands : Bool → C → Outside → Type 0} (told : Bool) (units later : Units C) (ks ls : List (Option Cursor)) (o p : Outside)
@@ -143,4 +143,4 @@ pub quiet_with : {C : Type 0} {reads : List ℕ → Option Store} {place : C →
     → (told : Bool) (units : Units C) (ks : List (Option Cursor)) (o p : Outside) → Standing reads place stands told units ks o → IsTrue told → p.now ≡ o.now → (v : World)
     → Always (Answering reads (world_with reads units ks o) v o.now) o.now p.now
 quiet_with {reads} l told units ks o p s t same v = subst (λ m. Always (Answering reads (world_with reads units ks o) v o.now) o.now m) (sym same)
-    (Always-map (λ m a. record { quiet = a.quiet; stores = a.stores; others = a.others }) (quiet l told units o s.eight s.stand t v))
+    (Always-map (λ m a. record { unread = a.unread; quiet = a.quiet; stores = a.stores; others = a.others }) (quiet l told units o s.eight s.stand t v))

@@ -1,5 +1,5 @@
 -- What the world promises of a command. All of it is this project's own.
-use Rattle.std.specs.Prelude.{◌≡◌, ℕ, Bool, false, IsTrue, List, Option, Result, Ok, IfErr, IfOk, IsOk, OnOk}
+use Rattle.std.specs.Prelude.{◌≡◌, ℕ, Bool, true, false, IsTrue, List, Option, Result, Ok, IfErr, IfOk, IsOk, OnOk}
 use Rattle.newt_base.specs.declared.Refusal.{Refusal}
 use Rattle.newt_host.specs.Moments.{Always}
 use Rattle.newt_host.specs.Outside.{Outside, NoFault, OnDevices}
@@ -11,16 +11,17 @@ use Rattle.newt_reply.specs.declared.reply.Reply.{Reply}
 use Rattle.newt_reply.specs.declared.reply.Reply.TheVariants as reply
 use Rattle.newt_spec_store.specs.Store.{Store}
 use Rattle.newt_spec_world.specs.Answer.{answer}
+use Rattle.newt_spec_world.specs.World.{settle}
 use Rattle.newt_spec_world.specs.declared.command.Command.{Command}
 use Rattle.newt_laws_world.specs.Answering.{Answering}
 use Rattle.newt_laws_answers.specs.Bounds.{most_programmed}
 use Rattle.newt_laws_world.specs.Settled.{IsSettled, MountedApart}
-use Rattle.newt_store_change.specs.Faults.{GoesOn, HasFaultCause, IsRefusal, NoDevice}
+use Rattle.newt_store_change.specs.Faults.{GoesOn, HasFaultCause, IsEnd, IsRefusal, NoDevice}
 use Rattle.newt_store_change.specs.declared.fault.StoreFault.{StoreFault}
 use Rattle.newt_engine_card.specs.Bounds.{IsOpenOrSame, ProgramsAtMost}
 use Rattle.newt_engine_units.specs.Answers.{Answers}
-use Rattle.newt_engine_units.specs.Calls.{AreRead}
-use Rattle.newt_engine_units.specs.Stands.{Stands, world_of}
+use Rattle.newt_engine_units.specs.Calls.{AreRead, Ended}
+use Rattle.newt_engine_units.specs.Stands.{Eight, Stands, world_of}
 use Rattle.newt_engine_cursors.specs.Fits.{DeskFits}
 use Rattle.newt_engine_cursors.specs.World.{world_with}
 use Rattle.newt_engine.specs.Bounds.{CommandCosts, is_format}
@@ -42,6 +43,26 @@ module _ {C : Type 0} (reads : List ℕ → Option Store) (place : C → ℕ) (s
     pub no_fault : GoesOn result → NoFault before after
     pub ends : takes_memory command ≡ false → IfErr result (λ fault. IsRefusal fault)
     pub device : uses_device command ≡ false → IfErr result (λ fault. NoDevice fault)
+
+  -- A command that uses no device, by the world without cursors, whatever the devices hold: the
+  -- units answer it, the cursors stay what they were, and only want of memory ends the run, and that
+  -- only where the command may take some.
+  pub record ObeyedInMemory (command : Command) (old new : World C) (result : Result Reply StoreFault) : Type 0 where
+    pub stands : (told : Bool) (outside : Outside) → Stands place standing told old.units outside → Stands place standing told new.units outside
+    pub answered : (outside : Outside) → Eight outside → Stands place standing true old.units outside
+        → Answers (world_of reads old.units outside) (world_of reads new.units outside) command said result
+    pub desk : new.desk ≡ old.desk
+    pub device : IfErr result (λ fault. NoDevice fault)
+    pub ends : takes_memory command ≡ false → IfErr result (λ fault. IsRefusal fault)
+
+  -- The cursors are settled, and a reply is handed on; or the run ends. Devices are read alone.
+  pub record Settles (told : Bool) (reply : Reply) (old new : World C) (before after : Outside) (result : Result Reply StoreFault) : Type 0 where
+    pub read : AreRead reads place standing told old.units new.units before after
+    pub desk : DeskFits new.desk
+    pub settled : IsTrue told → let w = world_with reads old.units old.desk before in MountedApart w → OnOk result (world_with reads new.units new.desk after ≡ settle w)
+    pub same : IfOk result (λ it. it ≡ reply)
+    pub ends : Ended result before after
+    pub only : IfErr result (λ fault. IsEnd fault)
 
   -- A command of cursors, in a world whose cursors are settled: devices are read alone.
   pub record Walked (told : Bool) (command : Command) (old new : World C) (before after : Outside) (result : Result Reply StoreFault) : Type 0 where
@@ -80,3 +101,15 @@ module _ {C : Type 0} (reads : List ℕ → Option Store) where
     pub no_fault : OnOk result (NoFault before after)
     pub never_memory : takes_memory command ≡ false → IsOk result
     pub never_device : uses_device command ≡ false → IfErr result (λ stop. stop ≡ Memory)
+
+module _ {C : Type 0} (reads : List ℕ → Option Store) (place : C → ℕ) (standing : Bool → C → Outside → Type 0) where
+  -- What the world promises of any command. It answers what is defined of it, and then stands for the
+  -- world that is then; at each moment a crash leaves each store as it was or as it is after the
+  -- command; and a refusal leaves the world as it was.
+  pub record Applied (told : Bool) (command : Command) (old new : World C) (before after : Outside) (result : Result Reply Stop) : Type 0 where
+    pub stands : OnOk result (Standing reads place standing told new.units new.desk after)
+    pub answered : IsTrue told → let w = world_with reads old.units old.desk before in let v = world_with reads new.units new.desk after in
+        IfOk result (λ reply. answer w command ≡ (v, said reply))
+    pub moments : IsTrue told → let w = world_with reads old.units old.desk before in Always (Answering reads w (answer w command).0 before.now) before.now after.now
+    pub finished : Finished reads told command old before after result
+    pub refused : IsTrue told → (refusal : Refusal) → result ≡ Ok (reply.Refused refusal) → world_with reads new.units new.desk after ≡ world_with reads old.units old.desk before

@@ -8,6 +8,8 @@ use Rattle.newt_engine_units.specs.declared.units.Units.{Units}
 use Rattle.newt_engine_units.specs.Stands.{Eight, Stands}
 use Rattle.newt_engine_cursors.specs.Fits.{DeskFits}
 use Rattle.newt_engine_cursors.specs.World.{world_with}
+use Rattle.newt_engine.specs.declared.world.World.{World}
+use Rattle.newt_spec_world.specs.World as plain
 
 module _ {C : Type 0} (reads : List ℕ → Option Store) (place : C → ℕ) (stands : Bool → C → Outside → Type 0) where
   -- The units stand for a host of eight units, and the cursors with them for a world of its devices: no two mounted stores have one signature, and no cursor
@@ -18,3 +20,19 @@ module _ {C : Type 0} (reads : List ℕ → Option Store) (place : C → ℕ) (s
     pub desk : DeskFits cursors
     pub apart : IsTrue told → MountedApart (world_with reads units cursors outside)
     pub settled : IsTrue told → IsSettled (world_with reads units cursors outside)
+
+  -- the engine's world stands for a host
+  abbrev pub IsStanding : Bool → World C → Outside → Type 0
+  IsStanding told world outside = Standing told world.units world.desk outside
+
+-- the world that it stands for
+abbrev pub stood_for : {C : Type 0} → (List ℕ → Option Store) → World C → Outside → plain.World
+stood_for reads world outside = world_with reads world.units world.desk outside
+
+-- its units stand for a host
+abbrev pub UnitsStand : {C : Type 0} → (C → ℕ) → (Bool → C → Outside → Type 0) → Bool → World C → Outside → Type 0
+UnitsStand place stands told world outside = Stands place stands told world.units outside
+
+-- the places for cursors of the engine's world are what they are to be
+abbrev pub CursorsFit : {C : Type 0} → World C → Type 0
+CursorsFit world = DeskFits world.desk

@@ -1,11 +1,9 @@
 //! Commands that open, move, show or close a cursor.
 ghost use Rattle.std.specs.Prelude.{◌≡◌, true};
 ghost use Rattle.newt_laws_world.specs.Cursors.{uses_cursors};
-ghost use Rattle.newt_engine_units.specs.Stands.{Stands};
-ghost use Rattle.newt_engine_cursors.specs.Fits.{DeskFits};
 ghost use Rattle.newt_engine.specs.Calls.{Served, Walked};
 ghost use Rattle.newt_engine.specs.Groups.{on_place};
-ghost use Rattle.newt_engine.specs.Standing.{Standing};
+ghost use Rattle.newt_engine.specs.Standing.{CursorsFit, IsStanding, UnitsStand};
 
 use crate::replies::{done, numbered, opened, shown, sided};
 use crate::world::World;
@@ -23,7 +21,7 @@ impl<C: Card> World<C> {
         host: &mut H,
         command: &Command,
     ) -> Result<Reply, StoreFault>
-        requires stands { Standing C.reads C.place C.stands H.told self.old.units self.old.desk
+        requires stands { IsStanding C.reads C.place C.stands H.told self.old
             (H.outside host.old) }
         requires on_cursor { uses_cursors command.now ≡ true }
         ensures { Served C.reads C.place C.stands H.told command.now self.old self.new
@@ -34,8 +32,8 @@ impl<C: Card> World<C> {
 
     /// Moves or shows a cursor, or opens or closes one.
     fn walk<H: Host>(&mut self, host: &mut H, command: &Command) -> Result<Reply, StoreFault>
-        requires desk { DeskFits self.old.desk }
-        requires stands { Stands C.place C.stands H.told self.old.units (H.outside host.old) }
+        requires desk { CursorsFit self.old }
+        requires stands { UnitsStand C.place C.stands H.told self.old (H.outside host.old) }
         requires on_cursor { uses_cursors command.now ≡ true }
         ensures { Walked C.reads C.place C.stands H.told command.now self.old self.new
             (H.outside host.old) (H.outside host.new) result }
@@ -66,8 +64,8 @@ impl<C: Card> World<C> {
         host: &mut H,
         command: &Command,
     ) -> Result<Reply, StoreFault>
-        requires desk { DeskFits self.old.desk }
-        requires stands { Stands C.place C.stands H.told self.old.units (H.outside host.old) }
+        requires desk { CursorsFit self.old }
+        requires stands { UnitsStand C.place C.stands H.told self.old (H.outside host.old) }
         requires on_place { on_place command.now ≡ true }
         ensures { Walked C.reads C.place C.stands H.told command.now self.old self.new
             (H.outside host.old) (H.outside host.new) result }

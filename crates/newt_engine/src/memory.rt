@@ -1,11 +1,7 @@
 //! Commands that use no device.
-ghost use Rattle.std.specs.Prelude.{◌≡◌, Bool, true, false, IfErr};
-ghost use Rattle.newt_host.specs.Outside.{Outside};
-ghost use Rattle.newt_reply.specs.Said.{said};
-ghost use Rattle.newt_engine_units.specs.Answers.{Answers};
-ghost use Rattle.newt_store_change.specs.Faults.{IsRefusal, NoDevice};
-ghost use Rattle.newt_engine_units.specs.Stands.{Eight, Stands, world_of};
-ghost use Rattle.newt_engine.specs.Ends.{takes_memory, uses_device};
+ghost use Rattle.std.specs.Prelude.{◌≡◌, false};
+ghost use Rattle.newt_engine.specs.Calls.{ObeyedInMemory};
+ghost use Rattle.newt_engine.specs.Ends.{uses_device};
 ghost use Rattle.newt_engine.specs.Groups.{is_shown};
 ghost use Rattle.newt_laws_world.specs.Cursors.{uses_cursors};
 
@@ -24,16 +20,7 @@ impl<C: Card> World<C> {
         requires not_shown { is_shown command.now ≡ false }
         requires no_device { uses_device command.now ≡ false }
         requires no_cursor { uses_cursors command.now ≡ false }
-        ensures stands { (told : Bool) (outside : Outside)
-            → Stands C.place C.stands told self.old.units outside
-            → Stands C.place C.stands told self.new.units outside }
-        ensures answered { (outside : Outside) → Eight outside
-            → Stands C.place C.stands true self.old.units outside
-            → Answers (world_of C.reads self.old.units outside)
-            (world_of C.reads self.new.units outside) command.now said result }
-        ensures desk { self.new.desk ≡ self.old.desk }
-        ensures device { IfErr result (λ fault. NoDevice fault) }
-        ensures ends { takes_memory command.now ≡ false → IfErr result (λ fault. IsRefusal fault) }
+        ensures { ObeyedInMemory C.reads C.place C.stands command.now self.old self.new result }
     {
         match command {
             Command::Time(minute) => {

@@ -2,8 +2,8 @@
 ghost use Rattle.std.specs.Prelude.{◌≡◌, false, true};
 ghost use Rattle.newt_laws_world.specs.Worlds.{has_form};
 ghost use Rattle.newt_laws_world.specs.Cursors.{uses_cursors};
-ghost use Rattle.newt_engine_units.specs.Stands.{Stands};
 ghost use Rattle.newt_engine.specs.Calls.{Obeyed};
+ghost use Rattle.newt_engine.specs.Standing.{UnitsStand};
 
 use crate::replies::{added, done, hex, mounted, numbered, timed, timed_nsof};
 use crate::world::World;
@@ -21,7 +21,7 @@ impl<C: Card> World<C> {
         host: &mut H,
         command: Command,
     ) -> Result<Reply, StoreFault>
-        requires stands { Stands C.place C.stands H.told self.old.units (H.outside host.old) }
+        requires stands { UnitsStand C.place C.stands H.told self.old (H.outside host.old) }
         requires no_cursor { uses_cursors command ≡ false }
         requires form { has_form command ≡ true }
         ensures { Obeyed C.reads C.place C.stands H.told command self.old self.new

@@ -1,16 +1,10 @@
 //! Commands with the cursors settled after them.
-ghost use Rattle.std.specs.Prelude.{◌≡◌, false, true, IsTrue, IfErr, OnOk, IfOk};
-ghost use Rattle.newt_laws_world.specs.Settled.{MountedApart, moves_keys};
+ghost use Rattle.std.specs.Prelude.{◌≡◌, false, true};
+ghost use Rattle.newt_laws_world.specs.Settled.{moves_keys};
 ghost use Rattle.newt_laws_world.specs.Cursors.{uses_cursors};
-ghost use Rattle.newt_spec_world.specs.World.{settle};
-ghost use Rattle.newt_store_change.specs.Faults.{IsEnd};
-ghost use Rattle.newt_engine_units.specs.Stands.{Stands};
-ghost use Rattle.newt_engine_cursors.specs.Fits.{DeskFits};
-ghost use Rattle.newt_engine_units.specs.Calls.{AreRead, Ended};
 ghost use Rattle.newt_laws_world.specs.Worlds.{has_form};
-ghost use Rattle.newt_engine_cursors.specs.World.{world_with};
-ghost use Rattle.newt_engine.specs.Calls.{Served};
-ghost use Rattle.newt_engine.specs.Standing.{Standing};
+ghost use Rattle.newt_engine.specs.Calls.{Served, Settles};
+ghost use Rattle.newt_engine.specs.Standing.{CursorsFit, IsStanding, UnitsStand};
 
 use crate::world::World;
 use newt_engine_card::Card;
@@ -27,7 +21,7 @@ impl<C: Card> World<C> {
         host: &mut H,
         command: Command,
     ) -> Result<Reply, StoreFault>
-        requires stands { Standing C.reads C.place C.stands H.told self.old.units self.old.desk
+        requires stands { IsStanding C.reads C.place C.stands H.told self.old
             (H.outside host.old) }
         requires form { has_form command ≡ true }
         ensures { Served C.reads C.place C.stands H.told command self.old self.new
@@ -49,7 +43,7 @@ impl<C: Card> World<C> {
         host: &mut H,
         command: Command,
     ) -> Result<Reply, StoreFault>
-        requires stands { Standing C.reads C.place C.stands H.told self.old.units self.old.desk
+        requires stands { IsStanding C.reads C.place C.stands H.told self.old
             (H.outside host.old) }
         requires no_cursor { uses_cursors command ≡ false }
         requires form { has_form command ≡ true }
@@ -71,18 +65,10 @@ impl<C: Card> World<C> {
 
     /// Settles the cursors, and hands a reply on.
     fn settled<H: Host>(&mut self, host: &mut H, reply: Reply) -> Result<Reply, StoreFault>
-        requires stands { Stands C.place C.stands H.told self.old.units (H.outside host.old) }
-        requires desk { DeskFits self.old.desk }
-        ensures read { AreRead C.reads C.place C.stands H.told self.old.units self.new.units
-            (H.outside host.old) (H.outside host.new) }
-        ensures desk { DeskFits self.new.desk }
-        ensures settled { IsTrue H.told
-            → let w = world_with C.reads self.old.units self.old.desk (H.outside host.old) in
-            MountedApart w → OnOk result
-            (world_with C.reads self.new.units self.new.desk (H.outside host.new) ≡ settle w) }
-        ensures same { IfOk result (λ same. same ≡ reply) }
-        ensures ends { Ended result (H.outside host.old) (H.outside host.new) }
-        ensures only { IfErr result (λ fault. IsEnd fault) }
+        requires stands { UnitsStand C.place C.stands H.told self.old (H.outside host.old) }
+        requires desk { CursorsFit self.old }
+        ensures { Settles C.reads C.place C.stands H.told reply self.old self.new
+            (H.outside host.old) (H.outside host.new) result }
     {
         match settle(&mut self.units, &mut self.desk, host) {
             Ok(()) => Ok(reply),

@@ -1,18 +1,14 @@
 //! The world over the cards of a host.
-ghost use Rattle.std.specs.Prelude.{◌≡◌, ◌≤◌, ℕ, None, Ok, IsTrue, IfOk, OnOk, length, map};
+ghost use Rattle.std.specs.Prelude.{◌≡◌, ◌≤◌, ℕ, None, IsTrue, IfOk, length, map};
 ghost use Rattle.std.specs.Prelude.{string_bytes};
-ghost use Rattle.newt_base.specs.declared.Refusal.{Refusal};
 ghost use Rattle.newt_host.specs.Meanings.{held};
-ghost use Rattle.newt_host.specs.Moments.{Always};
 ghost use Rattle.newt_host_attach.specs.Named.{AreAttached, AreDistinct};
-ghost use Rattle.newt_reply.specs.Said.{said};
-ghost use Rattle.newt_laws_world.specs.Answering.{Answering};
 ghost use Rattle.newt_laws_world.specs.Worlds.{has_form};
 ghost use Rattle.newt_spec_world.specs.Answer.{answer};
 ghost use Rattle.newt_spec_world.specs.First.{world_of};
 ghost use Rattle.newt_engine_cursors.specs.World.{world_with};
-ghost use Rattle.newt_engine.specs.Calls.{Finished};
-ghost use Rattle.newt_engine.specs.Standing.{Standing};
+ghost use Rattle.newt_engine.specs.Calls.{Applied};
+ghost use Rattle.newt_engine.specs.Standing.{IsStanding, Standing, stood_for};
 ghost use Rattle.newt_engine.specs.Laws.{laws_of, still_stands, same_world, leaves_store};
 ghost use Rattle.newt_engine.specs.Laws.{stays_there};
 
@@ -48,9 +44,9 @@ impl<C: Card> World<C> {
         requires distinct { AreDistinct (map string_bytes names.now) }
         requires free { (unit : ℕ) → (H.outside host.old).card unit ≡ None }
         ensures stands { IfOk result (λ it.
-            Standing C.reads C.place C.stands H.told it.units it.desk (H.outside host.new)) }
+            IsStanding C.reads C.place C.stands H.told it (H.outside host.new)) }
         ensures world { IsTrue H.told → IfOk result (λ it.
-            world_with C.reads it.units it.desk (H.outside host.new)
+            stood_for C.reads it (H.outside host.new)
             ≡ world_of C.reads (held (H.outside host.old)) (map string_bytes names.now)) }
         ensures attached { AreAttached H.told (map string_bytes names.now)
             (H.outside host.old) (H.outside host.new) }
@@ -66,25 +62,11 @@ impl<C: Card> World<C> {
     /// `Stop::Memory`, where memory was refused, and `Stop::Device`, where the device of a unit
     /// failed; after one the world is spent, and no further command may be given.
     pub fn apply<H: Host>(&mut self, host: &mut H, command: Command) -> Result<Reply, Stop>
-        requires stands { Standing C.reads C.place C.stands H.told self.old.units self.old.desk
+        requires stands { IsStanding C.reads C.place C.stands H.told self.old
             (H.outside host.old) }
         requires form { IsTrue (has_form command) }
-        ensures stands { OnOk result (Standing C.reads C.place C.stands H.told
-            self.new.units self.new.desk (H.outside host.new)) }
-        ensures answered { IsTrue H.told
-            → let w = world_with C.reads self.old.units self.old.desk (H.outside host.old) in
-            let v = world_with C.reads self.new.units self.new.desk (H.outside host.new) in
-            IfOk result (λ reply. answer w command ≡ (v, said reply)) }
-        ensures moments { IsTrue H.told
-            → let w = world_with C.reads self.old.units self.old.desk (H.outside host.old) in
-            Always (Answering C.reads w (answer w command).0 (H.outside host.old).now)
-            (H.outside host.old).now (H.outside host.new).now }
-        ensures finished { Finished C.reads H.told command self.old
+        ensures { Applied C.reads C.place C.stands H.told command self.old self.new
             (H.outside host.old) (H.outside host.new) result }
-        ensures refused { IsTrue H.told
-            → (refusal : Refusal) → result ≡ Ok (Reply.Refused refusal)
-            → world_with C.reads self.new.units self.new.desk (H.outside host.new)
-            ≡ world_with C.reads self.old.units self.old.desk (H.outside host.old) }
     {
         match self.serve(host, command) {
             Ok(reply) => Ok(reply),

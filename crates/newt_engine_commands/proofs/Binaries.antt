@@ -20,7 +20,8 @@ use Rattle.newt_spec_world.specs.declared.command.Command.TheVariants as command
 use Rattle.newt_spec_world.specs.Reply.{Reply}
 use Rattle.newt_spec_world.specs.World.{World, store_on_unit, change_store}
 use Rattle.newt_spec_world.specs.Answer.{answer}
-use Rattle.newt_laws_answers.specs.Tests.{entry_checks, patch_tests, patched_within}
+use Rattle.newt_laws_answers.specs.Tests.{entry_checks}
+use Rattle.newt_laws_answers.proofs.Tests.{patch_tests, patched_within}
 use Rattle.newt_laws_answers.specs.There.{OnUnit}
 use Rattle.newt_laws_answers.proofs.Entries.{no-entry}
 use Rattle.newt_laws_answers.proofs.Larges.{vread-done, vread-not-found, vread-refused, vwrite-done, vwrite-no-path, vwrite-refused}

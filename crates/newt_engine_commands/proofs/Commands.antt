@@ -11,8 +11,11 @@ use Rattle.newt_spec_world.specs.declared.command.Command.TheVariants as command
 use Rattle.newt_spec_world.specs.Reply.{Reply}
 use Rattle.newt_spec_world.specs.World.{World, default_unit, store_on_unit, change_store}
 use Rattle.newt_spec_world.specs.Answer.{answer}
-use Rattle.newt_laws_answers.specs.Tests.{make_tests, add_tests, room_tests, with_added, entry_checks}
+use Rattle.newt_laws_answers.specs.Tests.{entry_checks}
+use Rattle.newt_laws_answers.proofs.Tests.{add_tests, room_tests, with_added}
 use Rattle.newt_laws_answers.specs.There.{OnUnit}
+use Rattle.newt_store_change.specs.Change.{refusals}
+use Rattle.newt_store_change.specs.declared.change.Change.TheVariants.{MakeSoup}
 use Rattle.newt_laws_answers.proofs.Soups.{soup-done, soup-refused, drop-done}
 use Rattle.newt_laws_answers.proofs.Adds.{add-done, add-refused, addx-done, addx-refused, addu-done, addu-refused}
 use Rattle.newt_base.specs.Names.{equal_text}
@@ -33,13 +36,13 @@ use Rattle.newt_engine_units.proofs.Answering.{does-answers, makes}
 module _ (w v : World) (u blocks : ℕ) (s : Store) (on : OnUnit w u blocks s) (none : w.cursors ≡ replicate 32 None) where
   -- ---- soups
 
-  pub soup-answers : (name : List ℕ) (result : Result ℕ StoreFault) → Does (make_tests blocks name s) (λ n. n ≡ s.next_soup) w (change_store w u (make_soup name)) v result
+  pub soup-answers : (name : List ℕ) (result : Result ℕ StoreFault) → Does (refusals (MakeSoup name) blocks w.minute s) (λ n. n ≡ s.next_soup) w (change_store w u (make_soup name)) v result
       → Answers w v (command.Soup u name) (λ n. Reply.number n) result
-  soup-answers name result d = does-answers w v (change_store w u (make_soup name)) (command.Soup u name) (λ n. Reply.number n) (make_tests blocks name s) (λ n. n ≡ s.next_soup)
+  soup-answers name result d = does-answers w v (change_store w u (make_soup name)) (command.Soup u name) (λ n. Reply.number n) (refusals (MakeSoup name) blocks w.minute s) (λ n. n ≡ s.next_soup)
       (λ k n is. soup-done w u blocks s name on k none ∙ ap {B = World × Reply} (λ m. (change_store w u (make_soup name), Reply.number m)) (sym is))
       (soup-refused w u blocks s name on) result d
 
-  pub soup-makes : (name : List ℕ) → first_of (make_tests blocks name s) ≡ None → store_on_unit (answer w (command.Soup u name)).0 u ≡ Some (make_soup name s)
+  pub soup-makes : (name : List ℕ) → first_of (refusals (MakeSoup name) blocks w.minute s) ≡ None → store_on_unit (answer w (command.Soup u name)).0 u ≡ Some (make_soup name s)
   soup-makes name k = makes w u blocks s (make_soup name) (answer w (command.Soup u name)) (Reply.number s.next_soup) on (soup-done w u blocks s name on k none)
 
   module _ (name : List ℕ) (p : Soup) (named : soup_named name s ≡ Some p) (is : p.name ≡ name) where

@@ -16,7 +16,7 @@ use Rattle.newt_spec_world.specs.Reply.{Reply}
 use Rattle.newt_spec_world.specs.World.{World, Device, store_of, store_on_unit, change_store, change_media}
 use Rattle.newt_laws_world.specs.Answering.{Answering}
 use Rattle.newt_spec_world.specs.Answer.{answer}
-use Rattle.newt_laws_answers.specs.Tests.{add_tests, room_tests, move_tests, moved_within, with_added}
+use Rattle.newt_laws_answers.proofs.Tests.{add_tests, room_tests, move_tests, moved_within, with_added}
 use Rattle.newt_laws_answers.specs.There.{OnUnit}
 use Rattle.newt_laws_answers.proofs.Copies.{graph-passes, move-no-entry, move-done, move-refused, within-done, within-refused}
 use Rattle.newt_laws_answers.proofs.Units.{is-there, on-changed, on-other}

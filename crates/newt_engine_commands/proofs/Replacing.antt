@@ -18,7 +18,7 @@ use Rattle.newt_spec_world.specs.declared.command.Command.TheVariants as command
 use Rattle.newt_spec_world.specs.Reply.{Reply}
 use Rattle.newt_spec_world.specs.World.{World, store_on_unit, change_store}
 use Rattle.newt_spec_world.specs.Answer.{answer}
-use Rattle.newt_laws_answers.specs.Tests.{replace_tests, replaced}
+use Rattle.newt_laws_answers.proofs.Tests.{replace_tests, replaced}
 use Rattle.newt_laws_answers.specs.There.{OnUnit}
 use Rattle.newt_laws_answers.proofs.Replaces.{change-done, change-refused, set-done, set-refused, set-no-path, set-past-limits, set-not-found}
 use Rattle.newt_laws_answers.proofs.Entries.{no-entry}

@@ -11,7 +11,7 @@ use Rattle.newt_laws_world.specs.Answering.{Answering}
 use Rattle.newt_laws_answers.specs.There.{OnUnit}
 use Rattle.newt_laws_answers.proofs.Changes.{SaidAs}
 use Rattle.newt_laws_answers.proofs.Units.{store-alike}
-use Rattle.newt_store_change.specs.Change.{changed_by, answer_of, refusals, most_bytes}
+use Rattle.newt_store_change.specs.Change.{changed_by, answer_of, refusals}
 use Rattle.newt_store_change.specs.Faults.{Does, GoesOn}
 use Rattle.newt_store_change.specs.declared.change.Change.{Change}
 use Rattle.newt_store_change.specs.declared.fault.StoreFault.{StoreFault}

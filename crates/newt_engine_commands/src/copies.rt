@@ -1,17 +1,10 @@
 //! Entries: copied and moved.
-ghost use Rattle.std.specs.Prelude.{◌≡◌, ◌≢◌, ℕ, List, true, IsTrue};
-ghost use Rattle.newt_host.specs.Moments.{Always};
+ghost use Rattle.std.specs.Prelude.{◌≡◌, ◌≢◌, true};
 ghost use Rattle.newt_spec_world.specs.Reply.{Reply};
 ghost use Rattle.newt_spec_world.specs.declared.command.Command.{Command};
-ghost use Rattle.newt_laws_world.specs.Answering.{Answering};
-ghost use Rattle.newt_laws_answers.specs.Bounds.{most_programmed};
-ghost use Rattle.newt_spec_world.specs.Answer.{answer};
-ghost use Rattle.newt_engine_card.specs.Bounds.{Costs};
-ghost use Rattle.newt_engine_units.specs.Answers.{Answers};
-ghost use Rattle.newt_store_change.specs.Faults.{GoesOn};
-ghost use Rattle.newt_engine_units.specs.Found.{HasSoup};
-ghost use Rattle.newt_engine_units.specs.Calls.{Ended, Obeys};
-ghost use Rattle.newt_engine_units.specs.Stands.{Stands, mounted_in, world_of};
+ghost use Rattle.newt_engine_units.specs.Calls.{Obeys};
+ghost use Rattle.newt_engine_units.specs.Stands.{Stands, is_mounted};
+ghost use Rattle.newt_engine_commands.specs.Calls.{MovesEntry};
 
 use newt_base::{Name, Refusal, Sig, Uid};
 use newt_engine_card::Card;
@@ -73,22 +66,9 @@ fn move_inside<C: Card, H: Host>(
     into: Sig,
 ) -> Result<u32, StoreFault>
     requires stands { Stands C.place C.stands H.told units.old (H.outside host.old) }
-    requires mounted { mounted_in units.old.slots.items unit ≡ true }
-    ensures stands { GoesOn result
-        → Stands C.place C.stands H.told units.new (H.outside host.new) }
-    ensures answered { IsTrue H.told → let w = world_of C.reads units.old (H.outside host.old) in
-        (name target : List ℕ) → HasSoup w unit name soup → HasSoup w unit target into
-        → Answers w (world_of C.reads units.new (H.outside host.new))
-        (Command.Move unit name uid unit target) (λ n. Reply.number n) result }
-    ensures moments { IsTrue H.told → let w = world_of C.reads units.old (H.outside host.old) in
-        (name target : List ℕ) → HasSoup w unit name soup → HasSoup w unit target into
-        → Always (Answering C.reads w (answer w (Command.Move unit name uid unit target)).0
-        (H.outside host.old).now) (H.outside host.old).now (H.outside host.new).now }
-    ensures costs { IsTrue H.told → let w = world_of C.reads units.old (H.outside host.old) in
-        (name target : List ℕ) → HasSoup w unit name soup → HasSoup w unit target into
-        → Costs (most_programmed w (Command.Move unit name uid unit target)) result
-        (H.outside host.old) (H.outside host.new) }
-    ensures ends { Ended result (H.outside host.old) (H.outside host.new) }
+    requires mounted { is_mounted units.old unit ≡ true }
+    ensures { MovesEntry C.reads C.place C.stands H.told unit soup uid unit into
+        units.old units.new (H.outside host.old) (H.outside host.new) result }
 {
     if units.has_entry(unit, soup, uid) {
         units.change(host, unit, Change::Move(soup, uid, into))
@@ -108,24 +88,11 @@ fn move_between<C: Card, H: Host>(
     into: Sig,
 ) -> Result<u32, StoreFault>
     requires stands { Stands C.place C.stands H.told units.old (H.outside host.old) }
-    requires mounted { mounted_in units.old.slots.items unit ≡ true }
-    requires target { mounted_in units.old.slots.items to ≡ true }
+    requires mounted { is_mounted units.old unit ≡ true }
+    requires target { is_mounted units.old to ≡ true }
     requires apart { to ≢ unit }
-    ensures stands { GoesOn result
-        → Stands C.place C.stands H.told units.new (H.outside host.new) }
-    ensures answered { IsTrue H.told → let w = world_of C.reads units.old (H.outside host.old) in
-        (name target : List ℕ) → HasSoup w unit name soup → HasSoup w to target into
-        → Answers w (world_of C.reads units.new (H.outside host.new))
-        (Command.Move unit name uid to target) (λ n. Reply.number n) result }
-    ensures moments { IsTrue H.told → let w = world_of C.reads units.old (H.outside host.old) in
-        (name target : List ℕ) → HasSoup w unit name soup → HasSoup w to target into
-        → Always (Answering C.reads w (answer w (Command.Move unit name uid to target)).0
-        (H.outside host.old).now) (H.outside host.old).now (H.outside host.new).now }
-    ensures costs { IsTrue H.told → let w = world_of C.reads units.old (H.outside host.old) in
-        (name target : List ℕ) → HasSoup w unit name soup → HasSoup w to target into
-        → Costs (most_programmed w (Command.Move unit name uid to target)) result
-        (H.outside host.old) (H.outside host.new) }
-    ensures ends { Ended result (H.outside host.old) (H.outside host.new) }
+    ensures { MovesEntry C.reads C.place C.stands H.told unit soup uid to into
+        units.old units.new (H.outside host.old) (H.outside host.new) result }
 {
     let Entry { graph, .. } = units.read_entry(host, unit, soup, uid)?;
     let added = units.change(host, to, Change::Add(into, graph))?;

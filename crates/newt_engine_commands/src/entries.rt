@@ -6,7 +6,7 @@ ghost use Rattle.newt_spec_world.specs.declared.command.Command.{Command};
 ghost use Rattle.newt_engine_units.specs.Answers.{Answers};
 ghost use Rattle.newt_store_change.specs.Faults.{IsRefusal};
 ghost use Rattle.newt_engine_units.specs.Calls.{Obeys};
-ghost use Rattle.newt_engine_units.specs.Stands.{Eight, Stands, world_of};
+ghost use Rattle.newt_engine_units.specs.Stands.{Eight, Stands, world_of, default_of};
 
 use crate::done::done;
 use newt_base::{Name, Refusal, Sig, Uid};
@@ -31,7 +31,7 @@ pub fn add<C: Card, H: Host>(
     ensures as_stream { Obeys C.reads C.place C.stands H.told (Command.Addx unit name.now graph)
         (λ n. Reply.number n)
         units.old units.new (H.outside host.old) (H.outside host.new) result }
-    ensures to_default { units.old.default ≡ Some unit →
+    ensures to_default { default_of units.old ≡ Some unit →
         Obeys C.reads C.place C.stands H.told (Command.Addu name.now graph)
         (λ n. Reply.added unit n)
         units.old units.new (H.outside host.old) (H.outside host.new) result }

@@ -13,7 +13,7 @@ ghost use Rattle.newt_engine_units.specs.Answers.{Answers};
 ghost use Rattle.newt_engine_commands.specs.Declares.{MayDeclare};
 ghost use Rattle.newt_store_change.specs.Faults.{NoDevice};
 ghost use Rattle.newt_engine_units.specs.Calls.{Obeys};
-ghost use Rattle.newt_engine_units.specs.Stands.{card_at, Eight, Stands, world_of};
+ghost use Rattle.newt_engine_units.specs.Stands.{Eight, Stands, world_of, card_on};
 
 use crate::declarations::{copied_specs, has_paths, has_paths_of, new_spec};
 use crate::done::done;
@@ -86,7 +86,7 @@ pub fn indexes<C: Card>(units: &Units<C>, unit: Unit, name: &Name) -> Result<Spe
 fn specs<C: Card>(units: &Units<C>, unit: Unit, soup: Sig) -> Option<&[IndexSpec]>
     ensures { option_map (λ specs. specs.now) result
         ≡ option_and_then (λ card. option_map (λ p. p.specs) (soup_of soup (C.soups card)))
-        (card_at units.now.slots.items unit) }
+        (card_on units.now unit) }
 {
     match units.card(unit) {
         Some(card) => card.specs(soup),

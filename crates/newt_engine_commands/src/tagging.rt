@@ -8,7 +8,7 @@ ghost use Rattle.newt_engine_units.specs.Answers.{Answers};
 ghost use Rattle.newt_spec_store.specs.Store.{soup_of};
 ghost use Rattle.newt_store_change.specs.Faults.{NoDevice};
 ghost use Rattle.newt_engine_units.specs.Calls.{Obeys};
-ghost use Rattle.newt_engine_units.specs.Stands.{card_at, Eight, Stands, world_of};
+ghost use Rattle.newt_engine_units.specs.Stands.{Eight, Stands, world_of, card_on};
 
 use crate::declarations::new_table;
 use crate::done::done;
@@ -71,7 +71,7 @@ pub fn tags<C: Card>(
 fn table<C: Card>(units: &Units<C>, unit: Unit, soup: Sig) -> Option<&TagTable>
     ensures { option_map (λ table. table.now) result
         ≡ option_and_then (λ card. option_and_then (λ p. p.tags) (soup_of soup (C.soups card)))
-        (card_at units.now.slots.items unit) }
+        (card_on units.now unit) }
 {
     match units.card(unit) {
         Some(card) => card.tags(soup),

@@ -5,7 +5,7 @@ use Rattle.std.specs.Vec.{with_item}
 use Rattle.std.proofs.lemmas.Option.{slice_get_read, slice_get_within}
 use Rattle.newt_base.specs.Refusals.{Checks, first_of}
 use Rattle.newt_host.specs.Moments.{changes, image, Always, IsDurable, Leaves}
-use Rattle.newt_host.specs.Outside.{Outside, NoFault, OnlyReads, Touches, Rose, OnDevices, Spends, Wears}
+use Rattle.newt_host.specs.Outside.{Outside, NoFault, OnlyReads, Touches, Rose, OnDevices, Spends}
 use Rattle.newt_pagebook.specs.Book.{IsOpenFor, IsSameFor}
 use Rattle.newt_pagebook.specs.Stops.{IsOpening, StopsAt, HasStopCause}
 use Rattle.newt_pagebook.specs.declared.book.BookFault.{BookFault}

@@ -1,8 +1,8 @@
 -- What calls cost, and what they cost together.
-use Rattle.std.proofs.Common.{arith, ◌≡◌, ◌≢◌, refl, ap, sym, ◌∙◌, subst, ℕ, ◌≤◌, ◌⊎◌, inl, inr, List}
+use Rattle.std.proofs.Common.{arith, ◌≡◌, ◌≢◌, refl, sym, ◌∙◌, subst, ℕ, ◌≤◌, ◌⊎◌, inl, inr, List}
 use Rattle.std.specs.Prelude.{Result}
 use Rattle.newt_host.specs.Moments.{Moment, bytes_after, changes, image}
-use Rattle.newt_host.specs.Outside.{Outside, Wears}
+use Rattle.newt_host.specs.Outside.{Outside}
 use Rattle.newt_host.proofs.Outside.{Wears-append, Wears-refl, Wears-widen}
 use Rattle.newt_pagebook.specs.Book.{IsOpenFor}
 use Rattle.newt_laws_world.proofs.Units.{same-or-not}

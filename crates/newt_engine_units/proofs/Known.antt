@@ -198,7 +198,7 @@ module _ {C : Type 0} {reads : List ℕ → Option Store} {place : C → ℕ} {s
       ∙ ap {A = Bool} {B = Checks} (λ b. (NoUnit, is_none (device w u)) ∷ (Blocks, b) ∷ (Mounted, mounted_in slots u) ∷ []) (blocks-known u)
       ∙ ap {A = Bool} {B = Checks} (λ b. (NoUnit, is_none (device w u)) ∷ bad_blocks w u ∷ (Mounted, b) ∷ []) (sym (mounted-some u))
 
-  pub ready-known : (u : ℕ) → IsFree slots (o.blocks u) u → IsReady w u (o.blocks u) (media_of (reads (image u o.now)))
+  pub ready-known : (u : ℕ) → IsFree units (o.blocks u) u → IsReady w u (o.blocks u) (media_of (reads (image u o.now)))
   ready-known u f = record {
     device_is = let c = attached-card u f.attached in at-card u c.0 c.1 ∙ ap (λ b. Some (card_device reads (o.blocks u) (image u o.now) b)) f.free;
     enough = or-false (le-ltb (o.blocks u) 13 f.enough) (le-ltb 4099 (o.blocks u) f.not_too_many);

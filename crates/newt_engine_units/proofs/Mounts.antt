@@ -192,7 +192,7 @@ module _ {C : Type 0} {reads : List ℕ → Option Store} {place : C → ℕ} {s
       marked v (inr e) (inl k) = absurd (e k)
       marked v (inr e) (inr k) = mark-other units later u (Some card) is v e ∙ k
 
-  module _ (o p : Outside) (e : Eight o) (s : Stands place stands true units o) (free : IsFree units.slots.items (o.blocks u) u) (moment : p.now ≡ o.now) (cards : SameCards o p) (there : stands true card p) (at : place card ≡ u) where
+  module _ (o p : Outside) (e : Eight o) (s : Stands place stands true units o) (free : IsFree units (o.blocks u) u) (moment : p.now ≡ o.now) (cards : SameCards o p) (there : stands true card p) (at : place card ≡ u) where
     abbrev w : World
     w = world_of reads units o
 
@@ -233,7 +233,7 @@ module _ {C : Type 0} {reads : List ℕ → Option Store} {place : C → ℕ} {s
 
 -- there is no store
 pub mount-unopened : {C : Type 0} {reads : List ℕ → Option Store} {place : C → ℕ} {soups : C → Store} {stands : Bool → C → Outside → Type 0} → Laws reads place soups stands → (units : Units C) (u : ℕ) (o p : Outside)
-    → Eight o → Stands place stands true units o → IsFree units.slots.items (o.blocks u) u → p.now ≡ o.now → SameCards o p → (told : Bool) → IsTrue told → (good : C → Type 0) (fault : StoreFault) → Opens good (IsTrue told → reads (image u o.now) ≡ None) (Err fault)
+    → Eight o → Stands place stands true units o → IsFree units (o.blocks u) u → p.now ≡ o.now → SameCards o p → (told : Bool) → IsTrue told → (good : C → Type 0) (fault : StoreFault) → Opens good (IsTrue told → reads (image u o.now) ≡ None) (Err fault)
     → Answers {T = ℕ × List ℕ} (world_of reads units o) (world_of reads units p) (command.Mount u) (λ x. Reply.store x.0 x.1) (Err fault)
 mount-unopened {reads = reads} l units u o p e s free moment cards told t good (Refused r) h =
     mount-no-store (world_of reads units o) u (o.blocks u) (subst (λ m. IsReady (world_of reads units o) u (o.blocks u) (media_of m)) (h.0 t) (ready-known l units o e s u free))

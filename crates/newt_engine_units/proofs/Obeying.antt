@@ -1,8 +1,8 @@
 -- What a command promises where nothing has changed, and behind a call that read.
-use Rattle.std.proofs.Common.{◌≡◌, refl, sym, subst, ℕ, ◌+◌, ◌-◌, ◌^◌, ◌≤◌, min, List, Bool, IsTrue, Option, arith}
+use Rattle.std.proofs.Common.{◌≡◌, refl, sym, subst, ℕ, ◌≤◌, List, Bool, IsTrue, Option, arith}
 use Rattle.std.specs.Prelude.{Result, Ok, Err, IfErr}
 use Rattle.newt_base.specs.Refusals.{Checks}
-use Rattle.newt_host.specs.Outside.{Outside, NoFault, OnDevices, Rose}
+use Rattle.newt_host.specs.Outside.{Outside, OnDevices, Rose}
 use Rattle.newt_host.proofs.Outside.{NoFault-append, NoFault-refl, OnDevices-append, OnDevices-refl}
 use Rattle.newt_path.specs.declared.fault.SetFault.{SetFault}
 use Rattle.newt_path.specs.declared.fault.SetFault.TheVariants as put
@@ -10,8 +10,9 @@ use Rattle.newt_pagebook.specs.declared.book.Stop.TheVariants.{Memory, Device}
 use Rattle.newt_spec_store.specs.Store.{Store}
 use Rattle.newt_spec_world.specs.declared.command.Command.{Command}
 use Rattle.newt_spec_world.specs.Reply.{Reply}
+use Rattle.newt_spec_world.specs.World.{World}
 use Rattle.newt_store_change.specs.declared.change.Change.{Change}
-use Rattle.newt_store_change.specs.Faults.{GoesOn, HasFaultCause, IsRefusal, NoDevice, RefusesBy, set_fault}
+use Rattle.newt_store_change.specs.Faults.{GoesOn, HasFaultCause, IsEnd, IsRefusal, NoDevice, RefusesBy, set_fault}
 use Rattle.newt_store_change.specs.declared.fault.StoreFault.{StoreFault}
 use Rattle.newt_store_change.specs.declared.fault.StoreFault.TheVariants.{Refused, Stop}
 use Rattle.newt_engine_units.specs.Answers.{Answers}
@@ -45,6 +46,23 @@ none-cause (Err (Stop (Device unit))) o p h = absurd h
 -- a fault that was handed on
 pub handed : {T : Type 0} (P : StoreFault → Type 0) (result : Result T StoreFault) (fault : StoreFault) → (e : StoreFault) × (result ≡ Err e) × (e ≡ fault) → P fault → IfErr result P
 handed P result fault p h = subst (λ r. IfErr r P) (sym (is-err result fault p)) h
+
+-- the end of a run is no answer
+pub end-answers : {T : Type 0} (w v : World) (c : Command) (reply : T → Reply) (result : Result T StoreFault) (fault : StoreFault) → (e : StoreFault) × (result ≡ Err e) × (e ≡ fault)
+    → IsEnd fault → Answers w v c reply result
+end-answers {T} w v c reply result fault p h = subst (λ r. Answers w v c reply r) (sym (is-err result fault p)) (go fault h)
+  where
+    go : (fault : StoreFault) → IsEnd fault → Answers {T = T} w v c reply (Err fault)
+    go (Refused refusal) h = absurd h
+    go (Stop stop) h = tt
+
+-- where the run goes on after a fault that was handed on, it went on after the call
+pub fault-goes : {T : Type 0} (S : Type 0) {fault : StoreFault} (result : Result T StoreFault) → (e : StoreFault) × (result ≡ Err e) × (e ≡ fault) → GoesOn result → GoesOn {T = S} (Err fault)
+fault-goes {T} S {fault} result p goes = go fault (subst (λ (r : Result T StoreFault). GoesOn r) (is-err result fault p) goes)
+  where
+    go : (f : StoreFault) → GoesOn {T = T} (Err f) → GoesOn {T = S} (Err f)
+    go (Refused refusal) h = tt
+    go (Stop stop) h = h
 
 -- the cause of a fault behind calls that are done
 pub cause-after : {T : Type 0} (result : Result T StoreFault) {o m : Outside} (p : Outside) → OnDevices o m → IfErr result (λ fault. HasFaultCause fault m p) → IfErr result (λ fault. HasFaultCause fault o p)

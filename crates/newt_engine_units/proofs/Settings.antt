@@ -86,7 +86,7 @@ module _ {C : Type 0} {reads : List ℕ → Option Store} {place : C → ℕ} {s
   ready-refused u c reply refused fault h result p = subst (λ r. Answers (world_of reads units o) (world_of reads units o) c reply r) (sym (is-err result fault p))
       (refuses (world_of reads units o) c reply (ready_checks (world_of reads units o) u) (known_ready units.slots.items (o.blocks u) u) (ready-checks-are at.laws units o at.eight stand-told u) refused fault h)
 
-  pub ready-there : (u : ℕ) → IsFree units.slots.items (o.blocks u) u → IsReady (world_of reads units o) u (o.blocks u) (media_of (reads (image u o.now)))
+  pub ready-there : (u : ℕ) → IsFree units (o.blocks u) u → IsReady (world_of reads units o) u (o.blocks u) (media_of (reads (image u o.now)))
   ready-there = ready-known at.laws units o at.eight stand-told
 
   -- one of two soups is not there

@@ -1,20 +1,27 @@
 -- What calls on the units promise. All of it is this project's own.
-use Rattle.std.specs.Prelude.{◌≡◌, ℕ, Bool, IsTrue, List, Option, Some, None, Result, IfErr}
+use Rattle.std.specs.Prelude.{◌≡◌, ◌*◌, ℕ, Bool, IsTrue, List, Option, Some, None, Result, IfOk, IfErr, OnOk}
 use Rattle.newt_host.specs.Moments.{Always}
-use Rattle.newt_host.specs.Outside.{Outside, NoFault, OnDevices}
-use Rattle.newt_spec_store.specs.Store.{Store}
+use Rattle.newt_host.specs.Outside.{Outside, NoFault, OnDevices, Spends}
+use Rattle.newt_pagebook.specs.Stops.{HasStopCause}
+use Rattle.newt_pagebook.specs.declared.book.Stop.{Stop}
+use Rattle.newt_spec_store.specs.Keys.{Path}
+use Rattle.newt_spec_store.specs.Store.{Store, entry_at, new_store}
 use Rattle.newt_spec_world.specs.declared.command.Command.{Command}
+use Rattle.newt_spec_world.specs.declared.command.Command.TheVariants as command
 use Rattle.newt_spec_world.specs.Reply.{Reply}
 use Rattle.newt_spec_world.specs.World.{World, store_on_unit, change_store}
 use Rattle.newt_laws_world.specs.Answering.{Answering}
 use Rattle.newt_laws_answers.specs.Bounds.{most_programmed}
 use Rattle.newt_spec_world.specs.Answer.{answer}
+use Rattle.newt_laws_answers.specs.Tests.{formatted}
 use Rattle.newt_laws_answers.specs.There.{OnUnit}
 use Rattle.newt_store_change.specs.Change.{changed_by, answer_of, refusals, refusal_of, most_bytes}
-use Rattle.newt_store_change.specs.Faults.{Does, GoesOn, HasFaultCause}
+use Rattle.newt_store_change.specs.Entries.{ReadsLarge, entry_said, large_fetches}
+use Rattle.newt_store_change.specs.Faults.{Does, GoesOn, HasFaultCause, IsEnd}
 use Rattle.newt_store_change.specs.declared.change.Change.{Change}
+use Rattle.newt_store_change.specs.declared.entry.Entry.{Entry}
 use Rattle.newt_store_change.specs.declared.fault.StoreFault.{StoreFault}
-use Rattle.newt_engine_card.specs.Bounds.{Costs, CostsOn, LeftAlone}
+use Rattle.newt_engine_card.specs.Bounds.{Costs, CostsOn, IsOpenOrSame, LeftAlone}
 use Rattle.newt_engine_units.specs.Answers.{Answers}
 use Rattle.newt_engine_units.specs.Stands.{Stands, mounted_in, world_of}
 use Rattle.newt_engine_units.specs.declared.units.Units.{Units}
@@ -36,6 +43,22 @@ module _ {C : Type 0} (reads : List ℕ → Option Store) (place : C → ℕ) (s
     pub moment : after.now ≡ before.now
     pub untouched : (u : ℕ) → LeftAlone u before after
     pub alone : OnDevices before after
+
+  -- An entry of the store that is mounted on a unit is read; none where it is not there.
+  pub record Fetches (told : Bool) (unit soup uid : ℕ) (old new : Units C) (before after : Outside) (result : Result (Option Entry) Stop) : Type 0 where
+    pub looks : AreRead told old new before after
+    pub read : IsTrue told → (blocks : ℕ) (s : Store) → OnUnit (world_of reads old before) unit blocks s → IfOk result (λ found. entry_said found ≡ entry_at soup uid s)
+    pub cause : IfErr result (λ stop. HasStopCause stop before after)
+    pub no_fault : OnOk result (NoFault before after)
+
+  -- Bytes of a large binary of such an entry are read, or the first test that holds is answered; but
+  -- for the pages of the entry's record and of the range nothing is fetched.
+  pub record FetchesLarge (told : Bool) (unit soup uid : ℕ) (path : Path) (at many : ℕ) (old new : Units C) (before after : Outside) (result : Result (List ℕ) StoreFault) : Type 0 where
+    pub looks : AreRead told old new before after
+    pub read : IsTrue told → (blocks : ℕ) (s : Store) → OnUnit (world_of reads old before) unit blocks s → ReadsLarge path at many (entry_at soup uid s) result
+    pub fetches : IsTrue told → (blocks : ℕ) (s : Store) → OnUnit (world_of reads old before) unit blocks s
+        → Spends unit 0 (512 * large_fetches many (entry_at soup uid s)) before after
+    pub ends : Ended result before after
 
   -- A change of the store that is mounted on a unit, at the present minute: the world has it changed, or is as it was where the first of its refusals is
   -- answered; the units stand for the host, unless the run ends.
@@ -63,3 +86,23 @@ module _ {C : Type 0} (reads : List ℕ → Option Store) (place : C → ℕ) (s
     pub alone : OnDevices before after
     pub cause : IfErr result (λ fault. HasFaultCause fault before after)
     pub no_fault : GoesOn result → NoFault before after
+
+  -- The device of a unit that has no store is made one with a store without soups, or the run ends;
+  -- at each moment a crash leaves every other store as it was.
+  pub record Makes (told : Bool) (unit : ℕ) (name : List ℕ) (sig : ℕ) (units : Units C) (before after : Outside) (result : Result (Unit {0}) StoreFault) : Type 0 where
+    pub stands : GoesOn result → Stands place standing told units after
+    pub made : IsTrue told → OnOk result (world_of reads units after ≡ formatted (world_of reads units before) unit name sig)
+    pub only : IfErr result (λ fault. IsEnd fault)
+    pub moments : IsTrue told → let w = world_of reads units before in (v : World) → store_on_unit w unit ≡ None → store_on_unit v unit ≡ Some (new_store name sig)
+        → Always (Answering reads w v before.now) before.now after.now
+    pub open_after : IsTrue told → GoesOn result → (u : ℕ) → IsOpenOrSame u before.now after.now
+    pub ends : Ended result before after
+
+  -- A format that is commanded promises what every command does but how much it programs: where the
+  -- run goes on, each bank is not closed or is as it was.
+  pub record Formats (told : Bool) (unit : ℕ) (name : List ℕ) (sig : ℕ) (old new : Units C) (before after : Outside) (result : Result (Unit {0}) StoreFault) : Type 0 where
+    pub stands : GoesOn result → Stands place standing told new after
+    pub answered : IsTrue told → Answers (world_of reads old before) (world_of reads new after) (command.Format unit name sig) (λ _. Reply.done) result
+    pub moments : IsTrue told → let w = world_of reads old before in Always (Answering reads w (answer w (command.Format unit name sig)).0 before.now) before.now after.now
+    pub open_after : IsTrue told → GoesOn result → (u : ℕ) → IsOpenOrSame u before.now after.now
+    pub ends : Ended result before after

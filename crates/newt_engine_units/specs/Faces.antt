@@ -1,5 +1,5 @@
 -- What is known of the mounted stores from their cards. All of it is this project's own.
-use Rattle.std.specs.Prelude.{◌≡◌, ℕ, zero, suc, nat_le, cond, ◌==◌, List, [], ◌∷◌, map, Option, Some, None, is_some, option_map, Result, Ok, Err}
+use Rattle.std.specs.Prelude.{◌≡◌, ℕ, zero, suc, nat_le, cond, ◌==◌, Bool, IsTrue, List, [], ◌∷◌, map, Option, Some, None, is_some, option_map, MatchOption, Result, Ok, Err}
 use Rattle.newt_base.specs.Refusals.{Checks, first_of}
 use Rattle.newt_base.specs.declared.Refusal.TheVariants.{Nostore, Stores as ManyStores, Signature}
 use Rattle.newt_pagebook.specs.declared.book.Stop.TheVariants as stops
@@ -8,7 +8,9 @@ use Rattle.newt_spec_world.specs.First.{unit_numbers}
 use Rattle.newt_laws_answers.specs.Faces.{Face, shown_count, first_shown, first_showing}
 use Rattle.newt_store_change.specs.declared.fault.StoreFault.{StoreFault}
 use Rattle.newt_store_change.specs.declared.fault.StoreFault.TheVariants.{Refused, Stop as Ends}
+use Rattle.newt_store_change.specs.Faults.{IsEnd}
 use Rattle.newt_engine_units.specs.declared.units.Slot.{Slot}
+use Rattle.newt_engine_units.specs.declared.units.Units.{Units}
 use Rattle.newt_engine_units.specs.Stands.{card_at}
 
 module _ {C : Type 0} (soups : C → Store) where
@@ -19,6 +21,10 @@ module _ {C : Type 0} (soups : C → Store) where
   -- the faces of the eight units
   abbrev pub card_faces : List (Slot C) → List Face
   card_faces slots = map (λ u. card_face (card_at slots u)) unit_numbers
+
+  -- those of these units
+  abbrev pub faces_of : Units C → List Face
+  faces_of units = card_faces units.slots.items
 
 -- The default after a unit is no longer mounted: the first that is mounted where it was the default, else as before.
 abbrev pub default_after : List Face → Option ℕ → ℕ → Option ℕ
@@ -46,3 +52,13 @@ abbrev pub Opens : {C : Type 0} → (C → Type 0) → Type 0 → Result C Store
 Opens good gone (Ok card) = good card
 Opens good gone (Err (Refused refusal)) = gone × (refusal ≡ Nostore)
 Opens good gone (Err (Ends stop)) = Unit {0}
+
+-- a store that is good is found on a unit, or none is there, or the run ends
+abbrev pub FindsCard : {C : Type 0} → (C → Type 0) → Type 0 → Result (Option C) StoreFault → Type 0
+FindsCard good gone (Ok found) = MatchOption found gone good
+FindsCard good gone (Err fault) = IsEnd fault
+
+-- it is told whether a unit has a store, or the run ends
+abbrev pub FindsStore : (told there : Bool) → Result Bool StoreFault → Type 0
+FindsStore told there (Ok has) = IsTrue told → has ≡ there
+FindsStore told there (Err fault) = IsEnd fault

@@ -6,7 +6,8 @@ use Rattle.newt_spec_store.specs.Store.{Store, soup_named}
 use Rattle.newt_store_change.specs.declared.fault.StoreFault.{StoreFault}
 use Rattle.newt_store_change.specs.Faults.{RefusesBy}
 use Rattle.newt_engine_units.specs.declared.units.Slot.{Slot}
-use Rattle.newt_engine_units.specs.Stands.{card_at, mounted_in}
+use Rattle.newt_engine_units.specs.declared.units.Units.{Units}
+use Rattle.newt_engine_units.specs.Stands.{card_at, is_mounted, mounted_in}
 
 -- a unit has a device
 abbrev pub has_device : {C : Type 0} → Option (Slot C) → Bool
@@ -16,43 +17,49 @@ has_device (Some slot) = slot.attached
 abbrev pub attached_in : {C : Type 0} → List (Slot C) → ℕ → Bool
 attached_in slots u = has_device (slice_get slots u)
 
+abbrev pub is_attached : {C : Type 0} → Units C → ℕ → Bool
+is_attached units u = attached_in units.slots.items u
+
 -- whether unit and card are there
 abbrev pub known_unit : {C : Type 0} → List (Slot C) → ℕ → Checks
 known_unit slots u = (NoUnit, not (attached_in slots u)) ∷ (Notmounted, not (mounted_in slots u)) ∷ []
 
 -- a card is mounted on a unit, or the first that is not there is answered
-abbrev pub FindsUnit : {C T : Type 0} → List (Slot C) → ℕ → Result T StoreFault → Type 0
-FindsUnit slots u (Ok _) = mounted_in slots u ≡ true
-FindsUnit slots u (Err fault) = RefusesBy (known_unit slots u) fault
+abbrev pub FindsUnit : {C T : Type 0} → Units C → ℕ → Result T StoreFault → Type 0
+FindsUnit units u (Ok _) = is_mounted units u ≡ true
+FindsUnit units u (Err fault) = RefusesBy (known_unit units.slots.items u) fault
 
 -- whether the unit has a device with banks, and no card is mounted there
 abbrev pub known_ready : {C : Type 0} → List (Slot C) → (blocks : ℕ) → ℕ → Checks
 known_ready slots blocks u = (NoUnit, not (attached_in slots u)) ∷ (Blocks, nat_lt blocks 13 || nat_lt 4099 blocks) ∷ (Mounted, mounted_in slots u) ∷ []
 
 -- a unit with a device that may be opened or formatted
-pub record IsFree {C : Type 0} (slots : List (Slot C)) (blocks u : ℕ) : Type 0 where
-  pub attached : attached_in slots u ≡ true
+pub record IsFree {C : Type 0} (units : Units C) (blocks u : ℕ) : Type 0 where
+  pub attached : is_attached units u ≡ true
   pub enough : 13 ≤ blocks
   pub not_too_many : blocks ≤ 4099
-  pub free : mounted_in slots u ≡ false
+  pub free : is_mounted units u ≡ false
 
-abbrev pub FindsReady : {C : Type 0} → List (Slot C) → (blocks : ℕ) → ℕ → Result (Unit {0}) StoreFault → Type 0
-FindsReady slots blocks u (Ok _) = IsFree slots blocks u
-FindsReady slots blocks u (Err fault) = RefusesBy (known_ready slots blocks u) fault
+abbrev pub FindsReady : {C : Type 0} → Units C → (blocks : ℕ) → ℕ → Result (Unit {0}) StoreFault → Type 0
+FindsReady units blocks u (Ok _) = IsFree units blocks u
+FindsReady units blocks u (Err fault) = RefusesBy (known_ready units.slots.items blocks u) fault
 
 module _ {C : Type 0} (soups : C → Store) where
   -- the signature of a soup of the card that is mounted on a unit
   abbrev pub known_soup : List (Slot C) → ℕ → List ℕ → Option ℕ
   known_soup slots u name = option_and_then (λ card. option_map (λ p. p.sig) (soup_named name (soups card))) (card_at slots u)
 
+  abbrev pub soup_on : Units C → ℕ → List ℕ → Option ℕ
+  soup_on units u name = known_soup units.slots.items u name
+
   -- whether unit, card and soup are there
   abbrev pub known_checks : List (Slot C) → ℕ → List ℕ → Checks
   known_checks slots u name = (NoUnit, not (attached_in slots u)) ∷ (Notmounted, not (mounted_in slots u)) ∷ (NoSoup, is_none (known_soup slots u name)) ∷ []
 
   -- the signature of a soup that is looked up, or the first that is not there
-  abbrev pub LooksUp : List (Slot C) → ℕ → List ℕ → Result ℕ StoreFault → Type 0
-  LooksUp slots u name (Ok sig) = known_soup slots u name ≡ Some sig
-  LooksUp slots u name (Err fault) = RefusesBy (known_checks slots u name) fault
+  abbrev pub LooksUp : Units C → ℕ → List ℕ → Result ℕ StoreFault → Type 0
+  LooksUp units u name (Ok sig) = soup_on units u name ≡ Some sig
+  LooksUp units u name (Err fault) = RefusesBy (known_checks units.slots.items u name) fault
 
   -- whether both units, cards and soups are there
   abbrev pub known_both : List (Slot C) → ℕ → List ℕ → ℕ → List ℕ → Checks
@@ -61,6 +68,6 @@ module _ {C : Type 0} (soups : C → Store) where
       ∷ (NoSoup, is_none (known_soup slots u name) || is_none (known_soup slots v target)) ∷ []
 
   -- the signatures of two soups that are looked up, or the first that is not there
-  abbrev pub LooksUpBoth : List (Slot C) → ℕ → List ℕ → ℕ → List ℕ → Result (ℕ × ℕ) StoreFault → Type 0
-  LooksUpBoth slots u name v target (Ok (a, b)) = (known_soup slots u name ≡ Some a) × (known_soup slots v target ≡ Some b)
-  LooksUpBoth slots u name v target (Err fault) = RefusesBy (known_both slots u name v target) fault
+  abbrev pub LooksUpBoth : Units C → ℕ → List ℕ → ℕ → List ℕ → Result (ℕ × ℕ) StoreFault → Type 0
+  LooksUpBoth units u name v target (Ok (a, b)) = (soup_on units u name ≡ Some a) × (soup_on units v target ≡ Some b)
+  LooksUpBoth units u name v target (Err fault) = RefusesBy (known_both units.slots.items u name v target) fault

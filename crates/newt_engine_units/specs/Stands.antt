@@ -24,6 +24,16 @@ unmounted attached = record { attached = attached; card = None }
 abbrev pub mounted_in : {C : Type 0} → List (Slot C) → ℕ → Bool
 mounted_in slots u = is_some (card_at slots u)
 
+-- the card that is mounted on a unit of these, whether one is, and the default unit
+abbrev pub card_on : {C : Type 0} → Units C → ℕ → Option C
+card_on units u = card_at units.slots.items u
+
+abbrev pub is_mounted : {C : Type 0} → Units C → ℕ → Bool
+is_mounted units u = mounted_in units.slots.items u
+
+abbrev pub default_of : {C : Type 0} → Units C → Option ℕ
+default_of units = units.default
+
 -- how many cards are mounted
 abbrev pub card_count : {C : Type 0} → List (Slot C) → ℕ
 card_count [] = 0

@@ -1,13 +1,10 @@
 //! A change of one store that is mounted, and what is read of one.
-ghost use Rattle.std.specs.Prelude.{◌≡◌, ◌*◌, ℕ, true, IsTrue, IfOk, IfErr, OnOk};
-ghost use Rattle.newt_host.specs.Outside.{NoFault, Spends};
+ghost use Rattle.std.specs.Prelude.{◌≡◌, ℕ, true, IsTrue};
 ghost use Rattle.newt_spec_store.specs.Store.{Store as Plain, entry_at};
-ghost use Rattle.newt_pagebook.specs.Stops.{HasStopCause};
 ghost use Rattle.newt_laws_answers.specs.There.{OnUnit};
-ghost use Rattle.newt_store_change.specs.Entries.{entry_said, large_fetches, ReadsEntry};
-ghost use Rattle.newt_store_change.specs.Entries.{ReadsLarge};
-ghost use Rattle.newt_engine_units.specs.Calls.{AreRead, Changes, Ended};
-ghost use Rattle.newt_engine_units.specs.Stands.{Stands, mounted_in, world_of};
+ghost use Rattle.newt_store_change.specs.Entries.{ReadsEntry};
+ghost use Rattle.newt_engine_units.specs.Calls.{AreRead, Changes, Ended, Fetches, FetchesLarge};
+ghost use Rattle.newt_engine_units.specs.Stands.{Stands, world_of, is_mounted};
 
 use crate::units::Units;
 use newt_base::{Refusal, Sig, Uid};
@@ -28,7 +25,7 @@ impl<C: Card> Units<C> {
         change: Change,
     ) -> Result<u32, StoreFault>
         requires stands { Stands C.place C.stands H.told self.old (H.outside host.old) }
-        requires mounted { mounted_in self.old.slots.items unit ≡ true }
+        requires mounted { is_mounted self.old unit ≡ true }
         ensures { Changes C.reads C.place C.stands H.told unit change self.old self.new
             (H.outside host.old) (H.outside host.new) result }
     {
@@ -48,15 +45,9 @@ impl<C: Card> Units<C> {
         uid: Uid,
     ) -> Result<Option<Entry>, Stop>
         requires stands { Stands C.place C.stands H.told self.old (H.outside host.old) }
-        requires mounted { mounted_in self.old.slots.items unit ≡ true }
-        ensures looks { AreRead C.reads C.place C.stands H.told self.old self.new
-            (H.outside host.old) (H.outside host.new) }
-        ensures read { IsTrue H.told → (blocks : ℕ) (s : Plain)
-            → OnUnit (world_of C.reads self.old (H.outside host.old)) unit blocks s
-            → IfOk result (λ found. entry_said found ≡ entry_at soup uid s) }
-        ensures cause { IfErr result
-            (λ stop. HasStopCause stop (H.outside host.old) (H.outside host.new)) }
-        ensures no_fault { OnOk result (NoFault (H.outside host.old) (H.outside host.new)) }
+        requires mounted { is_mounted self.old unit ≡ true }
+        ensures { Fetches C.reads C.place C.stands H.told unit soup uid self.old self.new
+            (H.outside host.old) (H.outside host.new) result }
     {
         match &mut self.slots[unit.0 as usize].card {
             Some(card) => card.entry(host, soup, uid),
@@ -73,7 +64,7 @@ impl<C: Card> Units<C> {
         uid: Uid,
     ) -> Result<Entry, StoreFault>
         requires stands { Stands C.place C.stands H.told self.old (H.outside host.old) }
-        requires mounted { mounted_in self.old.slots.items unit ≡ true }
+        requires mounted { is_mounted self.old unit ≡ true }
         ensures looks { AreRead C.reads C.place C.stands H.told self.old self.new
             (H.outside host.old) (H.outside host.new) }
         ensures read { IsTrue H.told → (blocks : ℕ) (s : Plain)
@@ -102,17 +93,9 @@ impl<C: Card> Units<C> {
         len: u32,
     ) -> Result<Bytes, StoreFault>
         requires stands { Stands C.place C.stands H.told self.old (H.outside host.old) }
-        requires mounted { mounted_in self.old.slots.items unit ≡ true }
-        ensures looks { AreRead C.reads C.place C.stands H.told self.old self.new
-            (H.outside host.old) (H.outside host.new) }
-        ensures read { IsTrue H.told → (blocks : ℕ) (s : Plain)
-            → OnUnit (world_of C.reads self.old (H.outside host.old)) unit blocks s
-            → ReadsLarge path.now at len (entry_at soup uid s) result }
-        ensures fetches { IsTrue H.told → (blocks : ℕ) (s : Plain)
-            → OnUnit (world_of C.reads self.old (H.outside host.old)) unit blocks s
-            → Spends unit 0 (512 * large_fetches len (entry_at soup uid s))
-            (H.outside host.old) (H.outside host.new) }
-        ensures ends { Ended result (H.outside host.old) (H.outside host.new) }
+        requires mounted { is_mounted self.old unit ≡ true }
+        ensures { FetchesLarge C.reads C.place C.stands H.told unit soup uid path.now at len
+            self.old self.new (H.outside host.old) (H.outside host.new) result }
     {
         match &mut self.slots[unit.0 as usize].card {
             Some(card) => card.large(host, soup, uid, path, at, len),

@@ -6,7 +6,7 @@ ghost use Rattle.newt_spec_world.specs.declared.command.Command.{Command};
 ghost use Rattle.newt_spec_world.specs.Answer.{answer};
 ghost use Rattle.newt_store_change.specs.Faults.{IsRefusal};
 ghost use Rattle.newt_engine_units.specs.Answers.{Answers};
-ghost use Rattle.newt_engine_units.specs.Stands.{Eight, Stands, world_of};
+ghost use Rattle.newt_engine_units.specs.Stands.{Eight, Stands, world_of, default_of};
 
 use crate::units::Units;
 use newt_engine_card::Card;
@@ -28,7 +28,7 @@ impl<C: Card> Units<C> {
 
     /// The default unit, if there is one.
     pub fn default_unit(&self) -> Option<Unit>
-        ensures { result ≡ self.now.default }
+        ensures { result ≡ default_of self.now }
     {
         self.default
     }

@@ -3,8 +3,8 @@ ghost use Rattle.std.specs.Prelude.{◌≡◌, map, IfOk};
 ghost use Rattle.newt_reply.specs.Said.{store_row};
 ghost use Rattle.newt_laws_answers.specs.Faces.{shows, shown_count, first_shown, first_showing};
 ghost use Rattle.newt_laws_answers.specs.Faces.{face_rows};
-ghost use Rattle.newt_engine_units.specs.Faces.{card_face, card_faces};
-ghost use Rattle.newt_engine_units.specs.Stands.{card_at};
+ghost use Rattle.newt_engine_units.specs.Faces.{card_face, faces_of};
+ghost use Rattle.newt_engine_units.specs.Stands.{card_on};
 
 use crate::units::Units;
 use newt_base::Sig;
@@ -16,7 +16,7 @@ use std::alloc::AllocError;
 impl<C: Card> Units<C> {
     /// How many stores are mounted.
     pub(crate) fn count(&self) -> usize
-        ensures { result ≡ shown_count (card_faces C.soups self.now.slots.items) }
+        ensures { result ≡ shown_count (faces_of C.soups self.now) }
     {
         let mut count = 0;
         for number in 0..UNITS {
@@ -29,7 +29,7 @@ impl<C: Card> Units<C> {
 
     /// The first unit with a mounted store.
     pub(crate) fn first_mounted(&self) -> Option<Unit>
-        ensures { result ≡ first_shown (card_faces C.soups self.now.slots.items) }
+        ensures { result ≡ first_shown (faces_of C.soups self.now) }
     {
         for number in 0..UNITS {
             if self.is_mounted(Unit(number)) {
@@ -41,7 +41,7 @@ impl<C: Card> Units<C> {
 
     /// Whether the store that is mounted on a unit has this signature.
     fn shows(&self, unit: Unit, store: Sig) -> bool
-        ensures { result ≡ shows store (card_face C.soups (card_at self.now.slots.items unit)) }
+        ensures { result ≡ shows store (card_face C.soups (card_on self.now unit)) }
     {
         match self.card(unit) {
             Some(card) => card.sig() == store,
@@ -51,7 +51,7 @@ impl<C: Card> Units<C> {
 
     /// The unit with the mounted store of this signature.
     pub fn unit_of(&self, store: Sig) -> Option<Unit>
-        ensures { result ≡ first_showing store (card_faces C.soups self.now.slots.items) }
+        ensures { result ≡ first_showing store (faces_of C.soups self.now) }
     {
         for number in 0..UNITS {
             if self.shows(Unit(number), store) {
@@ -64,7 +64,7 @@ impl<C: Card> Units<C> {
     /// The lines of the stores that are mounted.
     pub(crate) fn store_lines(&self) -> Result<StoreRows, AllocError>
         ensures { IfOk result (λ rows. map store_row rows ≡ face_rows 0
-            (card_faces C.soups self.now.slots.items)) }
+            (faces_of C.soups self.now)) }
     {
         let mut lines = Vec::new(self.alloc);
         for number in 0..UNITS {

@@ -4,9 +4,9 @@ ghost use Rattle.newt_spec_store.specs.Store.{Store as Plain, entry_at};
 ghost use Rattle.newt_laws_answers.specs.There.{OnUnit};
 ghost use Rattle.newt_host.specs.Outside.{Outside};
 ghost use Rattle.newt_store_change.specs.Faults.{IsRefusal};
-ghost use Rattle.newt_engine_units.specs.Stands.{card_at, mounted_in, Stands, Eight, world_of};
+ghost use Rattle.newt_engine_units.specs.Stands.{Stands, Eight, world_of, is_mounted, card_on};
 ghost use Rattle.newt_engine_units.specs.Found.{FindsEntry};
-ghost use Rattle.newt_engine_units.specs.Looks.{attached_in, known_soup, FindsUnit, LooksUp};
+ghost use Rattle.newt_engine_units.specs.Looks.{FindsUnit, LooksUp, is_attached, soup_on};
 ghost use Rattle.newt_engine_units.specs.Looks.{LooksUpBoth};
 
 use crate::units::Units;
@@ -18,7 +18,7 @@ use newt_store_change::StoreFault;
 impl<C: Card> Units<C> {
     /// Whether the unit has a device.
     pub(crate) fn is_attached(&self, unit: Unit) -> bool
-        ensures { result ≡ attached_in self.now.slots.items unit }
+        ensures { result ≡ is_attached self.now unit }
     {
         match self.slots.get(unit.0 as usize) {
             Some(slot) => slot.attached,
@@ -28,7 +28,7 @@ impl<C: Card> Units<C> {
 
     /// The card that is mounted on a unit.
     pub fn card(&self, unit: Unit) -> Option<&C>
-        ensures { option_map (λ card. card.now) result ≡ card_at self.now.slots.items unit }
+        ensures { option_map (λ card. card.now) result ≡ card_on self.now unit }
     {
         match self.slots.get(unit.0 as usize) {
             Some(slot) => slot.card.as_ref(),
@@ -38,14 +38,14 @@ impl<C: Card> Units<C> {
 
     /// Whether a store is mounted on a unit.
     pub(crate) fn is_mounted(&self, unit: Unit) -> bool
-        ensures { result ≡ mounted_in self.now.slots.items unit }
+        ensures { result ≡ is_mounted self.now unit }
     {
         self.card(unit).is_some()
     }
 
     /// The signature of a soup of the store that is mounted on a unit.
     pub fn soup_sig(&self, unit: Unit, name: &Name) -> Option<Sig>
-        ensures { result ≡ known_soup C.soups self.now.slots.items unit name.now }
+        ensures { result ≡ soup_on C.soups self.now unit name.now }
     {
         match self.card(unit) {
             Some(card) => card.soup_named(name),
@@ -56,7 +56,7 @@ impl<C: Card> Units<C> {
     /// Whether a store is mounted on the unit, or why there is none: it has no device, or no store
     /// is mounted there.
     pub fn find_unit(&self, unit: Unit) -> Result<(), StoreFault>
-        ensures { FindsUnit self.now.slots.items unit result }
+        ensures { FindsUnit self.now unit result }
     {
         if !self.is_attached(unit) {
             return Err(StoreFault::Refused(Refusal::Unit));
@@ -70,7 +70,7 @@ impl<C: Card> Units<C> {
     /// The signature of a soup, or why there is none: the unit has no device, no store is mounted
     /// there, or it has no such soup.
     pub fn find_soup(&self, unit: Unit, name: &Name) -> Result<Sig, StoreFault>
-        ensures { LooksUp C.soups self.now.slots.items unit name.now result }
+        ensures { LooksUp C.soups self.now unit name.now result }
     {
         if !self.is_attached(unit) {
             return Err(StoreFault::Refused(Refusal::Unit));
@@ -100,7 +100,7 @@ impl<C: Card> Units<C> {
     /// The signature of a soup that has an entry, or why there is none: the soup is not there, or
     /// has no such entry.
     pub fn find_entry(&self, unit: Unit, name: &Name, uid: Uid) -> Result<Sig, StoreFault>
-        ensures soup { IfOk result (λ sig. known_soup C.soups self.now.slots.items unit name.now ≡
+        ensures soup { IfOk result (λ sig. soup_on C.soups self.now unit name.now ≡
             Some sig) }
         ensures only { IfErr result (λ fault. IsRefusal fault) }
         ensures found { (outside : Outside) → Eight outside
@@ -124,7 +124,7 @@ impl<C: Card> Units<C> {
         to: Unit,
         target: &Name,
     ) -> Result<(Sig, Sig), StoreFault>
-        ensures { LooksUpBoth C.soups self.now.slots.items unit name.now to target.now result }
+        ensures { LooksUpBoth C.soups self.now unit name.now to target.now result }
     {
         if !self.is_attached(unit) || !self.is_attached(to) {
             return Err(StoreFault::Refused(Refusal::Unit));

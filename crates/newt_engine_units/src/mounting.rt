@@ -7,10 +7,10 @@ ghost use Rattle.newt_spec_world.specs.declared.command.Command.{Command};
 ghost use Rattle.newt_store_change.specs.Faults.{IsRefusal};
 ghost use Rattle.newt_engine_units.specs.Answers.{Answers};
 ghost use Rattle.newt_engine_units.specs.Calls.{AreRead, Ended, Obeys};
-ghost use Rattle.newt_engine_units.specs.Faces.{Admits, Opens, card_faces, default_after};
+ghost use Rattle.newt_engine_units.specs.Faces.{Admits, Opens, default_after, faces_of};
 ghost use Rattle.newt_engine_units.specs.Faces.{with_card};
-ghost use Rattle.newt_engine_units.specs.Looks.{attached_in, IsFree};
-ghost use Rattle.newt_engine_units.specs.Stands.{Eight, Stands, mounted_in, world_of};
+ghost use Rattle.newt_engine_units.specs.Looks.{IsFree, is_attached};
+ghost use Rattle.newt_engine_units.specs.Stands.{Eight, Stands, default_of, is_mounted, world_of};
 
 use crate::units::Units;
 use newt_base::{Name, Refusal, Sig};
@@ -40,7 +40,7 @@ impl<C: Card> Units<C> {
     /// Opens the store of a unit, or says that it has none.
     fn open_store<H: Host>(&self, host: &mut H, unit: Unit) -> Result<C, StoreFault>
         requires stands { Stands C.place C.stands H.told self.now (H.outside host.old) }
-        requires free { IsFree self.now.slots.items ((H.outside host.old).blocks unit) unit }
+        requires free { IsFree self.now ((H.outside host.old).blocks unit) unit }
         ensures looks { AreRead C.reads C.place C.stands H.told self.now self.now
             (H.outside host.old) (H.outside host.new) }
         ensures opened { Opens
@@ -57,7 +57,7 @@ impl<C: Card> Units<C> {
 
     /// The signature and the name of a store that may be mounted, or why it may not.
     fn admit(&self, card: &C) -> Result<(Sig, Name), StoreFault>
-        ensures { Admits (card_faces C.soups self.now.slots.items) (C.soups card.now) result }
+        ensures { Admits (faces_of C.soups self.now) (C.soups card.now) result }
     {
         if MOST_STORES <= self.count() {
             return Err(StoreFault::Refused(Refusal::Stores));
@@ -72,9 +72,9 @@ impl<C: Card> Units<C> {
 
     /// Puts a card on a unit. Where no store was the default, it is.
     fn put(&mut self, unit: Unit, card: C)
-        requires { attached_in self.old.slots.items unit ≡ true }
+        requires { is_attached self.old unit ≡ true }
         ensures slots { self.new.slots.items ≡ with_card unit (Some card) self.old.slots.items }
-        ensures default { self.new.default ≡ Some (unwrap_or self.old.default unit) }
+        ensures default { default_of self.new ≡ Some (unwrap_or (default_of self.old) unit) }
         ensures minute { self.new.minute ≡ self.old.minute }
     {
         self.slots[unit.0 as usize].card = Some(card);
@@ -103,9 +103,9 @@ impl<C: Card> Units<C> {
 
     /// Takes the card from a unit.
     fn take(&mut self, unit: Unit)
-        requires { mounted_in self.old.slots.items unit ≡ true }
+        requires { is_mounted self.old unit ≡ true }
         ensures slots { self.new.slots.items ≡ with_card unit None self.old.slots.items }
-        ensures default { self.new.default ≡ self.old.default }
+        ensures default { default_of self.new ≡ default_of self.old }
         ensures minute { self.new.minute ≡ self.old.minute }
     {
         self.slots[unit.0 as usize].card = None;
@@ -113,8 +113,7 @@ impl<C: Card> Units<C> {
 
     /// The default unit after this one is no longer mounted.
     fn default_after(&self, unit: Unit) -> Option<Unit>
-        ensures { result ≡ default_after (card_faces C.soups self.now.slots.items) self.now.default
-            unit }
+        ensures { result ≡ default_after (faces_of C.soups self.now) (default_of self.now) unit }
     {
         let default = self.default?;
         if unit == default {

@@ -16,7 +16,8 @@ use Rattle.newt_spec_world.specs.Reply.{Reply}
 use Rattle.newt_spec_world.specs.Changed.{changed}
 use Rattle.newt_spec_world.specs.Refused.{checks, on_some, not_mounted, no_soup, no_more_ids, full}
 use Rattle.newt_spec_world.specs.Answer.{answer, fields, new_uid}
-use Rattle.newt_laws_answers.specs.Tests.{add_tests, room_tests, soup_checks, with_added}
+use Rattle.newt_laws_answers.specs.Tests.{soup_checks}
+use Rattle.newt_laws_answers.proofs.Tests.{add_tests, room_tests, with_added}
 use Rattle.newt_laws_answers.proofs.Firsts.{first-true}
 use Rattle.newt_laws_answers.specs.There.{OnUnit}
 use Rattle.newt_laws_answers.proofs.Units.{on-changed, soup-named}

@@ -11,7 +11,7 @@ use Rattle.newt_store_change.specs.Change.{changed_by, refusals, most_bytes}
 use Rattle.newt_store_change.specs.declared.change.Change.{Change}
 use Rattle.newt_store_change.specs.declared.change.Change.TheVariants as change
 use Rattle.newt_laws_answers.specs.Bounds.{change_bytes, unless}
-use Rattle.newt_laws_answers.specs.Tests.{make_tests, add_tests, move_tests, moved_within, replace_tests, replaced, patch_tests, patched_within, index_tests, tags_tests, tagged}
+use Rattle.newt_laws_answers.proofs.Tests.{add_tests, move_tests, moved_within, replace_tests, replaced, patch_tests, patched_within, index_tests, tags_tests, tagged}
 use Rattle.newt_laws_answers.proofs.Refusals.{drop-tests, dropped, index-tests, indexed, unindex-tests, unindexed, tags-tests, tagged-as, add-tests, added, remove-tests, removed, replace-tests, replaced-as, patch-tests, patched-as, move-tests, moved}
 use Rattle.newt_laws_answers.proofs.Programs.{make-bound, drop-bound, index-bound, unindex-bound, tags-bound, add-bound, remove-bound, replace-bound, patch-bound, move-bound}
 
@@ -22,7 +22,7 @@ pub record SaidAs (change : Change) (blocks now : ℕ) (s : Store) (tests : Chec
   pub most_is : most_bytes change blocks now s ≡ most
 
 pub make-said : (blocks now : ℕ) (name : List ℕ) (s : Store)
-    → SaidAs (change.MakeSoup name) blocks now s (make_tests blocks name s) (make_soup name) (unless (make_tests blocks name s) (change_bytes s (make_soup name s) [] []))
+    → SaidAs (change.MakeSoup name) blocks now s (refusals (change.MakeSoup name) blocks now s) (make_soup name) (unless (refusals (change.MakeSoup name) blocks now s) (change_bytes s (make_soup name s) [] []))
 make-said blocks now name s = record { tests_are = refl; made_is = refl; most_is = make-bound blocks now name s }
 
 module _ (blocks now sig : ℕ) (s : Store) (p : Soup) (found : soup_of sig s ≡ Some p) where

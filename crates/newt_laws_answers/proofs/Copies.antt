@@ -18,7 +18,8 @@ use Rattle.newt_spec_world.specs.Reply.{Reply}
 use Rattle.newt_spec_world.specs.Changed.{changed, copy_to}
 use Rattle.newt_spec_world.specs.Refused.{checks, on_some, either, no_unit, not_mounted, no_soup, no_entry, full}
 use Rattle.newt_spec_world.specs.Answer.{answer, fields, new_uid}
-use Rattle.newt_laws_answers.specs.Tests.{add_tests, both_checks, move_tests, moved_within, room_tests, with_added}
+use Rattle.newt_laws_answers.specs.Tests.{both_checks}
+use Rattle.newt_laws_answers.proofs.Tests.{add_tests, move_tests, moved_within, room_tests, with_added}
 use Rattle.newt_laws_answers.proofs.Firsts.{first-true, first-false, first-found}
 use Rattle.newt_laws_answers.specs.There.{OnUnit}
 use Rattle.newt_laws_answers.proofs.Units.{on-changed, on-other, is-mounted, soup-named, store-twice}

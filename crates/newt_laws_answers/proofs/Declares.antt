@@ -15,7 +15,8 @@ use Rattle.newt_spec_world.specs.Reply.{Reply}
 use Rattle.newt_spec_world.specs.Changed.{changed, spec_of_words}
 use Rattle.newt_spec_world.specs.Refused.{checks, on_some, no_unit, not_mounted, no_soup, has_index, index_exists, no_index, real_part, index_limit, full}
 use Rattle.newt_spec_world.specs.Answer.{answer, fields, or_nil}
-use Rattle.newt_laws_answers.specs.Tests.{soup_checks, index_tests, tagged, tags_tests}
+use Rattle.newt_laws_answers.specs.Tests.{soup_checks}
+use Rattle.newt_laws_answers.proofs.Tests.{index_tests, tagged, tags_tests}
 use Rattle.newt_laws_answers.specs.There.{OnUnit}
 use Rattle.newt_laws_answers.proofs.Firsts.{first-true, first-false, first-found}
 use Rattle.newt_laws_answers.proofs.Units.{on-changed, soup-named}

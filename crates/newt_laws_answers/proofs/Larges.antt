@@ -15,7 +15,9 @@ use Rattle.newt_spec_world.specs.Changed.{changed, patched, patched_at}
 use Rattle.newt_spec_world.specs.Refused.{checks, on_some}
 use Rattle.newt_host.specs.Moments.{bytes_from}
 use Rattle.newt_spec_world.specs.Answer.{answer, fields, or_nil}
-use Rattle.newt_laws_answers.specs.Tests.{entry_checks, large_tests, patch_tests, patched_within}
+use Rattle.newt_laws_answers.specs.Tests.{entry_checks}
+use Rattle.newt_laws_answers.proofs.Tests.{patch_tests, patched_within}
+use Rattle.newt_store_change.specs.Entries.{large_checks}
 use Rattle.newt_laws_answers.specs.There.{OnUnit}
 use Rattle.newt_laws_answers.proofs.Firsts.{first-true, first-false}
 use Rattle.newt_laws_answers.proofs.Units.{store-alike}
@@ -48,14 +50,14 @@ module _ (w : World) (u blocks : ℕ) (s : Store) (name : List ℕ) (p : Soup) (
 
   -- ---- vread
 
-  vread-tests : (many : ℕ) → first_of (checks w (command.Vread u name uid path at many)) ≡ first_of (large_tests path (at + many) e.graph)
+  vread-tests : (many : ℕ) → first_of (checks w (command.Vread u name uid path at many)) ≡ first_of (large_checks path (at + many) (Some e))
   unfolding checks
   vread-tests many = there-passes w u blocks s name p uid h f e here (drop 4 (checks w (command.Vread u name uid path at many))) ∙ ap (λ o. first_of (tests (at + many) o)) there
 
-  pub vread-refused : (many : ℕ) (r : Refusal) → first_of (large_tests path (at + many) e.graph) ≡ Some r → answer w (command.Vread u name uid path at many) ≡ (w, Reply.refused r)
+  pub vread-refused : (many : ℕ) (r : Refusal) → first_of (large_checks path (at + many) (Some e)) ≡ Some r → answer w (command.Vread u name uid path at many) ≡ (w, Reply.refused r)
   vread-refused many r k = refused w (command.Vread u name uid path at many) r (vread-tests many ∙ k)
 
-  pub vread-done : (many : ℕ) → first_of (large_tests path (at + many) e.graph) ≡ None → w.cursors ≡ replicate 32 None
+  pub vread-done : (many : ℕ) → first_of (large_checks path (at + many) (Some e)) ≡ None → w.cursors ≡ replicate 32 None
       → answer w (command.Vread u name uid path at many) ≡ (w, Reply.hex (bytes_from at many (large_bytes e.graph path)))
   unfolding changed fields
   vread-done many k none = done w (command.Vread u name uid path at many) (vread-tests many ∙ k) none
@@ -63,18 +65,18 @@ module _ (w : World) (u blocks : ℕ) (s : Store) (name : List ℕ) (p : Soup) (
 
   -- ---- vwrite
 
-  vwrite-tests : (bytes : List ℕ) → first_of (checks w (command.Vwrite u name uid path at bytes)) ≡ first_of (large_tests path (at + length bytes) e.graph)
+  vwrite-tests : (bytes : List ℕ) → first_of (checks w (command.Vwrite u name uid path at bytes)) ≡ first_of (large_checks path (at + length bytes) (Some e))
   unfolding checks
   vwrite-tests bytes = there-passes w u blocks s name p uid h f e here (drop 4 (checks w (command.Vwrite u name uid path at bytes))) ∙ ap (λ o. first_of (tests (at + length bytes) o)) there
 
   -- no large binary is reached
   pub vwrite-no-path : large_at e.graph path ≡ None → (bytes : List ℕ) → answer w (command.Vwrite u name uid path at bytes) ≡ (w, Reply.refused NoPath)
-  vwrite-no-path none bytes = refused w (command.Vwrite u name uid path at bytes) NoPath (vwrite-tests bytes ∙ first-true NoPath _ (drop 1 (large_tests path (at + length bytes) e.graph)) (ap is_none none))
+  vwrite-no-path none bytes = refused w (command.Vwrite u name uid path at bytes) NoPath (vwrite-tests bytes ∙ first-true NoPath _ (drop 1 (large_checks path (at + length bytes) (Some e))) (ap is_none none))
 
   -- the node of one is reached
   module _ (node : ℕ) (is : large_at e.graph path ≡ Some node) (bytes : List ℕ) where
     pub patch-checks : first_of (checks w (command.Vwrite u name uid path at bytes)) ≡ first_of (patch_tests node at (length bytes) e)
-    patch-checks = vwrite-tests bytes ∙ first-false NoPath _ (drop 1 (large_tests path (at + length bytes) e.graph)) (ap is_none is)
+    patch-checks = vwrite-tests bytes ∙ first-false NoPath _ (drop 1 (large_checks path (at + length bytes) (Some e))) (ap is_none is)
         ∙ ap (λ o. first_of ((Range, nat_lt (length (bytes_of_large (option_and_then (slice_get e.graph.nodes) o))) (at + length bytes)) ∷ [])) is
 
     pub vwrite-refused : (r : Refusal) → first_of (patch_tests node at (length bytes) e) ≡ Some r → answer w (command.Vwrite u name uid path at bytes) ≡ (w, Reply.refused r)

@@ -1,3 +1,4 @@
+pub mod Tests
 pub mod Worlds
 pub mod Firsts
 pub mod Sigs

@@ -27,7 +27,9 @@ use Rattle.newt_laws_world.proofs.Uncursored.{changed-apart, checks-apart}
 use Rattle.newt_spec_store.specs.Cost.{patch_bytes}
 use Rattle.newt_laws_answers.specs.Bounds.{change_bytes, unless, listed, entries_of, new_in, copied_in, touched, bytes_between, bytes_done, most_programmed}
 use Rattle.newt_laws_answers.specs.There.{OnUnit}
-use Rattle.newt_laws_answers.specs.Tests.{make_tests, add_tests, move_tests, moved_within, replace_tests, replaced, patch_tests, index_tests, tagged, tags_tests, with_added}
+use Rattle.newt_store_change.specs.Change.{refusals}
+use Rattle.newt_store_change.specs.declared.change.Change.TheVariants.{MakeSoup}
+use Rattle.newt_laws_answers.proofs.Tests.{add_tests, move_tests, moved_within, replace_tests, replaced, patch_tests, index_tests, tagged, tags_tests, with_added}
 use Rattle.newt_laws_answers.proofs.Firsts.{first-false}
 use Rattle.newt_laws_answers.proofs.Units.{is-there, on-changed, on-other, soup-named}
 use Rattle.newt_laws_answers.proofs.Answers.{all-pass, entry-named}
@@ -75,9 +77,9 @@ if-other v u x y differ = ap (λ b. cond b x y) (ne_eqb v u differ)
 -- ---- soups
 
 module _ (w : World) (u blocks : ℕ) (s : Store) (name : List ℕ) (h : OnUnit w u blocks s) where
-  pub soup-most : unless (make_tests blocks name s) (change_bytes s (make_soup name s) [] []) ≤ most_programmed w (command.Soup u name) u
+  pub soup-most : unless (refusals (MakeSoup name) blocks w.minute s) (change_bytes s (make_soup name s) [] []) ≤ most_programmed w (command.Soup u name) u
   unfolding changed
-  soup-most = most-between w (command.Soup u name) u blocks s (make_soup name s) [] [] (make_tests blocks name s) refl (soup-checks w u blocks s name h) h (on-changed w u blocks s (make_soup name) h)
+  soup-most = most-between w (command.Soup u name) u blocks s (make_soup name s) [] [] (refusals (MakeSoup name) blocks w.minute s) refl (soup-checks w u blocks s name h) h (on-changed w u blocks s (make_soup name) h)
       (if-same {X = Touch} u (Some ([], [])) None)
 
   pub drop-most : (p : Soup) → soup_named name s ≡ Some p → change_bytes s (drop_soup name s) [] p.entries ≤ most_programmed w (command.Drop u name) u

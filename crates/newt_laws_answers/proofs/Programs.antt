@@ -7,7 +7,7 @@ use Rattle.newt_base.specs.declared.Refusal.{Refusal}
 use Rattle.newt_graph.specs.Graph.{RawGraph}
 use Rattle.newt_graph.specs.declared.node.Node.TheVariants.{Large}
 use Rattle.newt_laws_answers.specs.Bounds.{change_bytes, unless}
-use Rattle.newt_laws_answers.specs.Tests.{make_tests, add_tests, move_tests, moved_within, replace_tests, replaced, patch_tests, index_tests, tags_tests, tagged}
+use Rattle.newt_laws_answers.proofs.Tests.{add_tests, move_tests, moved_within, replace_tests, replaced, patch_tests, index_tests, tags_tests, tagged}
 use Rattle.newt_spec_store.specs.Cost.{entry_pages, directory_pages, patch_bytes, pages_bytes}
 use Rattle.newt_spec_store.specs.Keys.{IndexSpec, Path}
 use Rattle.newt_spec_store.specs.Store.{Store as Plain, Soup, Entry, TagTable, entry_of, change_soup, make_soup, drop_soup, add_entry, remove_entry, soup_of, entry_at, next_uid_of, with_index, without_index, with_graph}
@@ -32,8 +32,8 @@ bound-is change blocks now s t tests put gone first after bytes come go =
     ap (λ (n : ℕ). cond (is_some (refusal_of change blocks now s)) 0 n) (bytes ∙ (λ i. pages_bytes (directory_pages (after i) + come i) (directory_pages s + go i)))
     ∙ ap (λ (o : Option Refusal). cond (is_some o) 0 (change_bytes s t put gone)) first
 
-pub make-bound : (blocks now : ℕ) (name : List ℕ) (s : Plain) → most_bytes (change.MakeSoup name) blocks now s ≡ unless (make_tests blocks name s) (change_bytes s (make_soup name s) [] [])
-make-bound blocks now name s = bound-is (change.MakeSoup name) blocks now s (make_soup name s) (make_tests blocks name s) [] [] refl refl refl refl refl
+pub make-bound : (blocks now : ℕ) (name : List ℕ) (s : Plain) → most_bytes (change.MakeSoup name) blocks now s ≡ unless (refusals (change.MakeSoup name) blocks now s) (change_bytes s (make_soup name s) [] [])
+make-bound blocks now name s = bound-is (change.MakeSoup name) blocks now s (make_soup name s) (refusals (change.MakeSoup name) blocks now s) [] [] refl refl refl refl refl
 
 module _ (blocks now sig : ℕ) (s : Plain) (p : Soup) (found : soup_of sig s ≡ Some p) where
   pub drop-bound : most_bytes (change.DropSoup sig) blocks now s ≡ change_bytes s (drop_soup p.name s) [] p.entries

@@ -25,7 +25,8 @@ use Rattle.newt_spec_world.specs.Refused.{checks, on_some, no_unit, not_mounted,
 use Rattle.newt_spec_world.specs.Answer.{answer, fields}
 use Rattle.newt_laws_world.proofs.Frames.{set-frame, normal-frame}
 use Rattle.newt_laws_world.proofs.Rows.{and-left}
-use Rattle.newt_laws_answers.specs.Tests.{entry_checks, replaced, replace_tests}
+use Rattle.newt_laws_answers.specs.Tests.{entry_checks}
+use Rattle.newt_laws_answers.proofs.Tests.{replaced, replace_tests}
 use Rattle.newt_laws_answers.specs.There.{OnUnit}
 use Rattle.newt_laws_answers.proofs.Firsts.{first-true, first-false}
 use Rattle.newt_laws_answers.proofs.Units.{on-changed, store-alike}

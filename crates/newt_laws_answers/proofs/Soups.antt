@@ -13,8 +13,10 @@ use Rattle.newt_spec_world.specs.Reply.{Reply}
 use Rattle.newt_spec_world.specs.Changed.{changed}
 use Rattle.newt_spec_world.specs.Refused.{checks, on_some, soup_limit, no_more_soups, soup_exists, full}
 use Rattle.newt_spec_world.specs.Answer.{answer, fields, or_nil}
-use Rattle.newt_laws_answers.specs.Tests.{make_tests, soup_checks, unit_checks}
+use Rattle.newt_laws_answers.specs.Tests.{soup_checks, unit_checks}
 use Rattle.newt_laws_answers.specs.There.{OnUnit}
+use Rattle.newt_store_change.specs.Change.{refusals}
+use Rattle.newt_store_change.specs.declared.change.Change.TheVariants.{MakeSoup}
 use Rattle.newt_laws_answers.proofs.Units.{on-changed, is-mounted, soup-named}
 use Rattle.newt_laws_answers.proofs.Answers.{done, refused, refused-early, unit-passes, all-pass, full-is}
 
@@ -32,7 +34,7 @@ module _ (w : World) (u blocks : ℕ) (s : Store) (name : List ℕ) (h : OnUnit 
   unfolding changed
   room-is = full-is (change_store w u (make_soup name)) u blocks (make_soup name s) (on-changed w u blocks s (make_soup name) h)
 
-  pub soup-checks : first_of (checks w (command.Soup u name)) ≡ first_of (make_tests blocks name s)
+  pub soup-checks : first_of (checks w (command.Soup u name)) ≡ first_of (refusals (MakeSoup name) blocks w.minute s)
   unfolding checks
   soup-checks =
       unit-passes w u blocks s (soup_exists w u name ∷ soup_limit w u ∷ no_more_soups w u ∷ full w u (command.Soup u name) ∷ []) h
@@ -41,10 +43,10 @@ module _ (w : World) (u blocks : ℕ) (s : Store) (name : List ℕ) (h : OnUnit 
       ∙ ap {A = Bool} (λ b. first_of ((Exists, is_some (soup_named name s)) ∷ (Limit, nat_le 64 (length s.soups)) ∷ (Ids, b) ∷ full w u (command.Soup u name) ∷ [])) ids-is
       ∙ ap {A = Bool} (λ b. first_of ((Exists, is_some (soup_named name s)) ∷ (Limit, nat_le 64 (length s.soups)) ∷ (Ids, s.next_soup == 65_535) ∷ (Full, b) ∷ [])) room-is
 
-  pub soup-refused : (r : Refusal) → first_of (make_tests blocks name s) ≡ Some r → answer w (command.Soup u name) ≡ (w, Reply.refused r)
+  pub soup-refused : (r : Refusal) → first_of (refusals (MakeSoup name) blocks w.minute s) ≡ Some r → answer w (command.Soup u name) ≡ (w, Reply.refused r)
   soup-refused r k = refused w (command.Soup u name) r (soup-checks ∙ k)
 
-  pub soup-done : first_of (make_tests blocks name s) ≡ None → w.cursors ≡ replicate 32 None
+  pub soup-done : first_of (refusals (MakeSoup name) blocks w.minute s) ≡ None → w.cursors ≡ replicate 32 None
       → answer w (command.Soup u name) ≡ (change_store w u (make_soup name), Reply.number s.next_soup)
   unfolding changed fields
   soup-done k none = done w (command.Soup u name) (soup-checks ∙ k) none

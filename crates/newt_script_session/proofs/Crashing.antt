@@ -95,7 +95,7 @@ at_rest reads world now leaves = λ start u. its_now reads start world now u lea
 pub answering_nothing : (reads : List ℕ → Option Store) (world : World) (now : Moment)
     → ((unit : ℕ) (store : Store) (left : List ℕ) → store_on_unit world unit ≡ Some store → MayLeave unit now left → reads left ≡ Some store) → Always (Answering reads world world now) now now
 answering_nothing reads world now leaves =
-    here (record { quiet = refl; stores = λ unit store left e may. inl (leaves unit store left e may); others = λ unit none same. refl })
+    here (record { unread = refl; quiet = refl; stores = λ unit store left e may. inl (leaves unit store left e may); others = λ unit none same. refl })
 
 -- nothing has happened to any unit since
 pub untouched_same : (start : Moment) (world : World) (old now : Moment) → ((unit : ℕ) → changes unit now ≡ changes unit old) → Untouched start world old → Untouched start world now

@@ -17,7 +17,7 @@ use Rattle.newt_spec_world.specs.World.{World, store_on_unit}
 use Rattle.newt_store_change.specs.Faults.{Does}
 use Rattle.newt_laws_world.specs.Answering.{Answering}
 use Rattle.newt_spec_world.specs.Answer.{answer}
-use Rattle.newt_laws_answers.specs.Tests.{add_tests, with_added}
+use Rattle.newt_laws_answers.proofs.Tests.{add_tests, with_added}
 use Rattle.newt_laws_answers.specs.There.{OnUnit}
 use Rattle.newt_laws_answers.proofs.Changes.{add-said}
 use Rattle.newt_laws_answers.proofs.Copies.{copy-not-found}

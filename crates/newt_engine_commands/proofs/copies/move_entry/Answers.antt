@@ -1,19 +1,14 @@
 -- Both soups are looked up, and are of one store or of two.
-use Rattle.std.proofs.Common.{arith, subst, sym, ℕ, ◌≡◌}
+use Rattle.std.proofs.Common.{arith, subst, sym, ℕ, ◌≡◌, IsTrue}
 use Rattle.newt_engine_units.specs.Looks.{known_both}
 use Rattle.std.proofs.lemmas.Result.{err_from_is_err_and}
 use Rattle.newt_engine_units.specs.Stands.{Stands, world_of}
 use Rattle.newt_spec_world.specs.Reply.{Reply}
 use Rattle.newt_spec_world.specs.declared.command.Command.TheVariants as command
 use Rattle.std.proofs.lemmas.Grind.{common_steps}
-use Rattle.newt_host.specs.Moments.{Always}
-use Rattle.newt_laws_world.specs.Answering.{Answering}
-use Rattle.newt_laws_answers.specs.Bounds.{most_programmed}
-use Rattle.newt_spec_world.specs.Answer.{answer}
 use Rattle.newt_laws_answers.proofs.Copies.{move-not-found}
-use Rattle.newt_engine_card.specs.Bounds.{Costs}
-use Rattle.newt_engine_units.specs.Answers.{Answers}
 use Rattle.newt_engine_units.specs.Found.{HasSoup}
+use Rattle.newt_engine_commands.specs.Calls.{MovesNamed}
 use Rattle.newt_engine_units.proofs.Obeying.{none-refused, refused-obeys}
 use Rattle.newt_engine_units.proofs.Settings.{Setting, both-refused, has-soup}
 use Rattle.newt_engine_commands.proofs.copies.move_entry.Given.{Over}
@@ -39,29 +34,20 @@ pub returns-then-eq : goal.returns-then-eq
 returns-then-eq g c =
     let at = begins g c.requires in
     let o = g.H.Host.outside in
-    let w = world_of g.C.Card.reads c.args.units.now (g.H.Host.outside c.args.host.now) in
+    let w = world_of g.C.Card.reads c.args.units.now (o c.args.host.now) in
     let e = c.move_inside.ensures in
     let same : c.args.unit ≡ c.args.to = grind (arith, common_steps) in
+    let moved : IsTrue g.H.Host.told → MovesNamed g.C.Card.reads c.args.unit c.args.name.now c.args.uid c.args.to c.args.target.now c.args.units.now c.move_inside.new.units (o c.args.host.now) (o c.move_inside.new.host) c.move_inside.result = λ t.
+    let h = has-soup at t c.args.unit c.args.name.now c.in_ok-soup.soup c.in_ok-soup.ensures.0 in
+    let k = has-soup at t c.args.to c.args.target.now c.in_ok-soup.into c.in_ok-soup.ensures.1 in
+    let there = subst (λ (n : ℕ). HasSoup w n c.args.target.now c.in_ok-soup.into) (sym same) k in
+    subst (λ (n : ℕ). MovesNamed g.C.Card.reads c.args.unit c.args.name.now c.args.uid n c.args.target.now c.args.units.now c.move_inside.new.units (o c.args.host.now) (o c.move_inside.new.host) c.move_inside.result) same
+    (e.moved t c.args.name.now c.args.target.now h there) in
     record {
       stands = e.stands;
-      answered = λ t.
-          let h = has-soup at t c.args.unit c.args.name.now c.in_ok-soup.soup c.in_ok-soup.ensures.0 in
-          let k = has-soup at t c.args.to c.args.target.now c.in_ok-soup.into c.in_ok-soup.ensures.1 in
-          let there = subst (λ (n : ℕ). HasSoup w n c.args.target.now c.in_ok-soup.into) (sym same) k in
-          subst (λ (n : ℕ). Answers {T = ℕ} w (world_of g.C.Card.reads c.move_inside.new.units (o c.move_inside.new.host)) (command.Move c.args.unit c.args.name.now c.args.uid n c.args.target.now) (λ m. Reply.number m) c.move_inside.result) same
-          (e.answered t c.args.name.now c.args.target.now h there);
-      moments = λ t.
-          let h = has-soup at t c.args.unit c.args.name.now c.in_ok-soup.soup c.in_ok-soup.ensures.0 in
-          let k = has-soup at t c.args.to c.args.target.now c.in_ok-soup.into c.in_ok-soup.ensures.1 in
-          let there = subst (λ (n : ℕ). HasSoup w n c.args.target.now c.in_ok-soup.into) (sym same) k in
-          subst (λ (n : ℕ). Always (Answering g.C.Card.reads w (answer w (command.Move c.args.unit c.args.name.now c.args.uid n c.args.target.now)).0 (o c.args.host.now).now) (o c.args.host.now).now (o c.move_inside.new.host).now) same
-          (e.moments t c.args.name.now c.args.target.now h there);
-      costs = λ t.
-          let h = has-soup at t c.args.unit c.args.name.now c.in_ok-soup.soup c.in_ok-soup.ensures.0 in
-          let k = has-soup at t c.args.to c.args.target.now c.in_ok-soup.into c.in_ok-soup.ensures.1 in
-          let there = subst (λ (n : ℕ). HasSoup w n c.args.target.now c.in_ok-soup.into) (sym same) k in
-          subst (λ (n : ℕ). Costs (most_programmed w (command.Move c.args.unit c.args.name.now c.args.uid n c.args.target.now)) c.move_inside.result (o c.args.host.now) (o c.move_inside.new.host)) same
-          (e.costs t c.args.name.now c.args.target.now h there);
+      answered = λ t. (moved t).answered;
+      moments = λ t. (moved t).moments;
+      costs = λ t. (moved t).costs;
       alone = e.ends.alone;
       cause = e.ends.cause;
       no_fault = e.ends.no_fault;
@@ -71,20 +57,13 @@ pub returns-else-eq : goal.returns-else-eq
 returns-else-eq g c =
     let at = begins g c.requires in
     let e = c.move_between.ensures in
+    let moved : IsTrue g.H.Host.told → MovesNamed g.C.Card.reads c.args.unit c.args.name.now c.args.uid c.args.to c.args.target.now c.args.units.now c.move_between.new.units (g.H.Host.outside c.args.host.now) (g.H.Host.outside c.move_between.new.host) c.move_between.result = λ t.
+    e.moved t c.args.name.now c.args.target.now (has-soup at t c.args.unit c.args.name.now c.in_ok-soup.soup c.in_ok-soup.ensures.0) (has-soup at t c.args.to c.args.target.now c.in_ok-soup.into c.in_ok-soup.ensures.1) in
     record {
       stands = e.stands;
-      answered = λ t.
-          let h = has-soup at t c.args.unit c.args.name.now c.in_ok-soup.soup c.in_ok-soup.ensures.0 in
-          let k = has-soup at t c.args.to c.args.target.now c.in_ok-soup.into c.in_ok-soup.ensures.1 in
-          e.answered t c.args.name.now c.args.target.now h k;
-      moments = λ t.
-          let h = has-soup at t c.args.unit c.args.name.now c.in_ok-soup.soup c.in_ok-soup.ensures.0 in
-          let k = has-soup at t c.args.to c.args.target.now c.in_ok-soup.into c.in_ok-soup.ensures.1 in
-          e.moments t c.args.name.now c.args.target.now h k;
-      costs = λ t.
-          let h = has-soup at t c.args.unit c.args.name.now c.in_ok-soup.soup c.in_ok-soup.ensures.0 in
-          let k = has-soup at t c.args.to c.args.target.now c.in_ok-soup.into c.in_ok-soup.ensures.1 in
-          e.costs t c.args.name.now c.args.target.now h k;
+      answered = λ t. (moved t).answered;
+      moments = λ t. (moved t).moments;
+      costs = λ t. (moved t).costs;
       alone = e.ends.alone;
       cause = e.ends.cause;
       no_fault = e.ends.no_fault;

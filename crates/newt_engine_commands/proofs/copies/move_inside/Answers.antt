@@ -21,43 +21,37 @@ begins g {units} {host} stand = record {
   stand = stand;
 }
 
-pub returns-then-has_entry-clause-answered : goal.returns-then-has_entry-clause-answered
-returns-then-has_entry-clause-answered g c t name target h k =
+pub returns-then-has_entry : goal.returns-then-has_entry
+returns-then-has_entry g c =
     let at = begins g c.requires.stands in
     let w = world_of g.C.Card.reads c.args.units.now (g.H.Host.outside c.args.host.now) in
-    let x = has-entry at t c.args.unit name c.args.soup c.args.uid h (sym (c.if-has_entry.ensures (g.H.Host.outside c.args.host.now) at.eight (stand-told at t) h.blocks h.store h.on)) in
-    inside-answers w c.args.unit name target c.args.soup c.args.into c.args.uid x k refl _ _
-    (said-made c.change.ensures t x.of.on (move-said x.of.blocks w.minute c.args.soup x.of.store x.of.soup x.of.by_sig c.args.uid x.entry x.found c.args.into k.soup (inside-by-sig w c.args.unit name target c.args.soup c.args.into c.args.uid x k)) (λ n. n ≡ k.soup.next_uid) (λ n is. is ∙ moved-uid x.of.blocks w.minute c.args.soup x.of.store x.of.soup x.of.by_sig c.args.uid x.entry x.found c.args.into k.soup (inside-by-sig w c.args.unit name target c.args.soup c.args.into c.args.uid x k)))
+    let e = c.change.ensures in
+    record {
+      stands = e.stands;
+      moved = λ t name target h k.
+          let x = has-entry at t c.args.unit name c.args.soup c.args.uid h (sym (c.if-has_entry.ensures (g.H.Host.outside c.args.host.now) at.eight (stand-told at t) h.blocks h.store h.on)) in
+          let into = inside-by-sig w c.args.unit name target c.args.soup c.args.into c.args.uid x k in
+          let said = move-said x.of.blocks w.minute c.args.soup x.of.store x.of.soup x.of.by_sig c.args.uid x.entry x.found c.args.into k.soup into in
+          record {
+            answered = inside-answers w c.args.unit name target c.args.soup c.args.into c.args.uid x k refl _ _
+                (said-made e t x.of.on said (λ n. n ≡ k.soup.next_uid) (λ n is. is ∙ moved-uid x.of.blocks w.minute c.args.soup x.of.store x.of.soup x.of.by_sig c.args.uid x.entry x.found c.args.into k.soup into));
+            moments = said-moments e t x.of.on said _ (inside-makes w c.args.unit name target c.args.soup c.args.into c.args.uid x k refl);
+            costs = inside-costs x k (said-costs e t x.of.on said);
+          };
+      ends = ends-change e;
+    }
 
-pub returns-then-has_entry-clause-moments : goal.returns-then-has_entry-clause-moments
-returns-then-has_entry-clause-moments g c t name target h k =
+pub returns-else-has_entry : goal.returns-else-has_entry
+returns-else-has_entry g c =
     let at = begins g c.requires.stands in
-    let w = world_of g.C.Card.reads c.args.units.now (g.H.Host.outside c.args.host.now) in
-    let x = has-entry at t c.args.unit name c.args.soup c.args.uid h (sym (c.if-has_entry.ensures (g.H.Host.outside c.args.host.now) at.eight (stand-told at t) h.blocks h.store h.on)) in
-    said-moments c.change.ensures t x.of.on (move-said x.of.blocks w.minute c.args.soup x.of.store x.of.soup x.of.by_sig c.args.uid x.entry x.found c.args.into k.soup (inside-by-sig w c.args.unit name target c.args.soup c.args.into c.args.uid x k)) _
-    (inside-makes w c.args.unit name target c.args.soup c.args.into c.args.uid x k refl)
-
-pub returns-then-has_entry-clause-costs : goal.returns-then-has_entry-clause-costs
-returns-then-has_entry-clause-costs g c t name target h k =
-    let at = begins g c.requires.stands in
-    let w = world_of g.C.Card.reads c.args.units.now (g.H.Host.outside c.args.host.now) in
-    let x = has-entry at t c.args.unit name c.args.soup c.args.uid h (sym (c.if-has_entry.ensures (g.H.Host.outside c.args.host.now) at.eight (stand-told at t) h.blocks h.store h.on)) in
-    inside-costs x k (said-costs c.change.ensures t x.of.on (move-said x.of.blocks w.minute c.args.soup x.of.store x.of.soup x.of.by_sig c.args.uid x.entry x.found c.args.into k.soup (inside-by-sig w c.args.unit name target c.args.soup c.args.into c.args.uid x k)))
-
-pub returns-then-has_entry-clause-ends : goal.returns-then-has_entry-clause-ends
-returns-then-has_entry-clause-ends g c = ends-change c.change.ensures
-
-pub returns-else-has_entry-clause-ends : goal.returns-else-has_entry-clause-ends
-returns-else-has_entry-clause-ends g c = none-ends {T = ℕ} _ tt
-
-pub returns-else-has_entry-clause-answered : goal.returns-else-has_entry-clause-answered
-returns-else-has_entry-clause-answered g c t name target h k =
-    let at = begins g c.requires.stands in
-    let w = world_of g.C.Card.reads c.args.units.now (g.H.Host.outside c.args.host.now) in
-    inside-missing w c.args.unit name target c.args.soup c.args.into c.args.uid h k (sym (c.if-has_entry.ensures (g.H.Host.outside c.args.host.now) at.eight (stand-told at t) h.blocks h.store h.on))
-
-pub returns-else-has_entry-clause-moments : goal.returns-else-has_entry-clause-moments
-returns-else-has_entry-clause-moments g c t name target h k = still (begins g c.requires.stands) t _ _ refl
-
-pub returns-else-has_entry-clause-costs : goal.returns-else-has_entry-clause-costs
-returns-else-has_entry-clause-costs g c t _ _ _ _ = idle-costs _ _ _
+    record {
+      stands = λ goes. c.requires.stands;
+      moved = λ t name target h k.
+          let w = world_of g.C.Card.reads c.args.units.now (g.H.Host.outside c.args.host.now) in
+          record {
+            answered = inside-missing w c.args.unit name target c.args.soup c.args.into c.args.uid h k (sym (c.if-has_entry.ensures (g.H.Host.outside c.args.host.now) at.eight (stand-told at t) h.blocks h.store h.on));
+            moments = still at t _ _ refl;
+            costs = idle-costs _ _ _;
+          };
+      ends = none-ends {T = ℕ} _ tt;
+    }

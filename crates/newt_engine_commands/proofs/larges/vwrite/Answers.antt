@@ -16,7 +16,7 @@ use Rattle.newt_spec_world.specs.World.{World, change_store}
 use Rattle.newt_store_change.specs.Faults.{Does}
 use Rattle.newt_laws_world.specs.Answering.{Answering}
 use Rattle.newt_spec_world.specs.Answer.{answer}
-use Rattle.newt_laws_answers.specs.Tests.{patch_tests, patched_within}
+use Rattle.newt_laws_answers.proofs.Tests.{patch_tests, patched_within}
 use Rattle.newt_laws_answers.specs.There.{OnUnit}
 use Rattle.newt_laws_answers.proofs.Changes.{patch-said}
 use Rattle.newt_laws_answers.proofs.Entries.{no-soup}

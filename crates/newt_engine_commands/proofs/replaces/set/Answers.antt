@@ -19,7 +19,7 @@ use Rattle.newt_spec_world.specs.World.{World, store_on_unit, change_store}
 use Rattle.newt_store_change.specs.Faults.{Does}
 use Rattle.newt_laws_world.specs.Answering.{Answering}
 use Rattle.newt_spec_world.specs.Answer.{answer}
-use Rattle.newt_laws_answers.specs.Tests.{replace_tests, replaced}
+use Rattle.newt_laws_answers.proofs.Tests.{replace_tests, replaced}
 use Rattle.newt_laws_answers.specs.There.{OnUnit}
 use Rattle.newt_laws_answers.proofs.Changes.{replace-said}
 use Rattle.newt_laws_answers.proofs.Entries.{no-soup}

@@ -1,5 +1,5 @@
 -- The soup is looked up, and its card gives it the declaration.
-use Rattle.std.proofs.Common.{ap, false, length, nat_lt, refl, subst, sym, true, ◌<◌, ◌∙◌, ◌≡◌, ◌≤◌}
+use Rattle.std.proofs.Common.{ap, false, length, nat_lt, refl, subst, ◌<◌, ◌∙◌, ◌≡◌, ◌≤◌}
 use Rattle.newt_engine_units.specs.Looks.{known_checks}
 use Rattle.std.proofs.lemmas.Result.{err_from_is_err_and}
 use Rattle.newt_engine_units.specs.Stands.{Stands, world_of}

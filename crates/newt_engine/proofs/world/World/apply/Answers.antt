@@ -12,57 +12,62 @@ use Rattle.newt_engine.proofs.Handed.{only_memory}
 use Rattle.newt_engine.proofs.Refusing.{refusal_stays}
 use Rattle.newt_engine.proofs.world.World.apply.Goals as goal
 
-pub returns-in-Ok-clause-refused : goal.returns-in-Ok-clause-refused
-returns-in-Ok-clause-refused g c t r is = refusal_stays _ _ c.args.command r (Ok c.in-Ok.reply) (c.in-Ok.ensures.answered t) is
-
-pub returns-in-Err-Refused-clause-answered : goal.returns-in-Err-Refused-clause-answered
-returns-in-Err-Refused-clause-answered g c t =
-    let w = world_with g.C.Card.reads c.args.self.now.units c.args.self.now.desk (g.H.Host.outside c.args.host.now) in
-    let v = world_with g.C.Card.reads c.serve.new.self.units c.serve.new.self.desk (g.H.Host.outside c.serve.new.host) in
-    subst (λ (f : StoreFault). Answers w v c.args.command said (Err f)) c.in-Err-Refused.field-0-is (c.in-Err-Refused.ensures.answered t)
-
-pub returns-in-Err-Refused-clause-refused : goal.returns-in-Err-Refused-clause-refused
-returns-in-Err-Refused-clause-refused g c t r is =
-    let w = world_with g.C.Card.reads c.args.self.now.units c.args.self.now.desk (g.H.Host.outside c.args.host.now) in
-    let v = world_with g.C.Card.reads c.serve.new.self.units c.serve.new.self.desk (g.H.Host.outside c.serve.new.host) in
-    refusal_stays w v c.args.command c.in-Err-Refused.refusal (Ok (reply.Refused c.in-Err-Refused.refusal))
-    (subst (λ (f : StoreFault). Answers w v c.args.command said (Err f)) c.in-Err-Refused.field-0-is (c.in-Err-Refused.ensures.answered t)) refl
-
-pub returns-in-Ok-clause-finished : goal.returns-in-Ok-clause-finished
-returns-in-Ok-clause-finished g c =
+pub returns-in-Ok : goal.returns-in-Ok
+returns-in-Ok g c =
     let e = c.in-Ok.ensures in record {
-      alone = e.alone;
-      bound = λ t other. (e.costs t).bound other;
-      open_after = λ t. (e.costs t).open_after tt;
-      cause = tt;
-      no_fault = e.no_fault tt;
-      never_memory = λ none. refl;
-      never_device = λ none. tt;
+      stands = e.stands tt;
+      answered = λ t. e.answered t;
+      moments = e.moments;
+      finished = record {
+        alone = e.alone;
+        bound = λ t other. (e.costs t).bound other;
+        open_after = λ t. (e.costs t).open_after tt;
+        cause = tt;
+        no_fault = e.no_fault tt;
+        never_memory = λ none. refl;
+        never_device = λ none. tt;
+      };
+      refused = λ t r is. refusal_stays _ _ c.args.command r (Ok c.in-Ok.reply) (e.answered t) is;
     }
 
-pub returns-in-Err-Refused-clause-finished : goal.returns-in-Err-Refused-clause-finished
-returns-in-Err-Refused-clause-finished g c =
+pub returns-in-Err-Refused : goal.returns-in-Err-Refused
+returns-in-Err-Refused g c =
+    let w = world_with g.C.Card.reads c.args.self.now.units c.args.self.now.desk (g.H.Host.outside c.args.host.now) in
+    let v = world_with g.C.Card.reads c.serve.new.self.units c.serve.new.self.desk (g.H.Host.outside c.serve.new.host) in
     let e = c.in-Err-Refused.ensures in
     let goes = subst (λ (f : StoreFault). GoesOn {T = Reply} (Err f)) (sym c.in-Err-Refused.field-0-is) tt in record {
-      alone = e.alone;
-      bound = λ t other. (e.costs t).bound other;
-      open_after = λ t. (e.costs t).open_after goes;
-      cause = tt;
-      no_fault = e.no_fault goes;
-      never_memory = λ none. refl;
-      never_device = λ none. tt;
+      stands = e.stands goes;
+      answered = λ t. subst (λ (f : StoreFault). Answers w v c.args.command said (Err f)) c.in-Err-Refused.field-0-is (e.answered t);
+      moments = e.moments;
+      finished = record {
+        alone = e.alone;
+        bound = λ t other. (e.costs t).bound other;
+        open_after = λ t. (e.costs t).open_after goes;
+        cause = tt;
+        no_fault = e.no_fault goes;
+        never_memory = λ none. refl;
+        never_device = λ none. tt;
+      };
+      refused = λ t r is. refusal_stays w v c.args.command c.in-Err-Refused.refusal (Ok (reply.Refused c.in-Err-Refused.refusal))
+          (subst (λ (f : StoreFault). Answers w v c.args.command said (Err f)) c.in-Err-Refused.field-0-is (e.answered t)) refl;
     }
 
-pub returns-in-Err-Stop-clause-finished : goal.returns-in-Err-Stop-clause-finished
-returns-in-Err-Stop-clause-finished g c =
+pub returns-in-Err-Stop : goal.returns-in-Err-Stop
+returns-in-Err-Stop g c =
     let e = c.in-Err-Stop.ensures in
     let o = g.H.Host.outside c.args.host.now in
     let p = g.H.Host.outside c.serve.new.host in record {
-      alone = e.alone;
-      bound = λ t other. (e.costs t).bound other;
-      open_after = λ t. tt;
-      cause = subst (λ (f : StoreFault). HasFaultCause f o p) c.in-Err-Stop.field-0-is e.cause;
-      no_fault = tt;
-      never_memory = λ none. absurd (subst (λ (f : StoreFault). IsRefusal f) c.in-Err-Stop.field-0-is (e.ends none));
-      never_device = λ none. only_memory c.in-Err-Stop.stop (subst (λ (f : StoreFault). NoDevice f) c.in-Err-Stop.field-0-is (e.device none));
+      stands = tt;
+      answered = λ t. tt;
+      moments = e.moments;
+      finished = record {
+        alone = e.alone;
+        bound = λ t other. (e.costs t).bound other;
+        open_after = λ t. tt;
+        cause = subst (λ (f : StoreFault). HasFaultCause f o p) c.in-Err-Stop.field-0-is e.cause;
+        no_fault = tt;
+        never_memory = λ none. absurd (subst (λ (f : StoreFault). IsRefusal f) c.in-Err-Stop.field-0-is (e.ends none));
+        never_device = λ none. only_memory c.in-Err-Stop.stop (subst (λ (f : StoreFault). NoDevice f) c.in-Err-Stop.field-0-is (e.device none));
+      };
+      refused = λ t r is. cc;
     }

@@ -1,5 +1,5 @@
 -- The units do it, or a graph is shown.
-use Rattle.std.proofs.Common.{arith, ◌≡◌, ap, refl, subst, sym, ◌∙◌}
+use Rattle.std.proofs.Common.{◌≡◌, ap, refl, subst, sym, ◌∙◌}
 use Rattle.newt_host.proofs.Outside.{NoFault-refl, OnDevices-refl}
 use Rattle.newt_engine_units.proofs.Costs.{alone-refl}
 use Rattle.newt_reply.specs.Said.{said}

@@ -1,5 +1,5 @@
 -- Devices are read alone.
-use Rattle.std.proofs.Common.{◌≡◌, IsTrue}
+use Rattle.std.proofs.Common.{IsTrue}
 use Rattle.newt_reply.specs.Said.{said}
 use Rattle.newt_engine_units.specs.Answers.{Answers}
 use Rattle.newt_engine_cursors.specs.World.{world_with}

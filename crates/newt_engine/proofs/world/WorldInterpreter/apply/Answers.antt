@@ -1,7 +1,6 @@
 -- The step is the answer of the plain world.
 use Rattle.std.proofs.Common.{◌≡◌, refl, ap, sym}
 use Rattle.std.proofs.lemmas.Result.{IfOk-weaker}
-use Rattle.newt_host.proofs.Moments.{Always-map}
 use Rattle.newt_reply.specs.Said.{said}
 use Rattle.newt_reply.specs.declared.reply.Reply.{Reply}
 use Rattle.newt_spec_world.specs.Answer.{answer}
@@ -20,7 +19,7 @@ returns-clause-stepped g c t =
       steps = refl;
       answered = IfOk-weaker c.apply.result (λ (it : Reply). a ≡ (v, said it)) (λ (it : Reply). (said it ≡ a.1) × (v ≡ a.0))
           (λ it e. (sym (ap (λ (x : World × plain.Reply). x.1) e), sym (ap (λ (x : World × plain.Reply). x.0) e))) (c.apply.ensures.answered t);
-      moments = Always-map (λ m e. record { quiet = e.quiet; stores = e.stores; others = e.others }) (c.apply.ensures.moments t);
+      moments = c.apply.ensures.moments t;
     }
 
 pub returns-clause-cause : goal.returns-clause-cause
