@@ -146,10 +146,10 @@ class Bench:
             # Before its reply nothing is said of a unit that is being formatted.
             self.counts["stopped formats"] += 1
             return found
-        self.counts["torn tails"] += has_torn_tail(image)
         for wanted in (after, last):
-            if found is not None and wanted is not None and is_same_store(found, wanted):
-                self.counts["one command more"] += after is wanted and after is not last
+            if found is not None and is_same_store(found, wanted):
+                self.counts["torn tails"] += has_torn_tail(image)
+                self.counts["one command more"] += wanted is after and after is not last
                 return wanted
         raise Differs(f"unit {number} has another store: {found}")
 
