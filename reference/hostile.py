@@ -23,6 +23,7 @@ import resource
 import subprocess
 import sys
 import tempfile
+from collections import Counter
 from pathlib import Path
 from random import Random
 from typing import Callable, NamedTuple, Optional
@@ -67,7 +68,7 @@ class Bench:
     def __init__(self, program: Path, folder: Path):
         self.program, self.folder = program, folder
         self.library = built_library(folder)
-        self.cases = self.runs = 0
+        self.counts: Counter = Counter()
         self.most_seconds, self.most_memory = 0.0, 0
 
     def files(self, images: list[bytes]) -> list[Path]:
@@ -98,7 +99,7 @@ class Bench:
         after = resource.getrusage(resource.RUSAGE_CHILDREN)
         seconds = after.ru_utime + after.ru_stime - before.ru_utime - before.ru_stime
         memory = int(told.read_text().split()[1]) if told.exists() else 0
-        self.runs += 1
+        self.counts["runs"] += 1
         return Ran(ended.returncode, ended.stdout, seconds, memory)
 
     def output(self, words: list, given: bytes) -> bytes:
@@ -113,7 +114,8 @@ class Bench:
     def answers(self, script: bytes, wanted: list[str], files: list[Path]) -> None:
         """Plays a script, whose replies are to be these."""
         found = self.output(["run", *files], script).decode().splitlines()
-        self.cases += len(wanted)
+        self.counts["answers"] += len(wanted)
+        self.counts["ok"] += sum(it.startswith("ok") for it in wanted)
         if found == wanted:
             return
         at = next((at for at, pair in enumerate(zip(found, wanted)) if pair[0] != pair[1]), min(len(found), len(wanted)))
@@ -182,8 +184,8 @@ def compare_images(bench: Bench, seed: int) -> None:
     units = [Unit(random.choice(BLOCKS)) for _ in range(4)]
     images = damaged_images(random, units, written_images(bench, random, units))
     units = [Unit(it.blocks, store_of_image(image)) for it, image in zip(units, images)]
-    bench.readable = getattr(bench, "readable", 0) + sum(it.store is not None for it in units)
-    bench.images = getattr(bench, "images", 0) + len(units)
+    bench.counts["images"] += len(units)
+    bench.counts["readable images"] += sum(it.store is not None for it in units)
     script = [line.encode() for number, it in enumerate(units) for line in reading(number, it.store)]
     world = World(units)
     wanted = [answer(world, it) for it in script]
@@ -230,7 +232,6 @@ def compare_texts(bench: Bench, seed: int) -> None:
     lines = [text_line(random, values) for _ in range(TOGETHER)]
     replies = [answer(world, it) for it in lines]
     bench.answers(b"\n".join(lines) + b"\n", [it for it in replies if it is not None], [])
-    bench.well = getattr(bench, "well", 0) + sum(it is not None and it.startswith("ok") for it in replies)
 
 
 def shown_answer(stream: bytes) -> bytes:
@@ -254,7 +255,8 @@ def compare_inputs(bench: Bench, seed: int) -> None:
     mode, given, wanted = random.choice((("show", bent_stream, shown_answer), ("pack", bent_literal, packed_answer)))
     text = given(random, values)
     found = bench.output([mode], text)
-    bench.cases += 1
+    bench.counts["answers"] += 1
+    bench.counts["ok"] += not found.startswith(b"error")
     if found != wanted(text):
         raise Differs(f"{mode} {text!r}\n  program:   {found!r}\n  reference: {wanted(text)!r}")
 
@@ -354,9 +356,9 @@ def compared(bench: Bench, part: str, first: int, count: int) -> int:
         except Differs as fault:
             print(f"{part} {seed}: {fault}")
             return 1
-    told = [f"{getattr(bench, it)} {it}" for it in ("images", "readable", "well") if hasattr(bench, it)]
-    print(f"{part} {first} to {first + count - 1}: {bench.cases} answers, {', '.join([*told, ''])}no difference")
-    print(f"  {bench.runs} runs, at most {bench.most_seconds:.2f} s and {bench.most_memory} kB each")
+    told = ", ".join(f"{number} {name}" for name, number in sorted(bench.counts.items()))
+    print(f"{part} {first} to {first + count - 1}: no difference: {told}")
+    print(f"  at most {bench.most_seconds:.2f} s of a processor and {bench.most_memory} kB in a run")
     return 0
 
 
