@@ -16,8 +16,32 @@ TELLING_TEXT = b"\"\\|'$&#=:;,.*<>[]{} \t\r%-+0159aAfFzZ_~\x7f\xc3\xa9\xff\x00"
 TELLING_NUMBERS = (0, 1, 2, 499, 500, 501, 999_999, 1_000_000, 1_000_001, 536_870_911, 536_870_912, 2**31, 2**32 - 1)
 
 
+def like(random: Random, byte: int) -> int:
+    """A byte of the same kind: a digit, a letter, a blank, or a number beside it."""
+    for kind in (b"0123456789", b"abcdefABCDEF", b"ghijklmnopqrstuvwxyzGHIJKLMNOPQRSTUVWXYZ_", b" \t\r"):
+        if byte in kind:
+            return random.choice((random.choice(kind), byte ^ 32 if byte > 64 else byte))
+    return byte ^ random.choice((1, 2, 4))
+
+
+def softly_bent(random: Random, data: bytes, is_text: bool) -> bytes:
+    """Bytes of which one to three are changed to others of their kind, or written in a longer form."""
+    data = bytearray(data)
+    for _ in range(random.randint(1, 3)):
+        at = random.randrange(len(data))
+        if random.random() < 0.5:
+            data[at] = like(random, data[at])
+        elif not is_text:
+            data[at:at] = b"\xff\x00\x00\x00"
+        elif data[at] in b",:[]{} ":
+            data[at:at] = random.choice((b" ", b"\t", b"\r", b"  "))
+    return bytes(data)
+
+
 def bent(random: Random, data: bytes, telling: bytes, most: int = 3) -> bytes:
     """Bytes that are changed, taken out, put in, doubled, swapped or cut off at one to so many places."""
+    if data and random.random() < 0.4:
+        return softly_bent(random, data, telling is TELLING_TEXT)
     data = bytearray(data)
     for _ in range(random.randint(1, most)):
         at = random.randrange(len(data) + 1)
@@ -120,8 +144,10 @@ def long_store(random: Random, store: Store) -> Store:
 
 def places_of(entry: bytes) -> list[tuple[int, int]]:
     """Where the list of large binaries of an entry record has its items, and the object that each names."""
-    count = struct.unpack(">H", entry[2:4])[0]
+    count = int.from_bytes(entry[2:4], "big")
     begin = len(entry) - 12 * count
+    if begin < 12:
+        return []
     return [(begin + 12 * it, struct.unpack(">I", entry[begin + 12 * it + 4 :][:4])[0]) for it in range(count)]
 
 
@@ -153,7 +179,7 @@ def set_number(random: Random, objects: dict[int, bytes]) -> None:
     if not entries:
         return
     number = random.choice(entries)
-    data = bytearray(objects[number])
+    data = bytearray(objects[number].ljust(12, b"\x00"))
     places = [(0, 2), (2, 2), (4, 4), (8, 4)]
     places += [(at + 4 * it, 4) for at, _ in places_of(objects[number]) for it in range(3)]
     at, length = random.choice(places)
