@@ -30,7 +30,7 @@ from typing import Callable, NamedTuple, Optional
 
 from commands import answer, run
 from damage import TELLING_BYTES, TELLING_TEXT, bent, hostile_image, struck_anywhere
-from extremes import CASES, DEPTHS, other_names, stream_of_names
+from extremes import CASES, DEPTHS, SLOTS, other_names, stream_of_names
 from images import BLOCK, NoStore, is_same_store, payloads, store_of_image
 from layouts import random_image
 from literals import NoLiteral, print_literal, read_literal
@@ -323,7 +323,7 @@ def measure_larges(bench: Bench) -> None:
         size = len(given) + sum(map(len, images))
         ended = bench.ran([*words, *bench.files(images)], given)
         told = f"{ended.seconds:.2f} s, {ended.memory} kB, {ended.memory * 1024 / size:.1f} times its size"
-        print(f"{name}: {size} bytes, status {ended.status}, {ended.output[:60]!r}, {told}", flush=True)
+        print(f"{name}: {size} bytes, status {ended.status}, {len(ended.output)} bytes answered, {told}", flush=True)
 
 
 def measure_names(bench: Bench, count: int) -> None:
@@ -331,8 +331,11 @@ def measure_names(bench: Bench, count: int) -> None:
     for word, chosen in (("colliding", names), ("other", other_names(count))):
         for way in ("array", "frame"):
             ended = bench.ran(["show"], stream_of_names(chosen, way))
-            told = f"{ended.seconds:.2f} s, {ended.memory} kB"
-            print(f"{count} {word} names in one {way}: status {ended.status}, {told}", flush=True)
+            told = f"status {ended.status}, {ended.seconds:.2f} s, {ended.memory} kB"
+            print(f"show, {count} {word} names in one {way}: {told}", flush=True)
+        text = b"[" + b",".join(b"'" + it for it in chosen[: SLOTS - 1]) + b"]"
+        ended = bench.ran(["pack"], text)
+        print(f"pack, {count} {word} names: status {ended.status}, {ended.seconds:.2f} s, {ended.memory} kB", flush=True)
 
 
 def colliding_names(bench: Bench, count: int) -> list[bytes]:

@@ -3,10 +3,11 @@
  * It is loaded before the program's libraries (LD_PRELOAD). A device is a regular file that is open for reading and
  * writing. The calls on devices are counted from 1. At the call TORN_STOP each range that was written since the last
  * sync of its file is left as it was, as written, in part, or with other bytes, as TORN_SEED chooses, and the program
- * ends with the status 77. Where it ends by itself, the number of the calls and the most memory that it had at once, in
+ * ends with the status 77. The call TORN_FAIL leaves the same, and fails. Where the program ends by itself, the number of the calls and the most memory that it had at once, in
  * kilobytes, are written to the file TORN_TOLD.
  */
 #define _GNU_SOURCE
+#include <errno.h>
 #include <fcntl.h>
 #include <stdint.h>
 #include <stdio.h>
@@ -27,7 +28,7 @@ struct range {
 
 static struct range pending[MOST_RANGES];
 static size_t ranges;
-static unsigned long calls, stop;
+static unsigned long calls, stop, failing;
 static uint64_t seed;
 
 static unsigned long given(const char *name) {
@@ -37,6 +38,7 @@ static unsigned long given(const char *name) {
 
 __attribute__((constructor)) static void begin(void) {
     stop = given("TORN_STOP");
+    failing = given("TORN_FAIL");
     seed = given("TORN_SEED");
 }
 
@@ -94,14 +96,20 @@ static void tear(void) {
         put(&pending[at], pending[at].before, pending[at].length);
     for (size_t at = 0; at < ranges; at++)
         leave(&pending[at], way < WAYS ? way : one_of(WAYS));
+    ranges = 0;
 }
 
-/* Counts a call, and ends the program where it is the one to stop at. */
-static void called(void) {
+/* Counts a call, ends the program where it is the one to stop at, and tells whether it is the one to fail. */
+static int is_failing(void) {
     if (++calls == stop) {
         tear();
         _exit(STOPPED);
     }
+    if (calls != failing)
+        return 0;
+    tear();
+    errno = EIO;
+    return 1;
 }
 
 static void note(int file, const void *bytes, size_t length, off_t at) {
@@ -127,7 +135,8 @@ static void forget(int file) {
 ssize_t pwrite(int file, const void *bytes, size_t length, off_t at) {
     if (is_device(file)) {
         note(file, bytes, length, at);
-        called();
+        if (is_failing())
+            return -1;
     }
     return syscall(SYS_pwrite64, file, bytes, length, at);
 }
@@ -139,15 +148,16 @@ ssize_t pwrite64(int file, const void *bytes, size_t length, off_t at) {
 ssize_t write(int file, const void *bytes, size_t length) {
     if (is_device(file)) {
         note(file, bytes, length, lseek(file, 0, SEEK_CUR));
-        called();
+        if (is_failing())
+            return -1;
     }
     return syscall(SYS_write, file, bytes, length);
 }
 
 static int synced(int file, long call) {
     int is_torn = is_device(file);
-    if (is_torn)
-        called();
+    if (is_torn && is_failing())
+        return -1;
     int done = syscall(call, file);
     if (is_torn && done == 0)
         forget(file);

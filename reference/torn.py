@@ -3,7 +3,8 @@
 usage: python3 reference/torn.py PROGRAM FIRST COUNT STOPS
 
 Random scripts with the seeds from FIRST on, COUNT of them, are played over one to three files, each stopped at STOPS
-random calls by the library torn.c, which leaves any bytes in what no sync has reached. Then the next run lists each
+random calls by the library torn.c, which leaves any bytes in what no sync has reached; at one in five of them the call
+fails instead, which is to end the run with its status. Then the next run lists each
 store, goes on with another random script, and is stopped as well; a third one lists what is left. After each stop each
 file is to read as its store after the commands whose replies had begun or after one more, by the reference's reader of
 images and by what the program lists. A file without a store keeps its bytes. It needs a C compiler, cc, and ends with 1
@@ -11,6 +12,7 @@ at the first difference, whose files stay.
 """
 
 import os
+import re
 import shutil
 import subprocess
 import sys
@@ -29,7 +31,7 @@ from stores import Store
 from world import Unit, World
 
 BLOCKS = (13, 13, 13, 14, 16, 24)
-STOPPED = 77
+STOPPED, FAILED = 77, 4
 MOST_SECONDS = 60
 
 Stores = tuple
@@ -102,33 +104,37 @@ class Bench:
         for file, count in zip(self.files(), self.blocks):
             file.write_bytes(bytes(BLOCK * count))
 
-    def run(self, script: list, stop: int = 0, seed: int = 0) -> tuple[bool, list[str]]:
-        """Whether it was stopped, and the replies that had begun."""
+    def run(self, script: list, stop: int, seed: int, is_failing: bool = False) -> tuple[bool, list[str]]:
+        """Whether it was stopped at the call, or the call failed, and the replies that had begun."""
         told = {"LD_PRELOAD": str(self.library), "TORN_TOLD": str(self.folder / "told")}
+        told |= {"TORN_FAIL" if is_failing else "TORN_STOP": str(stop), "TORN_SEED": str(seed)}
         ran = subprocess.run(
             [self.program, "run", *self.files()],
             input=b"\n".join(script) + b"\n",
             capture_output=True,
-            env={**os.environ, **told, "TORN_STOP": str(stop), "TORN_SEED": str(seed)},
+            env={**os.environ, **told},
             timeout=MOST_SECONDS,
         )
         self.counts["runs"] += 1
-        if ran.returncode not in (0, STOPPED):
+        is_told = re.fullmatch(rb"newton: device [0-7]\n", ran.stderr) if is_failing else not ran.stderr
+        if ran.returncode not in (0, FAILED if is_failing else STOPPED) or ran.returncode and not is_told:
             raise Differs(f"the program ended with {ran.returncode} and {ran.stderr!r}")
-        return ran.returncode == STOPPED, ran.stdout.decode().splitlines()
+        return ran.returncode != 0, ran.stdout.decode().splitlines()
 
     def calls(self) -> int:
         """How many calls the last run that ended by itself has made."""
         return int((self.folder / "told").read_text().split()[0])
 
-    def stopped(self, wanted: Played, stop: int, seed: int) -> Stores:
+    def stopped(self, wanted: Played, stop: int, random: Random) -> Stores:
         """Plays a script, stopped at a call, and gives the stores that are left."""
         before = self.images()
-        is_stopped, found = self.run(wanted.script, stop, seed)
+        # A unit whose first sync fails is not attached.
+        is_failing = stop > len(self.blocks) and random.random() < 0.2
+        is_stopped, found = self.run(wanted.script, stop, random.randrange(2**32), is_failing)
         if found != wanted.replies[: len(found)] or not is_stopped and len(found) < len(wanted.replies):
             at = next((at for at, pair in enumerate(zip(found, wanted.replies)) if pair[0] != pair[1]), len(found))
             raise Differs(f"reply {at}: {found[at : at + 1]}, wanted {wanted.replies[at : at + 1]}")
-        self.counts["stops"] += is_stopped
+        self.counts["failing calls" if is_failing else "stops"] += is_stopped
         last = wanted.stores[len(found)]
         after = wanted.stores[len(found) + 1] if is_stopped and len(found) < len(wanted.replies) else last
         return tuple(map(self.left, range(len(self.blocks)), before, self.images(), last, after))
@@ -163,12 +169,12 @@ def cut(bench: Bench, random: Random, first: Played, stop: int) -> None:
     """Stops a script over blank files, the run that goes on with what is left, and looks at what is left then."""
     bench.blank()
     other = first.stores[-1]
-    stores = bench.stopped(first, stop, random.randrange(2**32))
+    stores = bench.stopped(first, stop, random)
     world = World([Unit(*it) for it in zip(bench.blocks, stores)])
     lines = listing(stores, other) + written(random, world, len(stores), 0)[0]
     second = played(bench.blocks, stores, lines)
-    left = bench.stopped(second, random.choice((random.randint(1, 60), random.randint(1, 400))), random.randrange(2**32))
-    bench.stopped(played(bench.blocks, left, listing(left, stores)), 0, 0)
+    left = bench.stopped(second, random.randint(1, random.choice((60, 400))), random)
+    bench.stopped(played(bench.blocks, left, listing(left, stores)), 0, random)
 
 
 def compared(bench: Bench, seed: int, stops: int) -> None:
@@ -178,7 +184,7 @@ def compared(bench: Bench, seed: int, stops: int) -> None:
     script = written(random, World(units), len(units), random.choice((60, 60, 120)))[0]
     wanted = played(bench.blocks, (None,) * len(units), script)
     bench.blank()
-    bench.stopped(wanted, 0, 0)
+    bench.stopped(wanted, 0, random)
     calls = bench.calls()
     bench.counts["calls"] += calls
     for at in range(stops):
