@@ -273,9 +273,11 @@ def miscount(random: Random, records: list[bytes]) -> None:
 
 
 def image_of(random: Random, records: list[bytes], blocks: int) -> Optional[bytes]:
-    """An image whose chosen bank has these records, or nothing where they have no room."""
+    """An image whose chosen bank has these records, or nothing where they have no room. Few have another header."""
     size = BLOCK * ((blocks - 3) // 2)
-    used = HEADER + b"".join(records)
+    header = bytearray(HEADER)
+    header[random.randrange(len(header))] ^= random.choice((0,) * 24 + (1, 32))
+    used = bytes(header) + b"".join(records)
     if len(used) > size:
         return None
     bank = used + tail_of(random, size - len(used))
