@@ -38,16 +38,17 @@ def deep_literal(form: bytes, end: bytes, inner: bytes = b"nil") -> bytes:
     return form * DEEPEST + inner + end * DEEPEST
 
 
-def deep_script() -> bytes:
-    """The deepest entry in every command that walks an entry."""
-    frames = deep_literal(b"{a:", b"}", b'"x"')
-    path = b"a.a.a.a.a.a.a"
+def deep_script(has_literals: bool) -> bytes:
+    """The deepest entry in every command that walks an entry; without literals it comes as a stream alone."""
+    frames, stream = deep_literal(b"{a:", b"}", b'"x"'), deep_stream(b"{a:").hex().encode()
     lines = [b"format 0 C 1", b"mount 0", b"soup 0 S", b"soup 0 T", b"index 0 S a.a:string:ascend", b"tags 0 S a.a b"]
-    lines += [b"add 0 S " + frames, b"addx 0 S " + deep_stream(b"{a:").hex().encode(), b"get 0 S 0", b"getx 0 S 0"]
-    lines += [b"set 0 S 0 b " + deep_literal(b"[", b"]")[1:-1], b"set 0 S 0 " + path + b" 5", b"get 0 S 0"]
-    lines += [b"change 0 S 0 " + frames, b"copy 0 S 0 0 T", b"move 0 S 0 0 T", b'query 0 T {text: "x"}', b"next 0"]
-    lines += [b'query 0 T {words: ["x", "y"]}', b"lit " + frames, b"nsof " + deep_stream(b"[c:").hex().encode()]
-    return b"\n".join([*lines, b"unmount 0", b"mount 0", b"getx 0 T 0", b""])
+    lines += [b"addx 0 S " + stream, b"get 0 S 0", b"getx 0 S 0", b"set 0 S 0 b 1", b"set 0 S 0 a.a.a.a.a.a.a.b 5"]
+    lines += [b"copy 0 S 0 0 T", b"move 0 S 0 0 T", b'query 0 T {text: "x"}', b"next 0", b"entry 0", b"count 0"]
+    lines += [b'query 0 T {words: ["x", "y"]}', b"nsof " + stream, b"unmount 0", b"mount 0", b"get 0 T 0", b"getx 0 T 0"]
+    if has_literals:
+        lines += [b"lit " + frames, b"add 0 S " + frames, b"change 0 S 1 " + frames, b"query 0 S " + frames]
+        lines += [b"set 0 S 1 b " + deep_literal(b"[", b"]")[1:-1], b"resolve " + frames, b"gotokey 0 " + frames]
+    return b"\n".join([*lines, b""])
 
 
 DEPTHS: list[tuple[str, list, bytes, tuple]] = [
@@ -57,7 +58,8 @@ DEPTHS: list[tuple[str, list, bytes, tuple]] = [
     ("pack, 200 arrays", ["pack"], deep_literal(b"[", b"]"), ()),
     ("pack, 200 arrays with a class", ["pack"], deep_literal(b"[c:", b"]"), ()),
     ("pack, 200 frames", ["pack"], deep_literal(b"{a:", b"}"), ()),
-    ("run, an entry of 200 frames in every command", ["run"], deep_script(), (20,)),
+    ("run, an entry of 200 frames in every command", ["run"], deep_script(False), (20,)),
+    ("run, the same with literals", ["run"], deep_script(True), (20,)),
 ]
 
 
