@@ -5,11 +5,11 @@ from dataclasses import replace
 from random import Random
 from typing import Callable, Optional
 
-from graphs import Binary, Frame, Large, Symbol
+from graphs import Array, Binary, Frame, Large, Symbol, Walk
 from images import BLOCK, HEADER
 from layouts import BLANK, VOTES, objects_of, pages_of, record, records_of, tail_of
 from stores import Part, Soup, Store, Tags, capacity, cost, entry_of
-from streams import pages
+from streams import Malformed, decode, encode, pages
 
 TELLING_BYTES = b"\x00\x01\x02\x03\x04\x05\x06\x07\x08\x09\x0a\x0b\x0c\x0d\x7f\x80\xfe\xff"
 TELLING_TEXT = b"\"\\|'$&#=:;,.*<>[]{} \t\r%-+0159aAfFzZ_~\x7f\xc3\xa9\xff\x00"
@@ -189,6 +189,33 @@ def set_number(random: Random, objects: dict[int, bytes]) -> None:
     objects[number] = bytes(data)
 
 
+def respell(random: Random, objects: dict[int, bytes]) -> None:
+    """The text of an entry is another one of its graph, or nearly so; its large binaries may have bytes there."""
+    entries = [it for it in objects if it % 2]
+    if not entries:
+        return
+    number = random.choice(entries)
+    data = objects[number]
+    end = len(data) - 12 * len(places_of(data))
+    skeleton = data[12:end]
+    kind = random.randrange(4)
+    try:
+        graph, _ = decode(skeleton)
+    except Malformed:
+        return
+    if kind == 0:
+        for large in Walk(graph).larges():
+            large.data = bytes(random.choice((0, 1, 12)))
+        skeleton = encode(graph)
+    elif kind == 1:
+        skeleton = encode(random.choice((2, Array(None, [graph]), Frame([Symbol(b"k")], [graph]))), is_skeleton=True)
+    elif kind == 2:
+        skeleton = skeleton.replace(*random.choice(((b"\x0a", b"\x00\x02"), (b"\x06", b"\x06\xff\0\0\0"))), 1)
+    else:
+        skeleton = softly_bent(random, skeleton, False)
+    objects[number] = data[:12] + skeleton + data[end:]
+
+
 def double_entry(random: Random, objects: dict[int, bytes]) -> None:
     """An entry record stands twice, with its own large binaries or without them."""
     entries = [it for it in objects if it % 2]
@@ -211,7 +238,7 @@ def lengthen(random: Random, objects: dict[int, bytes]) -> None:
     objects[number] = data[: max(0, count)].ljust(max(0, count), b"\x00")
 
 
-OBJECT_DAMAGE = (name_anothers_large, name_anothers_large, set_number, set_number, double_entry, rename_object, lengthen)
+OBJECT_DAMAGE = (name_anothers_large, set_number, respell, respell, double_entry, rename_object, lengthen)
 
 
 # Pages and records.
