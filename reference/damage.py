@@ -86,6 +86,7 @@ def limit_soup(random: Random, soup: Soup) -> Soup:
             lambda: replace(soup, specs=((part._replace(path=(b"a" * (254 + past),)),),)),
             lambda: replace(soup, specs=((part,), (part._replace(path=(b"K" if past else b"l",)),))),
             lambda: replace(soup, specs=((part._replace(path=()),),)),
+            lambda: replace(soup, specs=((),)),
             lambda: replace(soup, tags=Tags((b"k",), symbols(64 + past))),
             lambda: replace(soup, tags=Tags((b"k",), (b"a", b"A" if past else b"b"))),
             lambda: replace(soup, tags=Tags((b"k",), ())),
