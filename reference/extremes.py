@@ -260,9 +260,33 @@ def other_names(number: int) -> list[bytes]:
     return [b"n%08d" % it for it in range(number)]
 
 
-def stream_of_names(names: list[bytes], way: str) -> bytes:
-    """Symbols as the values of an array, or as the tags of a frame, one fewer than they are: the container is a node."""
-    spelt = [b"\x07" + bytes([len(it)]) + it for it in names[: SLOTS - 1]]
-    if way == "array":
-        return b"\x02" + array(spelt)
-    return b"\x02\x06" + count(len(spelt)) + b"".join(spelt) + b"\x0a" * len(spelt)
+def spelt(names: list[bytes]) -> list[bytes]:
+    return [b"\x07" + bytes([len(it)]) + it for it in names]
+
+
+def frame_of_names(names: list[bytes]) -> bytes:
+    return b"\x02\x06" + count(len(names)) + b"".join(spelt(names)) + b"\x0a" * len(names)
+
+
+def entries_of_names(names: list[bytes]) -> bytes:
+    """As many entries as a store has room for, each with these symbols."""
+    text = b"\x02\x06\x01\x07\x01a" + array(spelt(names))
+    number = capacity(GREATEST) // pages(12 + len(text)) - 1
+    store = Store(b"C", 1, 1, (Soup(b"S", 0, number),))
+    records = {2 * uid + 1: struct.pack(">HHII", 0, 0, uid, 0) + text for uid in range(number)}
+    return whole({0: directory(store), **records})
+
+
+def inputs_of_names(names: list[bytes]) -> list[tuple[str, list, bytes, list]]:
+    """Inputs with as many symbols as have room: a graph has them and its container, a line or an entry fewer."""
+    names = names[: SLOTS - 1]
+    on_line, in_entry = names[:6_300], names[:5_800]
+    line = b"nsof 02" + array(spelt(on_line)).hex().encode() + b"\n"
+    literal = b"[" + b",".join(b"'" + it for it in names) + b"]"
+    return [
+        (f"show, an array of {len(names)}", ["show"], b"\x02" + array(spelt(names)), []),
+        (f"show, a frame of {len(names)}", ["show"], frame_of_names(names), []),
+        (f"pack, an array of {len(names)}", ["pack"], literal, []),
+        (f"run, one line of {len(on_line)}", ["run"], line, []),
+        (f"mount, entries of {len(in_entry)}", ["run"], b"mount 0\n", [image(entries_of_names(in_entry))]),
+    ]

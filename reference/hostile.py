@@ -30,7 +30,7 @@ from typing import Callable, NamedTuple, Optional
 
 from commands import answer, run
 from damage import TELLING_BYTES, TELLING_TEXT, bent, hostile_image, struck_anywhere
-from extremes import CASES, DEPTHS, SLOTS, other_names, stream_of_names
+from extremes import CASES, DEPTHS, inputs_of_names, other_names
 from images import BLOCK, NoStore, is_same_store, payloads, store_of_image
 from layouts import random_image
 from literals import NoLiteral, print_literal, read_literal
@@ -332,15 +332,11 @@ def measure_larges(bench: Bench) -> None:
 
 
 def measure_names(bench: Bench, count: int) -> None:
-    names = colliding_names(bench, count)
-    for word, chosen in (("colliding", names), ("other", other_names(count))):
-        for way in ("array", "frame"):
-            ended = bench.ran(["show"], stream_of_names(chosen, way))
+    for word, chosen in (("colliding", colliding_names(bench, count)), ("other", other_names(count))):
+        for name, words, given, images in inputs_of_names(chosen):
+            ended = bench.ran([*words, *bench.files(images)], given)
             told = f"status {ended.status}, {ended.seconds:.2f} s, {ended.memory} kB"
-            print(f"show, {count} {word} names in one {way}: {told}", flush=True)
-        text = b"[" + b",".join(b"'" + it for it in chosen[: SLOTS - 1]) + b"]"
-        ended = bench.ran(["pack"], text)
-        print(f"pack, {count} {word} names: status {ended.status}, {ended.seconds:.2f} s, {ended.memory} kB", flush=True)
+            print(f"{name} {word} names: {told}", flush=True)
 
 
 def colliding_names(bench: Bench, count: int) -> list[bytes]:
