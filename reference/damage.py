@@ -100,7 +100,7 @@ def limit_soup(random: Random, soup: Soup) -> Soup:
 def limit_store(random: Random, store: Store) -> Store:
     """A store with one part at a limit, or past it."""
     past = random.randrange(2)
-    kind = random.randrange(7)
+    kind = random.randrange(10)
     if kind == 0:
         return replace(store, sig=536_870_911 + past)
     if kind == 1:
@@ -336,14 +336,14 @@ def hostile_image(random: Random, store: Store, blocks: int, records: list[bytes
 
     The last are those of an image that the program wrote, and those of another one.
     """
-    way = random.choice(("store", "objects", "objects", "pages", "records", "records", "counts"))
+    way = random.choice(("store", "store", "store", "objects", "objects", "pages", "records", "records", "counts"))
     if way in ("records", "counts"):
         records = list(records)
         for _ in range(random.choice((1, 1, 2))):
             splice(random, records, others) if way == "records" else miscount(random, records)
         return image_of(random, records, blocks)
     if way == "store":
-        make: Callable = random.choice((limit_store, limit_store, lambda *it: filled_store(*it, blocks), long_store))
+        make: Callable = random.choice((*[limit_store] * 6, lambda *it: filled_store(*it, blocks), long_store))
         store = make(random, store)
     objects = objects_of(random, store)
     for _ in range(random.choice((1, 1, 2)) if way == "objects" else 0):
