@@ -1,4 +1,7 @@
-"""Streams, literals and lines bent at a few places, and images of stores with damage above which all checks are right."""
+"""Streams, literals and lines bent at a few places, and images of stores with damage.
+
+Most of the damage leaves what is checked of the levels below it as it has to be.
+"""
 
 import struct
 from dataclasses import replace
@@ -92,7 +95,7 @@ def limit_soup(random: Random, soup: Soup) -> Soup:
             lambda: replace(soup, tags=Tags((b"k",), ())),
             lambda: replace(soup, tags=Tags((b"1",) if past else (b"_",), (b"a",))),
             lambda: replace(soup, next_uid=536_870_911 + past),
-            lambda: replace(soup, next_uid=max([it.uid + 1 for it in soup.entries], default=0) - past * bool(soup.entries)),
+            lambda: replace(soup, next_uid=max([it.uid for it in soup.entries], default=0) + 1 - past),
         )
     )()
 
@@ -331,7 +334,7 @@ def struck_anywhere(random: Random, image: bytes) -> bytes:
     return bytes(data)
 
 
-def hostile_image(random: Random, store: Store, blocks: int, records: list[bytes], others: list[bytes]) -> Optional[bytes]:
+def hostile_image(random: Random, store: Store, blocks: int, records: list, others: list) -> Optional[bytes]:
     """An image that is damaged in one way: in its store, objects, pages or records.
 
     The last are those of an image that the program wrote, and those of another one.

@@ -44,7 +44,8 @@ def deep_script(has_literals: bool) -> bytes:
     lines = [b"format 0 C 1", b"mount 0", b"soup 0 S", b"soup 0 T", b"index 0 S a.a:string:ascend", b"tags 0 S a.a b"]
     lines += [b"addx 0 S " + stream, b"get 0 S 0", b"getx 0 S 0", b"set 0 S 0 b 1", b"set 0 S 0 a.a.a.a.a.a.a.b 5"]
     lines += [b"copy 0 S 0 0 T", b"move 0 S 0 0 T", b'query 0 T {text: "x"}', b"next 0", b"entry 0", b"count 0"]
-    lines += [b'query 0 T {words: ["x", "y"]}', b"nsof " + stream, b"unmount 0", b"mount 0", b"get 0 T 0", b"getx 0 T 0"]
+    lines += [b'query 0 T {words: ["x", "y"]}', b"nsof " + stream, b"unmount 0", b"mount 0"]
+    lines += [b"get 0 T 0", b"getx 0 T 0"]
     if has_literals:
         lines += [b"lit " + frames, b"add 0 S " + frames, b"change 0 S 1 " + frames, b"query 0 S " + frames]
         lines += [b"set 0 S 1 b " + deep_literal(b"[", b"]")[1:-1], b"resolve " + frames, b"gotokey 0 " + frames]

@@ -48,7 +48,8 @@ TOGETHER = 2000
 BLOCKS = (13, 13, 14, 20, 40)
 WORDS = b"format mount unmount stores default soup soups drop index unindex indexes tags add addx addu get getx".split()
 WORDS += b"remove set change copy move vread vwrite alias resolve query entry next prev reset end moveby goto".split()
-WORDS += b"gotokey count which clone close time lit nsof quit 0 1 S N k n.x nil {} {k:1} [1] 'a \"b\" % * -1 020A".split()
+WORDS += b"gotokey count which clone close time lit nsof quit 0 1 S N k n.x nil".split()
+WORDS += b"{} {k:1} [1] 'a \"b\" % * -1 020A".split()
 
 
 class Differs(Exception):
@@ -123,7 +124,7 @@ class Bench:
         self.counts["ok"] += sum(it.startswith("ok") for it in wanted)
         if found == wanted:
             return
-        at = next((at for at, pair in enumerate(zip(found, wanted)) if pair[0] != pair[1]), min(len(found), len(wanted)))
+        at = next((at for at, (one, other) in enumerate(zip(found, wanted)) if one != other), min(len(found), len(wanted)))
         asked = [it for it in script.split(b"\n") if it.removesuffix(b"\r").lstrip(b" \t")[:1] not in (b"", b"%")]
         raise Differs(f"{asked[at : at + 1]}\n  program:   {found[at : at + 1]}\n  reference: {wanted[at : at + 1]}")
 
@@ -371,7 +372,10 @@ def main(program: str, part: str, first: str = "0", count: str = "100") -> int:
         bench = Bench(Path(program).resolve(), Path(folder))
         if part in PARTS:
             return compared(bench, part, int(first), int(count))
-        {"depths": measure_depths, "larges": measure_larges, "names": lambda it: measure_names(it, int(count))}[part](bench)
+        if part == "names":
+            measure_names(bench, int(count))
+        else:
+            {"depths": measure_depths, "larges": measure_larges}[part](bench)
         return 0
 
 

@@ -2,9 +2,10 @@
  *
  * It is loaded before the program's libraries (LD_PRELOAD). A device is a regular file that is open for reading and
  * writing. The calls on devices are counted from 1. At the call TORN_STOP each range that was written since the last
- * sync of its file is left as it was, as written, in part, or with other bytes, as TORN_SEED chooses, and the program
- * ends with the status 77. The call TORN_FAIL leaves the same, and fails. Where the program ends by itself, the number of the calls and the most memory that it had at once, in
- * kilobytes, are written to the file TORN_TOLD.
+ * sync of its file that succeeded is left as it was, as written, in part, or with other bytes, as TORN_SEED chooses,
+ * and the program ends with the status 77. The call TORN_FAIL leaves the same, and fails. Where the program ends by
+ * itself, the number of the calls and the most memory that it had at once, in kilobytes, are written to the file
+ * TORN_TOLD.
  */
 #define _GNU_SOURCE
 #include <errno.h>
