@@ -6,7 +6,7 @@ from typing import Callable
 from graphs import Frame, Large, String, Symbol
 from images import BLOCK, HEADER
 from layouts import BLANK, record
-from stores import ORDERS, KINDS, Part, Soup, Store, capacity, directory
+from stores import ORDERS, Part, Soup, Store, capacity, directory
 from streams import encode, pages
 
 DEEPEST = 200
@@ -147,27 +147,36 @@ def fresh() -> bytes:
     return whole({0: directory(Store(b"C", 1))})
 
 
-def entries(specs: tuple, graph: Frame) -> bytes:
-    """As many entries of this graph, of one page each, as a store can have."""
+def entries(specs: tuple, graph_of: Callable[[int], Frame]) -> bytes:
+    """As many entries of one page each as a store can have."""
     most = capacity(GREATEST)
     store = Store(b"C", 1, 1, (Soup(b"S", 0, most, specs),))
     count = most - pages(len(directory(store)))
-    text = encode(graph)
-    records = {2 * uid + 1: struct.pack(">HHII", 0, 0, uid, 0) + text for uid in range(count)}
+    records = {2 * uid + 1: struct.pack(">HHII", 0, 0, uid, 0) + encode(graph_of(uid)) for uid in range(count)}
     return whole({0: directory(store), **records})
 
 
 def plain_entries() -> bytes:
-    return entries((), Frame([], []))
+    return entries((), lambda _: Frame([], []))
+
+
+def specs_of_four(names: list[bytes], kind: str) -> tuple:
+    """Sixteen indexes of four parts."""
+    paths = [(one, two, names[0], three) for one in names for two in names for three in names][:16]
+    return tuple(tuple(Part((it,), kind, ORDERS[0]) for it in path) for path in paths)
 
 
 def indexed_entries() -> bytes:
-    """The same in 16 indexes of four parts, with keys that fold to three times their length."""
-    string = String([0x0390] * 39)
-    names = [bytes([it]) for it in b"abc"]
-    paths = [(one, two, b"a", three) for one in names for two in names for three in names][:16]
-    specs = tuple(tuple(Part((it,), KINDS[0], ORDERS[0]) for it in path) for path in paths)
-    return entries(specs, Frame([Symbol(it) for it in names], [string] * 3))
+    """Entries in 16 indexes, with keys that fold to three times their length."""
+    string, names = String([0x0390] * 39), [b"a", b"b", b"c"]
+    return entries(specs_of_four(names, "string"), lambda _: Frame([Symbol(it) for it in names], [string] * 3))
+
+
+def falling_entries() -> bytes:
+    """Entries in 16 indexes, each before all that were read until then."""
+    names = [b"a", b"b", b"c"]
+    tags = [Symbol(it) for it in names]
+    return entries(specs_of_four(names, "int"), lambda uid: Frame(tags, [4 * (20_000 - uid)] * 3))
 
 
 def full_entries() -> bytes:
@@ -246,7 +255,8 @@ CASES: list[tuple[str, Callable[[], Input]]] = [
     ("mount, records of 65,535 deletes", mounted(deletes)),
     ("mount, the same page put again and again", mounted(put_again)),
     ("mount, entries of a page each", mounted(plain_entries)),
-    ("mount, the same with 16 indexes of four parts", mounted(indexed_entries)),
+    ("mount, the same with 16 indexes of the longest keys", mounted(indexed_entries)),
+    ("mount, the same with 16 indexes in falling order", mounted(falling_entries)),
     ("mount, entries of 31,900 nodes each", mounted(full_entries)),
     ("mount, entries with a large binary each", mounted(large_binaries)),
     ("mount, an object of all pages", mounted(one_object)),

@@ -124,7 +124,8 @@ class Bench:
         self.counts["ok"] += sum(it.startswith("ok") for it in wanted)
         if found == wanted:
             return
-        at = next((at for at, (one, other) in enumerate(zip(found, wanted)) if one != other), min(len(found), len(wanted)))
+        both = enumerate(zip(found, wanted))
+        at = next((at for at, (one, other) in both if one != other), min(len(found), len(wanted)))
         asked = [it for it in script.split(b"\n") if it.removesuffix(b"\r").lstrip(b" \t")[:1] not in (b"", b"%")]
         raise Differs(f"{asked[at : at + 1]}\n  program:   {found[at : at + 1]}\n  reference: {wanted[at : at + 1]}")
 
