@@ -242,7 +242,19 @@ def lengthen(random: Random, objects: dict[int, bytes]) -> None:
     objects[number] = data[: max(0, count)].ljust(max(0, count), b"\x00")
 
 
-OBJECT_DAMAGE = (name_anothers_large, set_number, respell, respell, double_entry, rename_object, lengthen)
+def bend_directory(random: Random, objects: dict[int, bytes]) -> None:
+    """One byte of the directory is another one, as a count, a type, a direction or a letter might be."""
+    data = bytearray(objects.get(0, b"\x00"))
+    if data:
+        at = random.randrange(len(data))
+        data[at] = random.choice((0, 1, 2, 3, 4, 255, data[at] ^ 1, data[at] ^ 32, data[at] ^ 128))
+    objects[0] = bytes(data)
+
+
+OBJECT_DAMAGE = (
+    *(name_anothers_large, set_number, respell, respell, double_entry, rename_object, lengthen),
+    *(bend_directory, bend_directory),
+)
 
 
 # Pages and records.
@@ -339,7 +351,7 @@ def hostile_image(random: Random, store: Store, blocks: int, records: list, othe
 
     The last are those of an image that the program wrote, and those of another one.
     """
-    way = random.choice(("store", "store", "store", "objects", "objects", "pages", "records", "records", "counts"))
+    way = random.choice((*["store"] * 5, *["objects"] * 3, "pages", "records", "records", "counts"))
     if way in ("records", "counts"):
         records = list(records)
         for _ in range(random.choice((1, 1, 2))):
