@@ -193,6 +193,23 @@ def set_number(random: Random, objects: dict[int, bytes]) -> None:
     objects[number] = bytes(data)
 
 
+def miscount_larges(random: Random, objects: dict[int, bytes]) -> None:
+    """An entry lists one large binary more than its text has, or one fewer."""
+    entries = [it for it in objects if it % 2]
+    if not entries:
+        return
+    number = random.choice(entries)
+    data, places = objects[number], places_of(objects[number])
+    more = random.random() < 0.5 or not places
+    objects[number] = data[:2] + (len(places) + (1 if more else -1)).to_bytes(2, "big") + data[4:]
+    if more:
+        even = random.choice([it for it in objects if it and it % 2 == 0] or [2])
+        objects[number] += struct.pack(">III", random.randrange(4), even, len(objects.get(even, b"")))
+        objects.setdefault(even, b"")
+    else:
+        objects[number] = objects[number][:-12]
+
+
 def respell(random: Random, objects: dict[int, bytes]) -> None:
     """The text of an entry is another one of its graph, or nearly so; its large binaries may have bytes there."""
     entries = [it for it in objects if it % 2]
@@ -253,7 +270,7 @@ def bend_directory(random: Random, objects: dict[int, bytes]) -> None:
 
 OBJECT_DAMAGE = (
     *(name_anothers_large, set_number, respell, respell, double_entry, rename_object, lengthen),
-    *(bend_directory, bend_directory),
+    *(miscount_larges, bend_directory, bend_directory),
 )
 
 
