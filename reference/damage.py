@@ -215,7 +215,8 @@ def respell(random: Random, objects: dict[int, bytes]) -> None:
     entries = [it for it in objects if it % 2]
     if not entries:
         return
-    number = random.choice(entries)
+    with_larges = [it for it in entries if places_of(objects[it])]
+    number = random.choice(random.choice((entries, with_larges or entries)))
     data = objects[number]
     end = len(data) - 12 * len(places_of(data))
     skeleton = data[12:end]
