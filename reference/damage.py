@@ -11,7 +11,7 @@ from typing import Callable, Optional
 from graphs import Array, Binary, Frame, Large, Symbol, Walk
 from images import BLOCK, HEADER
 from layouts import BLANK, VOTES, objects_of, pages_of, record, records_of, tail_of
-from stores import Part, Soup, Store, Tags, capacity, cost, entry_of
+from stores import Part, Soup, Store, Tags, capacity, cost, entry_of, tags_bytes
 from streams import Malformed, decode, encode, pages
 
 TELLING_BYTES = b"\x00\x01\x02\x03\x04\x05\x06\x07\x08\x09\x0a\x0b\x0c\x0d\x7f\x80\xfe\xff"
@@ -269,6 +269,14 @@ def bend_directory(random: Random, objects: dict[int, bytes]) -> None:
     objects[0] = bytes(data)
 
 
+def bend_tags(random: Random, store: Store, objects: dict[int, bytes]) -> None:
+    """The byte that says whether a soup has a declaration of tags is neither 0 nor 1."""
+    declared = [tags_bytes(it.tags) for it in store.soups if it.tags]
+    if declared:
+        before, own, behind = objects[0].partition(random.choice(declared))
+        objects[0] = before + bytes([random.choice((2, 255))]) + own[1:] + behind
+
+
 OBJECT_DAMAGE = (
     *(name_anothers_large, set_number, respell, respell, double_entry, rename_object, lengthen),
     *(miscount_larges, bend_directory, bend_directory),
@@ -379,6 +387,8 @@ def hostile_image(random: Random, store: Store, blocks: int, records: list, othe
         make: Callable = random.choice((*[limit_store] * 6, lambda *it: filled_store(*it, blocks), long_store))
         store = make(random, store)
     objects = objects_of(random, store)
+    if way == "store" and random.random() < 0.1:
+        bend_tags(random, store, objects)
     for _ in range(random.choice((1, 1, 2)) if way == "objects" else 0):
         random.choice(OBJECT_DAMAGE)(random, objects)
     found = pages_of(random, objects)
