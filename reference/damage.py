@@ -117,6 +117,8 @@ def limit_store(random: Random, store: Store) -> Store:
         return store
     if kind == 4:
         last = store.soups[-1]
+        if past:
+            return replace(store, soups=store.soups[:-1] + (replace(last, name=random.choice(store.soups).name),))
         signatures = (last.sig, store.next_soup - 1, store.next_soup, 0, 65_535)
         return replace(store, soups=store.soups[:-1] + (replace(last, sig=random.choice(signatures)),))
     soup = random.choice(store.soups)
@@ -138,6 +140,7 @@ def long_store(random: Random, store: Store) -> Store:
     """A store with an entry whose text has 64,000 bytes, or one more."""
     if not store.soups:
         return store
+    store = replace(store, soups=tuple(replace(it, entries=()) for it in store.soups))
     soup = store.soups[0]
     data = Binary(Symbol(b"w"), bytes(64_000 - 15 + random.randrange(-1, 3)))
     return store.with_soup(soup.with_entry(entry_of(soup.next_uid, 0, Frame([Symbol(b"v")], [data]))))
@@ -171,7 +174,9 @@ def name_anothers_large(random: Random, objects: dict[int, bytes]) -> None:
         objects[record_number] = bytes(data)
 
     name(number, at, other)
-    if random.random() < 0.7:
+    if random.random() < 0.2:
+        objects.pop(large, None)
+    elif random.random() < 0.7:
         for back, place, target in named:
             if target == other:
                 name(back, place, large)
@@ -239,10 +244,13 @@ def respell(random: Random, objects: dict[int, bytes]) -> None:
 
 
 def double_entry(random: Random, objects: dict[int, bytes]) -> None:
-    """An entry record stands twice, with its own large binaries or without them."""
+    """An entry record stands twice, under its own id or another one, and each names the same large binaries."""
     entries = [it for it in objects if it % 2]
+    with_larges = [it for it in entries if places_of(objects[it])]
     if entries:
-        objects[random.choice((7001, 2**32 - 1))] = objects[random.choice(entries)]
+        data = objects[random.choice(random.choice((entries, with_larges or entries)))]
+        uid = random.choice((data[4:8], random.randrange(12).to_bytes(4, "big")))
+        objects[random.choice((7001, 2**32 - 1))] = data[:4] + uid + data[8:]
 
 
 def rename_object(random: Random, objects: dict[int, bytes]) -> None:
