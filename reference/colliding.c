@@ -2,8 +2,8 @@
  * with all before it.
  *
  * The hash is that of the kit's `FoldHasher` over the length of a name and then each byte, folded to 32 bits; the table
- * takes the low bits for the group, and the highest eight, 0 as 1, for the tag. Two thirds of a million tries in the
- * middle find one for 65,535.
+ * takes the low bits for the group, and the highest eight, 0 as 1, for the tag. For 65,535 names a million tries find
+ * one, in the mean.
  */
 #include <stdint.h>
 #include <stdio.h>
