@@ -76,7 +76,7 @@ class Record(Scanner):
     def tags(self) -> Optional[Tags]:
         if not self.number(1, 1):
             return None
-        tags = Tags(self.path(), self.several(self.identifier, 1, MOST_TAGS))
+        tags = Tags(self.path(), self.several(self.identifier, 0, MOST_TAGS))
         self.wants(len({it.lower() for it in tags.symbols}) == len(tags.symbols))
         return tags
 
