@@ -1,11 +1,11 @@
 -- The end of a list of ids, and the first of it.
 use Rattle.std.proofs.Common.{◌≡◌, ℕ, ◌+◌, ◌-◌, ◌<◌, ◌≤◌, List, [], ◌∷◌, length, take, drop, get_or, refl, sym, ◌∙◌, ap, arith}
 use Rattle.std.proofs.lemmas.Grind.{common_steps}
-use Rattle.newt_store_change.specs.Change.{pages_of_entry}
-use Rattle.newt_spec_store.specs.Store.{Store, entry_at}
+use Rattle.newt_store_change.specs.Change.{pages_of_entry, uids_in}
+use Rattle.newt_spec_store.specs.Store.{Store, entry_at, soup_of}
 use Rattle.newt_index.specs.Pairs.{Sorted}
 use Rattle.newt_index_ranges.specs.declared.rows.SoupRanges.{SoupRanges}
-use Rattle.newt_store_indexed.specs.Filling.{with_read, with_all, rows_with_all, rows_of_soups}
+use Rattle.newt_store_indexed.specs.Filling.{with_read, with_all, rows_with, rows_with_all, rows_of_soups}
 use Rattle.newt_store_change.specs.Change.{pages_listed}
 
 pub with-none : (sig : ℕ) (s : Store) (us : List ℕ) (v : Sorted) → length us < 1 → with_all sig s us v ≡ v
@@ -38,6 +38,15 @@ pages-first sig s (v ∷ us) u some is = ap (λ (w : ℕ). pages_of_entry (entry
 pub with-first : (sig : ℕ) (s : Store) (us : List ℕ) (u : ℕ) (v : Sorted) → 1 ≤ length us → u ≡ get_or us 0 u → with_all sig s us v ≡ with_all sig s (behind us) (with_read u (entry_at sig u s) v)
 with-first sig s [] u v some is = absurd (omega (arith, some))
 with-first sig s (x ∷ us) u v some is = ap (λ (w : ℕ). with_all sig s us (with_read w (entry_at sig w s) v)) (sym is) ∙ ap (λ (ws : List ℕ). with_all sig s ws (with_read u (entry_at sig u s) v)) (sym (behind-is x us))
+
+pub rows-first : (sig : ℕ) (s : Store) (us : List ℕ) (u : ℕ) (rows : List SoupRanges) → 1 ≤ length us → u ≡ get_or us 0 u → rows_with_all sig s us rows ≡ rows_with_all sig s (behind us) (rows_with sig u (entry_at sig u s) rows)
+rows-first sig s [] u rows some is = absurd (omega (arith, some))
+rows-first sig s (x ∷ us) u rows some is = ap (λ (w : ℕ). rows_with_all sig s us (rows_with sig w (entry_at sig w s) rows)) (sym is) ∙ ap (λ (ws : List ℕ). rows_with_all sig s ws (rows_with sig u (entry_at sig u s) rows)) (sym (behind-is x us))
+
+pub soups-first : (s : Store) (sigs : List ℕ) (sig : ℕ) (rows : List SoupRanges) → 1 ≤ length sigs → sig ≡ get_or sigs 0 sig → rows_of_soups s sigs rows ≡ rows_of_soups s (behind sigs) (rows_with_all sig s (uids_in (soup_of sig s)) rows)
+soups-first s [] sig rows some is = absurd (omega (arith, some))
+soups-first s (x ∷ sigs) sig rows some is =
+    ap (λ (w : ℕ). rows_of_soups s sigs (rows_with_all w s (uids_in (soup_of w s)) rows)) (sym is) ∙ ap (λ (ws : List ℕ). rows_of_soups s ws (rows_with_all sig s (uids_in (soup_of sig s)) rows)) (sym (behind-is x sigs))
 
 pub sum-next : (n left total k rest : ℕ) → n + left ≡ total → left ≡ k + rest → (n + k) + rest ≡ total
 sum-next n left total k rest e f = omega (arith, e, f)

@@ -185,7 +185,8 @@ fn change_with<P: PageBook, H: Host>(
     ensures costs { IsTrue H.told → (s : PlainStore)
         → Shows P.place store.old (H.outside host.old) s
         → IsOpenFor (most_bytes change (blocks_of (image (unit_of P.place store.old)
-        (H.outside host.old).now)) now s) (image (unit_of P.place store.old) (H.outside host.old).now)
+        (H.outside host.old).now)) now s)
+        (image (unit_of P.place store.old) (H.outside host.old).now)
         → Spends (unit_of P.place store.old) (most_bytes change
         (blocks_of (image (unit_of P.place store.old) (H.outside host.old).now)) now s)
         (512 * pages_of_entry (entry_fetched change s)) (H.outside host.old) (H.outside host.new) }
