@@ -5,11 +5,10 @@ use Rattle.std.proofs.lemmas.Bool.{cases_lt}
 use Rattle.std.proofs.lemmas.List.{get_or-set_same, get_or-set_other}
 use Rattle.std.proofs.lemmas.Option.{slice_get_past, slice_get-map, slice_get_read}
 use Rattle.newt_host.specs.Meanings.{known}
-use Rattle.newt_host.specs.Moments.{Attached, On, Moment, Change, Extends, changes, output}
+use Rattle.newt_host.specs.Moments.{Always, here, later as one_more, Attached, On, Moment, Change, changes, output, taken}
 use Rattle.newt_host.specs.Outside.{Outside, AttachCall, Attaches, SameCards, SameCounts}
 use Rattle.newt_host.proofs.Outside.{SameCounts-append, SameWork-refl}
-use Rattle.newt_host.proofs.Extending.{extends-refl, extends-trans}
-use Rattle.newt_host.proofs.Moments.{changes-same, changes-other}
+use Rattle.newt_host.proofs.Moments.{Always-last, changes-same, changes-other}
 use Rattle.newt_host_attach.specs.Named.{AreDistinct, AreAttached, if_known}
 
 -- So far the first names have been attached.
@@ -20,7 +19,7 @@ pub record Attaching (told : Bool) (names : List (List ℕ)) (done : ℕ) (old n
   pub cards : IsTrue told → (unit : ℕ) → unit < done → now.card unit ≡ if_known old (slice_get names unit)
   pub begins : IsTrue told → (unit : ℕ) (name : List ℕ) → now.card unit ≡ Some name
       → (bytes : List ℕ) × (old.devices name ≡ Some bytes) × (changes unit now.now ≡ Attached bytes ∷ [])
-  pub extends : IsTrue told → Extends old.now now.now
+  pub unread : IsTrue told → Always (λ m. taken m ≡ taken old.now) old.now now.now
   pub quiet : IsTrue told → output now.now ≡ output old.now
   pub input : now.input ≡ old.input
   pub in_faults : now.in_faults ≡ old.in_faults
@@ -37,7 +36,7 @@ attaching_start told names old free = record {
   own = λ unit name is. absurd (some_none name (old.card unit) is (free unit));
   cards = λ tells unit less. absurd (omega (arith, less));
   begins = λ tells unit name is. absurd (some_none name (old.card unit) is (free unit));
-  extends = λ tells. extends-refl old.now;
+  unread = λ tells. here refl;
   quiet = λ tells. refl;
   input = refl;
   in_faults = refl;
@@ -72,7 +71,10 @@ module _ (told : Bool) (names : List (List ℕ)) (done : ℕ) (old mid now : Out
     own = λ unit other is. own unit other is (equal_or_not unit done);
     cards = λ tells unit less. cards tells unit less (equal_or_not unit done);
     begins = λ tells unit other is. begins tells unit other is (equal_or_not unit done);
-    extends = λ tells. extends-trans (a.extends tells) (record { more = On done (Attached (fits.moment tells).0) ∷ []; is = (fits.moment tells).2 });
+    unread = λ tells.
+        let so_far = a.unread tells in
+        subst (λ (m : Moment). Always (λ n. taken n ≡ taken old.now) old.now m) (sym (fits.moment tells).2)
+        (one_more (On done (Attached (fits.moment tells).0)) mid.now so_far (Always-last so_far));
     quiet = λ tells. ap output (fits.moment tells).2 ∙ a.quiet tells;
     input = call.input ∙ a.input;
     in_faults = call.in_faults ∙ a.in_faults;
@@ -114,7 +116,7 @@ module _ (told : Bool) (names : List (List ℕ)) (done : ℕ) (old mid now : Out
     own = λ unit other is. a.own unit other (sym (same.card unit) ∙ is);
     cards = λ tells unit less. cards tells unit less (equal_or_not unit done);
     begins = λ tells unit other is. let was = a.begins tells unit other (sym (same.card unit) ∙ is) in (was.0, was.1, ap (λ (m : Moment). changes unit m) (moment tells) ∙ was.2);
-    extends = λ tells. subst (λ (m : Moment). Extends old.now m) (sym (moment tells)) (a.extends tells);
+    unread = λ tells. subst (λ (m : Moment). Always (λ n. taken n ≡ taken old.now) old.now m) (sym (moment tells)) (a.unread tells);
     quiet = λ tells. ap output (moment tells) ∙ a.quiet tells;
     input = call.input ∙ a.input;
     in_faults = call.in_faults ∙ a.in_faults;
@@ -159,7 +161,7 @@ attaching_all told names old now a = record {
     | inr le ↦ a.later unit le ∙ sym (ap (if_known old) (slice_get_past names unit le))
   ];
   begins = a.begins;
-  extends = a.extends;
+  unread = a.unread;
   quiet = a.quiet;
   input = a.input;
   in_faults = a.in_faults;

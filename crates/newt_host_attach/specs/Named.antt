@@ -1,6 +1,6 @@
 -- The devices of names. That the name at a place goes to the unit of that number is this project's own.
 use Rattle.std.specs.Prelude.{◌≡◌, ℕ, Bool, IsTrue, List, [], ◌∷◌, slice_get, Option, Some, None, option_map}
-use Rattle.newt_host.specs.Moments.{Attached, Extends, changes, output}
+use Rattle.newt_host.specs.Moments.{Always, Attached, changes, output, taken}
 use Rattle.newt_host.specs.Outside.{Outside, SameCounts}
 
 -- no two of the names are one
@@ -19,7 +19,8 @@ pub record AreAttached (told : Bool) (names : List (List ℕ)) (old new : Outsid
   -- it reads as the device was held, and that is all that has happened to it
   pub begins : IsTrue told → (unit : ℕ) (name : List ℕ) → new.card unit ≡ Some name
       → (bytes : List ℕ) × (old.devices name ≡ Some bytes) × (changes unit new.now ≡ Attached bytes ∷ [])
-  pub extends : IsTrue told → Extends old.now new.now
+  -- nothing was read of the input meanwhile, and nothing was put out
+  pub unread : IsTrue told → Always (λ m. taken m ≡ taken old.now) old.now new.now
   pub quiet : IsTrue told → output new.now ≡ output old.now
   pub input : new.input ≡ old.input
   pub in_faults : new.in_faults ≡ old.in_faults

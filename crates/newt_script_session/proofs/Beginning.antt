@@ -12,24 +12,28 @@ use Rattle.newt_host.specs.Moments.{Attached, Change, IsDurable, IsHistory, Left
 use Rattle.newt_host.specs.Outside.{Outside, NoFault}
 use Rattle.newt_host.proofs.Extending.{extends-always}
 use Rattle.newt_host.proofs.Histories.{untouched-attached}
+use Rattle.newt_host.proofs.Moments.{Always-last}
 use Rattle.newt_host.proofs.Since.{Always-at}
 use Rattle.newt_spec_script.specs.Script.{Item}
 use Rattle.newt_spec_store.specs.OfImage.{blocks_of}
 use Rattle.newt_spec_store.specs.Store.{Store}
 use Rattle.newt_spec_world.specs.First.{media_of, unit_numbers, unit_of, world_of}
-use Rattle.newt_spec_world.specs.World.{World, Device, flat, first_world, store_of, store_on_unit}
+use Rattle.newt_spec_world.specs.World.{World, Device, flat, first_world as world_with, store_of, store_on_unit}
+use Rattle.newt_script_session.specs.Answered.{Given}
 use Rattle.newt_script_session.specs.Counted.{Counted, CountedAt, HasLeftCounted}
 use Rattle.newt_script_session.specs.Counts.{summary_of}
-use Rattle.newt_script_session.specs.Lines.{lines_of}
-use Rattle.newt_script_session.specs.Named.{CountedNamed, RanNamed, first}
-use Rattle.newt_script_session.specs.Run.{output, Halted, HaltedReply, IsReadThrough}
-use Rattle.newt_script_session.specs.Session.{Session}
-use Rattle.newt_script_session.specs.declared.halt.Halt.{Halt}
 use Rattle.newt_script_session.specs.First.{device_now, unmounted}
-use Rattle.newt_script_session.specs.Moments.{CrashAt, HasLeft, replies_begun, world_at}
-use Rattle.newt_script_session.specs.Script.{commands_of}
+use Rattle.newt_script_session.specs.Moments.{CrashAt, HasLeft, replies_begun}
+use Rattle.newt_script_session.specs.Named.{CountedNamed, RanNamed, first_world, held_by}
+use Rattle.newt_script_session.specs.Reading.{ReadsInTime}
+use Rattle.newt_script_session.specs.Rows.{Row, output_of, world_at}
+use Rattle.newt_script_session.specs.Run.{Halted, IsReadThrough, SummaryHalted}
+use Rattle.newt_script_session.specs.Script.{script_items}
+use Rattle.newt_script_session.specs.Session.{Session}
+use Rattle.newt_script_session.specs.Steps.{Stepping}
+use Rattle.newt_script_session.specs.declared.halt.Halt.{Halt}
 use Rattle.newt_script_session.proofs.Crashing.{AtRest, at_rest, left_same}
-use Rattle.newt_script_session.proofs.Spelling.{script_items_are}
+use Rattle.newt_script_session.proofs.Reading.{takes_append, takes_map, takes_none}
 
 -- ---- the first world
 
@@ -78,7 +82,7 @@ module _ (reads : List ℕ → Option Store) (names : List (List ℕ)) (old new 
           ∙ ap (option_map (λ (bytes : List ℕ). record { blocks = blocks_of bytes; media = media_of (reads bytes); mounted = false })) k))
 
   pub first_is : unmounted reads new ≡ world_of reads old.devices names
-  first_is = ap first_world (map_same (device_now reads new) (unit_of reads old.devices names) unit_numbers (λ unit. named unit (slice_get names unit) refl))
+  first_is = ap world_with (map_same (device_now reads new) (unit_of reads old.devices names) unit_numbers (λ unit. named unit (slice_get names unit) refl))
 
 -- a unit that was attached has nothing pending
 pub attached_durable : (unit : ℕ) (bytes : List ℕ) (now : Moment) → changes unit now ≡ Attached bytes ∷ [] → IsDurable unit now
@@ -120,7 +124,7 @@ module _ (names : List (List ℕ)) (old mid new : Outside) (a : AreAttached true
       → IsHistory size (changes unit new.now) → since new unit ≡ Some t → left_since new t unit left shown → Seen Q unit left shown
   seen_since Q always unit t bytes left shown size fresh is only history at (k, from, to, may, out_is) = elim (cases_lt k (length mid.now)) [
     | inl early ↦
-        let there = since_attached unit t k size bytes old.now mid.now new.now fresh (a.extends refl) (a.quiet refl) only (extends-always always) history at from (omega (arith, early)) in
+        let there = since_attached unit t k size bytes old.now mid.now new.now fresh (extends-always (a.unread refl)) (a.quiet refl) only (extends-always always) history at from (omega (arith, early)) in
         record {
           bytes = bytes;
           held_is = is;
@@ -158,66 +162,75 @@ module _ (names : List (List ℕ)) (old mid new : Outside) (a : AreAttached true
       is ∙ ap Some (sym same)
   between reads (Some store) N Q unit bytes left held is only b = b
 
-  has_left_counted : (reads : List ℕ → Option Store) (world : World) (items : List Item) (unit : ℕ) (left shown : List ℕ)
-      → Seen (CountedAt reads mid.now world items (printed mid.now)) unit left shown
-      → HasLeftCounted reads world items (option_and_then old.devices (slice_get names unit)) (printed old.now) shown unit left
-  has_left_counted reads world items unit left shown s =
-      let c = s.holds in
-      let next : Option Store = store_on_unit (world_at world items (c.done + 1)) unit in
-      record {
-        shown = c.shown;
-        grown = sym s.out_is ∙ (c.out ∙ ap (λ o. o ++ c.shown) (a.quiet refl));
-        done = c.done;
-        all = c.all;
-        leaves = between reads (store_on_unit (world_at world items c.done) unit) (next ≡ None) (reads left ≡ next) unit s.bytes left
-            (option_and_then old.devices (slice_get names unit)) s.held_is s.only (c.leaves unit left s.may);
-      }
+  has_left_counted : (reads : List ℕ → Option Store) (world : World) (items : List Item) (rows : List Row) (unit : ℕ) (left shown : List ℕ)
+      → Seen (CountedAt reads mid.now world items rows (printed mid.now)) unit left shown
+      → HasLeftCounted reads world items rows (held_by names old unit) (printed old.now) shown unit left
+  has_left_counted reads world items rows unit left shown s = record {
+    shown = s.holds.shown;
+    grown = sym s.out_is ∙ (s.holds.out ∙ ap (λ o. o ++ s.holds.shown) (a.quiet refl));
+    leaves = λ more.
+        let l = s.holds.leaves more in
+        let next : Option Store = store_on_unit (world_at world (rows ++ more) (l.0 + 1)) unit in
+        (l.0, l.1, between reads (store_on_unit (world_at world (rows ++ more) l.0) unit) (next ≡ None) (reads left ≡ next) unit s.bytes left (held_by names old unit) s.held_is s.only (l.2 unit left s.may));
+  }
 
-  has_left : (reads : List ℕ → Option Store) (world : World) (items : List Item) (unit : ℕ) (left shown : List ℕ)
-      → Seen (CrashAt reads mid.now world items (printed mid.now)) unit left shown
-      → HasLeft reads world items (option_and_then old.devices (slice_get names unit)) (printed old.now) shown unit left
-  has_left reads world items unit left shown s =
-      let c = s.holds in
-      let m = replies_begun world items (length c.shown) in
-      let next : Option Store = store_on_unit (world_at world items (m + 1)) unit in
-      record {
-        shown = c.shown;
-        grown = sym s.out_is ∙ (c.out ∙ ap (λ o. o ++ c.shown) (a.quiet refl));
-        leaves = between reads (store_on_unit (world_at world items m) unit) (next ≡ None) (reads left ≡ next) unit s.bytes left
-            (option_and_then old.devices (slice_get names unit)) s.held_is s.only (c.leaves unit left s.may);
-      }
+  has_left : (reads : List ℕ → Option Store) (world : World) (rows : List Row) (unit : ℕ) (left shown : List ℕ)
+      → Seen (CrashAt reads mid.now world rows (printed mid.now)) unit left shown
+      → HasLeft reads world rows (held_by names old unit) (printed old.now) shown unit left
+  has_left reads world rows unit left shown s = record {
+    shown = s.holds.shown;
+    grown = sym s.out_is ∙ (s.holds.out ∙ ap (λ o. o ++ s.holds.shown) (a.quiet refl));
+    leaves = λ more.
+        let m = replies_begun (rows ++ more) (length s.holds.shown) in
+        let next : Option Store = store_on_unit (world_at world (rows ++ more) (m + 1)) unit in
+        between reads (store_on_unit (world_at world (rows ++ more) m) unit) (next ≡ None) (reads left ≡ next) unit s.bytes left (held_by names old unit) s.held_is s.only (s.holds.leaves more unit left s.may);
+  }
 
-  module _ (reads : List ℕ → Option Store) (cards : (unit : ℕ) → new.card unit ≡ mid.card unit) (fresh : (unit : ℕ) → changes unit old.now ≡ [])
+  module _ (step : Stepping) (reads : List ℕ → Option Store) (cards : (unit : ℕ) → new.card unit ≡ mid.card unit) (fresh : (unit : ℕ) → changes unit old.now ≡ [])
       (unknown : (unit : ℕ) → new.card unit ≡ None → changes unit new.now ≡ [])
       (history : (unit : ℕ) → IsSome (new.card unit) → IsHistory (new.blocks unit * 4096) (changes unit new.now)) where
     -- so it is said of a script from before the names were attached
-    pub named_ran : {T : Type 0} (limit : ℕ) (result : Result T Halt) → Session reads limit result (first reads names old) mid new → RanNamed reads limit result names old new
-    named_ran limit result s =
-        let w = first reads names old in
-        let Q : List ℕ → Type 0 = λ i. IfErr result (λ halt. Halted limit halt w i new.input (out_of mid) (out_of new)) in
-        let R : List ℕ → Type 0 = λ o. IfErr result (λ halt. Halted limit halt w old.input new.input o (out_of new)) in
-        let C : List ℕ → Type 0 = λ i. Always (CrashAt reads mid.now w (commands_of (lines_of i)) (printed mid.now)) mid.now new.now in
-        let items = commands_of (lines_of old.input) in
+    pub named_ran : {T : Type 0} (limit : ℕ) (result : Result T Halt) → Session step reads limit result (first_world reads names old) mid new → RanNamed step reads limit result names old new
+    named_ran {T} limit result s =
+        let w = first_world reads names old in
+        let G : List ℕ → Type 0 = λ i. (given : Given step w (script_items i)) × OnOk result ((given.rest ≡ []) × (out_of new ≡ out_of mid ++ output_of given.rows))
+        × OnOk result (IsReadThrough limit i new.input) × IfErr result (λ halt. Halted limit halt given.first given.rows i new.input (out_of mid) (out_of new))
+        × ReadsInTime step w given.rows mid.now new.now × Always (CrashAt reads mid.now w given.rows (out_of mid)) mid.now new.now in
+        let t = subst G a.input (s.played.given, s.played.out, s.played.read, s.played.halted, s.played.in_time, s.crash) in
+        let R : List ℕ → Type 0 = λ o. IfErr result (λ halt. Halted limit halt t.0.first t.0.rows old.input new.input o (out_of new)) in
         record {
-          out = on_ok_weaker result (λ put. put ∙ (ap (λ o. o ++ output w mid.input) (a.quiet refl) ∙ ap (λ i. out_of old ++ output w i) a.input)) s.out;
-          read = subst (λ (i : List ℕ). OnOk result (IsReadThrough limit i new.input)) a.input s.read;
-          halted = subst R (a.quiet refl) (subst Q a.input s.halted);
-          crash = λ unit t left shown at might.
-              subst (λ (is : List Item). HasLeft reads w is (option_and_then old.devices (slice_get names unit)) (printed old.now) shown unit left) (script_items_are old.input) (has_left reads w items unit left shown
-              (seen_named (CrashAt reads mid.now w items (printed mid.now)) (subst C a.input s.crash) cards fresh unknown history unit t left shown at might));
+          played = record {
+            given = t.0;
+            out = on_ok_weaker result (λ put. (put.0, put.1 ∙ ap (λ o. o ++ output_of t.0.rows) (a.quiet refl))) t.1;
+            read = t.2;
+            halted = subst R (a.quiet refl) t.3;
+            in_time = takes_append (takes_none (a.unread refl)) (takes_map (λ m answered. record {
+              bytes = answered.bytes;
+              since = answered.since ∙ ap (λ b. b ++ answered.bytes) (Always-last (a.unread refl));
+              first = answered.first;
+              more = answered.more;
+              split = answered.split;
+              run = answered.run;
+              out = answered.out ∙ ap (λ o. o ++ output_of answered.first) (a.quiet refl);
+              no_quit = answered.no_quit;
+            }) t.4);
+          };
+          crash = λ unit at left shown since_is might.
+              has_left reads w t.0.rows unit left shown (seen_named (CrashAt reads mid.now w t.0.rows (printed mid.now)) t.5 cards fresh unknown history unit at left shown since_is might);
         }
 
-    pub named_counted : {T : Type 0} (script : List ℕ) (result : Result T Halt) → Counted reads script result (first reads names old) mid new → CountedNamed reads script result names old new
+    pub named_counted : {T : Type 0} (script : List ℕ) (result : Result T Halt) → Counted step reads script result (first_world reads names old) mid new
+        → CountedNamed step reads script result names old new
     named_counted script result s =
-        let w = first reads names old in
-        let R : List ℕ → Type 0 = λ o. IfErr result (λ halt. HaltedReply halt (summary_of w script) o (out_of new)) in
-        let items = commands_of (lines_of script) in
+        let w = first_world reads names old in
+        let R : List ℕ → Type 0 = λ o. IfErr result (λ halt. SummaryHalted halt s.given.rest (summary_of s.given.rows) o (out_of new)) in
         record {
-          out = on_ok_weaker result (λ put. put ∙ ap (λ o. o ++ summary_of w script) (a.quiet refl)) s.out;
+          given = s.given;
+          out = on_ok_weaker result (λ put. (put.0, put.1 ∙ ap (λ o. o ++ summary_of s.given.rows) (a.quiet refl))) s.out;
           halted = subst R (a.quiet refl) s.halted;
-          crash = λ unit t left shown at might.
-              subst (λ (is : List Item). HasLeftCounted reads w is (option_and_then old.devices (slice_get names unit)) (printed old.now) shown unit left) (script_items_are script) (has_left_counted reads w items unit left shown
-              (seen_named (CountedAt reads mid.now w items (printed mid.now)) s.crash cards fresh unknown history unit t left shown at might));
+          crash = λ unit at left shown since_is might.
+              has_left_counted reads w (script_items script) s.given.rows unit left shown
+              (seen_named (CountedAt reads mid.now w (script_items script) s.given.rows (printed mid.now)) s.crash cards fresh unknown history unit at left shown since_is might);
         }
 
 -- ---- where nothing has been done yet

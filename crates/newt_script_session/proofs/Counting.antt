@@ -1,13 +1,15 @@
 -- What calls leave of devices and counts, one after another.
 use Rattle.std.proofs.Common.{◌≡◌, ℕ, List, Bool, IsTrue, Result, Ok, Err, OnOk, OnErr, refl, sym, ap, ◌∙◌, subst, arith}
 use Rattle.newt_host.specs.Moments.{Moment, changes}
-use Rattle.newt_host.specs.Outside.{Outside, InputCall, OnDevices, NoFault, OutputCall, Rose, SameCards, SameCounts, Takes}
+use Rattle.newt_host.specs.Outside.{Outside, InputCall, OnDevices, NoFault, OutputCall, PrintsSome, Rose, SameCards, SameCounts, Takes}
 use Rattle.newt_host.proofs.Outside.{NoFault-append, NoFault-refl, SameCards-refl, SameCards-append, SameCounts-append, SameWork-refl}
 use Rattle.newt_pagebook.specs.Stops.{HasStopCause}
 use Rattle.newt_pagebook.specs.declared.book.Stop.{Stop}
 use Rattle.newt_pagebook.specs.declared.book.Stop.TheVariants as stops
-use Rattle.newt_script_session.specs.Calls.{AnswerCall, Faults, HasReadCause, OutputFailed, Quiet, ReadCall, RunCall, WriteCall}
+use Rattle.newt_script_session.specs.Calls.{AnswerCall, Faults, HasReadCause, OutputFailed, Quiet, ReadCall, RunCall, Unread, WriteCall}
 use Rattle.newt_script_session.specs.Causes.{HasCause, HasSinkCause, HasWriteCause, NeverLess, SameDevices, halt_of}
+use Rattle.newt_script_session.proofs.Reading.{unread-append, unread-refl, unread_printing}
+use Rattle.newt_script_session.proofs.Writing.{prints_devices}
 use Rattle.newt_script_session.specs.declared.halt.Halt.{Halt}
 use Rattle.newt_script_session.specs.declared.halt.Halt.TheVariants.{Memory, Device, Source, Sink, TooLong}
 
@@ -111,41 +113,45 @@ same-trans s t = record { cards = SameCards-append s.cards t.cards; counts = Sam
 
 -- So far no byte was read, no device is other than it was, and no fault was counted.
 pub record Still (told : Bool) (a b : Outside) : Type 0 where
-  pub input : b.input ≡ a.input
+  pub unread : Unread told a b
   pub devices : SameDevices told a b
   pub no_fault : NoFault a b
 
 pub still-refl : (told : Bool) (a : Outside) → Still told a a
-still-refl told a = record { input = refl; devices = same-refl told a; no_fault = NoFault-refl a }
+still-refl told a = record { unread = unread-refl a; devices = same-refl told a; no_fault = NoFault-refl a }
 
 pub still_then : {told : Bool} {T E : Type 0} {x : T} {a b c : Outside} → Still told a b → WriteCall told (OutputFailed {E = E}) (Ok x) b c → Still told a c
-still_then s w = record { input = w.input ∙ s.input; devices = same-trans s.devices w.devices; no_fault = NoFault-append s.no_fault w.faults.no_fault }
+still_then s w = record { unread = unread-append s.unread w.unread; devices = same-trans s.devices w.devices; no_fault = NoFault-append s.no_fault w.faults.no_fault }
 
 pub write_ok : {told : Bool} {T E : Type 0} {x : T} {Cause : E → (old new : Outside) → Type 0} {a b : Outside} → Still told a b → WriteCall told Cause (Ok x) a b
-write_ok {T = T} {x = x} {Cause = Cause} {a = a} {b = b} s = record { input = s.input; devices = s.devices; faults = faults_none {T = T} Cause x a b s.no_fault }
+write_ok {T = T} {x = x} {Cause = Cause} {a = a} {b = b} s = record { unread = s.unread; devices = s.devices; faults = faults_none {T = T} Cause x a b s.no_fault }
 
 -- nothing was done, when out of memory
 pub write_memory : {told : Bool} {T : Type 0} (a : Outside) → WriteCall {T = T} told HasSinkCause (Err Memory) a a
-write_memory {told} a = record { input = refl; devices = same-refl told a; faults = faults_end HasSinkCause Memory a a (NoFault-refl a) tt }
+write_memory {told} a = record { unread = unread-refl a; devices = same-refl told a; faults = faults_end HasSinkCause Memory a a (NoFault-refl a) tt }
 
 pub write_failed : {told : Bool} {T U E F : Type 0} (result : Result T E) (error : F) (failed : E) {a b c : Outside} → result ≡ Err failed → Still told a b
     → WriteCall {T = U} told (OutputFailed {E = F}) (Err error) b c → WriteCall told (OutputFailed {E = E}) result a c
 write_failed {T = T} {U = U} {E = E} {F = F} result error failed {a} {b} {c} is s w = record {
-  input = w.input ∙ s.input;
+  unread = unread-append s.unread w.unread;
   devices = same-trans s.devices w.devices;
   faults = faults_err (OutputFailed {E = F}) (OutputFailed {E = E}) a b c s.no_fault {T = T} {U = U} result error failed is (λ rose. omega (arith, rose, s.no_fault.out_faults)) w.faults;
 }
 
 -- the output failed
 pub write_sink : {told : Bool} {T U F : Type 0} {error : F} {a b : Outside} → WriteCall {T = U} told (OutputFailed {E = F}) (Err error) a b → WriteCall {T = T} told HasSinkCause (Err Sink) a b
-write_sink {error = error} {a = a} {b = b} w = record { input = w.input; devices = w.devices; faults = record { later = w.faults.later; cause = w.faults.cause; no_fault = tt } }
+write_sink {error = error} {a = a} {b = b} w = record { unread = w.unread; devices = w.devices; faults = record { later = w.faults.later; cause = w.faults.cause; no_fault = tt } }
 
 pub write_sunk : {told : Bool} {T U F : Type 0} {x : T} {y : U} {a b : Outside} → WriteCall {T = U} told (OutputFailed {E = F}) (Ok y) a b → WriteCall {T = T} told HasSinkCause (Ok x) a b
-write_sunk w = record { input = w.input; devices = w.devices; faults = record { later = w.faults.later; cause = tt; no_fault = w.faults.no_fault } }
+write_sunk w = record { unread = w.unread; devices = w.devices; faults = record { later = w.faults.later; cause = tt; no_fault = w.faults.no_fault } }
 
 -- what a host promises of a write
-pub write_call : {told : Bool} {T E : Type 0} (result : Result T E) (a b : Outside) → SameDevices told a b → OutputCall result a b → WriteCall told OutputFailed result a b
-write_call {T = T} {E = E} result a b devices call = record { input = call.input; devices = devices; faults = go result call.faults.cause call.faults.no_fault }
+pub write_call : {told : Bool} {T E : Type 0} (result : Result T E) (bytes : List ℕ) (a b : Outside) → (IsTrue told → PrintsSome bytes a.now b.now) → OutputCall result a b → WriteCall told OutputFailed result a b
+write_call {told = told} {T = T} {E = E} result bytes a b prints call = record {
+  unread = record { input = call.input; moments = λ tells. unread_printing bytes a.now b.now (prints tells) };
+  devices = prints_devices told bytes a b call.cards call.counts prints;
+  faults = go result call.faults.cause call.faults.no_fault;
+}
   where
     go : (v : Result T E) → OnErr v (Rose a.out_faults b.out_faults) → OnOk v (b.out_faults ≡ a.out_faults) → Faults OutputFailed v a b
     go (Ok x) rose same = faults_none OutputFailed x a b (record { in_faults = call.in_faults; out_faults = same; dev_faults = call.counts.dev_faults })
@@ -157,26 +163,26 @@ write_call {T = T} {E = E} result a b devices call = record { input = call.input
 
 -- ---- calls that answer lines
 
-pub quiet-refl : (a : Outside) → Quiet a a
-quiet-refl a = record { input = refl; cards = SameCards-refl a; no_fault = NoFault-refl a }
+pub quiet-refl : {told : Bool} (a : Outside) → Quiet told a a
+quiet-refl a = record { unread = unread-refl a; cards = SameCards-refl a; no_fault = NoFault-refl a }
 
-pub quiet_then : {T : Type 0} {x : T} {a b c : Outside} → Quiet a b → AnswerCall (Ok x) b c → Quiet a c
-quiet_then q w = record { input = w.input ∙ q.input; cards = SameCards-append q.cards w.cards; no_fault = NoFault-append q.no_fault w.faults.no_fault }
+pub quiet_then : {told : Bool} {T : Type 0} {x : T} {a b c : Outside} → Quiet told a b → AnswerCall told (Ok x) b c → Quiet told a c
+quiet_then q w = record { unread = unread-append q.unread w.unread; cards = SameCards-append q.cards w.cards; no_fault = NoFault-append q.no_fault w.faults.no_fault }
 
 -- a command was answered
-pub quiet_apply : {a b : Outside} → OnDevices a b → NoFault a b → Quiet a b
-quiet_apply on none = record { input = on.input; cards = on.cards; no_fault = none }
+pub quiet_apply : {told : Bool} {a b : Outside} → Unread told a b → OnDevices a b → NoFault a b → Quiet told a b
+quiet_apply unread on none = record { unread = unread; cards = on.cards; no_fault = none }
 
-pub answer_ok : {T : Type 0} {x : T} {a b : Outside} → Quiet a b → AnswerCall (Ok x) a b
-answer_ok {T} {x} {a} {b} q = record { input = q.input; cards = q.cards; faults = faults_none HasWriteCause x a b q.no_fault }
+pub answer_ok : {told : Bool} {T : Type 0} {x : T} {a b : Outside} → Quiet told a b → AnswerCall told (Ok x) a b
+answer_ok {x = x} {a = a} {b = b} q = record { unread = q.unread; cards = q.cards; faults = faults_none HasWriteCause x a b q.no_fault }
 
-pub answer_memory : {T : Type 0} {a b : Outside} → Quiet a b → AnswerCall {T = T} (Err Memory) a b
-answer_memory {T} {a} {b} q = record { input = q.input; cards = q.cards; faults = faults_end HasWriteCause Memory a b q.no_fault tt }
+pub answer_memory : {told : Bool} {T : Type 0} {a b : Outside} → Quiet told a b → AnswerCall {T = T} told (Err Memory) a b
+answer_memory {a = a} {b = b} q = record { unread = q.unread; cards = q.cards; faults = faults_end HasWriteCause Memory a b q.no_fault tt }
 
 -- it was not
-pub answer_stop : {T : Type 0} (stop : Stop) (halt : Halt) {a b : Outside} → halt ≡ halt_of stop → OnDevices a b → HasStopCause stop a b → AnswerCall {T = T} (Err halt) a b
-answer_stop {T} stop halt {a} {b} is on cause = subst (λ (h : Halt). AnswerCall {T = T} (Err h) a b) (sym is) (record {
-  input = on.input;
+pub answer_stop : {told : Bool} {T : Type 0} (stop : Stop) (halt : Halt) {a b : Outside} → halt ≡ halt_of stop → Unread told a b → OnDevices a b → HasStopCause stop a b → AnswerCall {T = T} told (Err halt) a b
+answer_stop {told} {T} stop halt {a} {b} is unread on cause = subst (λ (h : Halt). AnswerCall {T = T} told (Err h) a b) (sym is) (record {
+  unread = unread;
   cards = on.cards;
   faults = record {
     later = record { in_faults = omega (arith, on.in_faults); out_faults = omega (arith, on.out_faults); dev_faults = on.dev_faults };
@@ -186,37 +192,37 @@ answer_stop {T} stop halt {a} {b} is on cause = subst (λ (h : Halt). AnswerCall
 })
 
 -- calls behind calls that counted no fault
-pub answer_then : {T : Type 0} {result : Result T Halt} {a b c : Outside} → Quiet a b → AnswerCall result b c → AnswerCall result a c
-answer_then {T} {result} {a} {b} {c} q w = record {
-  input = w.input ∙ q.input;
+pub answer_then : {told : Bool} {T : Type 0} {result : Result T Halt} {a b c : Outside} → Quiet told a b → AnswerCall told result b c → AnswerCall told result a c
+answer_then {result = result} {a = a} {b = b} {c = c} q w = record {
+  unread = unread-append q.unread w.unread;
   cards = SameCards-append q.cards w.cards;
   faults = faults_same HasWriteCause HasWriteCause a b c result q.no_fault (λ halt cause. write_from halt a b c q.no_fault cause) w.faults;
 }
 
-pub answer_err : {T U : Type 0} (result : Result T Halt) (halt : Halt) {a b c : Outside} → result ≡ Err halt → Quiet a b → AnswerCall {T = U} (Err halt) b c → AnswerCall result a c
-answer_err {T} {U} result halt {a} {b} {c} is q w = record {
-  input = w.input ∙ q.input;
+pub answer_err : {told : Bool} {T U : Type 0} (result : Result T Halt) (halt : Halt) {a b c : Outside} → result ≡ Err halt → Quiet told a b → AnswerCall {T = U} told (Err halt) b c → AnswerCall told result a c
+answer_err {told} {T} {U} result halt {a} {b} {c} is q w = record {
+  unread = unread-append q.unread w.unread;
   cards = SameCards-append q.cards w.cards;
   faults = faults_err HasWriteCause HasWriteCause a b c q.no_fault {T = T} {U = U} result halt halt is (λ cause. write_from halt a b c q.no_fault cause) w.faults;
 }
 
 -- a reply was put out behind them
-pub answer_put : {told : Bool} {T U : Type 0} {x : T} {y : U} {a b c : Outside} → Quiet a b → WriteCall {T = U} told HasSinkCause (Ok y) b c → AnswerCall {T = T} (Ok x) a c
+pub answer_put : {told : Bool} {T U : Type 0} {x : T} {y : U} {a b c : Outside} → Quiet told a b → WriteCall {T = U} told HasSinkCause (Ok y) b c → AnswerCall {T = T} told (Ok x) a c
 answer_put {T = T} {U = U} {x = x} {y = y} {a} {b} {c} q w = record {
-  input = w.input ∙ q.input;
+  unread = unread-append q.unread w.unread;
   cards = SameCards-append q.cards w.devices.cards;
   faults = faults_ok HasSinkCause HasWriteCause a b c q.no_fault {T = T} {U = U} x y w.faults;
 }
 
-pub answer_unput : {told : Bool} {T U : Type 0} (result : Result T Halt) (halt : Halt) {a b c : Outside} → result ≡ Err halt → Quiet a b
-    → WriteCall {T = U} told HasSinkCause (Err halt) b c → AnswerCall result a c
+pub answer_unput : {told : Bool} {T U : Type 0} (result : Result T Halt) (halt : Halt) {a b c : Outside} → result ≡ Err halt → Quiet told a b
+    → WriteCall {T = U} told HasSinkCause (Err halt) b c → AnswerCall told result a c
 answer_unput {T = T} {U = U} result halt {a} {b} {c} is q w = record {
-  input = w.input ∙ q.input;
+  unread = unread-append q.unread w.unread;
   cards = SameCards-append q.cards w.devices.cards;
   faults = faults_err HasSinkCause HasWriteCause a b c q.no_fault {T = T} {U = U} result halt halt is (λ cause. sink_write halt a c (sink_from halt a b c q.no_fault cause)) w.faults;
 }
 
-pub answer_write : {told : Bool} {T : Type 0} (result : Result T Halt) {a b c : Outside} → Quiet a b → WriteCall told HasSinkCause result b c → AnswerCall result a c
+pub answer_write : {told : Bool} {T : Type 0} (result : Result T Halt) {a b c : Outside} → Quiet told a b → WriteCall told HasSinkCause result b c → AnswerCall told result a c
 answer_write {T = T} (Ok x) q w = answer_put {T = T} {U = T} {x = x} {y = x} q w
 answer_write {T = T} (Err halt) q w = answer_unput {T = T} {U = T} (Err halt) halt refl q w
 
@@ -252,7 +258,7 @@ running-refl a = record { cards = SameCards-refl a; no_fault = NoFault-refl a }
 pub running_read : {told : Bool} {T : Type 0} {x : T} {a b c : Outside} → Running a b → ReadCall told (Ok x) b c → Running a c
 running_read r w = record { cards = SameCards-append r.cards w.devices.cards; no_fault = NoFault-append r.no_fault w.faults.no_fault }
 
-pub running_answer : {T : Type 0} {x : T} {a b c : Outside} → Running a b → AnswerCall (Ok x) b c → Running a c
+pub running_answer : {told : Bool} {T : Type 0} {x : T} {a b c : Outside} → Running a b → AnswerCall told (Ok x) b c → Running a c
 running_answer r w = record { cards = SameCards-append r.cards w.cards; no_fault = NoFault-append r.no_fault w.faults.no_fault }
 
 pub run_ok : {T : Type 0} {x : T} {a b : Outside} → Running a b → RunCall (Ok x) a b
@@ -270,12 +276,12 @@ run_unread {T = T} {U = U} result halt {a} {b} {c} is r w = record {
   faults = faults_err HasReadCause HasCause a b c r.no_fault {T = T} {U = U} result halt halt is (λ cause. run_from halt a b c r.no_fault (read_run halt b c cause)) w.faults;
 }
 
-pub run_unanswered : {T U : Type 0} (result : Result T Halt) (halt : Halt) {a b c : Outside} → result ≡ Err halt → Running a b → AnswerCall {T = U} (Err halt) b c → RunCall result a c
-run_unanswered {T} {U} result halt {a} {b} {c} is r w = record {
+pub run_unanswered : {told : Bool} {T U : Type 0} (result : Result T Halt) (halt : Halt) {a b c : Outside} → result ≡ Err halt → Running a b → AnswerCall {T = U} told (Err halt) b c → RunCall result a c
+run_unanswered {told} {T} {U} result halt {a} {b} {c} is r w = record {
   cards = SameCards-append r.cards w.cards;
   faults = faults_err HasWriteCause HasCause a b c r.no_fault {T = T} {U = U} result halt halt is (λ cause. run_from halt a b c r.no_fault (write_run halt b c cause)) w.faults;
 }
 
-pub run_answer : {T : Type 0} (result : Result T Halt) {a b c : Outside} → Running a b → AnswerCall result b c → RunCall result a c
-run_answer {T} (Ok x) r w = run_ok (running_answer r w)
-run_answer {T} (Err halt) r w = run_unanswered {T = T} {U = T} (Err halt) halt refl r w
+pub run_answer : {told : Bool} {T : Type 0} (result : Result T Halt) {a b c : Outside} → Running a b → AnswerCall told result b c → RunCall result a c
+run_answer (Ok x) r w = run_ok (running_answer r w)
+run_answer {told} {T} (Err halt) r w = run_unanswered {T = T} {U = T} (Err halt) halt refl r w

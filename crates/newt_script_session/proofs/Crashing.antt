@@ -5,15 +5,15 @@ use Rattle.newt_host.specs.Moments.{Moment, Change, LeftBy, MayLeave, Always, he
 use Rattle.newt_host.specs.Outside.{PrintsSome}
 use Rattle.newt_host.proofs.Moments.{Always-map}
 use Rattle.newt_host.proofs.Printing.{changes-printed, output-printed}
-use Rattle.newt_spec_script.specs.Script.{Item, step, world_after}
 use Rattle.newt_spec_store.specs.Store.{Store}
 use Rattle.newt_spec_world.specs.Reply.{Reply, reply_line, reply_text}
 use Rattle.newt_spec_world.specs.World.{World, store_on_unit}
 use Rattle.newt_laws_world.specs.Answering.{Answering}
-use Rattle.newt_script_session.specs.Moments.{begun, world_at, replies_begun, BeforeOrAfter, CrashAt, Leaves, SafeAt, Untouched}
+use Rattle.newt_script_session.specs.Moments.{begun, replies_begun, BeforeOrAfter, CrashAt, Leaves, SafeAt, Untouched}
 use Rattle.newt_script_session.specs.Counted.{CountedAt}
 use Rattle.newt_script_session.specs.Stream.{put_out}
-use Rattle.newt_spec_script.specs.Runs.{texts}
+use Rattle.newt_spec_script.specs.Script.{Item}
+use Rattle.newt_script_session.specs.Rows.{Row, output_of, world_at, world_behind}
 
 some_text : (r : Reply) → 0 < length (reply_text r)
 some_text r = subst (λ n. 0 < n) (sym (length-append (reply_line r) (10 ∷ []))) (omega arith)
@@ -106,145 +106,133 @@ prints_changes bytes old now some unit = ap (λ (m : Moment). changes unit m) so
 
 module _ (reads : List ℕ → Option Store) (start : Moment) where
   -- before any reply has begun
-  pub leaves_first : (world : World) (items : List Item) (unit : ℕ) (left : List ℕ) → LeavesIts reads start world unit left → Leaves reads start world items 0 unit left
+  pub leaves_first : (world : World) (rows : List Row) (unit : ℕ) (left : List ℕ) → LeavesIts reads start world unit left → Leaves reads start world rows 0 unit left
   unfolding Leaves
   leaves_first world [] unit left its = its_before reads start world world unit left its
-  leaves_first world (item ∷ items) unit left its = its_before reads start world (step world item).0 unit left its
+  leaves_first world (row ∷ rows) unit left its = its_before reads start world row.0 unit left its
 
-  leaves_next : (world : World) (item : Item) (items : List Item) (unit : ℕ) (left : List ℕ) → BeforeOrAfter reads start world (step world item).0 unit left
-      → Leaves reads start world (item ∷ items) 0 unit left
+  leaves_next : (world : World) (row : Row) (rows : List Row) (unit : ℕ) (left : List ℕ) → BeforeOrAfter reads start world row.0 unit left
+      → Leaves reads start world (row ∷ rows) 0 unit left
   unfolding Leaves
-  leaves_next world item items unit left b = b
+  leaves_next world row rows unit left b = b
 
   -- behind a whole reply
-  leaves_behind : (world : World) (item : Item) (items : List Item) (n m unit : ℕ) (left : List ℕ) → 0 < n → n - length (reply_text (step world item).1) ≡ m
-      → Leaves reads start (step world item).0 items m unit left → Leaves reads start world (item ∷ items) n unit left
+  leaves_behind : (world : World) (row : Row) (rows : List Row) (n m unit : ℕ) (left : List ℕ) → 0 < n → n - length (reply_text row.1) ≡ m
+      → Leaves reads start row.0 rows m unit left → Leaves reads start world (row ∷ rows) n unit left
   unfolding Leaves
-  leaves_behind world item items zero m unit left some e l = absurd (omega arith)
-  leaves_behind world item items (suc n) m unit left some e l = subst (λ (k : ℕ). Leaves reads start (step world item).0 items k unit left) (sym e) l
+  leaves_behind world row rows zero m unit left some e l = absurd (omega arith)
+  leaves_behind world row rows (suc n) m unit left some e l = subst (λ (k : ℕ). Leaves reads start row.0 rows k unit left) (sym e) l
 
   -- within a reply
-  leaves_within : (world : World) (item : Item) (items : List Item) (n unit : ℕ) (left : List ℕ) → n ≤ length (reply_text (step world item).1)
-      → BeforeOrAfter reads start world (step world item).0 unit left → LeavesIts reads start (step world item).0 unit left
-      → Leaves reads start world (item ∷ items) n unit left
-  leaves_within world item items zero unit left fits b its = leaves_next world item items unit left b
-  leaves_within world item items (suc n) unit left fits b its =
-      leaves_behind world item items (suc n) 0 unit left (omega arith) (omega arith) (leaves_first (step world item).0 items unit left its)
+  leaves_within : (world : World) (row : Row) (rows : List Row) (n unit : ℕ) (left : List ℕ) → n ≤ length (reply_text row.1)
+      → BeforeOrAfter reads start world row.0 unit left → LeavesIts reads start row.0 unit left
+      → Leaves reads start world (row ∷ rows) n unit left
+  leaves_within world row rows zero unit left fits b its = leaves_next world row rows unit left b
+  leaves_within world row rows (suc n) unit left fits b its =
+      leaves_behind world row rows (suc n) 0 unit left (omega arith) (omega arith) (leaves_first row.0 rows unit left its)
 
 module _ (shows : Bool) (reads : List ℕ → Option Store) (start : Moment) where
   -- between two commands
-  pub safe_here : (world : World) (items : List Item) (now : Moment) → ((unit : ℕ) (left : List ℕ) → MayLeave unit now left → LeavesIts reads start world unit left)
-      → SafeAt shows reads start world items (printed now) now
-  safe_here world items now its = record {
+  pub safe_here : (world : World) (rows : List Row) (now : Moment) → ((unit : ℕ) (left : List ℕ) → MayLeave unit now left → LeavesIts reads start world unit left)
+      → SafeAt shows reads start world rows (printed now) now
+  safe_here world rows now its = record {
     shown = [];
     out = sym (none_put shows (printed now));
-    safe = λ more unit left may. leaves_first reads start world (items ++ more) unit left (its unit left may);
+    safe = λ more unit left may. leaves_first reads start world (rows ++ more) unit left (its unit left may);
   }
 
   -- while an item is answered
-  pub safe_answering : (world : World) (item : Item) (old now : Moment) → Untouched start world old → Answering reads world (step world item).0 old now
-      → SafeAt shows reads start world (item ∷ []) (printed old) now
-  safe_answering world item old now untouched a = record {
+  pub safe_answering : (world : World) (row : Row) (old now : Moment) → Untouched start world old → Answering reads world row.0 old now
+      → SafeAt shows reads start world (row ∷ []) (printed old) now
+  safe_answering world row old now untouched a = record {
     shown = [];
     out = a.quiet ∙ sym (none_put shows (printed old));
-    safe = λ more unit left may. leaves_next reads start world item more unit left (answering_leaves reads start world (step world item).0 old now untouched a unit left may);
+    safe = λ more unit left may. leaves_next reads start world row more unit left (answering_leaves reads start world row.0 old now untouched a unit left may);
   }
 
   -- while its reply is put out, or kept
-  pub safe_writing : (world : World) (item : Item) (old mid now : Moment) → printed mid ≡ printed old
-      → ((unit : ℕ) (left : List ℕ) → MayLeave unit mid left → BeforeOrAfter reads start world (step world item).0 unit left)
-      → ((unit : ℕ) (left : List ℕ) → MayLeave unit mid left → LeavesIts reads start (step world item).0 unit left)
-      → PrintsSome (put_out shows (reply_text (step world item).1)) mid now → SafeAt shows reads start world (item ∷ []) (printed old) now
-  safe_writing world item old mid now same before its some =
-      let text = reply_text (step world item).1 in
+  pub safe_writing : (world : World) (row : Row) (old mid now : Moment) → printed mid ≡ printed old
+      → ((unit : ℕ) (left : List ℕ) → MayLeave unit mid left → BeforeOrAfter reads start world row.0 unit left)
+      → ((unit : ℕ) (left : List ℕ) → MayLeave unit mid left → LeavesIts reads start row.0 unit left)
+      → PrintsSome (put_out shows (reply_text row.1)) mid now → SafeAt shows reads start world (row ∷ []) (printed old) now
+  safe_writing world row old mid now same before its some =
+      let text = reply_text row.1 in
       let part = part_put shows text some.done some.rest some.split in
       record {
         shown = part.0;
         out = ap printed some.moment ∙ (output-printed some.done mid ∙ (ap (λ o. o ++ some.done) same ∙ ap (λ t. printed old ++ t) part.1));
         safe = λ more unit left may.
             let then = left_same unit left mid now (prints_changes (put_out shows text) mid now some unit) may in
-            leaves_within reads start world item more (length part.0) unit left part.2 (before unit left then) (its unit left then);
+            leaves_within reads start world row more (length part.0) unit left part.2 (before unit left then) (its unit left then);
       }
 
-  -- more items follow
-  pub safe_more : (world : World) (items more : List Item) (old : List ℕ) (now : Moment) → SafeAt shows reads start world items old now → SafeAt shows reads start world (items ++ more) old now
-  safe_more world items more old now s = record {
+  -- more rows follow
+  pub safe_more : (world : World) (rows more : List Row) (old : List ℕ) (now : Moment) → SafeAt shows reads start world rows old now → SafeAt shows reads start world (rows ++ more) old now
+  safe_more world rows more old now s = record {
     shown = s.shown;
     out = s.out;
     safe = λ rest unit left may.
-        subst (λ (is : List Item). Leaves reads start world is (length s.shown) unit left) (sym (append_assoc items more rest)) (s.safe (more ++ rest) unit left may);
+        subst (λ (is : List Row). Leaves reads start world is (length s.shown) unit left) (sym (append_assoc rows more rest)) (s.safe (more ++ rest) unit left may);
   }
 
-  -- the moments of later items
-  safe_later : (world : World) (item : Item) (items : List Item) (old : List ℕ) (now : Moment)
-      → SafeAt shows reads start (step world item).0 items (old ++ put_out shows (reply_text (step world item).1)) now → SafeAt shows reads start world (item ∷ items) old now
-  safe_later world item items old now s =
-      let text = reply_text (step world item).1 in
+  -- the moments of later rows
+  safe_later : (world : World) (row : Row) (rows : List Row) (old : List ℕ) (now : Moment)
+      → SafeAt shows reads start row.0 rows (old ++ put_out shows (reply_text row.1)) now → SafeAt shows reads start world (row ∷ rows) old now
+  safe_later world row rows old now s =
+      let text = reply_text row.1 in
       let size : length (text ++ s.shown) ≡ length text + length s.shown = length-append text s.shown in
-      let some = some_text (step world item).1 in
+      let some = some_text row.1 in
       record {
         shown = text ++ s.shown;
         out = s.out ∙ (append_assoc old (put_out shows text) (put_out shows s.shown) ∙ ap (λ t. old ++ t) (sym (both_put shows text s.shown)));
         safe = λ more unit left may.
-            leaves_behind reads start world item (items ++ more) (length (text ++ s.shown)) (length s.shown) unit left (omega (arith, some, size)) (omega (arith, size)) (s.safe more unit left may);
+            leaves_behind reads start world row (rows ++ more) (length (text ++ s.shown)) (length s.shown) unit left (omega (arith, some, size)) (omega (arith, size)) (s.safe more unit left may);
       }
 
-  pub safe_laters : (world : World) (first more : List Item) (old : List ℕ) (now : Moment)
-      → SafeAt shows reads start (world_after world first) more (old ++ put_out shows (texts world first)) now → SafeAt shows reads start world (first ++ more) old now
-  unfolding texts
+  pub safe_laters : (world : World) (first more : List Row) (old : List ℕ) (now : Moment)
+      → SafeAt shows reads start (world_behind world first) more (old ++ put_out shows (output_of first)) now → SafeAt shows reads start world (first ++ more) old now
+  unfolding output_of
   safe_laters world [] more old now s = subst (λ (o : List ℕ). SafeAt shows reads start world more o now) (none_put shows old) s
-  safe_laters world (item ∷ first) more old now s =
-      let text = reply_text (step world item).1 in
-      let next = (step world item).0 in
-      safe_later world item (first ++ more) old now
+  safe_laters world (row ∷ first) more old now s =
+      let text = reply_text row.1 in
+      let next = row.0 in
+      safe_later world row (first ++ more) old now
       (safe_laters next first more (old ++ put_out shows text) now
-      (subst (λ (o : List ℕ). SafeAt shows reads start (world_after next first) more o now)
-      (ap (λ t. old ++ t) (both_put shows text (texts next first)) ∙ sym (append_assoc old (put_out shows text) (put_out shows (texts next first)))) s))
+      (subst (λ (o : List ℕ). SafeAt shows reads start (world_behind next first) more o now)
+      (ap (λ t. old ++ t) (both_put shows text (output_of first)) ∙ sym (append_assoc old (put_out shows text) (put_out shows (output_of first)))) s))
 
 module _ (reads : List ℕ → Option Store) (start : Moment) where
   -- ---- what is said of a whole script
 
-  counted : (world : World) (items : List Item) (n unit : ℕ) (left : List ℕ) → Leaves reads start world items n unit left
-      → BeforeOrAfter reads start (world_at world items (replies_begun world items n)) (world_at world items (replies_begun world items n + 1)) unit left
+  counted : (world : World) (rows : List Row) (n unit : ℕ) (left : List ℕ) → Leaves reads start world rows n unit left
+      → BeforeOrAfter reads start (world_at world rows (replies_begun rows n)) (world_at world rows (replies_begun rows n + 1)) unit left
   unfolding Leaves begun
   counted world [] n unit left l = l
-  counted world (item ∷ items) zero unit left l = l
-  counted world (item ∷ items) (suc n) unit left l =
-      let next = (step world item).0 in
-      let k = replies_begun next items (suc n - length (reply_text (step world item).1)) in
+  counted world (row ∷ rows) zero unit left l = l
+  counted world (row ∷ rows) (suc n) unit left l =
+      let next = row.0 in
+      let k = replies_begun rows (suc n - length (reply_text row.1)) in
       let e : suc k + 1 ≡ suc (k + 1) = omega arith in
-      let P : ℕ → Type 0 = λ j. BeforeOrAfter reads start (world_at next items k) (world_at world (item ∷ items) j) unit left in
-      subst P (sym e) (counted next items (suc n - length (reply_text (step world item).1)) unit left l)
+      let P : ℕ → Type 0 = λ j. BeforeOrAfter reads start (world_at next rows k) (world_at world (row ∷ rows) j) unit left in
+      subst P (sym e) (counted next rows (suc n - length (reply_text row.1)) unit left l)
 
-  pub crash_at : (world : World) (items : List Item) (old : List ℕ) (now : Moment) → SafeAt true reads start world items old now → CrashAt reads start world items old now
-  crash_at world items old now s = record {
-    shown = s.shown;
-    out = s.out;
-    leaves = λ unit left may. counted world items (length s.shown) unit left
-        (subst (λ (is : List Item). Leaves reads start world is (length s.shown) unit left) (append-nil items) (s.safe [] unit left may));
-  }
-
-  pub crash_always : (world : World) (items : List Item) (old now : Moment) → Always (SafeAt true reads start world items (printed old)) old now
-      → Always (CrashAt reads start world items (printed old)) old now
-  crash_always world items old now a = Always-map (λ m s. crash_at world items (printed old) m s) a
+  pub crash_always : (world : World) (rows : List Row) (old now : Moment) → Always (SafeAt true reads start world rows (printed old)) old now
+      → Always (CrashAt reads start world rows (printed old)) old now
+  crash_always world rows old now a =
+      Always-map (λ m s. record { shown = s.shown; out = s.out; leaves = λ more unit left may. counted world (rows ++ more) (length s.shown) unit left (s.safe more unit left may) }) a
 
   -- where the replies are not put out, so many of the items have been answered as have replies that have begun
-  pub counted_at : (world : World) (items : List Item) (old : List ℕ) (now : Moment) → SafeAt false reads start world items old now → CountedAt reads start world items old now
-  counted_at world items old now s = record {
+  pub counted_always : (world : World) (items : List Item) (rows : List Row) (old : List ℕ) (from now : Moment) → Always (SafeAt false reads start world rows old) from now
+      → Always (CountedAt reads start world items rows old) from now
+  counted_always world items rows old from now a = Always-map (λ m s. record {
     shown = [];
     out = s.out;
-    done = replies_begun world items (length s.shown);
-    all = λ some. absurd (omega (arith, some));
-    leaves = λ unit left may. counted world items (length s.shown) unit left
-        (subst (λ (is : List Item). Leaves reads start world is (length s.shown) unit left) (append-nil items) (s.safe [] unit left may));
-  }
-
-  -- before the first
-  pub crash_here : (world : World) (items : List Item) → AtRest reads world start → CrashAt reads start world items (printed start) start
-  crash_here world items its = crash_at world items (printed start) start (safe_here true reads start world items start (its start (λ unit none. refl)))
-
-  pub counted_here : (world : World) (items : List Item) → AtRest reads world start → CountedAt reads start world items (printed start) start
-  counted_here world items its = counted_at world items (printed start) start (safe_here false reads start world items start (its start (λ unit none. refl)))
+    leaves = λ more. (
+      replies_begun (rows ++ more) (length s.shown),
+      (λ some. absurd (omega (arith, some))),
+      (λ unit left may. counted world (rows ++ more) (length s.shown) unit left (s.safe more unit left may)),
+    );
+  }) a
 
 -- the same world under another name
 pub untouched_world : (start : Moment) (world same : World) (now : Moment) → same ≡ world → Untouched start world now → Untouched start same now

@@ -2,11 +2,12 @@
 use Rattle.std.proofs.Common.{◌≡◌, ◌<◌, ℕ, Bool, true, false, List, [], ◌∷◌, ◌++◌, length, refl, sym, ◌∙◌, ap, append-nil, arith}
 use Rattle.newt_spec_script.specs.Script.{Item}
 use Rattle.newt_script_session.specs.Lines.{BeginsWith, HasNoEnd, ended_lines, last_line, unended}
-use Rattle.newt_script_session.specs.Script.{has_quit, commands_of}
+use Rattle.newt_script_session.specs.Script.{has_quit, commands_of, script_items}
 use Rattle.newt_script_session.specs.Causes.{flow_of}
 use Rattle.newt_script_session.specs.declared.halt.Flow.TheVariants.{Go, Quit}
 use Rattle.newt_script_session.proofs.Cutting.{cut_at, left_at, cut_none}
 use Rattle.newt_script_session.proofs.Replying.{commands_go, commands_none, commands_some, commands_stop, quit_go, quit_none, quit_stop}
+use Rattle.newt_script_session.proofs.Spelling.{script_items_are}
 
 pub go_is : (b : Bool) → Go ≡ flow_of b → b ≡ false
 go_is true e = cc
@@ -79,13 +80,21 @@ unfolding last_line
 last_nil [] none = commands_none
 last_nil (byte ∷ line) none = absurd (omega arith)
 
-pub text_then_some : (begun text : List ℕ) → (later : List Item) × (commands_of (lines_from begun text) ≡ commands_of (ended_lines begun text) ++ later)
-text_then_some begun text = commands_some (ended_lines begun text) (last_line (unended begun text))
+-- a script that is one text
+script_from : (begun text : List ℕ) → begun ≡ [] → script_items text ≡ commands_of (lines_from begun text)
+script_from begun text none = sym (script_items_are text) ∙ ap (λ (b : List ℕ). commands_of (lines_from b text)) (sym none)
 
-pub text_then_none : (begun text : List ℕ) → has_quit (ended_lines begun text) ≡ true → commands_of (lines_from begun text) ≡ commands_of (ended_lines begun text) ++ []
-text_then_none begun text stop = commands_stop (ended_lines begun text) (last_line (unended begun text)) stop ∙ sym (append-nil (commands_of (ended_lines begun text)))
+pub text_then_some : (begun text : List ℕ) → begun ≡ [] → (later : List Item) × (script_items text ≡ commands_of (ended_lines begun text) ++ later)
+text_then_some begun text none =
+    let some = commands_some (ended_lines begun text) (last_line (unended begun text)) in
+    (some.0, script_from begun text none ∙ some.1)
 
-pub text_then_last : (begun text line : List ℕ) → has_quit (ended_lines begun text) ≡ false → line ≡ unended begun text
-    → commands_of (lines_from begun text) ≡ commands_of (ended_lines begun text) ++ commands_of (last_line line)
-text_then_last begun text line go is =
-    commands_go (ended_lines begun text) (last_line (unended begun text)) go ∙ ap (λ (l : List ℕ). commands_of (ended_lines begun text) ++ commands_of (last_line l)) (sym is)
+pub text_then_none : (begun text : List ℕ) → begun ≡ [] → has_quit (ended_lines begun text) ≡ true → script_items text ≡ commands_of (ended_lines begun text) ++ []
+text_then_none begun text none stop =
+    script_from begun text none ∙ (commands_stop (ended_lines begun text) (last_line (unended begun text)) stop ∙ sym (append-nil (commands_of (ended_lines begun text))))
+
+pub text_then_last : (begun text line : List ℕ) → begun ≡ [] → has_quit (ended_lines begun text) ≡ false → line ≡ unended begun text
+    → script_items text ≡ commands_of (ended_lines begun text) ++ commands_of (last_line line)
+text_then_last begun text line none go is =
+    script_from begun text none
+    ∙ (commands_go (ended_lines begun text) (last_line (unended begun text)) go ∙ ap (λ (l : List ℕ). commands_of (ended_lines begun text) ++ commands_of (last_line l)) (sym is))

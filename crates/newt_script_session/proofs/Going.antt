@@ -4,28 +4,30 @@ use Rattle.std.proofs.lemmas.List.{append-nil, take_at, length-append}
 use Rattle.std.proofs.lemmas.Result.{on_ok_weaker}
 use Rattle.std.proofs.Math.Seq.{take-append-add}
 use Rattle.newt_host.specs.Meanings.{out_of}
-use Rattle.newt_host.specs.Moments.{Moment, Always, here, later as later_moment, Took, output as printed}
+use Rattle.newt_host.specs.Moments.{Moment, Always, here, later as later_moment, Took, taken as taken_by, output as printed}
 use Rattle.newt_host.specs.Outside.{Outside}
 use Rattle.newt_host.proofs.Moments.{Always-last}
 use Rattle.newt_spec_script.specs.Script.{Item}
 use Rattle.newt_spec_store.specs.Store.{Store}
 use Rattle.newt_spec_world.specs.World.{World}
-use Rattle.newt_script_session.specs.Answered.{Answered, Ran}
-use Rattle.newt_script_session.specs.Stream.{WroteSome}
+use Rattle.newt_script_session.specs.Answered.{Answered, Given, Ran}
 use Rattle.newt_script_session.specs.Lines.{ended_lines, unended, last_line, lines_of}
 use Rattle.newt_script_session.specs.Moments.{SafeAt, Untouched}
-use Rattle.newt_script_session.specs.Script.{has_quit, commands_of, output_of}
+use Rattle.newt_script_session.specs.Reading.{ReadsInTime, start as takes_start}
+use Rattle.newt_script_session.specs.Rows.{IsRun, Row, output_of}
+use Rattle.newt_script_session.specs.Run.{AnsweredTaken, Halted, HaltedIn, IsReadThrough, IsTooLong}
+use Rattle.newt_script_session.specs.Script.{has_quit, commands_of, ended_items, quits, script_items}
 use Rattle.newt_script_session.specs.Session.{Session}
-use Rattle.newt_script_session.specs.Run.{output_of_ended, quits, IsTooLong, IsReadThrough, AnsweredTaken, Halted, HaltedIn}
+use Rattle.newt_script_session.specs.Steps.{Stepping}
 use Rattle.newt_script_session.specs.declared.halt.Halt.{Halt}
 use Rattle.newt_script_session.specs.declared.halt.Halt.TheVariants.{Memory, Device, Source, Sink, TooLong}
 use Rattle.newt_script_session.proofs.Crashing.{AtRest, crash_always, safe_here}
 use Rattle.newt_script_session.proofs.Cutting.{cut_append, left_append}
 use Rattle.newt_script_session.proofs.Feeding.{lines_from}
-use Rattle.newt_script_session.proofs.Progress.{Progress, answered_both, answered_none, progress_part}
-use Rattle.newt_script_session.proofs.Spelling.{whole_output}
-use Rattle.newt_script_session.proofs.Replying.{commands_go, commands_none, commands_some, commands_stop, cut_lines, quit_go, quit_none, quit_stop}
-use Rattle.newt_spec_script.specs.Runs.{texts}
+use Rattle.newt_script_session.proofs.Progress.{Progress, answered_none, progress_more, ran_all, ran_halted}
+use Rattle.newt_script_session.proofs.Reading.{takes_append, takes_map, takes_more, takes_none}
+use Rattle.newt_script_session.proofs.Replying.{commands_go, commands_none, commands_some, commands_stop, quit_go, quit_none, quit_stop}
+use Rattle.newt_script_session.proofs.Spelling.{script_items_are}
 
 lines_append : (begun p r : List ℕ) → lines_from begun (p ++ r) ≡ ended_lines begun p ++ lines_from (unended begun p) r
 lines_append begun p r =
@@ -66,100 +68,131 @@ quits_later taken rest limit stop size =
     ∙ (ap quits (take-append-add taken rest n)
     ∙ (ap has_quit (cut_append [] taken (take n rest)) ∙ quit_stop (ended_lines [] taken) (ended_lines (unended [] taken) (take n rest)) stop))
 
--- the output of lines is that of their commands
-output_commands : (world : World) (lines : List (List ℕ)) → output_of world lines ≡ texts world (commands_of lines)
-unfolding output_of
-output_commands world lines = refl
+-- the input is read in time for a run that goes on
+pub in_time_more : (step : Stepping) (world : World) (rows part : List Row) (old now : Moment) → ReadsInTime step world rows old now → ReadsInTime step world (rows ++ part) old now
+in_time_more step world rows part old now r = takes_map (λ m s. record {
+  bytes = s.bytes;
+  since = s.since;
+  first = s.first;
+  more = s.more ++ part;
+  split = ap (λ (rs : List Row). rs ++ part) s.split ∙ append_assoc s.first s.more part;
+  run = s.run;
+  out = s.out;
+  no_quit = s.no_quit;
+}) r
 
 -- So far these bytes were taken, all lines that ended in them were answered, and none quits.
-pub record Going (reads : List ℕ → Option Store) (world : World) (script taken left : List ℕ) (later : World) (line : List ℕ) (had has : List (List ℕ) → Type 0) (old now : Moment) : Type 0 where
+pub record Going (step : Stepping) (reads : List ℕ → Option Store) (world : World) (script taken left : List ℕ) (later : World) (line : List ℕ) (had has : List (List ℕ) → Type 0) (old now : Moment) : Type 0 where
   pub whole : script ≡ taken ++ left
   pub line_is : line ≡ unended [] taken
   pub go : quits taken ≡ false
-  pub answered : Answered true world later (commands_of (ended_lines [] taken)) had has old now
-  pub moments : (start : Moment) → Untouched start world old → Always (SafeAt true reads start world (commands_of (lines_of script)) (printed old)) old now
+  pub rows : List Row
+  pub run : IsRun step world (ended_items taken) rows
+  pub answered : Answered true world later rows had has old now
+  pub in_time : ReadsInTime step world rows old now
+  pub moments : (start : Moment) → Untouched start world old → Always (SafeAt true reads start world rows (printed old)) old now
 
-module _ (reads : List ℕ → Option Store) where
+module _ (step : Stepping) (reads : List ℕ → Option Store) where
   -- nothing was taken yet
-  pub going_start : (world : World) (script line : List ℕ) (has : List (List ℕ) → Type 0) (now : Moment) → AtRest reads world now → line ≡ [] → Going reads world script [] script world line has has now now
+  pub going_start : (world : World) (script line : List ℕ) (has : List (List ℕ) → Type 0) (now : Moment) → AtRest reads world now → line ≡ [] → Going step reads world script [] script world line has has now now
   unfolding ended_lines unended
   going_start world script line has now its empty = record {
     whole = refl;
     line_is = empty;
     go = quit_none;
-    answered = subst (λ (is : List Item). Answered true world world is has has now now) (sym commands_none) (answered_none true world has now);
-    moments = λ start u. here (safe_here true reads start world (commands_of (lines_of script)) now (its start u));
+    rows = [];
+    run = subst (λ (is : List Item). IsRun step world is []) (sym commands_none) tt;
+    answered = answered_none true world has now;
+    in_time = takes_start;
+    moments = λ start u. here (safe_here true reads start world [] now (its start u));
   }
 
   -- the same moment, and the same world under another name
   pub going_moved : (world : World) (script taken left : List ℕ) (later same : World) (line : List ℕ) (had has : List (List ℕ) → Type 0) (old then now : Moment) → now ≡ then → same ≡ later
-      → Going reads world script taken left later line had has old then → Going reads world script taken left same line had has old now
+      → Going step reads world script taken left later line had has old then → Going step reads world script taken left same line had has old now
   going_moved world script taken left later same line had has old then now e f g =
-      subst (λ (v : World). Going reads world script taken left v line had has old now) (sym f)
-      (subst (λ (m : Moment). Going reads world script taken left later line had has old m) (sym e) g)
+      subst (λ (v : World). Going step reads world script taken left v line had has old now) (sym f)
+      (subst (λ (m : Moment). Going step reads world script taken left later line had has old m) (sym e) g)
 
-  safe_took : (start : Moment) (world : World) (items : List Item) (old : List ℕ) (bytes : List ℕ) (then : Moment) → SafeAt true reads start world items old then
-      → SafeAt true reads start world items old (Took bytes ∷ then)
-  safe_took start world items old bytes then s = record { shown = s.shown; out = s.out; safe = s.safe }
+  safe_took : (start : Moment) (world : World) (rows : List Row) (old : List ℕ) (bytes : List ℕ) (then : Moment) → SafeAt true reads start world rows old then
+      → SafeAt true reads start world rows old (Took bytes ∷ then)
+  safe_took start world rows old bytes then s = record { shown = s.shown; out = s.out; safe = s.safe }
 
   -- bytes were read
   pub going_took : (world : World) (script taken left : List ℕ) (next same : World) (line : List ℕ) (had has : List (List ℕ) → Type 0) (old then : Moment) (bytes : List ℕ) (now : Moment)
-      → now ≡ Took bytes ∷ then → same ≡ next
-      → Going reads world script taken left next line had has old then → Going reads world script taken left same line had has old now
-  going_took world script taken left next same line had has old then bytes now e f g =
+      → now ≡ Took bytes ∷ then → same ≡ next → taken_by then ≡ taken_by old ++ taken
+      → Going step reads world script taken left next line had has old then → Going step reads world script taken left same line had has old now
+  going_took world script taken left next same line had has old then bytes now e f since g =
       let a = g.answered in
-      subst (λ (v : World). Going reads world script taken left v line had has old now) (sym f)
-      (subst (λ (m : Moment). Going reads world script taken left next line had has old m) (sym e) (record {
+      subst (λ (v : World). Going step reads world script taken left v line had has old now) (sym f)
+      (subst (λ (m : Moment). Going step reads world script taken left next line had has old m) (sym e) (record {
         whole = g.whole;
         line_is = g.line_is;
         go = g.go;
+        rows = g.rows;
+        run = g.run;
         answered = record { world_is = a.world_is; put = a.put; took = a.took; untouched = a.untouched };
+        in_time = takes_more bytes g.in_time (record {
+          bytes = taken;
+          since = since;
+          first = g.rows;
+          more = [];
+          split = sym (append-nil g.rows);
+          run = g.run;
+          out = a.put;
+          no_quit = g.go;
+        });
         moments = λ start u. let so_far = g.moments start u in
-            later_moment (Took bytes) then so_far (safe_took start world (commands_of (lines_of script)) (printed old) bytes then (Always-last so_far));
+            later_moment (Took bytes) then so_far (safe_took start world g.rows (printed old) bytes then (Always-last so_far));
       }))
 
-  module _ (world : World) (script taken left : List ℕ) (later : World) (line : List ℕ) (had has : List (List ℕ) → Type 0) (old then : Moment) (g : Going reads world script taken left later line had has old then) where
-    -- the commands of what is left are still to be answered
-    pub going_progress : Progress true reads world (commands_of (lines_of script)) later (commands_of (lines_from line left)) had has old then
-    going_progress = record {
-      done = commands_of (ended_lines [] taken);
-      split = ap commands_of (ap lines_of g.whole ∙ (lines_append [] taken left ∙ ap (λ l. ended_lines [] taken ++ lines_from l left) (sym g.line_is)))
-          ∙ commands_go (ended_lines [] taken) (lines_from line left) g.go;
-      answered = g.answered;
-      moments = g.moments;
-    }
+  module _ (world : World) (script taken left : List ℕ) (later : World) (line : List ℕ) (had has : List (List ℕ) → Type 0) (old then : Moment) (g : Going step reads world script taken left later line had has old then) where
+    -- the items of the script are those of the lines that ended, and those of what is left
+    pub items_left : script_items script ≡ ended_items taken ++ commands_of (lines_from line left)
+    items_left =
+        sym (script_items_are script)
+        ∙ (ap commands_of (ap lines_of g.whole ∙ (lines_append [] taken left ∙ ap (λ l. ended_lines [] taken ++ lines_from l left) (sym g.line_is)))
+        ∙ commands_go (ended_lines [] taken) (lines_from line left) g.go)
 
-    -- what was put out is the output of the lines that ended
-    out_taken : printed then ≡ printed old ++ output_of_ended world taken
-    out_taken = g.answered.put ∙ ap (λ t. printed old ++ t) (sym (output_commands world (ended_lines [] taken)))
+    -- which are still to be answered
+    abbrev pub going_progress : Progress step true reads world (script_items script) later (commands_of (lines_from line left)) had has old then
+    going_progress = record { done = ended_items taken; split = items_left; rows = g.rows; run = g.run; answered = g.answered; moments = g.moments }
+
+    -- so far no more has been given
+    abbrev pub going_given : Given step world (script_items script)
+    going_given = record { first = ended_items taken; rest = commands_of (lines_from line left); split = items_left; rows = g.rows; run = g.run }
 
     -- a piece more was answered
-    pub going_more : (piece rest : List ℕ) (next : World) (begun : List ℕ) (more : List (List ℕ) → Type 0) (now : Moment) → left ≡ piece ++ rest → has_quit (ended_lines line piece) ≡ false
-        → begun ≡ unended line piece → Answered true later next (commands_of (ended_lines line piece)) has more then now
-        → ((start : Moment) → Untouched start later then → Always (SafeAt true reads start later (commands_of (ended_lines line piece)) (printed then)) then now)
-        → Going reads world script (taken ++ piece) rest next begun had more old now
-    going_more piece rest next begun more now split go begun_is a moments =
-        let some = piece_then_some line left piece rest split in
-        let items_are : commands_of (ended_lines [] (taken ++ piece)) ≡ commands_of (ended_lines [] taken) ++ commands_of (ended_lines line piece) =
-        ap commands_of (taken_lines taken piece line g.line_is) ∙ commands_go (ended_lines [] taken) (ended_lines line piece) g.go in
+    pub going_more : {T : Type 0} {x : T} (piece rest : List ℕ) (next : World) (begun : List ℕ) (more : List (List ℕ) → Type 0) (now : Moment) → Always (λ m. taken_by m ≡ taken_by then) then now
+        → left ≡ piece ++ rest → has_quit (ended_lines line piece) ≡ false → begun ≡ unended line piece → Ran step true reads {T = T} (Ok x) later next (commands_of (ended_lines line piece)) has more then now
+        → Going step reads world script (taken ++ piece) rest next begun had more old now
+    unfolding progress_more
+    going_more piece rest next begun more now unread split go begun_is r =
+        let p : Progress step true reads world (ended_items taken ++ commands_of (ended_lines line piece)) later (commands_of (ended_lines line piece)) had has old then =
+        record { done = ended_items taken; split = refl; rows = g.rows; run = g.run; answered = g.answered; moments = g.moments } in
+        let q = progress_more step true reads world (ended_items taken ++ commands_of (ended_lines line piece)) later (commands_of (ended_lines line piece)) had has old then p
+        (commands_of (ended_lines line piece)) [] (sym (append-nil (commands_of (ended_lines line piece)))) next more now r in
+        let items_are : q.done ≡ ended_items (taken ++ piece) =
+        sym (append-nil q.done) ∙ (sym q.split ∙ sym (ap commands_of (taken_lines taken piece line g.line_is) ∙ commands_go (ended_lines [] taken) (ended_lines line piece) g.go)) in
         record {
           whole = g.whole ∙ (ap (λ t. taken ++ t) split ∙ sym (append_assoc taken piece rest));
           line_is = begun_is ∙ (ap (λ l. unended l piece) g.line_is ∙ sym (left_append [] taken piece));
           go = ap has_quit (taken_lines taken piece line g.line_is) ∙ (quit_go (ended_lines [] taken) (ended_lines line piece) g.go ∙ go);
-          answered = subst (λ (is : List Item). Answered true world next is had more old now) (sym items_are)
-              (answered_both true world later next (commands_of (ended_lines [] taken)) (commands_of (ended_lines line piece)) had has more old then now g.answered a);
-          moments = progress_part true reads world (commands_of (lines_of script)) later (commands_of (lines_from line left)) had has old then going_progress
-              (commands_of (ended_lines line piece)) some.0 some.1 now moments;
+          rows = q.rows;
+          run = subst (λ (is : List Item). IsRun step world is q.rows) items_are q.run;
+          answered = q.answered;
+          in_time = takes_append (in_time_more step world g.rows r.given.rows old then g.in_time) (takes_none unread);
+          moments = q.moments;
         }
 
     -- more bytes come than are read
     pub going_too_long : (piece rest : List ℕ) (limit : ℕ) → length taken ≡ limit → left ≡ piece ++ rest → 0 < length piece
-        → IsTooLong limit script × (printed then ≡ printed old ++ output_of_ended world (take limit script))
+        → IsTooLong limit script × (ended_items taken ≡ ended_items (take limit script)) × (printed then ≡ printed old ++ output_of g.rows)
     going_too_long piece rest limit size split some =
         let cut : take limit script ≡ taken = ap (λ t. take limit t) g.whole ∙ take_at taken left limit size in
         let sizes : length script ≡ length taken + (length piece + length rest) =
         ap length g.whole ∙ (length-append taken left ∙ ap (λ n. length taken + n) (ap length split ∙ length-append piece rest)) in
-        (record { long = omega arith; no_quit = ap quits cut ∙ g.go }, out_taken ∙ ap (λ t. printed old ++ output_of_ended world t) (sym cut))
+        (record { long = omega arith; no_quit = ap quits cut ∙ g.go }, ap ended_items (sym cut), g.answered.put)
 
     -- the script has ended
     pub through_end : (rest : List ℕ) (limit : ℕ) → length taken ≤ limit → left ≡ [] → rest ≡ [] → IsReadThrough limit script rest
@@ -191,49 +224,83 @@ module _ (reads : List ℕ → Option Store) where
         }
 
     -- the output is that of the bytes taken
-    pub answered_taken : (rest : List ℕ) → rest ≡ left → AnsweredTaken world script rest (printed old) (printed then)
-    answered_taken rest same = record { taken = taken; split = g.whole ∙ ap (λ r. taken ++ r) (sym same); out = out_taken }
+    pub answered_taken : (rest : List ℕ) → rest ≡ left → AnsweredTaken (ended_items taken) g.rows script rest (printed old) (printed then)
+    answered_taken rest same = record { taken = taken; split = g.whole ∙ ap (λ r. taken ++ r) (sym same); items_are = refl; out = g.answered.put }
 
 -- ---- what is said of the whole
 
-halted_lines : (limit : ℕ) (halt : Halt) (world : World) (script left old now : List ℕ) → HaltedIn halt world (commands_of (lines_of script)) old now → Halted limit halt world script left old now
-halted_lines limit Memory world script left old now some = subst (λ (t : List ℕ). WroteSome t old now) (sym (whole_output world script)) some
-halted_lines limit (Device unit) world script left old now some =
-    let cut = cut_lines (lines_of script) some.first some.rest some.split in
-    record {
-      first = cut.begun;
-      rest = cut.more;
-      split = cut.split;
-      out = some.out ∙ ap (λ t. old ++ t) (ap (texts world) (sym cut.commands) ∙ sym (output_commands world cut.begun));
-    }
-halted_lines limit Sink world script left old now some = subst (λ (t : List ℕ). WroteSome t old now) (sym (whole_output world script)) some
-halted_lines limit Source world script left old now some = absurd some
-halted_lines limit TooLong world script left old now some = absurd some
+halted_ran : (limit : ℕ) (halt : Halt) (items : List Item) (rows : List Row) (script left old now : List ℕ) → HaltedIn halt rows old now → Halted limit halt items rows script left old now
+halted_ran limit Memory items rows script left old now some = some
+halted_ran limit (Device unit) items rows script left old now some = some
+halted_ran limit Sink items rows script left old now some = some
+halted_ran limit Source items rows script left old now some = absurd some
+halted_ran limit TooLong items rows script left old now some = absurd some
 
-module _ {T : Type 0} (reads : List ℕ → Option Store) (limit : ℕ) (result : Result T Halt) (world : World) (old new : Outside) where
+module _ {T : Type 0} (step : Stepping) (reads : List ℕ → Option Store) (limit : ℕ) (result : Result T Halt) (world : World) (old new : Outside) where
   -- all of the script was answered, or the run was halted in it
-  pub session_ran : (next : World) (had has : List (List ℕ) → Type 0) → Ran true reads result world next (commands_of (lines_of old.input)) had has old.now new.now
-      → OnOk result (IsReadThrough limit old.input new.input) → Session reads limit result world old new
-  session_ran next had has r read = record {
-    out = on_ok_weaker result (λ a. a.put ∙ ap (λ t. out_of old ++ t) (sym (whole_output world old.input))) r.done;
-    read = read;
-    halted = lines result (r.halted refl);
-    crash = crash_always reads old.now world (commands_of (lines_of old.input)) old.now new.now (r.moments old.now (λ unit none. refl));
+  pub session_ran : (next : World) (had has : List (List ℕ) → Type 0) → (r : Ran step true reads result world next (script_items old.input) had has old.now new.now)
+      → OnOk result (IsReadThrough limit old.input new.input) → ReadsInTime step world r.given.rows old.now new.now → Session step reads limit result world old new
+  session_ran next had has r read in_time = record {
+    played = record {
+      given = r.given;
+      out = on_ok_weaker result (λ d. (d.0, d.1.put)) r.done;
+      read = read;
+      halted = lines result (r.halted refl);
+      in_time = in_time;
+    };
+    crash = crash_always reads old.now world r.given.rows old.now new.now (r.moments old.now (λ unit none. refl));
   }
     where
-      lines : (v : Result T Halt) → IfErr v (λ halt. HaltedIn halt world (commands_of (lines_of old.input)) (printed old.now) (printed new.now))
-          → IfErr v (λ halt. Halted limit halt world old.input new.input (out_of old) (out_of new))
+      lines : (v : Result T Halt) → IfErr v (λ halt. HaltedIn halt r.given.rows (printed old.now) (printed new.now))
+          → IfErr v (λ halt. Halted limit halt r.given.first r.given.rows old.input new.input (out_of old) (out_of new))
       lines (Ok x) some = tt
-      lines (Err halt) some = halted_lines limit halt world old.input new.input (out_of old) (out_of new) some
+      lines (Err halt) some = halted_ran limit halt r.given.first r.given.rows old.input new.input (out_of old) (out_of new) some
 
   -- the run was halted between two lines
-  pub session_halted : (halt : Halt) → result ≡ Err halt → Halted limit halt world old.input new.input (out_of old) (out_of new)
-      → ((start : Moment) → Untouched start world old.now → Always (SafeAt true reads start world (commands_of (lines_of old.input)) (printed old.now)) old.now new.now)
-      → Session reads limit result world old new
-  session_halted halt is some moments =
-      subst (λ (v : Result T Halt). Session reads limit v world old new) (sym is) (record {
-        out = tt;
-        read = tt;
-        halted = some;
-        crash = crash_always reads old.now world (commands_of (lines_of old.input)) old.now new.now (moments old.now (λ unit none. refl));
+  pub session_halted : (taken left : List ℕ) (later : World) (line : List ℕ) (had has : List (List ℕ) → Type 0) (g : Going step reads world old.input taken left later line had has old.now new.now) (halt : Halt)
+      → result ≡ Err halt → Halted limit halt (ended_items taken) g.rows old.input new.input (out_of old) (out_of new) → Session step reads limit result world old new
+  session_halted taken left later line had has g halt is some =
+      subst (λ (v : Result T Halt). Session step reads limit v world old new) (sym is) (record {
+        played = record {
+          given = going_given step reads world old.input taken left later line had has old.now new.now g;
+          out = tt;
+          read = tt;
+          halted = some;
+          in_time = g.in_time;
+        };
+        crash = crash_always reads old.now world g.rows old.now new.now (g.moments old.now (λ unit none. refl));
       })
+
+module _ (step : Stepping) (reads : List ℕ → Option Store) (limit : ℕ) (world : World) (old new : Outside) (taken left : List ℕ) (later : World) (line : List ℕ) (had half : List (List ℕ) → Type 0)
+    (then : Moment) (g : Going step reads world old.input taken left later line had half old.now then) (part more : List Item) (e : commands_of (lines_from line left) ≡ part ++ more)
+    (next : World) (has : List (List ℕ) → Type 0) (unread : Always (λ m. taken_by m ≡ taken_by then) then new.now) where
+  abbrev so_far : Progress step true reads world (script_items old.input) later (commands_of (lines_from line left)) had half old.now then
+  so_far = going_progress step reads world old.input taken left later line had half old.now then g
+
+  in_time : (rows : List Row) → ReadsInTime step world (g.rows ++ rows) old.now new.now
+  in_time rows = takes_append (in_time_more step world g.rows rows old.now then g.in_time) (takes_none unread)
+
+  -- the run was halted in the items that came next
+  pub session_part : {T U : Type 0} (result : Result T Halt) (halt : Halt) → result ≡ Err halt → Ran step true reads {T = U} (Err halt) later next part half has then new.now
+      → Session step reads limit result world old new
+  unfolding ran_halted
+  session_part {T} {U} result halt is r =
+      subst (λ (v : Result T Halt). Session step reads limit v world old new) (sym is)
+      (session_ran {T = T} step reads limit (Err halt) world old new next had has
+      (ran_halted step true reads world (script_items old.input) later (commands_of (lines_from line left)) had half old.now then so_far part more e {T = T} {U = U} halt next next has has new.now r)
+      tt (in_time r.given.rows))
+
+  -- they were answered, and they were the last
+  pub session_whole : {T U : Type 0} {x : T} {y : U} → more ≡ [] → Ran step true reads {T = U} (Ok y) later next part half has then new.now → IsReadThrough limit old.input new.input
+      → Session {T = T} step reads limit (Ok x) world old new
+  unfolding progress_more ran_all
+  session_whole {T} {U} {x} none r read =
+      session_ran {T = T} step reads limit (Ok x) world old new next had has
+      (ran_all step true reads world (script_items old.input) next more had has old.now new.now
+      (progress_more step true reads world (script_items old.input) later (commands_of (lines_from line left)) had half old.now then so_far part more e next has new.now r) x none)
+      read (in_time r.given.rows)
+
+  pub session_last : {T : Type 0} (result : Result T Halt) → more ≡ [] → Ran step true reads result later next part half has then new.now → OnOk result (IsReadThrough limit old.input new.input)
+      → Session step reads limit result world old new
+  session_last (Ok x) none r read = session_whole none r read
+  session_last (Err halt) none r read = session_part (Err halt) halt refl r

@@ -1,4 +1,4 @@
--- The lines that are answered are those of the definitions, and so are their items and their output.
+-- The lines that are answered are those of the definitions, and so are their items.
 use Rattle.std.proofs.Common.{◌≡◌, ℕ, Bool, true, false, not, ◌&&◌, cond, eqb, List, [], ◌∷◌, ◌++◌, map, Option, Some, None, Ok, Err, refl, sym, ◌∙◌, ap, append_assoc, append-nil}
 use Rattle.std.specs.Prelude.{filter_map, option_map}
 use Rattle.std.proofs.lemmas.Bool.{and_parts}
@@ -7,11 +7,8 @@ use Rattle.newt_script.specs.Lines.{line_answer, line_command}
 use Rattle.newt_spec_script.specs.Line.{Parsed, parsed}
 use Rattle.newt_spec_script.specs.Script as plain
 use Rattle.newt_spec_script.specs.Script.{Item, item_of, lines, up_to_quit, without_return}
-use Rattle.newt_spec_script.specs.Runs.{texts}
-use Rattle.newt_spec_world.specs.World.{World}
 use Rattle.newt_script_session.specs.Lines.{ended_lines, last_line, lines_of, unended}
-use Rattle.newt_script_session.specs.Run.{output, script_items}
-use Rattle.newt_script_session.specs.Script.{commands_of, given, items_of, output_of}
+use Rattle.newt_script_session.specs.Script.{commands_of, given, items_of, script_items}
 
 -- no line ends in these bytes
 abbrev clean : List ℕ → Bool
@@ -85,12 +82,3 @@ script_items_plain script = ap up_to_quit (ap items_of (lines_are script) ∙ it
 pub script_items_are : (script : List ℕ) → commands_of (lines_of script) ≡ script_items script
 unfolding script_items
 script_items_are script = script_items_plain script
-
--- its output
-pub script_output : (world : World) (script : List ℕ) → output_of world (lines_of script) ≡ plain.output world (plain.items_of readers script)
-unfolding output_of texts
-script_output world script = ap (texts world) (script_items_plain script)
-
-pub whole_output : (world : World) (script : List ℕ) → output world script ≡ texts world (commands_of (lines_of script))
-unfolding output texts
-whole_output world script = sym (ap (texts world) (script_items_plain script))

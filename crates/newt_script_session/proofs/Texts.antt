@@ -4,15 +4,10 @@ use Rattle.std.specs.Prelude.{count_by}
 use Rattle.std.proofs.lemmas.List.{length-append}
 use Rattle.std.proofs.lemmas.List.Sums.{count_by-le-length, sum_by-append}
 use Rattle.newt_base.proofs.Numerals.{decimal_written}
-use Rattle.newt_script_session.specs.Lines.{lines_of}
-use Rattle.newt_script_session.specs.Script.{commands_of}
 use Rattle.newt_spec_script.specs.Generator.{begins, summary, summary_line}
-use Rattle.newt_spec_world.specs.World.{World}
-use Rattle.newt_script_session.proofs.Spelling.{script_items_are}
 use Rattle.newt_script_session.specs.Counts.{Counts, Tallies, lines_of_tally, summary_of}
+use Rattle.newt_script_session.specs.Rows.{Row, reply_texts}
 use Rattle.newt_script_session.specs.declared.tally.Tally.{Tally}
-use Rattle.newt_spec_script.specs.Runs.{reply_texts}
-use Rattle.newt_spec_script.specs.Script.{Item}
 
 one_at_most : (b : Bool) → cond b 1 0 ≤ 1
 one_at_most true = omega arith
@@ -79,8 +74,7 @@ lines_pushed tally commands oks errors t0 t1 t2 t3 t4 n1 n2 n3 e0 e1 e2 e3 e4 =
     pushed (summary_line (codes "commands") tally.commands) (summary_line (codes "ok") tally.oks) (summary_line (codes "errors") tally.errors) (summary_line (codes "bytes") tally.bytes) t0 t1 t2 t3 t4
     e0 (e1 ∙ ap (λ n. t0 ++ summary_line (codes "commands") n) n1) (e2 ∙ ap (λ n. t1 ++ summary_line (codes "ok") n) n2) (e3 ∙ ap (λ n. t2 ++ summary_line (codes "errors") n) n3) e4
 
--- the lines of the tally of the replies to a script
-pub tally_summary : (world : World) (script : List ℕ) (tally : Tally) → Counts tally (reply_texts world (commands_of (lines_of script))) → lines_of_tally tally ≡ summary_of world script
+-- the lines of the tally of the replies of a run
+pub tally_summary : (rows : List Row) (tally : Tally) → Counts tally (reply_texts rows) → lines_of_tally tally ≡ summary_of rows
 unfolding summary_of
-tally_summary world script tally k =
-    lines_summary tally (reply_texts world (commands_of (lines_of script))) k ∙ ap (λ (is : List Item). summary (reply_texts world is)) (script_items_are script)
+tally_summary rows tally k = lines_summary tally (reply_texts rows) k

@@ -1,26 +1,56 @@
--- What the answering of items promises: of commands, and of refusals of readings. All of it is this project's own.
-use Rattle.std.specs.Prelude.{◌≡◌, ℕ, Bool, IsTrue, List, ◌++◌, Option, Result, OnOk, IfErr}
+-- What the answering of items promises: of commands, and of refusals of readings. All of it is this
+-- project's own.
+use Rattle.std.specs.Prelude.{◌≡◌, ℕ, Bool, IsTrue, List, [], ◌++◌, Option, Result, OnOk, IfErr}
 use Rattle.newt_host.specs.Moments.{Moment, Always, output as printed}
-use Rattle.newt_spec_script.specs.Script.{Item, world_after}
+use Rattle.newt_spec_script.specs.Script.{Item}
 use Rattle.newt_spec_store.specs.Store.{Store}
 use Rattle.newt_spec_world.specs.World.{World}
+use Rattle.newt_script_session.specs.Causes.{flow_of}
+use Rattle.newt_script_session.specs.Lines.{ended_lines, unended}
 use Rattle.newt_script_session.specs.Moments.{SafeAt, Untouched}
+use Rattle.newt_script_session.specs.Rows.{IsRun, Row, output_of, reply_texts, world_behind}
 use Rattle.newt_script_session.specs.Run.{HaltedIn}
+use Rattle.newt_script_session.specs.Script.{has_quit}
+use Rattle.newt_script_session.specs.Steps.{Stepping}
 use Rattle.newt_script_session.specs.Stream.{put_out}
+use Rattle.newt_script_session.specs.declared.halt.Flow.{Flow}
+use Rattle.newt_script_session.specs.declared.halt.Flow.TheVariants.{Go}
 use Rattle.newt_script_session.specs.declared.halt.Halt.{Halt}
-use Rattle.newt_spec_script.specs.Runs.{reply_texts, texts}
+
+-- A piece was taken behind a line begun before: whether a line that ended in it quits, and the line
+-- that it leaves begun where none does.
+pub record Fed (begun piece : List ℕ) (flow : Flow) (line : List ℕ) : Type 0 where
+  pub quits : flow ≡ flow_of (has_quit (ended_lines begun piece))
+  pub line_is : flow ≡ Go → line ≡ unended begun piece
 
 module _ (shows : Bool) where
-  -- All the items were answered, each reply was taken, and the sink had some replies before and has these behind them.
-  pub record Answered (world next : World) (items : List Item) (had has : List (List ℕ) → Type 0) (old now : Moment) : Type 0 where
-    pub world_is : next ≡ world_after world items
-    pub put : printed now ≡ printed old ++ put_out shows (texts world items)
-    pub took : (before : List (List ℕ)) → had before → has (before ++ reply_texts world items)
+  -- The rows were answered, each reply was taken, and the sink had some replies before and has
+  -- these behind them.
+  pub record Answered (world next : World) (rows : List Row) (had has : List (List ℕ) → Type 0)
+      (old now : Moment) : Type 0 where
+    pub world_is : next ≡ world_behind world rows
+    pub put : printed now ≡ printed old ++ put_out shows (output_of rows)
+    pub took : (before : List (List ℕ)) → had before → has (before ++ reply_texts rows)
     pub untouched : (start : Moment) → Untouched start world old → Untouched start next now
 
-module _ (shows : Bool) (reads : List ℕ → Option Store) where
-  -- The answering of items came to a result: all were answered, or it was halted in them, and a crash at each moment leaves what it may.
-  pub record Ran {T : Type 0} (result : Result T Halt) (world next : World) (items : List Item) (had has : List (List ℕ) → Type 0) (old now : Moment) : Type 0 where
-    pub done : OnOk result (Answered shows world next items had has old now)
-    pub halted : IsTrue shows → IfErr result (λ halt. HaltedIn halt world items (printed old) (printed now))
-    pub moments : (start : Moment) → Untouched start world old → Always (SafeAt shows reads start world items (printed old)) old now
+module _ (step : Stepping) where
+  -- The first of the items have been given, and these rows are a run over them.
+  pub record Given (world : World) (items : List Item) : Type 0 where
+    pub first : List Item
+    pub rest : List Item
+    pub split : items ≡ first ++ rest
+    pub rows : List Row
+    pub run : IsRun step world first rows
+
+  module _ (shows : Bool) (store_of_image : List ℕ → Option Store) where
+    -- The answering of items came to a result: all were given and answered, or it was halted in the
+    -- first ones, and a crash at each moment leaves what it may.
+    pub record Ran {T : Type 0} (result : Result T Halt) (world next : World) (items : List Item)
+        (had has : List (List ℕ) → Type 0) (old now : Moment) : Type 0 where
+      pub given : Given world items
+      pub done : OnOk result
+          ((given.rest ≡ []) × Answered shows world next given.rows had has old now)
+      pub halted : IsTrue shows
+          → IfErr result (λ halt. HaltedIn halt given.rows (printed old) (printed now))
+      pub moments : (start : Moment) → Untouched start world old
+          → Always (SafeAt shows store_of_image start world given.rows (printed old)) old now

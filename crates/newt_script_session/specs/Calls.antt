@@ -1,12 +1,16 @@
--- What the calls of a script promise beside their own effect: of faults, of the input and of what is attached.
-use Rattle.std.specs.Prelude.{◌≡◌, Bool, Result, OnOk, IfErr}
+-- What the calls of a script promise beside their own effect: of faults, of the input and of what
+-- is attached.
+use Rattle.std.specs.Prelude.{◌≡◌, Bool, IsTrue, Result, OnOk, IfErr}
+use Rattle.newt_host.specs.Moments.{Always, taken}
 use Rattle.newt_host.specs.Outside.{Outside, NoFault, Rose, SameCards}
 use Rattle.newt_script_session.specs.Causes.{HasCause, HasWriteCause, NeverLess, SameDevices}
 use Rattle.newt_script_session.specs.declared.halt.Halt.{Halt}
 use Rattle.newt_script_session.specs.declared.halt.Halt.TheVariants.{Source}
 
--- No count of faults has fallen. With an error there is its cause, and with an answer no fault was counted at all.
-pub record Faults {T E : Type 0} (Cause : E → (old new : Outside) → Type 0) (result : Result T E) (old new : Outside) : Type 0 where
+-- No count of faults has fallen. With an error there is its cause, and with an answer no fault was
+-- counted at all.
+pub record Faults {T E : Type 0} (Cause : E → (old new : Outside) → Type 0) (result : Result T E)
+    (old new : Outside) : Type 0 where
   pub later : NeverLess old new
   pub cause : IfErr result (λ error. Cause error old new)
   pub no_fault : OnOk result (NoFault old new)
@@ -15,15 +19,23 @@ pub record Faults {T E : Type 0} (Cause : E → (old new : Outside) → Type 0) 
 abbrev pub OutputFailed : {E : Type 0} → E → (old new : Outside) → Type 0
 OutputFailed error old new = Rose old.out_faults new.out_faults
 
--- What every call promises that puts out a text: no byte is read, and no device is other than it was.
-pub record WriteCall {T E : Type 0} (told : Bool) (Cause : E → (old new : Outside) → Type 0) (result : Result T E) (old new : Outside) : Type 0 where
+-- No byte of the input is read, at no moment.
+pub record Unread (told : Bool) (old new : Outside) : Type 0 where
   pub input : new.input ≡ old.input
+  pub moments : IsTrue told → Always (λ m. taken m ≡ taken old.now) old.now new.now
+
+-- What every call promises that puts out a text: no byte is read, and no device is other than it
+-- was.
+pub record WriteCall {T E : Type 0} (told : Bool) (Cause : E → (old new : Outside) → Type 0)
+    (result : Result T E) (old new : Outside) : Type 0 where
+  pub unread : Unread told old new
   pub devices : SameDevices told old new
   pub faults : Faults Cause result old new
 
 -- What every call promises that answers lines: no byte is read, and the same devices are attached.
-pub record AnswerCall {T : Type 0} (result : Result T Halt) (old new : Outside) : Type 0 where
-  pub input : new.input ≡ old.input
+pub record AnswerCall {T : Type 0} (told : Bool) (result : Result T Halt)
+    (old new : Outside) : Type 0 where
+  pub unread : Unread told old new
   pub cards : SameCards old new
   pub faults : Faults HasWriteCause result old new
 
@@ -31,19 +43,22 @@ pub record AnswerCall {T : Type 0} (result : Result T Halt) (old new : Outside) 
 abbrev pub HasReadCause : Halt → (old new : Outside) → Type 0
 HasReadCause halt old new = (halt ≡ Source) × Rose old.in_faults new.in_faults
 
--- What a read of the input promises: the output has counted no fault, and no device is other than it was.
-pub record ReadCall {T : Type 0} (told : Bool) (result : Result T Halt) (old new : Outside) : Type 0 where
+-- What a read of the input promises: the output has counted no fault, and no device is other than
+-- it was.
+pub record ReadCall {T : Type 0} (told : Bool) (result : Result T Halt)
+    (old new : Outside) : Type 0 where
   pub devices : SameDevices told old new
   pub out_faults : new.out_faults ≡ old.out_faults
   pub faults : Faults HasReadCause result old new
 
--- What every call promises that reads the input and answers its lines: the same devices are attached.
+-- What every call promises that reads the input and answers its lines: the same devices are
+-- attached.
 pub record RunCall {T : Type 0} (result : Result T Halt) (old new : Outside) : Type 0 where
   pub cards : SameCards old new
   pub faults : Faults HasCause result old new
 
 -- So far no byte was read, the same devices are attached, and no fault was counted.
-pub record Quiet (old new : Outside) : Type 0 where
-  pub input : new.input ≡ old.input
+pub record Quiet (told : Bool) (old new : Outside) : Type 0 where
+  pub unread : Unread told old new
   pub cards : SameCards old new
   pub no_fault : NoFault old new

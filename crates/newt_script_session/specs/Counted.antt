@@ -1,42 +1,54 @@
--- What a crash leaves at each moment of a script whose replies are counted. All of it is this project's own.
-use Rattle.std.specs.Prelude.{◌≡◌, ◌⊎◌, ℕ, ◌+◌, ◌<◌, List, ◌++◌, length, Option, Some, None, MatchOption, Result, OnOk, IfErr}
+-- What a crash leaves at each moment of a script whose replies are counted. All of it is this
+-- project's own.
+use Rattle.std.specs.Prelude.{◌≡◌, ℕ, ◌+◌, ◌<◌, List, [], ◌++◌, length, Option, Result, OnOk, IfErr}
 use Rattle.newt_host.specs.Meanings.{out_of}
 use Rattle.newt_host.specs.Moments.{Moment, MayLeave, Always, output as printed}
 use Rattle.newt_host.specs.Outside.{Outside}
-use Rattle.newt_script_session.specs.Moments.{BeforeOrAfter, world_at}
+use Rattle.newt_script_session.specs.Answered.{Given}
 use Rattle.newt_script_session.specs.Counts.{summary_of}
-use Rattle.newt_script_session.specs.Lines.{lines_of}
-use Rattle.newt_script_session.specs.Run.{HaltedReply}
-use Rattle.newt_script_session.specs.Script.{commands_of}
+use Rattle.newt_script_session.specs.Moments.{BeforeOrAfter, HeldOrAfter}
+use Rattle.newt_script_session.specs.Rows.{Row, world_at}
+use Rattle.newt_script_session.specs.Run.{SummaryHalted}
+use Rattle.newt_script_session.specs.Script.{script_items}
+use Rattle.newt_script_session.specs.Steps.{Stepping}
 use Rattle.newt_script_session.specs.declared.halt.Halt.{Halt}
 use Rattle.newt_spec_script.specs.Script.{Item}
 use Rattle.newt_spec_store.specs.Store.{Store}
-use Rattle.newt_spec_world.specs.World.{World, store_on_unit}
+use Rattle.newt_spec_world.specs.World.{World}
 
--- A crash at this moment: the output has grown by so much, a number of the items has been answered, which is all of them where a byte is out, and the crash
--- leaves each unit between the worlds behind these items and behind one more. Behind the last item both are one.
-pub record CountedAt (store_of_image : List ℕ → Option Store) (start : Moment) (world : World) (items : List Item) (old : List ℕ) (now : Moment) : Type 0 where
+-- A crash at this moment: the output has grown by so much, a number of the items has been answered,
+-- which is all of them where a byte is out, and the crash leaves each unit between the worlds
+-- behind the rows of these items and behind one more, whatever rows follow. Behind the last row
+-- both are one.
+pub record CountedAt (store_of_image : List ℕ → Option Store) (start : Moment) (world : World)
+    (items : List Item) (rows : List Row) (old : List ℕ) (now : Moment) : Type 0 where
   pub shown : List ℕ
   pub out : printed now ≡ old ++ shown
-  pub done : ℕ
-  pub all : 0 < length shown → done ≡ length items
-  pub leaves : (unit : ℕ) (left : List ℕ) → MayLeave unit now left
-      → BeforeOrAfter store_of_image start (world_at world items done) (world_at world items (done + 1)) unit left
+  pub leaves : (more : List Row) → (done : ℕ) × (0 < length shown → done ≡ length items)
+      × ((unit : ℕ) (left : List ℕ) → MayLeave unit now left
+      → BeforeOrAfter store_of_image start (world_at world (rows ++ more) done)
+      (world_at world (rows ++ more) (done + 1)) unit left)
 
--- What a crash has left on a unit whose device was held like this before the run, while that was the output: the unit's store behind a number of the items or
--- behind one more, and behind all of them where a byte was out. A unit without a store in both of these worlds is as its device was held.
-pub record HasLeftCounted (store_of_image : List ℕ → Option Store) (world : World) (items : List Item) (held : Option (List ℕ)) (old out : List ℕ) (unit : ℕ) (left : List ℕ) : Type 0 where
+-- What a crash has left on a unit whose device was held like this before the run, while that was
+-- the output: the unit is between the worlds behind a number of the rows and behind one more,
+-- whatever rows follow, and behind those of all items where a byte was out.
+pub record HasLeftCounted (store_of_image : List ℕ → Option Store) (world : World)
+    (items : List Item) (rows : List Row) (held : Option (List ℕ)) (old out : List ℕ) (unit : ℕ)
+    (left : List ℕ) : Type 0 where
   pub shown : List ℕ
   pub grown : out ≡ old ++ shown
-  pub done : ℕ
-  pub all : 0 < length shown → done ≡ length items
-  pub leaves : let next = store_on_unit (world_at world items (done + 1)) unit in
-      MatchOption (store_on_unit (world_at world items done) unit)
-      (next ≡ None → held ≡ Some left)
-      (λ store. (store_of_image left ≡ Some store) ⊎ (store_of_image left ≡ next))
+  pub leaves : (more : List Row) → (done : ℕ) × (0 < length shown → done ≡ length items)
+      × HeldOrAfter store_of_image held (world_at world (rows ++ more) done)
+      (world_at world (rows ++ more) (done + 1)) unit left
 
--- The script was answered from this world on, and its replies counted: what was written of the summary, and what a crash leaves at each moment.
-pub record Counted {T : Type 0} (store_of_image : List ℕ → Option Store) (script : List ℕ) (result : Result T Halt) (world : World) (old new : Outside) : Type 0 where
-  pub out : OnOk result (out_of new ≡ out_of old ++ summary_of world script)
-  pub halted : IfErr result (λ halt. HaltedReply halt (summary_of world script) (out_of old) (out_of new))
-  pub crash : Always (CountedAt store_of_image old.now world (commands_of (lines_of script)) (out_of old)) old.now new.now
+-- The script was answered from this world on, by a run over its first items, and with an answer
+-- over all, and the replies counted: what was written of the summary, and what a crash leaves at
+-- each moment.
+pub record Counted {T : Type 0} (step : Stepping) (store_of_image : List ℕ → Option Store)
+    (script : List ℕ) (result : Result T Halt) (world : World) (old new : Outside) : Type 0 where
+  pub given : Given step world (script_items script)
+  pub out : OnOk result ((given.rest ≡ []) × (out_of new ≡ out_of old ++ summary_of given.rows))
+  pub halted : IfErr result
+      (λ halt. SummaryHalted halt given.rest (summary_of given.rows) (out_of old) (out_of new))
+  pub crash : Always (CountedAt store_of_image old.now world (script_items script) given.rows
+      (out_of old)) old.now new.now

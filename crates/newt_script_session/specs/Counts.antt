@@ -1,10 +1,9 @@
 -- What the replies of a script come to. All of it is this project's own.
-use Rattle.std.specs.Prelude.{◌≡◌, ℕ, ◌≤◌, ◌<◌, ◌*◌, ◌^◌, ◌++◌, List, length, codes, count_by, sum_by}
-use Rattle.newt_script_session.specs.Run.{script_items}
+use Rattle.std.specs.Prelude.{◌≡◌, ℕ, ◌≤◌, ◌<◌, ◌*◌, ◌^◌, ◌++◌, List, length, codes, count_by}
+use Rattle.std.specs.Prelude.{sum_by}
+use Rattle.newt_script_session.specs.Rows.{Row, reply_texts}
 use Rattle.newt_spec_script.specs.Generator.{begins, summary, summary_line}
-use Rattle.newt_spec_world.specs.World.{World}
 use Rattle.newt_script_session.specs.declared.tally.Tally.{Tally}
-use Rattle.newt_spec_script.specs.Runs.{reply_texts}
 
 -- The tally is that of these texts, each of which fits the memory.
 pub record Counts (tally : Tally) (texts : List (List ℕ)) : Type 0 where
@@ -24,6 +23,6 @@ lines_of_tally tally =
     summary_line (codes "commands") tally.commands ++ summary_line (codes "ok") tally.oks
     ++ summary_line (codes "errors") tally.errors ++ summary_line (codes "bytes") tally.bytes
 
--- the summary of the replies to a script
-unfoldable pub summary_of : World → List ℕ → List ℕ
-summary_of world script = summary (reply_texts world (script_items script))
+-- the summary of the replies of a run
+unfoldable pub summary_of : List Row → List ℕ
+summary_of rows = summary (reply_texts rows)

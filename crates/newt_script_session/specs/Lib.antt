@@ -1,11 +1,13 @@
 pub mod Stream
 pub mod Lines
 pub mod Script
+pub mod Steps
+pub mod Rows
 pub mod Causes
 pub mod Calls
 pub mod Run
 pub mod Moments
-pub mod Steps
+pub mod Reading
 pub mod Answered
 pub mod Session
 pub mod Counts

@@ -1,38 +1,55 @@
 -- A script over the devices of names. All of it is this project's own.
-use Rattle.std.specs.Prelude.{◌≡◌, ℕ, List, ◌++◌, Option, Some, slice_get, option_and_then, Result, OnOk, IfErr}
+use Rattle.std.specs.Prelude.{◌≡◌, ℕ, List, [], ◌++◌, Option, Some, slice_get, option_and_then}
+use Rattle.std.specs.Prelude.{Result, OnOk, IfErr}
 use Rattle.newt_host.specs.Meanings.{held, left_since, out_of, since}
 use Rattle.newt_host.specs.Outside.{Outside}
 use Rattle.newt_spec_store.specs.Store.{Store}
 use Rattle.newt_spec_world.specs.First.{world_of}
 use Rattle.newt_spec_world.specs.World.{World}
+use Rattle.newt_script_session.specs.Answered.{Given}
 use Rattle.newt_script_session.specs.Counted.{HasLeftCounted}
 use Rattle.newt_script_session.specs.Counts.{summary_of}
 use Rattle.newt_script_session.specs.Moments.{HasLeft}
-use Rattle.newt_script_session.specs.Run.{output, script_items, Halted, HaltedReply, IsReadThrough}
+use Rattle.newt_script_session.specs.Run.{SummaryHalted}
+use Rattle.newt_script_session.specs.Session.{Played}
+use Rattle.newt_script_session.specs.Script.{script_items}
+use Rattle.newt_script_session.specs.Steps.{Stepping}
 use Rattle.newt_script_session.specs.declared.halt.Halt.{Halt}
 
--- the world before the first command: the devices of the names as they are held, of which none is mounted
-abbrev pub first : (List ℕ → Option Store) → List (List ℕ) → Outside → World
-first store_of_image names old = world_of store_of_image (held old) names
+-- the world before the first command: the devices of the names as they are held, of which none is
+-- mounted
+abbrev pub first_world : (List ℕ → Option Store) → List (List ℕ) → Outside → World
+first_world store_of_image names old = world_of store_of_image (held old) names
 
--- this holds of what a crash might have left on a unit at any moment since it was attached, while that was the output
+-- this holds of what a crash might have left on a unit at any moment since it was attached, while
+-- that was the output
 abbrev pub AtEachMoment : Outside → (Left : (unit : ℕ) → (left shown : List ℕ) → Type 0) → Type 0
-AtEachMoment new Left = (unit t : ℕ) (left shown : List ℕ) → since new unit ≡ Some t → left_since new t unit left shown → Left unit left shown
+AtEachMoment new Left = (unit t : ℕ) (left shown : List ℕ) → since new unit ≡ Some t
+    → left_since new t unit left shown → Left unit left shown
 
 -- how the device of a unit was held before
 abbrev pub held_by : List (List ℕ) → Outside → ℕ → Option (List ℕ)
 held_by names old unit = option_and_then (held old) (slice_get names unit)
 
--- The script of the input was answered: what was written, what was read, how far the run came where it was halted, and what a crash might have left, whatever
--- the result is.
-pub record RanNamed {T : Type 0} (store_of_image : List ℕ → Option Store) (limit : ℕ) (result : Result T Halt) (names : List (List ℕ)) (old new : Outside) : Type 0 where
-  pub out : OnOk result (out_of new ≡ out_of old ++ output (first store_of_image names old) old.input)
-  pub read : OnOk result (IsReadThrough limit old.input new.input)
-  pub halted : IfErr result (λ halt. Halted limit halt (first store_of_image names old) old.input new.input (out_of old) (out_of new))
-  pub crash : AtEachMoment new (λ unit left shown. HasLeft store_of_image (first store_of_image names old) (script_items old.input) (held_by names old unit) (out_of old) shown unit left)
+-- The script of the input was answered, and at each moment a crash might have left on a unit what
+-- it may.
+pub record RanNamed {T : Type 0} (step : Stepping) (store_of_image : List ℕ → Option Store)
+    (limit : ℕ) (result : Result T Halt) (names : List (List ℕ)) (old new : Outside) : Type 0 where
+  pub played : Played step limit result (first_world store_of_image names old) old new
+  pub crash : AtEachMoment new (λ unit left shown.
+      HasLeft store_of_image (first_world store_of_image names old) played.given.rows
+      (held_by names old unit) (out_of old) shown unit left)
 
--- A script in memory was answered and its replies counted: what was written is the summary, or a first part of it, and nothing where a device failed.
-pub record CountedNamed {T : Type 0} (store_of_image : List ℕ → Option Store) (script : List ℕ) (result : Result T Halt) (names : List (List ℕ)) (old new : Outside) : Type 0 where
-  pub out : OnOk result (out_of new ≡ out_of old ++ summary_of (first store_of_image names old) script)
-  pub halted : IfErr result (λ halt. HaltedReply halt (summary_of (first store_of_image names old) script) (out_of old) (out_of new))
-  pub crash : AtEachMoment new (λ unit left shown. HasLeftCounted store_of_image (first store_of_image names old) (script_items script) (held_by names old unit) (out_of old) shown unit left)
+-- A script in memory was answered, by a run over its first items, and with an answer over all, and
+-- its replies counted: what was written is the summary, or a first part of it, and nothing where a
+-- device failed.
+pub record CountedNamed {T : Type 0} (step : Stepping) (store_of_image : List ℕ → Option Store)
+    (script : List ℕ) (result : Result T Halt) (names : List (List ℕ))
+    (old new : Outside) : Type 0 where
+  pub given : Given step (first_world store_of_image names old) (script_items script)
+  pub out : OnOk result ((given.rest ≡ []) × (out_of new ≡ out_of old ++ summary_of given.rows))
+  pub halted : IfErr result
+      (λ halt. SummaryHalted halt given.rest (summary_of given.rows) (out_of old) (out_of new))
+  pub crash : AtEachMoment new (λ unit left shown.
+      HasLeftCounted store_of_image (first_world store_of_image names old) (script_items script)
+      given.rows (held_by names old unit) (out_of old) shown unit left)

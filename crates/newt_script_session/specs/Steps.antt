@@ -14,9 +14,9 @@ use Rattle.newt_laws_world.specs.Answering.{Answering}
 abbrev pub Stepping : Type 1
 Stepping = World → Command → World → Reply → Type 0
 
--- the only step is the one that the plain world answers
-abbrev pub IsPlain : Stepping → Type 0
-IsPlain step = (world next : World) (command : Command) (reply : Reply) → step world command next reply → answer world command ≡ (next, reply)
+-- the step that the plain world answers, and no other
+abbrev pub plain_step : Stepping
+plain_step world command next reply = answer world command ≡ (next, reply)
 
 -- A command was given in a world: there is a step, whatever became of the call, and at each moment
 -- a crash leaves each unit as in the one world or in the other. Where it was answered, the reply is

@@ -4,7 +4,6 @@ ghost use Rattle.newt_script_session.specs.Calls.{AnswerCall, WriteCall};
 ghost use Rattle.newt_script_session.specs.Causes.{HasSinkCause};
 ghost use Rattle.newt_script_session.specs.Counted.{Counted};
 ghost use Rattle.newt_script_session.specs.Counts.{lines_of_tally};
-ghost use Rattle.newt_script_session.specs.Steps.{IsPlain};
 ghost use Rattle.newt_script_session.specs.Stream.{Puts};
 
 use crate::feed::answer_text;
@@ -39,10 +38,9 @@ pub fn tally_script<H: Host, I: Interpreter>(
     script: &[u8],
 ) -> Result<(), Halt>
     requires stands { I.stands H.told interpreter.old (H.outside host.old) }
-    requires plain { IsPlain I.step }
-    ensures counted { IsTrue H.told → Counted I.store_of_image script.now result
+    ensures counted { IsTrue H.told → Counted I.step I.store_of_image script.now result
         (I.world interpreter.old (H.outside host.old)) (H.outside host.old) (H.outside host.new) }
-    ensures call { AnswerCall result (H.outside host.old) (H.outside host.new) }
+    ensures call { AnswerCall H.told result (H.outside host.old) (H.outside host.new) }
 {
     let mut tally = Tally::new();
     answer_text(alloc, host, interpreter, &mut tally, script)?;

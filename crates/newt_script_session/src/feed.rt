@@ -1,13 +1,9 @@
 //! The lines that end in one piece of a script: the one loop over lines.
-ghost use Rattle.std.specs.Prelude.{IsTrue, ◌≡◌, IfOk, OnOk, MatchOption};
-ghost use Rattle.newt_script_session.specs.Answered.{Ran};
+ghost use Rattle.std.specs.Prelude.{IsTrue, IfOk, OnOk, MatchOption};
+ghost use Rattle.newt_script_session.specs.Answered.{Fed, Ran};
 ghost use Rattle.newt_script_session.specs.Calls.{AnswerCall};
-ghost use Rattle.newt_script_session.specs.Steps.{IsPlain};
-ghost use Rattle.newt_script_session.specs.Causes.{flow_of};
 ghost use Rattle.newt_script_session.specs.Lines.{BeginsWith, HasNoEnd, ended_lines, last_line};
-ghost use Rattle.newt_script_session.specs.Lines.{lines_of, unended};
-ghost use Rattle.newt_script_session.specs.Script.{commands_of, has_quit};
-ghost use Rattle.newt_script_session.specs.declared.halt.Flow.TheVariants.{Go};
+ghost use Rattle.newt_script_session.specs.Script.{commands_of, script_items};
 
 use crate::halt::{Flow, Halt};
 use crate::interpreter::Interpreter;
@@ -37,18 +33,14 @@ pub fn feed<H: Host, I: Interpreter, S: Sink>(
     piece: &[u8],
 ) -> Result<Flow, Halt>
     requires stands { I.stands H.told interpreter.old (H.outside host.old) }
-    requires plain { IsPlain I.step }
     ensures stands { OnOk result (I.stands H.told interpreter.new (H.outside host.new)) }
-    ensures flow { IfOk result (λ flow.
-        flow ≡ flow_of (has_quit (ended_lines line.old.items piece.now))) }
-    ensures line { IfOk result (λ flow. flow ≡ Go
-        → line.new.items ≡ unended line.old.items piece.now) }
-    ensures ran { IsTrue H.told → Ran S.shows I.store_of_image result
+    ensures fed { IfOk result (λ flow. Fed line.old.items piece.now flow line.new.items) }
+    ensures ran { IsTrue H.told → Ran I.step S.shows I.store_of_image result
         (I.world interpreter.old (H.outside host.old))
         (I.world interpreter.new (H.outside host.new))
         (commands_of (ended_lines line.old.items piece.now)) (S.has sink.old) (S.has sink.new)
         (H.outside host.old).now (H.outside host.new).now }
-    ensures call { AnswerCall result (H.outside host.old) (H.outside host.new) }
+    ensures call { AnswerCall H.told result (H.outside host.old) (H.outside host.new) }
 {
     let mut rest = piece;
     while let Some((ended, more)) = first_line(rest) {
@@ -76,14 +68,13 @@ pub fn finish<H: Host, I: Interpreter, S: Sink>(
     line: &[u8],
 ) -> Result<(), Halt>
     requires stands { I.stands H.told interpreter.old (H.outside host.old) }
-    requires plain { IsPlain I.step }
     ensures stands { OnOk result (I.stands H.told interpreter.new (H.outside host.new)) }
-    ensures ran { IsTrue H.told → Ran S.shows I.store_of_image result
+    ensures ran { IsTrue H.told → Ran I.step S.shows I.store_of_image result
         (I.world interpreter.old (H.outside host.old))
         (I.world interpreter.new (H.outside host.new))
         (commands_of (last_line line.now)) (S.has sink.old) (S.has sink.new)
         (H.outside host.old).now (H.outside host.new).now }
-    ensures call { AnswerCall result (H.outside host.old) (H.outside host.new) }
+    ensures call { AnswerCall H.told result (H.outside host.old) (H.outside host.new) }
 {
     if line.is_empty() {
         return Ok(());
@@ -101,14 +92,13 @@ pub fn answer_text<H: Host, I: Interpreter, S: Sink>(
     text: &[u8],
 ) -> Result<(), Halt>
     requires stands { I.stands H.told interpreter.old (H.outside host.old) }
-    requires plain { IsPlain I.step }
     ensures stands { OnOk result (I.stands H.told interpreter.new (H.outside host.new)) }
-    ensures ran { IsTrue H.told → Ran S.shows I.store_of_image result
+    ensures ran { IsTrue H.told → Ran I.step S.shows I.store_of_image result
         (I.world interpreter.old (H.outside host.old))
         (I.world interpreter.new (H.outside host.new))
-        (commands_of (lines_of text.now)) (S.has sink.old) (S.has sink.new)
+        (script_items text.now) (S.has sink.old) (S.has sink.new)
         (H.outside host.old).now (H.outside host.new).now }
-    ensures call { AnswerCall result (H.outside host.old) (H.outside host.new) }
+    ensures call { AnswerCall H.told result (H.outside host.old) (H.outside host.new) }
 {
     let mut line = Vec::new(alloc);
     match feed(alloc, host, interpreter, sink, &mut line, text)? {

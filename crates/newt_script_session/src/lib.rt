@@ -4,10 +4,11 @@
 //! `Interpreter` says what an engine has to promise for one command, `Sink` what becomes of its
 //! reply. There is one loop over lines. With the input, piece by piece, and the output it runs a
 //! script; with a text in memory and a tally it counts the replies. It carries from one command to
-//! a whole script: what is written is, reply by reply, what the interpreter's world answers, or the
-//! summary of that, and a crash at any moment leaves each unit as it is in the world after some
-//! first commands, every command among them whose reply has begun, or all of them once a byte of
-//! the summary is out.
+//! a whole script: the commands go through one run of the interpreter's steps; what is written is
+//! the replies of that run, or the summary of them; the input is not read ahead of a reply that is
+//! due; and a crash at any moment leaves each unit as it is in the world after some first commands,
+//! every command among them whose reply has begun, or all of them once a byte of the summary is
+//! out.
 #![tactic(auto)]
 
 mod count;
@@ -24,7 +25,7 @@ mod write;
 
 pub use halt::Halt;
 pub use interpreter::Interpreter;
-pub use laws::lines_are_spelled;
+pub use laws::{lines_are_spelled, run_is_plain};
 pub use named::{run_named, tally_named};
 pub use pieces::{piece_buffer, read_piece};
 pub use write::write_all;

@@ -4,7 +4,6 @@ ghost use Rattle.newt_host_attach.specs.Named.{AreDistinct};
 ghost use Rattle.newt_script_session.specs.Calls.{Faults};
 ghost use Rattle.newt_script_session.specs.Causes.{HasCause, HasWriteCause};
 ghost use Rattle.newt_script_session.specs.Named.{CountedNamed, RanNamed};
-ghost use Rattle.newt_script_session.specs.Steps.{IsPlain};
 
 use crate::count::tally_script;
 use crate::halt::Halt;
@@ -25,8 +24,7 @@ pub fn run_named<H: Host, I: Interpreter>(
     requires few { length names.now ≤ 8 }
     requires distinct { AreDistinct (map string_bytes names.now) }
     requires free { (unit : ℕ) → (H.outside host.old).card unit ≡ None }
-    requires plain { IsPlain I.step }
-    ensures ran { IsTrue H.told → RanNamed I.store_of_image limit result
+    ensures ran { IsTrue H.told → RanNamed I.step I.store_of_image limit result
         (map string_bytes names.now) (H.outside host.old) (H.outside host.new) }
     ensures faults { Faults HasCause result (H.outside host.old) (H.outside host.new) }
 {
@@ -47,8 +45,7 @@ pub fn tally_named<H: Host, I: Interpreter>(
     requires few { length names.now ≤ 8 }
     requires distinct { AreDistinct (map string_bytes names.now) }
     requires free { (unit : ℕ) → (H.outside host.old).card unit ≡ None }
-    requires plain { IsPlain I.step }
-    ensures counted { IsTrue H.told → CountedNamed I.store_of_image script.now result
+    ensures counted { IsTrue H.told → CountedNamed I.step I.store_of_image script.now result
         (map string_bytes names.now) (H.outside host.old) (H.outside host.new) }
     ensures left { (H.outside host.new).input ≡ (H.outside host.old).input }
     ensures faults { Faults HasWriteCause result (H.outside host.old) (H.outside host.new) }

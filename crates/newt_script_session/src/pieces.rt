@@ -3,7 +3,6 @@ ghost use Rattle.std.specs.Prelude.{IsTrue, ◌≡◌, ◌<◌, ◌≤◌, [], t
 ghost use Rattle.std.specs.Prelude.{vec_len};
 ghost use Rattle.newt_host.specs.Outside.{Takes};
 ghost use Rattle.newt_script_session.specs.Calls.{ReadCall, RunCall};
-ghost use Rattle.newt_script_session.specs.Steps.{IsPlain};
 ghost use Rattle.newt_script_session.specs.Session.{Session};
 
 use crate::feed::{feed, finish};
@@ -48,8 +47,7 @@ fn answer_pieces<H: Host, I: Interpreter>(
     requires empty { line.old.items ≡ [] }
     requires room { 0 < length buffer.old }
     requires stands { I.stands H.told interpreter.old (H.outside host.old) }
-    requires plain { IsPlain I.step }
-    ensures session { IsTrue H.told → Session I.store_of_image limit result
+    ensures session { IsTrue H.told → Session I.step I.store_of_image limit result
         (I.world interpreter.old (H.outside host.old)) (H.outside host.old) (H.outside host.new) }
     ensures call { RunCall result (H.outside host.old) (H.outside host.new) }
 {
@@ -95,8 +93,7 @@ pub fn run_script<H: Host, I: Interpreter>(
     limit: usize,
 ) -> Result<(), Halt>
     requires stands { I.stands H.told interpreter.old (H.outside host.old) }
-    requires plain { IsPlain I.step }
-    ensures session { IsTrue H.told → Session I.store_of_image limit result
+    ensures session { IsTrue H.told → Session I.step I.store_of_image limit result
         (I.world interpreter.old (H.outside host.old)) (H.outside host.old) (H.outside host.new) }
     ensures call { RunCall result (H.outside host.old) (H.outside host.new) }
 {

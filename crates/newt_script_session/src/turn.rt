@@ -2,7 +2,6 @@
 ghost use Rattle.std.specs.Prelude.{IsTrue, ◌≡◌, [], ◌∷◌, Ok, IfOk, OnOk};
 ghost use Rattle.newt_script_session.specs.Answered.{Ran};
 ghost use Rattle.newt_script_session.specs.Calls.{AnswerCall};
-ghost use Rattle.newt_script_session.specs.Steps.{IsPlain};
 ghost use Rattle.newt_script_session.specs.Causes.{flow_of};
 ghost use Rattle.newt_script_session.specs.Script.{commands_of, has_quit};
 ghost use Rattle.newt_laws_world.specs.Worlds.{has_form};
@@ -36,16 +35,15 @@ fn obey<H: Host, I: Interpreter, S: Sink>(
     command: Command,
 ) -> Result<Flow, Halt>
     requires stands { I.stands H.told interpreter.old (H.outside host.old) }
-    requires plain { IsPlain I.step }
     requires form { IsTrue (has_form command) }
     ensures stands { OnOk result (I.stands H.told interpreter.new (H.outside host.new)) }
     ensures flow { IfOk result (λ flow. flow ≡ flow_of (is_quit (Ok command))) }
-    ensures ran { IsTrue H.told → Ran S.shows I.store_of_image result
+    ensures ran { IsTrue H.told → Ran I.step S.shows I.store_of_image result
         (I.world interpreter.old (H.outside host.old))
         (I.world interpreter.new (H.outside host.new))
         (Ok command ∷ []) (S.has sink.old) (S.has sink.new)
         (H.outside host.old).now (H.outside host.new).now }
-    ensures call { AnswerCall result (H.outside host.old) (H.outside host.new) }
+    ensures call { AnswerCall H.told result (H.outside host.old) (H.outside host.new) }
 {
     let flow = flow_after(&command);
     match interpreter.apply(host, command) {
@@ -68,12 +66,12 @@ fn refuse<H: Host, I: Interpreter, S: Sink>(
     requires stands { I.stands H.told interpreter.now (H.outside host.old) }
     ensures stands { OnOk result (I.stands H.told interpreter.now (H.outside host.new)) }
     ensures flow { IfOk result (λ flow. flow ≡ Flow.Go) }
-    ensures ran { IsTrue H.told → Ran S.shows I.store_of_image result
+    ensures ran { IsTrue H.told → Ran I.step S.shows I.store_of_image result
         (I.world interpreter.now (H.outside host.old))
         (I.world interpreter.now (H.outside host.new))
         (Err refusal ∷ []) (S.has sink.old) (S.has sink.new)
         (H.outside host.old).now (H.outside host.new).now }
-    ensures call { AnswerCall result (H.outside host.old) (H.outside host.new) }
+    ensures call { AnswerCall H.told result (H.outside host.old) (H.outside host.new) }
 {
     let reply = Reply::Refused(refusal);
     put_reply(alloc, host, sink, &reply)?;
@@ -89,15 +87,14 @@ pub fn turn<H: Host, I: Interpreter, S: Sink>(
     bytes: &[u8],
 ) -> Result<Flow, Halt>
     requires stands { I.stands H.told interpreter.old (H.outside host.old) }
-    requires plain { IsPlain I.step }
     ensures stands { OnOk result (I.stands H.told interpreter.new (H.outside host.new)) }
     ensures flow { IfOk result (λ flow. flow ≡ flow_of (has_quit (bytes.now ∷ []))) }
-    ensures ran { IsTrue H.told → Ran S.shows I.store_of_image result
+    ensures ran { IsTrue H.told → Ran I.step S.shows I.store_of_image result
         (I.world interpreter.old (H.outside host.old))
         (I.world interpreter.new (H.outside host.new))
         (commands_of (bytes.now ∷ [])) (S.has sink.old) (S.has sink.new)
         (H.outside host.old).now (H.outside host.new).now }
-    ensures call { AnswerCall result (H.outside host.old) (H.outside host.new) }
+    ensures call { AnswerCall H.told result (H.outside host.old) (H.outside host.new) }
 {
     match line(alloc, bytes) {
         Ok(None) => Ok(Flow::Go),

@@ -1,6 +1,5 @@
 //! Units that are full to their last page: filled, walked and changed in one run, and again in the
 //! next.
-ghost use Rattle.newt_script_session.specs.Steps.{IsPlain};
 
 use crate::sessions::{InMemory, OnDevice, expect_over};
 use newt_host::Unit;
@@ -78,9 +77,7 @@ fn walked(alloc: Global, count: u32) -> Result<String, Fail> {
 }
 
 /// Fills a unit of so many blocks with so many entries, and walks over them in a next run.
-fn fills<I: Interpreter>(alloc: Global, size: u32, count: u32) -> Result<(), Fail>
-    requires { IsPlain I.step }
-{
+fn fills<I: Interpreter>(alloc: Global, size: u32, count: u32) -> Result<(), Fail> {
     let blank = blocks(alloc, size)?;
     let table = filled(alloc, count)?;
     let host = expect_over::<I>(alloc, table.as_str(), &blank)?;

@@ -2,7 +2,6 @@
 ghost use Rattle.std.specs.Prelude.{true, IfOk, OnOk, IsTrue};
 ghost use Rattle.newt_laws_world.specs.Worlds.{has_form};
 ghost use Rattle.newt_memhost.specs.Outside.{outside_of};
-ghost use Rattle.newt_script_session.specs.Steps.{IsPlain};
 ghost use Rattle.newt_test_scripts.specs.Free.{IsFree};
 
 use newt_engine::World;
@@ -34,7 +33,6 @@ fn names(alloc: Global) -> Result<[String; 1], AllocError> {
 /// Answers the input of a host over its device `a`, to its end.
 pub(crate) fn run<I: Interpreter>(alloc: Global, host: &mut MemHost) -> Result<(), Fail>
     requires free { IsFree (outside_of host.old) }
-    requires plain { IsPlain I.step }
 {
     let names = names(alloc)?;
     match run_named::<MemHost, I>(alloc, host, &names, LIMIT) {
@@ -48,9 +46,7 @@ pub(crate) fn run_over<I: Interpreter>(
     alloc: Global,
     script: &[u8],
     bytes: &[u8],
-) -> Result<MemHost, Fail>
-    requires { IsPlain I.step }
-{
+) -> Result<MemHost, Fail> {
     let mut host = over(alloc, script, bytes, &[])?;
     run::<I>(alloc, &mut host)?;
     Ok(host)
@@ -61,9 +57,7 @@ pub(crate) fn expect_over<I: Interpreter>(
     alloc: Global,
     table: &str,
     bytes: &[u8],
-) -> Result<MemHost, Fail>
-    requires { IsPlain I.step }
-{
+) -> Result<MemHost, Fail> {
     let (script, output) = lines_of(alloc, table)?;
     let host = run_over::<I>(alloc, &script, bytes)?;
     if host.output() != output.as_slice() {

@@ -1,5 +1,4 @@
 //! What a stop within an add leaves, among 200 entries.
-ghost use Rattle.newt_script_session.specs.Steps.{IsPlain};
 
 use crate::names::card;
 use crate::sessions::{InMemory, OnDevice, run_over};
@@ -28,9 +27,7 @@ const ADD: &[u8] =
     b"mount 0\nadd 0 Names {name: {first: \"Ada\", last: \"Z\"}, labels: 'personal}\n";
 
 /// How many entries a next run finds on a card of these bytes.
-fn found<I: Interpreter>(alloc: Global, bytes: &[u8]) -> Result<u32, Fail>
-    requires { IsPlain I.step }
-{
+fn found<I: Interpreter>(alloc: Global, bytes: &[u8]) -> Result<u32, Fail> {
     let host = run_over::<I>(alloc, b"mount 0\nsoups 0\n", bytes)?;
     match host.output() {
         b"ok 1 Gen\nok Names 0 200\n" => Ok(200),
@@ -46,9 +43,7 @@ fn expect_kept<I: Interpreter>(
     host: &MemHost,
     call: u64,
     pick: Pick,
-) -> Result<(), Fail>
-    requires { IsPlain I.step }
-{
+) -> Result<(), Fail> {
     if host.blocks(Unit(0)) == 0 || call >= host.calls() {
         return Err(Fail::new("no such call"));
     }
@@ -60,9 +55,7 @@ fn expect_kept<I: Interpreter>(
 }
 
 /// The same of each call of the add, and each pick.
-fn stops<I: Interpreter>(alloc: Global) -> Result<(), Fail>
-    requires { IsPlain I.step }
-{
+fn stops<I: Interpreter>(alloc: Global) -> Result<(), Fail> {
     let bytes = card(alloc)?;
     let mounted = run_over::<I>(alloc, MOUNT, &bytes)?;
     let host = run_over::<I>(alloc, ADD, &bytes)?;

@@ -8,7 +8,9 @@ use Rattle.newt_base.specs.declared.Refusal.{Refusal}
 use Rattle.newt_laws_world.proofs.Later.{answer-later}
 use Rattle.newt_laws_world.proofs.Kept.{changed-units, on_units}
 use Rattle.newt_laws_world.proofs.Units.{same-or-not, device-other, device-same}
-use Rattle.newt_script_session.specs.Moments.{HasLeft, replies_begun, world_at}
+use Rattle.newt_script_session.specs.Answered.{Given}
+use Rattle.newt_script_session.specs.Moments.{HasLeft}
+use Rattle.newt_script_session.specs.Steps.{plain_step}
 use Rattle.newt_spec_graph.proofs.Lists.{none-some}
 use Rattle.newt_spec_script.specs.Script.{Item, step}
 use Rattle.newt_spec_store.specs.Store.{Store}
@@ -22,6 +24,8 @@ use Rattle.newt_spec_store.specs.Store as plain
 use Rattle.newt_store_catalog.specs.Readable.{readable}
 use Rattle.newt_script_session.specs.Counted.{HasLeftCounted}
 use Rattle.newt_top.specs.Crash.{formats, formats_next, IsOneOf, IsLeft, IsLeftCounted}
+use Rattle.newt_top.specs.Script.{replies_begun, world_at}
+use Rattle.newt_top.proofs.Plain.{later_rows, plain_begun, plain_held}
 
 -- ---- only a format gives a unit a store
 
@@ -152,23 +156,28 @@ module _ (w : World) (items : List Item) (held : Option (List ℕ)) (m u : ℕ) 
   pub untouched_left : Found (store_on_unit (world_at w items m) u) → store_on_unit (world_at w items m) u ≡ None → formats_next w items m u ≡ false → held ≡ Some left
   untouched_left found none other = subst (λ (o : Option Store). Found o) none found (still_none w items m u none other)
 
-pub is_left : (w : World) (items : List Item) (held : Option (List ℕ)) (old out : List ℕ) (u : ℕ) (left : List ℕ) → HasLeft readable w items held old out u left → IsLeft w items held old out u left
-is_left w items held old out u left h =
+pub is_left : (w : World) (items : List Item) (g : Given plain_step w items) (held : Option (List ℕ)) (old out : List ℕ) (u : ℕ) (left : List ℕ)
+    → HasLeft readable w g.rows held old out u left → IsLeft w items held old out u left
+is_left w items g held old out u left h =
     let m = replies_begun w items (length h.shown) in
+    let found = plain_begun w items g readable held (length h.shown) u left (h.leaves (later_rows w items g)) in
     record {
       shown = h.shown;
       grown = h.grown;
-      formatted = λ store is. formatted_left w items held m u left h.leaves store is;
-      untouched = λ none no. untouched_left w items held m u left h.leaves none no;
+      formatted = λ store is. formatted_left w items held m u left found store is;
+      untouched = λ none no. untouched_left w items held m u left found none no;
     }
 
-pub is_left_counted : (w : World) (items : List Item) (held : Option (List ℕ)) (old out : List ℕ) (u : ℕ) (left : List ℕ) → HasLeftCounted readable w items held old out u left
-    → IsLeftCounted w items held old out u left
-is_left_counted w items held old out u left h = record {
-  shown = h.shown;
-  grown = h.grown;
-  done = h.done;
-  all = h.all;
-  formatted = λ store is. formatted_left w items held h.done u left h.leaves store is;
-  untouched = λ none no. untouched_left w items held h.done u left h.leaves none no;
-}
+pub is_left_counted : (w : World) (items : List Item) (g : Given plain_step w items) (held : Option (List ℕ)) (old out : List ℕ) (u : ℕ) (left : List ℕ)
+    → HasLeftCounted readable w items g.rows held old out u left → IsLeftCounted w items held old out u left
+is_left_counted w items g held old out u left h =
+    let l = h.leaves (later_rows w items g) in
+    let found = plain_held w items g readable held l.0 u left l.2 in
+    record {
+      shown = h.shown;
+      grown = h.grown;
+      done = l.0;
+      all = l.1;
+      formatted = λ store is. formatted_left w items held l.0 u left found store is;
+      untouched = λ none no. untouched_left w items held l.0 u left found none no;
+    }

@@ -1,14 +1,21 @@
 -- Why a conversion halts, and a run of a script.
-use Rattle.std.proofs.Common.{◌≡◌, ℕ, ◌<◌, List, [], length, Some, None, Ok, Err, refl, sym, ◌∙◌, append-nil}
+use Rattle.std.proofs.Common.{◌≡◌, ◌⊎◌, inl, inr, ℕ, ◌<◌, List, [], length, take, Some, None, Ok, Err, refl, sym, ◌∙◌, subst, append-nil}
 use Rattle.newt_host.specs.Meanings.{out_of, since}
 use Rattle.newt_host.specs.Outside.{Outside, Rose}
 use Rattle.newt_script_session.specs.Calls.{Faults}
 use Rattle.newt_script_session.specs.Causes.{HasCause, HasWriteCause, NeverLess}
-use Rattle.newt_script_session.specs.Run.{Halted, HaltedReply}
+use Rattle.newt_script_session.specs.Answered.{Given}
+use Rattle.newt_script_session.specs.Counts.{summary_of as summary_of_rows}
+use Rattle.newt_script_session.specs.Run.{Halted, SummaryHalted}
+use Rattle.newt_script_session.specs.Script.{ended_items, script_items}
+use Rattle.newt_script_session.specs.Steps.{plain_step}
+use Rattle.newt_script_session.specs.Stream.{WroteSome}
+use Rattle.newt_script_session.proofs.Writing.{wrote_nothing}
 use Rattle.newt_script_session.specs.declared.halt.Halt.{Halt}
 use Rattle.newt_script_session.specs.declared.halt.Halt.TheVariants.{Memory, Device, Source, Sink, TooLong}
-use Rattle.newt_script_session.specs.Counts.{summary_of}
 use Rattle.newt_top.specs.Modes.{first, LeavesCounted, RanCounted, RanScript}
+use Rattle.newt_top.specs.Script.{summary_of}
+use Rattle.newt_top.proofs.Plain.{given_put, some_put, summary_is, whole_lines}
 use Rattle.newt_top.specs.Status.{HasStatusCause, IsFaultFree, IsFaultless, StatusFaults, status_of}
 use Rattle.newt_top.specs.declared.status.Status.{Status}
 use Rattle.newt_top.specs.declared.status.Status.TheVariants as statuses
@@ -25,22 +32,30 @@ halted_reading conversion limit Sink before after input old now cause long same 
 halted_reading conversion limit (Device unit) before after input old now cause long same = absurd cause
 
 -- what was written where they are
-pub halted_running : (halt : Halt) (limit : ℕ) (names : List (List ℕ)) (old new : Outside)
-    → Halted limit halt (first names old) old.input new.input (out_of old) (out_of new) → RanScript names limit (status_of halt) old new
-halted_running Memory limit names old new some = some
-halted_running (Device unit) limit names old new some = some
-halted_running Source limit names old new some = some
-halted_running Sink limit names old new some = some
-halted_running TooLong limit names old new some = some
+pub halted_running : (halt : Halt) (limit : ℕ) (names : List (List ℕ)) (old new : Outside) (g : Given plain_step (first names old) (script_items old.input))
+    → Halted limit halt g.first g.rows old.input new.input (out_of old) (out_of new) → RanScript names limit (status_of halt) old new
+halted_running Memory limit names old new g some = some_put (first names old) old.input g (out_of old) (out_of new) some
+halted_running (Device unit) limit names old new g some = whole_lines (first names old) old.input g (out_of old) (out_of new) some
+halted_running Source limit names old new g some =
+    record { taken = some.taken; split = some.split; out = given_put (first names old) old.input g (ended_items some.taken) (out_of old) (out_of new) some.items_are some.out }
+halted_running Sink limit names old new g some = some_put (first names old) old.input g (out_of old) (out_of new) some
+halted_running TooLong limit names old new g some = (some.0, given_put (first names old) old.input g (ended_items (take limit old.input)) (out_of old) (out_of new) some.1 some.2)
+
+-- nothing was written of the summary, or a first part of it
+summary_some : (script : List ℕ) (names : List (List ℕ)) (old new : Outside) (g : Given plain_step (first names old) (script_items script))
+    → (out_of new ≡ out_of old) ⊎ ((g.rest ≡ []) × WroteSome (summary_of_rows g.rows) (out_of old) (out_of new)) → WroteSome (summary_of (first names old) script) (out_of old) (out_of new)
+summary_some script names old new g (inl same) =
+    subst (λ (o : List ℕ). WroteSome (summary_of (first names old) script) (out_of old) o) (sym same) (wrote_nothing (summary_of (first names old) script) (out_of old))
+summary_some script names old new g (inr some) = subst (λ (t : List ℕ). WroteSome t (out_of old) (out_of new)) (summary_is (first names old) script g some.0) some.1
 
 -- what was written where the replies are counted
-pub halted_counting : (halt : Halt) (script : List ℕ) (names : List (List ℕ)) (old new : Outside) → HaltedReply halt (summary_of (first names old) script) (out_of old) (out_of new)
-    → RanCounted script names (status_of halt) old new
-halted_counting Memory script names old new some = some
-halted_counting (Device unit) script names old new some = some
-halted_counting Source script names old new some = some
-halted_counting Sink script names old new some = some
-halted_counting TooLong script names old new some = some
+pub halted_counting : (halt : Halt) (script : List ℕ) (names : List (List ℕ)) (old new : Outside) (g : Given plain_step (first names old) (script_items script))
+    → SummaryHalted halt g.rest (summary_of_rows g.rows) (out_of old) (out_of new) → RanCounted script names (status_of halt) old new
+halted_counting Memory script names old new g some = summary_some script names old new g some
+halted_counting (Device unit) script names old new g some = some
+halted_counting Source script names old new g some = some
+halted_counting Sink script names old new g some = summary_some script names old new g some
+halted_counting TooLong script names old new g some = some
 
 -- ---- faults
 

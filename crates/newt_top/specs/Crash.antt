@@ -1,13 +1,13 @@
 -- What a crash leaves of the devices of a script. All of it is this project's own.
 use Rattle.std.specs.Prelude.{◌≡◌, ◌⊎◌, ℕ, ◌+◌, ◌<◌, ◌==◌, ◌&&◌, Bool, false, is_none, List, ◌++◌, length, slice_get, Option, Some, None, Ok}
 use Rattle.newt_base.specs.Refusals.{first_of}
-use Rattle.newt_script_session.specs.Moments.{replies_begun, world_at}
 use Rattle.newt_spec_script.specs.Script.{Item}
 use Rattle.newt_spec_store.specs.Store.{Store}
 use Rattle.newt_spec_world.specs.declared.command.Command.TheVariants.{Format}
 use Rattle.newt_spec_world.specs.Refused.{checks}
 use Rattle.newt_spec_world.specs.World.{World, store_on_unit}
 use Rattle.newt_store_catalog.specs.Readable.{readable}
+use Rattle.newt_top.specs.Script.{replies_begun, world_at}
 
 -- the command is a format of this unit that is not refused
 abbrev pub formats : World → ℕ → Item → Bool

@@ -12,7 +12,7 @@ pub returns-in_err-answer_text-clause-counted : goal.returns-in_err-answer_text-
 returns-in_err-answer_text-clause-counted g c = λ told.
     let it = g.I.Interpreter in
     let p = err_from_is_err_and c.from_residual.result c.from_residual.ensures.1 in
-    counted_halted it.store_of_image c.args.script.now _ (g.H.Host.outside c.args.host.now) (g.H.Host.outside c.answer_text.new.host)
+    counted_halted it.step it.store_of_image c.args.script.now _ (g.H.Host.outside c.args.host.now) (g.H.Host.outside c.answer_text.new.host)
     _ c.in_err-answer_text.field-0.0 _ _ _ (p.1 ∙ ap Err p.2) c.in_err-answer_text.ensures.call.faults.cause (c.in_err-answer_text.ensures.ran told)
 
 -- ---- all were
@@ -27,8 +27,8 @@ returns-clause-counted g c = λ told.
     let last = it.world c.answer_text.new.interpreter mid in
     let stands = subst (λ (t : Bool). it.stands t c.answer_text.new.interpreter mid) told c.in_ok-answer_text.ensures.stands in
     let its = at_rest it.store_of_image last mid.now (λ unit store left e may. g.met.I.Interpreter.leaves c.answer_text.new.interpreter mid stands unit store left e may) in
-    counted_put it.store_of_image c.args.script.now w before mid _ last (Tallies c.answer_text.new.sink) c.new-tally.result c.answer_text.new.sink (c.in_ok-answer_text.ensures.ran told)
-    c.new-tally.ensures (λ texts h. h) (omega arith) c.put_tally.result new its c.put_tally.ensures.call.faults.cause (c.put_tally.ensures.puts told)
+    counted_put it.step it.store_of_image c.args.script.now w before mid _ last (Tallies c.answer_text.new.sink) c.new-tally.result c.answer_text.new.sink (c.in_ok-answer_text.ensures.ran told) its
+    c.new-tally.ensures (λ texts h. h) (omega arith) c.put_tally.result new c.put_tally.ensures.call.faults.cause (c.put_tally.ensures.puts told)
 
 pub returns-clause-call : goal.returns-clause-call
 returns-clause-call g c = answer_write _ (quiet_then (quiet-refl _) c.in_ok-answer_text.ensures.call) c.put_tally.ensures.call

@@ -1,4 +1,4 @@
-use Rattle.std.proofs.Common.{◌≡◌, ◌++◌, [], ◌∷◌, Bool, Err, refl, sym, ◌∙◌, ap, subst, append-nil, arith}
+use Rattle.std.proofs.Common.{◌≡◌, ◌++◌, [], ◌∷◌, Bool, Err, refl, sym, ◌∙◌, ap, subst, arith}
 use Rattle.std.proofs.lemmas.Grind.{common_steps}
 use Rattle.std.proofs.lemmas.Result.{err_from_is_err_and}
 use Rattle.newt_script_session.specs.Causes.{flow_of}
@@ -21,7 +21,7 @@ loop-ended-init g c =
       progress = λ told.
           let stands = subst (λ (t : Bool). it.stands t c.args.interpreter.now before) told c.requires.stands in
           let its = at_rest it.store_of_image w before.now (λ unit store left e may. g.met.I.Interpreter.leaves c.args.interpreter.now before stands unit store left e may) in
-          progress_start g.S.Sink.shows it.store_of_image w (commands_of (ended_lines c.args.line.now.items c.args.piece.now)) _ before.now its;
+          progress_start it.step g.S.Sink.shows it.store_of_image w (commands_of (ended_lines c.args.line.now.items c.args.piece.now)) _ before.now its;
       flow = refl;
       line = refl;
       quiet = quiet-refl _;
@@ -30,13 +30,13 @@ loop-ended-init g c =
 -- ---- memory was refused
 
 pub returns-then-is_err-clause-ran : goal.returns-then-is_err-clause-ran
-returns-then-is_err-clause-ran g c = λ told. ran_memory g.S.Sink.shows g.I.Interpreter.store_of_image _ _ _ _ _ _ _ _ (c.loop-ended.invariant.progress told) _ [] (sym (append-nil _)) _ _
+returns-then-is_err-clause-ran g c = λ told. ran_memory g.I.Interpreter.step g.S.Sink.shows g.I.Interpreter.store_of_image _ _ _ _ _ _ _ _ (c.loop-ended.invariant.progress told) _ _
 
 pub returns-then-is_err-clause-call : goal.returns-then-is_err-clause-call
 returns-then-is_err-clause-call g c = answer_memory c.loop-ended.invariant.quiet
 
 pub returns-then-is_err-2-clause-ran : goal.returns-then-is_err-2-clause-ran
-returns-then-is_err-2-clause-ran g c = λ told. ran_memory g.S.Sink.shows g.I.Interpreter.store_of_image _ _ _ _ _ _ _ _ (c.loop-ended.invariant.progress told) _ [] (sym (append-nil _)) _ _
+returns-then-is_err-2-clause-ran g c = λ told. ran_memory g.I.Interpreter.step g.S.Sink.shows g.I.Interpreter.store_of_image _ _ _ _ _ _ _ _ (c.loop-ended.invariant.progress told) _ _
 
 pub returns-then-is_err-2-clause-call : goal.returns-then-is_err-2-clause-call
 returns-then-is_err-2-clause-call g c = answer_memory c.loop-ended.invariant.quiet
@@ -48,7 +48,7 @@ returns-in_err-turn-clause-ran g c = λ told.
     let p = err_from_is_err_and c.from_residual.result c.from_residual.ensures.1 in
     let grown : c.deref.result.now ≡ c.loop-ended.line.items ++ c.in-Some.ended.now = grind (arith, common_steps) in
     let some = line_then_some c.loop-ended.line.items c.loop-ended.rest.now c.in-Some.ended.now c.in-Some.more.now c.deref.result.now c.in-Some.ensures grown in
-    ran_part g.S.Sink.shows g.I.Interpreter.store_of_image _ _ _ _ _ _ _ _ (c.loop-ended.invariant.progress told) (commands_of (c.deref.result.now ∷ [])) some.0 some.1
+    ran_part g.I.Interpreter.step g.S.Sink.shows g.I.Interpreter.store_of_image _ _ _ _ _ _ _ _ (c.loop-ended.invariant.progress told) (commands_of (c.deref.result.now ∷ [])) some.0 some.1
     _ c.in_err-turn.field-0.0 _ _ _ _ _ (p.1 ∙ ap Err p.2) (c.in_err-turn.ensures.ran told)
 
 pub returns-in_err-turn-clause-call : goal.returns-in_err-turn-clause-call
@@ -58,11 +58,14 @@ returns-in_err-turn-clause-call g c =
 
 -- ---- a line quits
 
-pub returns-in-Quit-clause-flow : goal.returns-in-Quit-clause-flow
-returns-in-Quit-clause-flow g c =
+pub returns-in-Quit-clause-fed : goal.returns-in-Quit-clause-fed
+returns-in-Quit-clause-fed g c =
     let grown : c.deref.result.now ≡ c.loop-ended.line.items ++ c.in-Some.ended.now = grind (arith, common_steps) in
     let stop = quit_is (has_quit (c.deref.result.now ∷ [])) (sym c.in-Quit.is ∙ c.in_ok-turn.ensures.flow) in
-    ap flow_of (sym (has_last c.loop-ended.line.items c.loop-ended.rest.now c.in-Some.ended.now c.in-Some.more.now c.deref.result.now c.in-Some.ensures grown stop) ∙ c.loop-ended.invariant.flow)
+    record {
+      quits = ap flow_of (sym (has_last c.loop-ended.line.items c.loop-ended.rest.now c.in-Some.ended.now c.in-Some.more.now c.deref.result.now c.in-Some.ensures grown stop) ∙ c.loop-ended.invariant.flow);
+      line_is = λ go. absurd (cc);
+    }
 
 pub returns-in-Quit-clause-ran : goal.returns-in-Quit-clause-ran
 returns-in-Quit-clause-ran g c = λ told.
@@ -70,9 +73,8 @@ returns-in-Quit-clause-ran g c = λ told.
     let grown : c.deref.result.now ≡ c.loop-ended.line.items ++ c.in-Some.ended.now = grind (arith, common_steps) in
     let stop = quit_is (has_quit (c.deref.result.now ∷ [])) (sym c.in-Quit.is ∙ c.in_ok-turn.ensures.flow) in
     let last = line_then_none c.loop-ended.line.items c.loop-ended.rest.now c.in-Some.ended.now c.in-Some.more.now c.deref.result.now c.in-Some.ensures grown stop in
-    let ran = c.in_ok-turn.ensures.ran told in
-    ran_all g.S.Sink.shows it.store_of_image _ _ _ _ [] _ _ _ _
-    (progress_more g.S.Sink.shows it.store_of_image _ _ _ _ _ _ _ _ (c.loop-ended.invariant.progress told) (commands_of (c.deref.result.now ∷ [])) [] last _ _ _ ran.done ran.moments) refl
+    ran_all it.step g.S.Sink.shows it.store_of_image _ _ _ [] _ _ _ _
+    (progress_more it.step g.S.Sink.shows it.store_of_image _ _ _ _ _ _ _ _ (c.loop-ended.invariant.progress told) (commands_of (c.deref.result.now ∷ [])) [] last _ _ _ (c.in_ok-turn.ensures.ran told)) _ refl
 
 pub returns-in-Quit-clause-call : goal.returns-in-Quit-clause-call
 returns-in-Quit-clause-call g c = answer_ok (quiet_then c.loop-ended.invariant.quiet c.in_ok-turn.ensures.call)
@@ -87,10 +89,9 @@ loop-ended-preserved g c =
     record {
       stands = c.in_ok-turn.ensures.stands;
       progress = λ told.
-          let ran = c.in_ok-turn.ensures.ran told in
-          progress_more g.S.Sink.shows it.store_of_image _ _ _ _ _ _ _ _ (c.loop-ended.invariant.progress told) (commands_of (c.deref.result.now ∷ [])) _
+          progress_more it.step g.S.Sink.shows it.store_of_image _ _ _ _ _ _ _ _ (c.loop-ended.invariant.progress told) (commands_of (c.deref.result.now ∷ [])) _
           (line_then_more c.loop-ended.line.items c.loop-ended.rest.now c.in-Some.ended.now c.in-Some.more.now c.deref.result.now c.clear.new.self.items c.in-Some.ensures grown c.clear.ensures.items go)
-          _ _ _ ran.done ran.moments;
+          _ _ _ (c.in_ok-turn.ensures.ran told);
       flow = quit_line c.loop-ended.line.items c.loop-ended.rest.now c.in-Some.ended.now c.in-Some.more.now c.deref.result.now c.clear.new.self.items c.in-Some.ensures grown c.clear.ensures.items go
           ∙ c.loop-ended.invariant.flow;
       line = left_line c.loop-ended.line.items c.loop-ended.rest.now c.in-Some.ended.now c.in-Some.more.now c.clear.new.self.items c.in-Some.ensures c.clear.ensures.items ∙ c.loop-ended.invariant.line;
@@ -99,17 +100,17 @@ loop-ended-preserved g c =
 
 -- ---- no line ends in what is left
 
-pub returns-clause-flow : goal.returns-clause-flow
-returns-clause-flow g c = ap flow_of (sym (quit_no_more c.loop-ended.line.items c.loop-ended.rest.now c.in_default.ensures) ∙ c.loop-ended.invariant.flow)
-
-pub returns-clause-line : goal.returns-clause-line
-returns-clause-line g c = λ go.
+pub returns-clause-fed : goal.returns-clause-fed
+returns-clause-fed g c =
     let grown : c.extend_from_slice-2.new.self.items ≡ c.loop-ended.line.items ++ c.loop-ended.rest.now = grind (arith, common_steps) in
-    grown ∙ (sym (left_none c.loop-ended.line.items c.loop-ended.rest.now c.in_default.ensures) ∙ c.loop-ended.invariant.line)
+    record {
+      quits = ap flow_of (sym (quit_no_more c.loop-ended.line.items c.loop-ended.rest.now c.in_default.ensures) ∙ c.loop-ended.invariant.flow);
+      line_is = λ go. grown ∙ (sym (left_none c.loop-ended.line.items c.loop-ended.rest.now c.in_default.ensures) ∙ c.loop-ended.invariant.line);
+    }
 
 pub returns-clause-ran : goal.returns-clause-ran
 returns-clause-ran g c = λ told.
-    ran_all g.S.Sink.shows g.I.Interpreter.store_of_image _ _ _ _ _ _ _ _ _ (c.loop-ended.invariant.progress told)
+    ran_all g.I.Interpreter.step g.S.Sink.shows g.I.Interpreter.store_of_image _ _ _ _ _ _ _ _ (c.loop-ended.invariant.progress told) _
     (no_command c.loop-ended.line.items c.loop-ended.rest.now c.in_default.ensures)
 
 pub returns-clause-call : goal.returns-clause-call

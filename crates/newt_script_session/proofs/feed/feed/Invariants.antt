@@ -15,11 +15,11 @@ invariant-loop-ended g l =
     let all = ended_lines l.fn.line.items l.fn.piece in
     record {
       stands : it.stands g.H.Host.told l.interpreter now;
-      progress : IsTrue g.H.Host.told → Progress g.S.Sink.shows it.store_of_image (it.world l.fn.interpreter before) (commands_of all) (it.world l.interpreter now) (commands_of rest)
+      progress : IsTrue g.H.Host.told → Progress it.step g.S.Sink.shows it.store_of_image (it.world l.fn.interpreter before) (commands_of all) (it.world l.interpreter now) (commands_of rest)
           (g.S.Sink.has l.fn.sink) (g.S.Sink.has l.sink) before.now now.now;
       flow : has_quit rest ≡ has_quit all;
       line : unended l.line.items l.rest ≡ unended l.fn.line.items l.fn.piece;
-      quiet : Quiet before now;
+      quiet : Quiet g.H.Host.told before now;
     }
 
 abbrev pub decreases-loop-ended : goal.decreases-loop-ended

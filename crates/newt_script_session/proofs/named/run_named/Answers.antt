@@ -3,8 +3,8 @@ use Rattle.newt_host_attach.specs.Named.{AreAttached}
 use Rattle.newt_spec_world.specs.World.{World}
 use Rattle.newt_script_session.specs.Causes.{HasCause}
 use Rattle.newt_script_session.specs.First.{unmounted}
-use Rattle.newt_script_session.specs.Lines.{lines_of}
-use Rattle.newt_script_session.specs.Script.{commands_of}
+use Rattle.newt_script_session.specs.Reading.{start}
+use Rattle.newt_script_session.specs.Script.{script_items}
 use Rattle.newt_script_session.specs.Session.{Session}
 use Rattle.newt_script_session.specs.declared.halt.Halt.{Halt}
 use Rattle.newt_script_session.specs.declared.halt.Halt.TheVariants.{Memory}
@@ -26,13 +26,13 @@ returns-in_default-clause-ran g c = λ told.
     let found = first_is it.store_of_image names old mid a (λ unit. g.met.H.Host.sized c.new.new.host unit told) in
     let its = rests_first it.store_of_image mid (attached_at_rest g.H.Host.told _ _ _ c.new.ensures.attached told) in
     let result : Result (Unit {0}) Halt = Err Memory in
-    let S : World → Type 0 = λ w. Session it.store_of_image c.args.limit result w mid mid in
-    named_ran names old mid mid a it.store_of_image
+    let S : World → Type 0 = λ w. Session it.step it.store_of_image c.args.limit result w mid mid in
+    named_ran names old mid mid a it.step it.store_of_image
     (λ unit. refl) (λ unit. g.met.H.Host.untouched c.args.host.now unit told (c.requires.free unit))
     (λ unit none. g.met.H.Host.untouched c.new.new.host unit told none) (λ unit some. g.met.H.Host.history c.new.new.host unit told some)
     c.args.limit result
-    (subst S found (session_ran it.store_of_image c.args.limit result (unmounted it.store_of_image mid) mid mid (unmounted it.store_of_image mid) (λ texts. Unit {0}) (λ texts. Unit {0})
-    (ran_nothing true it.store_of_image (unmounted it.store_of_image mid) (commands_of (lines_of mid.input)) _ mid.now its) tt))
+    (subst S found (session_ran it.step it.store_of_image c.args.limit result (unmounted it.store_of_image mid) mid mid (unmounted it.store_of_image mid) (λ texts. Unit {0}) (λ texts. Unit {0})
+    (ran_nothing it.step true it.store_of_image (unmounted it.store_of_image mid) (script_items mid.input) _ mid.now its) tt start))
 
 pub returns-in_default-clause-faults : goal.returns-in_default-clause-faults
 returns-in_default-clause-faults g c = faults_end HasCause Memory _ _ (attached_faultless _ _ _ _ c.new.ensures.attached) tt
@@ -47,8 +47,8 @@ returns-clause-ran g c = λ told.
     let mid = g.H.Host.outside c.new.new.host in
     let new = g.H.Host.outside c.run_script.new.host in
     let a = subst (λ (t : Bool). AreAttached t names old mid) told c.new.ensures.attached in
-    let S : World → Type 0 = λ w. Session it.store_of_image c.args.limit c.run_script.result w mid new in
-    named_ran names old mid new a it.store_of_image
+    let S : World → Type 0 = λ w. Session it.step it.store_of_image c.args.limit c.run_script.result w mid new in
+    named_ran names old mid new a it.step it.store_of_image
     c.run_script.ensures.call.cards.card (λ unit. g.met.H.Host.untouched c.args.host.now unit told (c.requires.free unit))
     (λ unit none. g.met.H.Host.untouched c.run_script.new.host unit told none) (λ unit some. g.met.H.Host.history c.run_script.new.host unit told some)
     c.args.limit c.run_script.result (subst S (c.in-Ok.ensures.world told) (c.run_script.ensures.session told))

@@ -4,8 +4,7 @@ use Rattle.newt_spec_world.specs.World.{World}
 use Rattle.newt_script_session.specs.Counted.{Counted}
 use Rattle.newt_script_session.specs.Causes.{HasWriteCause}
 use Rattle.newt_script_session.specs.First.{unmounted}
-use Rattle.newt_script_session.specs.Lines.{lines_of}
-use Rattle.newt_script_session.specs.Script.{commands_of}
+use Rattle.newt_script_session.specs.Script.{script_items}
 use Rattle.newt_script_session.specs.declared.halt.Halt.{Halt}
 use Rattle.newt_script_session.specs.declared.halt.Halt.TheVariants.{Memory}
 use Rattle.newt_script_session.proofs.Beginning.{first_is, attached_at_rest, attached_faultless, named_counted, rests_first}
@@ -26,14 +25,14 @@ returns-in_default-clause-counted g c = λ told.
     let found = first_is it.store_of_image names old mid a (λ unit. g.met.H.Host.sized c.new.new.host unit told) in
     let its = rests_first it.store_of_image mid (attached_at_rest g.H.Host.told _ _ _ c.new.ensures.attached told) in
     let result : Result (Unit {0}) Halt = Err Memory in
-    let S : World → Type 0 = λ w. Counted it.store_of_image c.args.script.now result w mid mid in
-    named_counted names old mid mid a it.store_of_image
+    let S : World → Type 0 = λ w. Counted it.step it.store_of_image c.args.script.now result w mid mid in
+    named_counted names old mid mid a it.step it.store_of_image
     (λ unit. refl) (λ unit. g.met.H.Host.untouched c.args.host.now unit told (c.requires.free unit))
     (λ unit none. g.met.H.Host.untouched c.new.new.host unit told none) (λ unit some. g.met.H.Host.history c.new.new.host unit told some)
     c.args.script.now result
-    (subst S found (counted_halted it.store_of_image c.args.script.now (unmounted it.store_of_image mid) mid mid {T = Unit {0}} {U = Unit {0}} result Memory (unmounted it.store_of_image mid)
+    (subst S found (counted_halted it.step it.store_of_image c.args.script.now (unmounted it.store_of_image mid) mid mid {T = Unit {0}} {U = Unit {0}} result Memory (unmounted it.store_of_image mid)
     (λ texts. Unit {0}) (λ texts. Unit {0}) refl tt
-    (ran_nothing false it.store_of_image (unmounted it.store_of_image mid) (commands_of (lines_of c.args.script.now)) _ mid.now its)))
+    (ran_nothing it.step false it.store_of_image (unmounted it.store_of_image mid) (script_items c.args.script.now) _ mid.now its)))
 
 pub returns-in_default-clause-left : goal.returns-in_default-clause-left
 returns-in_default-clause-left g c = c.new.ensures.attached.input
@@ -51,14 +50,14 @@ returns-clause-counted g c = λ told.
     let mid = g.H.Host.outside c.new.new.host in
     let new = g.H.Host.outside c.tally_script.new.host in
     let a = subst (λ (t : Bool). AreAttached t names old mid) told c.new.ensures.attached in
-    let S : World → Type 0 = λ w. Counted it.store_of_image c.args.script.now c.tally_script.result w mid new in
-    named_counted names old mid new a it.store_of_image
+    let S : World → Type 0 = λ w. Counted it.step it.store_of_image c.args.script.now c.tally_script.result w mid new in
+    named_counted names old mid new a it.step it.store_of_image
     c.tally_script.ensures.call.cards.card (λ unit. g.met.H.Host.untouched c.args.host.now unit told (c.requires.free unit))
     (λ unit none. g.met.H.Host.untouched c.tally_script.new.host unit told none) (λ unit some. g.met.H.Host.history c.tally_script.new.host unit told some)
     c.args.script.now c.tally_script.result (subst S (c.in-Ok.ensures.world told) (c.tally_script.ensures.counted told))
 
 pub returns-clause-left : goal.returns-clause-left
-returns-clause-left g c = c.tally_script.ensures.call.input ∙ c.new.ensures.attached.input
+returns-clause-left g c = c.tally_script.ensures.call.unread.input ∙ c.new.ensures.attached.input
 
 pub returns-clause-faults : goal.returns-clause-faults
 returns-clause-faults g c =

@@ -1,4 +1,5 @@
-use Rattle.std.proofs.Common.{IsTrue, ◌≡◌, ◌≤◌, ◌-◌, List, ℕ, length}
+use Rattle.std.proofs.Common.{IsTrue, ◌≡◌, ◌≤◌, ◌-◌, ◌++◌, List, ℕ, length}
+use Rattle.newt_host.specs.Moments.{taken as taken_by}
 use Rattle.newt_script_session.proofs.Counting.{Running}
 use Rattle.newt_script_session.proofs.Going.{Going}
 use Rattle.newt_script_session.proofs.pieces.answer_pieces.Given as goal
@@ -10,8 +11,8 @@ invariant-pieces g l =
     let now = g.H.Host.outside l.host in
     record {
       stands : it.stands g.H.Host.told l.interpreter now;
-      going : IsTrue g.H.Host.told → (taken : List ℕ) × (length taken ≡ l.taken)
-          × Going it.store_of_image (it.world l.fn.interpreter before) before.input taken now.input (it.world l.interpreter now) l.line.items
+      going : IsTrue g.H.Host.told → (taken : List ℕ) × (length taken ≡ l.taken) × (taken_by now.now ≡ taken_by before.now ++ taken)
+          × Going it.step it.store_of_image (it.world l.fn.interpreter before) before.input taken now.input (it.world l.interpreter now) l.line.items
           (λ texts. Unit {0}) (λ texts. Unit {0}) before.now now.now;
       within : l.taken ≤ l.limit;
       running : Running before now;

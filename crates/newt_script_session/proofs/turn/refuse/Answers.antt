@@ -1,7 +1,8 @@
-use Rattle.std.proofs.Common.{◌≡◌, ℕ, List, Some, Bool, Err, ap, subst, ◌∙◌}
+use Rattle.std.proofs.Common.{◌≡◌, ℕ, List, Some, Bool, Err, refl, ap, subst, ◌∙◌}
 use Rattle.std.proofs.lemmas.Result.{err_from_is_err_and}
 use Rattle.newt_host.specs.Moments.{MayLeave}
 use Rattle.newt_spec_store.specs.Store.{Store}
+use Rattle.newt_spec_world.specs.Reply.{Reply}
 use Rattle.newt_spec_world.specs.World.{store_on_unit}
 use Rattle.newt_script_session.specs.Causes.{SameDevices}
 use Rattle.newt_script_session.proofs.Counting.{answer_put, answer_unput, quiet-refl}
@@ -19,7 +20,7 @@ returns-in_err-put_reply-clause-ran g c = λ told.
     let stands = subst (λ (t : Bool). it.stands t c.args.interpreter.now before) told c.requires.stands in
     let leaves : (unit : ℕ) (store : Store) (left : List ℕ) → store_on_unit w unit ≡ Some store → MayLeave unit before.now left → it.store_of_image left ≡ Some store =
     λ unit store left e may. g.met.I.Interpreter.leaves c.args.interpreter.now before stands unit store left e may in
-    ran_untaken g.S.Sink.shows it.store_of_image w (Err c.args.refusal) before.now before.now (answering_nothing it.store_of_image w before.now leaves) (λ unit none. none)
+    ran_untaken it.step g.S.Sink.shows it.store_of_image w (Err c.args.refusal) (w, Reply.refused c.args.refusal) (refl, refl) before.now before.now (answering_nothing it.store_of_image w before.now leaves) (λ unit none. none)
     _ _ _ _ _ new.now before new (p.1 ∙ ap Err p.2) (at_rest it.store_of_image w before.now leaves) c.in_err-put_reply.ensures.call.faults.cause (c.in_err-put_reply.ensures.puts told)
 
 pub returns-in_err-put_reply-clause-call : goal.returns-in_err-put_reply-clause-call
@@ -37,7 +38,7 @@ returns-clause-ran g c = λ told.
     let leaves : (unit : ℕ) (store : Store) (left : List ℕ) → store_on_unit w unit ≡ Some store → MayLeave unit before.now left → it.store_of_image left ≡ Some store =
     λ unit store left e may. g.met.I.Interpreter.leaves c.args.interpreter.now before stands unit store left e may in
     let same = g.met.I.Interpreter.same_world c.args.interpreter.now before new (subst (λ (t : Bool). SameDevices t before new) told c.put_reply.ensures.call.devices) in
-    ran_item g.S.Sink.shows it.store_of_image w (Err c.args.refusal) before.now before.now (answering_nothing it.store_of_image w before.now leaves) (λ unit none. none)
+    ran_item it.step g.S.Sink.shows it.store_of_image w (Err c.args.refusal) (w, Reply.refused c.args.refusal) (refl, refl) before.now before.now (answering_nothing it.store_of_image w before.now leaves) (λ unit none. none)
     _ _ _ _ _ new.now (at_rest it.store_of_image w before.now leaves) (c.in_ok-put_reply.ensures.puts told) same (c.put_reply.ensures.call.devices.changes told) c.in_ok-put_reply.ensures.took
 
 pub returns-clause-stands : goal.returns-clause-stands

@@ -24,7 +24,7 @@ returns-in-Ok-None-clause-ran g c = λ told.
     let w = it.world c.args.interpreter.now before in
     let stands = subst (λ (t : Bool). it.stands t c.args.interpreter.now before) told c.requires.stands in
     let its = at_rest it.store_of_image w before.now (λ unit store left e may. g.met.I.Interpreter.leaves c.args.interpreter.now before stands unit store left e may) in
-    ran_none g.S.Sink.shows it.store_of_image _ w (commands_of (c.args.bytes.now ∷ [])) _ before.now its (commands_silent c.args.bytes.now said)
+    ran_none it.step g.S.Sink.shows it.store_of_image _ w (commands_of (c.args.bytes.now ∷ [])) _ before.now its (commands_silent c.args.bytes.now said)
 
 pub returns-in-Ok-None-clause-call : goal.returns-in-Ok-None-clause-call
 returns-in-Ok-None-clause-call g c = answer_ok (quiet-refl _)
@@ -42,7 +42,7 @@ returns-in-Ok-Some-clause-ran g c = λ told.
     let it = g.I.Interpreter in
     let before = g.H.Host.outside c.args.host.now in
     let new = g.H.Host.outside c.obey.new.host in
-    let P : List Item → Type 0 = λ items. Ran g.S.Sink.shows it.store_of_image c.obey.result (it.world c.args.interpreter.now before) (it.world c.obey.new.interpreter new) items
+    let P : List Item → Type 0 = λ items. Ran it.step g.S.Sink.shows it.store_of_image c.obey.result (it.world c.args.interpreter.now before) (it.world c.obey.new.interpreter new) items
     (g.S.Sink.has c.args.sink.now) (g.S.Sink.has c.obey.new.sink) before.now new.now in
     subst P (sym (commands_command c.args.bytes.now c.in-Ok-Some.command said)) (c.obey.ensures.ran told)
 
@@ -59,7 +59,7 @@ returns-in-Err-Refused-clause-ran g c = λ told.
     let it = g.I.Interpreter in
     let before = g.H.Host.outside c.args.host.now in
     let new = g.H.Host.outside c.refuse.new.host in
-    let P : List Item → Type 0 = λ items. Ran g.S.Sink.shows it.store_of_image c.refuse.result (it.world c.args.interpreter.now before) (it.world c.args.interpreter.now new) items
+    let P : List Item → Type 0 = λ items. Ran it.step g.S.Sink.shows it.store_of_image c.refuse.result (it.world c.args.interpreter.now before) (it.world c.args.interpreter.now new) items
     (g.S.Sink.has c.args.sink.now) (g.S.Sink.has c.refuse.new.sink) before.now new.now in
     subst P (sym (commands_refused c.args.bytes.now c.in-Err-Refused.refusal said)) (c.refuse.ensures.ran told)
 
@@ -71,7 +71,7 @@ returns-in-Err-Memory-clause-ran g c = λ told.
     let w = it.world c.args.interpreter.now before in
     let stands = subst (λ (t : Bool). it.stands t c.args.interpreter.now before) told c.requires.stands in
     let its = at_rest it.store_of_image w before.now (λ unit store left e may. g.met.I.Interpreter.leaves c.args.interpreter.now before stands unit store left e may) in
-    ran_nothing g.S.Sink.shows it.store_of_image w (commands_of (c.args.bytes.now ∷ [])) _ before.now its
+    ran_nothing it.step g.S.Sink.shows it.store_of_image w (commands_of (c.args.bytes.now ∷ [])) _ before.now its
 
 pub returns-in-Err-Memory-clause-call : goal.returns-in-Err-Memory-clause-call
 returns-in-Err-Memory-clause-call g c = answer_memory (quiet-refl _)

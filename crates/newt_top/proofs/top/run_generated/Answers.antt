@@ -4,7 +4,7 @@ use Rattle.newt_host.proofs.Histories.{untouched-attached}
 use Rattle.newt_host.specs.Meanings.{out_of}
 use Rattle.newt_script_session.proofs.Writing.{wrote_nothing}
 use Rattle.newt_spec_script.specs.Generator.{gen_script}
-use Rattle.newt_script_session.specs.Counts.{summary_of}
+use Rattle.newt_top.specs.Script.{summary_of}
 use Rattle.newt_top.specs.Modes.{first, LeavesCounted, RanCounted}
 use Rattle.newt_script_session.proofs.Counting.{never-refl}
 use Rattle.newt_top.proofs.Halting.{faults_quiet, none_attached}

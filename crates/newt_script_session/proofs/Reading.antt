@@ -1,0 +1,53 @@
+-- When the input is read.
+use Rattle.std.proofs.Common.{◌≡◌, ℕ, Bool, IsTrue, List, [], ◌∷◌, Option, Result, refl, sym, ◌∙◌, ap}
+use Rattle.newt_host.specs.Moments.{Moment, Always, here, later, Printed, Took, taken}
+use Rattle.newt_host.specs.Outside.{OnDevices, Outside, PrintsSome, printed}
+use Rattle.newt_host.proofs.Moments.{Always-append, Always-last, Always-map}
+use Rattle.newt_reply.specs.declared.reply.Reply.{Reply}
+use Rattle.newt_spec_world.specs.declared.command.Command.{Command}
+use Rattle.newt_script_session.specs.Steps.{Stepped, Stepping}
+use Rattle.newt_spec_store.specs.Store.{Store}
+use Rattle.newt_spec_world.specs.World.{World}
+use Rattle.newt_script_session.specs.Calls.{Unread}
+use Rattle.newt_script_session.specs.Reading.{TakesOnlyWhere, start, goes_on}
+use Rattle.newt_script_session.proofs.Writing.{prints_always}
+
+taken-printed : (bytes : List ℕ) (m : Moment) → taken (printed bytes m) ≡ taken m
+taken-printed [] m = refl
+taken-printed (b ∷ bytes) m = taken-printed bytes (Printed b ∷ m)
+
+pub unread-refl : {told : Bool} (a : Outside) → Unread told a a
+unread-refl a = record { input = refl; moments = λ tells. here refl }
+
+pub unread-append : {told : Bool} {a b c : Outside} → Unread told a b → Unread told b c → Unread told a c
+unread-append first second = record {
+  input = second.input ∙ first.input;
+  moments = λ tells. let so_far = first.moments tells in Always-append so_far (Always-map (λ m same. same ∙ Always-last so_far) (second.moments tells));
+}
+
+-- a text is put out
+pub unread_printing : (bytes : List ℕ) (old new : Moment) → PrintsSome bytes old new → Always (λ m. taken m ≡ taken old) old new
+unread_printing bytes old new some = Always-map (λ m part. ap taken part.moment ∙ taken-printed part.done old) (prints_always bytes old new some)
+
+-- a command is answered
+pub unread_stepped : {told : Bool} {E : Type 0} {step : Stepping} {reads : List ℕ → Option Store} {command : Command} {result : Result Reply E} {world after : World} {a b : Outside} → OnDevices a b
+    → (IsTrue told → Stepped step reads command result world after a.now b.now) → Unread told a b
+unread_stepped on stepped = record { input = on.input; moments = λ tells. Always-map (λ m a. a.unread) (stepped tells).moments }
+
+-- nothing is read
+pub takes_none : {P : Moment → Type 0} {old now : Moment} → Always (λ m. taken m ≡ taken old) old now → TakesOnlyWhere P old now
+takes_none (here same) = start
+takes_none (later event now so_far same) = goes_on event now (takes_none so_far) (λ grows. absurd (grows (same ∙ sym (Always-last so_far))))
+
+pub takes_append : {P : Moment → Type 0} {a b c : Moment} → TakesOnlyWhere P a b → TakesOnlyWhere P b c → TakesOnlyWhere P a c
+takes_append first start = first
+takes_append first (goes_on event now so_far due) = goes_on event now (takes_append first so_far) due
+
+-- each of them in turn
+pub takes_map : {P Q : Moment → Type 0} {old now : Moment} → ((m : Moment) → P m → Q m) → TakesOnlyWhere P old now → TakesOnlyWhere Q old now
+takes_map f start = start
+takes_map f (goes_on event now so_far due) = goes_on event now (takes_map f so_far) (λ grows. f now (due grows))
+
+-- the next bytes are taken where P holds
+pub takes_more : {P : Moment → Type 0} (bytes : List ℕ) {old now : Moment} → TakesOnlyWhere P old now → P now → TakesOnlyWhere P old (Took bytes ∷ now)
+takes_more bytes {now = now} so_far due = goes_on (Took bytes) now so_far (λ grows. due)
