@@ -10,7 +10,7 @@ use newt_host::{Failed, Host, Unit};
 impl Journal {
     ghost use Rattle.std.specs.Prelude.{◌+◌, false, length, IfOk};
     ghost use Rattle.newt_spec_image.specs.Records.{bank_size, bank_blocks, bank_start};
-    ghost use Rattle.newt_journal.specs.Journal.{Stands};
+    ghost use Rattle.newt_journal.specs.Journal.{Stands, unit_under, bank_of, is_closed};
     ghost use Rattle.newt_journal.specs.Pieces.{IsTornIn};
     ghost use Rattle.newt_journal.specs.Fresh.{IsFresh};
     ghost use Rattle.newt_journal.specs.declared.bank.Bank.TheVariants.{First};
@@ -23,7 +23,8 @@ impl Journal {
         requires few { (H.outside host.old).blocks unit ≤ 4099 }
         requires fits { 21 + length first.now ≤ bank_size ((H.outside host.old).blocks unit) }
         ensures journal { IfOk result (λ journal. Stands H.told journal (H.outside host.new)
-            × (journal.unit ≡ unit) × (journal.bank ≡ First) × (journal.closed ≡ false)) }
+            × (unit_under journal ≡ unit) × (bank_of journal ≡ First)
+            × (is_closed journal ≡ false)) }
         ensures fresh { IsTrue H.told → OnOk result
             (IsFresh ((H.outside host.old).blocks unit) first.now unit (H.outside host.new).now) }
         // Whenever it is cut off, nothing but the votes and the first bank is torn.

@@ -29,14 +29,14 @@ fn read_votes<H: Host>(host: &mut H, unit: Unit, blocks: u32) -> Result<Option<B
 impl Journal {
     ghost use Rattle.std.specs.Prelude.{◌+◌, IsSome, IsErrOf};
     ghost use Rattle.newt_spec_image.specs.Records.{records, bank_size};
-    ghost use Rattle.newt_journal.specs.Journal.{Stands};
+    ghost use Rattle.newt_journal.specs.Journal.{Stands, unit_under};
 
     /// Reads the journal of a unit on which nothing is pending: its votes may differ, and a record
     /// may be torn.
     pub fn open<H: Host>(host: &mut H, unit: Unit) -> Result<Journal, JournalFault>
         requires may_hold { MayHold H.told unit (H.outside host.old) }
         ensures journal { IfOk result (λ journal. Stands H.told journal (H.outside host.new)
-            × (journal.unit ≡ unit)) }
+            × (unit_under journal ≡ unit)) }
         ensures store { IsTrue H.told → IfOk result
             (λ journal. IsSome (records (image unit (H.outside host.old).now))) }
         ensures not_store { IsErrOf result JournalFault.NotStore → IsTrue H.told

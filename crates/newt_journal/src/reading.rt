@@ -22,26 +22,26 @@ impl Journal {
     ghost use Rattle.newt_spec_image.specs.Records.{records};
     ghost use Rattle.newt_journal.specs.Places.{first_place, payloads_from, recorded, Finds};
     ghost use Rattle.newt_journal.specs.Places.{IsPlace};
-    ghost use Rattle.newt_journal.specs.Journal.{Stands};
+    ghost use Rattle.newt_journal.specs.Journal.{Stands, unit_under, end_of};
     ghost use Rattle.newt_journal.specs.Calls.{Reads};
 
     /// The place of the first record, a byte number in the unit's image.
     pub fn first(&self) -> u32
         ensures place { result ≡ first_place self.now }
-        ensures before_end { result ≤ self.now.end }
+        ensures before_end { result ≤ end_of self.now }
         // From it on stand all records of the image.
         ensures is_place { (told : Bool) (outside : Outside) → Stands told self.now outside
-            → IsTrue told → IsPlace self.now result (image self.now.unit outside.now) }
+            → IsTrue told → IsPlace self.now result (image (unit_under self.now) outside.now) }
         ensures reads_all { (told : Bool) (outside : Outside) → Stands told self.now outside
-            → IsTrue told → payloads_from self.now result (image self.now.unit outside.now)
-            ≡ records (image self.now.unit outside.now) }
+            → IsTrue told → payloads_from self.now result (image (unit_under self.now) outside.now)
+            ≡ records (image (unit_under self.now) outside.now) }
     {
         self.bank.start(self.blocks) + 16
     }
 
     /// The place behind the last record, where the next one begins.
     pub fn end(&self) -> u32
-        ensures place { result ≡ self.now.end }
+        ensures place { result ≡ end_of self.now }
     {
         self.end
     }
@@ -50,13 +50,14 @@ impl Journal {
     /// one or one that `walk` gave.
     pub fn walk<H: Host>(&self, host: &mut H, at: u32) -> Result<Option<Found>, Failed>
         requires low { first_place self.now ≤ at }
-        requires high { at ≤ self.now.end }
+        requires high { at ≤ end_of self.now }
         requires stands { Stands H.told self.now (H.outside host.old) }
         requires place { IsTrue H.told → IsPlace self.now at
-            (image self.now.unit (H.outside host.old).now) }
+            (image (unit_under self.now) (H.outside host.old).now) }
         ensures finds { IfOk result (λ found. Finds H.told self.now at
-            (image self.now.unit (H.outside host.old).now) found) }
-        ensures reads { Reads self.now.unit 4 result (H.outside host.old) (H.outside host.new) }
+            (image (unit_under self.now) (H.outside host.old).now) found) }
+        ensures reads { Reads (unit_under self.now) 4 result
+            (H.outside host.old) (H.outside host.new) }
     {
         if self.end - at < 5 {
             return Ok(None);
@@ -75,15 +76,15 @@ impl Journal {
     /// Fills the buffer with bytes of the committed records, from the place on.
     pub fn read_at<H: Host>(&self, host: &mut H, at: u32, buf: &mut [u8]) -> Result<(), Failed>
         requires low { first_place self.now ≤ at }
-        requires high { at + length buf.old ≤ self.now.end }
+        requires high { at + length buf.old ≤ end_of self.now }
         requires stands { Stands H.told self.now (H.outside host.old) }
         ensures bytes { IsTrue H.told → OnOk result
             (buf.new ≡ take (length buf.old)
-            (drop at (image self.now.unit (H.outside host.old).now))) }
+            (drop at (image (unit_under self.now) (H.outside host.old).now))) }
         ensures of_records { IsTrue H.told → OnOk result ((payloads : List (List ℕ))
-            → records (image self.now.unit (H.outside host.old).now) ≡ Some payloads
+            → records (image (unit_under self.now) (H.outside host.old).now) ≡ Some payloads
             → buf.new ≡ recorded self.now payloads at (length buf.old)) }
-        ensures reads { Reads self.now.unit (length buf.old) result
+        ensures reads { Reads (unit_under self.now) (length buf.old) result
             (H.outside host.old) (H.outside host.new) }
     {
         host.read(self.unit, at, buf)

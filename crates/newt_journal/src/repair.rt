@@ -77,7 +77,7 @@ pub(crate) fn settle_votes<H: Host>(
 
 impl Journal {
     ghost use Rattle.newt_spec_image.specs.Records.{records};
-    ghost use Rattle.newt_journal.specs.Journal.{Stands, VotesAgree};
+    ghost use Rattle.newt_journal.specs.Journal.{Stands, VotesAgree, unit_under, bank_of};
 
     /// Makes all three votes equal to the bank that they choose. Whenever it is cut off, the same
     /// bank is chosen, so that it may be begun again.
@@ -86,12 +86,13 @@ impl Journal {
         ensures same { self.new ≡ self.old }
         ensures stands { OnOk result (Stands H.told self.new (H.outside host.new)) }
         ensures alike { IsTrue H.told → OnOk result
-            (VotesAgree self.old (image self.old.unit (H.outside host.new).now)) }
+            (VotesAgree self.old (image (unit_under self.old) (H.outside host.new).now)) }
         ensures reads { IsTrue H.told → OnOk result
-            (records (image self.old.unit (H.outside host.new).now)
-            ≡ records (image self.old.unit (H.outside host.old).now)) }
-        ensures writes { Programs H.told self.old.unit three_votes
-            (Mends (bank_number self.old.bank) (image self.old.unit (H.outside host.old).now))
+            (records (image (unit_under self.old) (H.outside host.new).now)
+            ≡ records (image (unit_under self.old) (H.outside host.old).now)) }
+        ensures writes { Programs H.told (unit_under self.old) three_votes
+            (Mends (bank_number (bank_of self.old))
+            (image (unit_under self.old) (H.outside host.old).now))
             result (H.outside host.old) (H.outside host.new) }
     {
         settle_votes(host, self.unit, self.bank, self.blocks)?;

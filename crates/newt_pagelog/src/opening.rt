@@ -3,7 +3,7 @@ ghost use Rattle.std.specs.Prelude.{IsTrue, ◌≡◌, None, IfOk, IsErrOf};
 ghost use Rattle.newt_host.specs.Moments.{image};
 ghost use Rattle.newt_spec_image.specs.Pages.{pages as pages_of};
 ghost use Rattle.newt_journal.specs.Calls.{MayHold};
-ghost use Rattle.newt_journal.specs.Journal.{Stands};
+ghost use Rattle.newt_journal.specs.Journal.{Stands, unit_under};
 ghost use Rattle.newt_pagelog.specs.Placed.{ReadsBook};
 
 use newt_host::{Host, Unit};
@@ -14,7 +14,7 @@ use newt_pagebook::BookFault;
 pub fn open_journal<H: Host>(host: &mut H, unit: Unit) -> Result<Journal, BookFault>
     requires may_hold { MayHold H.told unit (H.outside host.old) }
     ensures journal { IfOk result (λ journal. Stands H.told journal (H.outside host.new)
-        × (journal.unit ≡ unit)) }
+        × (unit_under journal ≡ unit)) }
     ensures not_store { IsErrOf result BookFault.NotStore → IsTrue H.told
         → pages_of (image unit (H.outside host.old).now) ≡ None }
     ensures no_other { IsErrOf result BookFault.Memory → ⊥ }

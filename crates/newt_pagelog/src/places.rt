@@ -7,7 +7,7 @@ ghost use Rattle.newt_host.specs.Moments.{image};
 ghost use Rattle.newt_spec_image.specs.Pages.{pages as pages_of, short_at, word_at, said_by};
 ghost use Rattle.newt_spec_image.specs.Pages.{is_change, change_in};
 ghost use Rattle.newt_journal.specs.Calls.{Reads};
-ghost use Rattle.newt_journal.specs.Journal.{Stands};
+ghost use Rattle.newt_journal.specs.Journal.{Stands, unit_under, end_of};
 ghost use Rattle.newt_journal.specs.Places.{first_place};
 ghost use Rattle.newt_pagelog.specs.Placed.{AreNumbered, Places, ArePlaced, HoldsAt, IsReplaying};
 ghost use Rattle.newt_pagelog.specs.Placed.{IsFilledBy, Tells, puts_found, ReadsBook, ReadsUnit};
@@ -24,11 +24,12 @@ use std::collections::{HashMap, HashSet};
 // The number in four bytes of the records.
 fn read_word<H: Host>(journal: &Journal, host: &mut H, at: u32) -> Result<u32, Failed>
     requires low { first_place journal.now ≤ at }
-    requires high { at + 4 ≤ journal.now.end }
+    requires high { at + 4 ≤ end_of journal.now }
     requires stands { Stands H.told journal.now (H.outside host.old) }
     ensures word { IsTrue H.told → IfOk result
-        (λ word. word ≡ word_at at (image journal.now.unit (H.outside host.old).now)) }
-    ensures reads { Reads journal.now.unit 4 result (H.outside host.old) (H.outside host.new) }
+        (λ word. word ≡ word_at at (image (unit_under journal.now) (H.outside host.old).now)) }
+    ensures reads { Reads (unit_under journal.now) 4 result
+        (H.outside host.old) (H.outside host.new) }
 {
     let mut bytes = [0u8; 4];
     journal.read_at(host, at, &mut bytes)?;
@@ -38,11 +39,12 @@ fn read_word<H: Host>(journal: &Journal, host: &mut H, at: u32) -> Result<u32, F
 // The number in two bytes of the records.
 fn read_short<H: Host>(journal: &Journal, host: &mut H, at: u32) -> Result<u16, Failed>
     requires low { first_place journal.now ≤ at }
-    requires high { at + 2 ≤ journal.now.end }
+    requires high { at + 2 ≤ end_of journal.now }
     requires stands { Stands H.told journal.now (H.outside host.old) }
     ensures short { IsTrue H.told → IfOk result
-        (λ short. short ≡ short_at at (image journal.now.unit (H.outside host.old).now)) }
-    ensures reads { Reads journal.now.unit 2 result (H.outside host.old) (H.outside host.new) }
+        (λ short. short ≡ short_at at (image (unit_under journal.now) (H.outside host.old).now)) }
+    ensures reads { Reads (unit_under journal.now) 2 result
+        (H.outside host.old) (H.outside host.new) }
 {
     let mut bytes = [0u8; 2];
     journal.read_at(host, at, &mut bytes)?;
@@ -70,16 +72,17 @@ fn next_number<H: Host>(
     seen: &mut HashSet<u32>,
 ) -> Result<Option<u32>, BookFault>
     requires low { first_place journal.now ≤ at }
-    requires high { at + 4 ≤ journal.now.end }
+    requires high { at + 4 ≤ end_of journal.now }
     requires stands { Stands H.told journal.now (H.outside host.old) }
     ensures number { IsTrue H.told → IfOk result
         (λ found. MatchOption found
-        (IsRefused (word_at at (image journal.now.unit (H.outside host.old).now))
+        (IsRefused (word_at at (image (unit_under journal.now) (H.outside host.old).now))
         (contains nat_eq seen.old))
-        (λ number. number ≡ word_at at (image journal.now.unit (H.outside host.old).now))) }
+        (λ number. number ≡ word_at at (image (unit_under journal.now) (H.outside host.old).now))) }
     ensures taken { IfOk result (λ found. IfSome found
         (λ number. IsTaken number (contains nat_eq seen.old) (contains nat_eq seen.new))) }
-    ensures reads { ReadsUnit journal.now.unit result (H.outside host.old) (H.outside host.new) }
+    ensures reads { ReadsUnit (unit_under journal.now) result
+        (H.outside host.old) (H.outside host.new) }
 {
     let number = read_word(journal, host, at)?;
     if !take_number(seen, number)? {
@@ -101,15 +104,16 @@ fn replay_puts<H: Host>(
     requires replaying { IsReplaying H.told journal.now found (4 + 516 * puts) places.old
         (H.outside host.old) }
     requires count { IsTrue H.told → puts ≡ short_at 0
-        (payload_found found journal.now.unit (H.outside host.old)) }
+        (payload_found found (unit_under journal.now) (H.outside host.old)) }
     requires seen { IsSeen (contains nat_eq seen.old) (record { puts = []; deletes = [] }) }
     ensures replays { IsTrue H.told → IfOk result (λ good. Tells good
-        (Replayed (image journal.now.unit (H.outside host.old).now)
-        (puts_found puts (payload_found found journal.now.unit (H.outside host.old)))
+        (Replayed (image (unit_under journal.now) (H.outside host.old).now)
+        (puts_found puts (payload_found found (unit_under journal.now) (H.outside host.old)))
         places.old.entries places.new.entries (contains nat_eq seen.new))
-        (is_change (payload_found found journal.now.unit (H.outside host.old)) ≡ false)) }
+        (is_change (payload_found found (unit_under journal.now) (H.outside host.old)) ≡ false)) }
     ensures fills { IfOk result (λ _. IsFilledBy journal.now (516 * puts) places.old places.new) }
-    ensures reads { ReadsUnit journal.now.unit result (H.outside host.old) (H.outside host.new) }
+    ensures reads { ReadsUnit (unit_under journal.now) result
+        (H.outside host.old) (H.outside host.new) }
 {
     for i in 0..puts {
         let at = found.at + 4 + 516 * i;
@@ -136,19 +140,21 @@ fn replay_deletes<H: Host>(
     requires replaying { IsReplaying H.told journal.now found (4 + 516 * puts + 4 * deletes)
         places.old (H.outside host.old) }
     requires counts { IsTrue H.told → (puts ≡ short_at 0
-        (payload_found found journal.now.unit (H.outside host.old)))
-        × (deletes ≡ short_at 2 (payload_found found journal.now.unit (H.outside host.old))) }
+        (payload_found found (unit_under journal.now) (H.outside host.old)))
+        × (deletes ≡ short_at 2 (payload_found found (unit_under journal.now)
+        (H.outside host.old))) }
     ensures replays { (before : Places) → IsTrue H.told
-        → Replayed (image journal.now.unit (H.outside host.old).now)
-        (puts_found puts (payload_found found journal.now.unit (H.outside host.old)))
+        → Replayed (image (unit_under journal.now) (H.outside host.old).now)
+        (puts_found puts (payload_found found (unit_under journal.now) (H.outside host.old)))
         before places.old.entries (contains nat_eq seen.old)
         → IfOk result (λ good. Tells good
-        (Replayed (image journal.now.unit (H.outside host.old).now)
-        (said_by (payload_found found journal.now.unit (H.outside host.old))) before
+        (Replayed (image (unit_under journal.now) (H.outside host.old).now)
+        (said_by (payload_found found (unit_under journal.now) (H.outside host.old))) before
         places.new.entries (contains nat_eq seen.new))
-        (is_change (payload_found found journal.now.unit (H.outside host.old)) ≡ false)) }
+        (is_change (payload_found found (unit_under journal.now) (H.outside host.old)) ≡ false)) }
     ensures fills { IfOk result (λ _. IsFilledBy journal.now 0 places.old places.new) }
-    ensures reads { ReadsUnit journal.now.unit result (H.outside host.old) (H.outside host.new) }
+    ensures reads { ReadsUnit (unit_under journal.now) result
+        (H.outside host.old) (H.outside host.new) }
 {
     for i in 0..deletes {
         match next_number(journal, host, found.at + 4 + 516 * puts + 4 * i, seen)? {
@@ -172,12 +178,13 @@ fn replay_record<H: Host>(
     requires replaying { IsReplaying H.told journal.now found 0 places.old
         (H.outside host.old) }
     ensures replays { IsTrue H.told → IfOk result (λ good. Tells good
-        (ReplaysRecord (image journal.now.unit (H.outside host.old).now)
-        (payload_found found journal.now.unit (H.outside host.old)) places.old.entries
+        (ReplaysRecord (image (unit_under journal.now) (H.outside host.old).now)
+        (payload_found found (unit_under journal.now) (H.outside host.old)) places.old.entries
         places.new.entries)
-        (change_in (payload_found found journal.now.unit (H.outside host.old)) ≡ None)) }
+        (change_in (payload_found found (unit_under journal.now) (H.outside host.old)) ≡ None)) }
     ensures fills { IfOk result (λ _. IsFilledBy journal.now found.len places.old places.new) }
-    ensures reads { ReadsUnit journal.now.unit result (H.outside host.old) (H.outside host.new) }
+    ensures reads { ReadsUnit (unit_under journal.now) result
+        (H.outside host.old) (H.outside host.new) }
 {
     if found.len < 4 {
         return Ok(false);
@@ -205,10 +212,11 @@ pub fn replay<H: Host>(
     ensures placed { IfOk result (λ places. ArePlaced journal.now places.entries) }
     ensures pages { IsTrue H.told → IfOk result
         (λ places. HoldsAt journal.now
-        (image journal.now.unit (H.outside host.old).now) places.entries) }
+        (image (unit_under journal.now) (H.outside host.old).now) places.entries) }
     ensures not_store { IsErrOf result BookFault.NotStore → IsTrue H.told
-        → pages_of (image journal.now.unit (H.outside host.old).now) ≡ None }
-    ensures reads { ReadsBook journal.now.unit result (H.outside host.old) (H.outside host.new) }
+        → pages_of (image (unit_under journal.now) (H.outside host.old).now) ≡ None }
+    ensures reads { ReadsBook (unit_under journal.now) result
+        (H.outside host.old) (H.outside host.new) }
 {
     let mut places = HashMap::new(alloc);
     let mut at = journal.first();

@@ -8,6 +8,7 @@ ghost use Rattle.newt_host.specs.Outside.{Outside};
 ghost use Rattle.newt_spec_image.specs.Pages.{written_put, written_delete, written_change};
 ghost use Rattle.newt_spec_image.specs.Records.{bank_size, records};
 ghost use Rattle.newt_journal.specs.Journal.{room, Stands, appended};
+ghost use Rattle.newt_journal.specs.Journal.{unit_under, blocks_under, end_of};
 ghost use Rattle.newt_journal.specs.Draft.{IsDraftOf, unit_of, len_of, put_of};
 ghost use Rattle.newt_journal.specs.Places.{first_place};
 ghost use Rattle.newt_pagebook.specs.Batch.{IsBatch};
@@ -212,7 +213,8 @@ pub fn has_room<V>(journal: &Journal, pages: &Table<V>, batch: &Batch) -> bool
     ensures fits { IsTrue result → payload_bytes (needed pages.now.entries batch.now)
         ≤ room journal.now }
     ensures open { (told : Bool) (outside : Outside) → Stands told journal.now outside → IsTrue told
-        → IsOpenFor (batch_bytes batch.now) (image journal.now.unit outside.now) → IsTrue result }
+        → IsOpenFor (batch_bytes batch.now) (image (unit_under journal.now) outside.now)
+        → IsTrue result }
     // what holds of every batch holds of this one
     ensures sound { IsBatch batch.now }
 {
@@ -234,11 +236,11 @@ pub fn append_batch<V, H: Host>(
     requires fits { payload_bytes (needed pages.now.entries batch.now) ≤ room journal }
     ensures rewrites { Rewrites H.told journal
         (append_work (needed pages.now.entries batch.now))
-        (appended (records (image journal.unit (H.outside host.old).now))
+        (appended (records (image (unit_under journal) (H.outside host.old).now))
         (written_change (needed pages.now.entries batch.now))) result
         (H.outside host.old) (H.outside host.new) }
-    ensures places { IfOk result (λ after. (after.end
-        ≡ journal.end + batch_bytes (needed pages.now.entries batch.now))
+    ensures places { IfOk result (λ after. (end_of after
+        ≡ end_of journal + batch_bytes (needed pages.now.entries batch.now))
         × (first_place after ≡ first_place journal)) }
 {
     let deletes = kept_of(pages, batch.deletes());
@@ -252,11 +254,11 @@ pub fn append_batch<V, H: Host>(
 /// Begins a record of so many bytes that alone will stand in the other bank, once the votes are
 /// mended.
 pub fn begin_alone<H: Host>(mut journal: Journal, host: &mut H, len: u32) -> Result<Draft, Failed>
-    requires fits { 21 + len ≤ bank_size journal.blocks }
+    requires fits { 21 + len ≤ bank_size (blocks_under journal) }
     requires stands { Stands H.told journal (H.outside host.old) }
     ensures begins { IfOk result (λ draft. Begins H.told journal len true draft
         (H.outside host.old) (H.outside host.new)) }
-    ensures stays { Stays H.told journal.unit (begin_work journal.blocks) result
+    ensures stays { Stays H.told (unit_under journal) (begin_work (blocks_under journal)) result
         (H.outside host.old) (H.outside host.new) }
 {
     journal.repair(host)?;

@@ -3,7 +3,7 @@
 ghost use Rattle.std.specs.Prelude.{◌≡◌, ◌≤◌, OnOk};
 ghost use Rattle.std.specs.FinSet as set;
 ghost use Rattle.newt_spec_image.specs.Pages.{after as pages_behind};
-ghost use Rattle.newt_journal.specs.Journal.{room};
+ghost use Rattle.newt_journal.specs.Journal.{room, unit_under, blocks_under};
 ghost use Rattle.newt_pagebook.specs.Batch.{IsBatch};
 ghost use Rattle.newt_pagebook.specs.Book.{changed_numbers};
 ghost use Rattle.newt_pagelog.specs.Commits.{AppendsWhereOpen, Commits, append_work, commit_work};
@@ -48,7 +48,7 @@ fn commit_beside<H: Host>(
 ) -> Result<Journal, Failed>
     requires ready { IsReadyFor H.told batch.now journal pages.old (H.outside host.old) }
     requires batch { IsBatch batch.now }
-    ensures commits { Commits H.told journal (switch_work journal.blocks
+    ensures commits { Commits H.told journal (switch_work (blocks_under journal)
         (set.len (changed_numbers batch.now (numbers_in pages.old.entries)))) batch.now result
         (H.outside host.old) (H.outside host.new) }
     ensures pages { map_of pages.new.entries ≡ pages_behind batch.now (map_of pages.old.entries) }
@@ -67,13 +67,13 @@ pub(crate) fn commit_with<H: Host>(
     batch: &Batch,
 ) -> Result<Journal, Failed>
     requires ready { IsReadyFor H.told batch.now journal pages.old (H.outside host.old) }
-    ensures commits { Commits H.told journal (commit_work journal.blocks batch.now
+    ensures commits { Commits H.told journal (commit_work (blocks_under journal) batch.now
         (set.len (changed_numbers batch.now (numbers_in pages.old.entries)))) batch.now result
         (H.outside host.old) (H.outside host.new) }
     ensures pages { OnOk result (map_of pages.new.entries
         ≡ pages_behind batch.now (map_of pages.old.entries)) }
     ensures sound { AreSound pages.new.entries }
-    ensures appends { AppendsWhereOpen H.told journal.unit batch.now
+    ensures appends { AppendsWhereOpen H.told (unit_under journal) batch.now
         (H.outside host.old) (H.outside host.new) }
 {
     if has_room(&journal, pages, batch) {

@@ -3,7 +3,7 @@ ghost use Rattle.std.specs.Prelude.{IsTrue, ◌≡◌, ◌+◌, ◌≤◌, None,
 ghost use Rattle.newt_host.specs.Moments.{image};
 ghost use Rattle.newt_spec_image.specs.Pages.{pages as pages_of};
 ghost use Rattle.newt_journal.specs.Calls.{Reads};
-ghost use Rattle.newt_journal.specs.Journal.{Stands};
+ghost use Rattle.newt_journal.specs.Journal.{Stands, unit_under, end_of};
 ghost use Rattle.newt_journal.specs.Places.{first_place};
 ghost use Rattle.newt_pagelog.specs.Kept.{AreSound, map_of, page_in};
 ghost use Rattle.newt_pagelog.specs.Placed.{ArePlaced, ReadsBook, ReadsUnit, lifted, page_from};
@@ -20,11 +20,12 @@ use std::collections::HashMap;
 // Reads the page at a place.
 fn read_page<H: Host>(journal: &Journal, host: &mut H, at: u32) -> Result<Page, Failed>
     requires low { first_place journal.now ≤ at }
-    requires high { at + 512 ≤ journal.now.end }
+    requires high { at + 512 ≤ end_of journal.now }
     requires stands { Stands H.told journal.now (H.outside host.old) }
     ensures page { IsTrue H.told → IfOk result
-        (λ page. page ≡ page_from (image journal.now.unit (H.outside host.old).now) at) }
-    ensures reads { Reads journal.now.unit 512 result (H.outside host.old) (H.outside host.new) }
+        (λ page. page ≡ page_from (image (unit_under journal.now) (H.outside host.old).now) at) }
+    ensures reads { Reads (unit_under journal.now) 512 result
+        (H.outside host.old) (H.outside host.new) }
 {
     let mut page = [0; 512];
     journal.read_at(host, at, &mut page)?;
@@ -45,9 +46,10 @@ fn read_number<H: Host>(
     ensures took { OnOk result (TakesNumber number places.now.entries pages.old pages.new) }
     ensures page { IsTrue H.told → OnOk result
         (page_in pages.new.entries number
-        ≡ page_in (lifted (page_from (image journal.now.unit (H.outside host.old).now))
+        ≡ page_in (lifted (page_from (image (unit_under journal.now) (H.outside host.old).now))
         places.now.entries) number) }
-    ensures reads { ReadsUnit journal.now.unit result (H.outside host.old) (H.outside host.new) }
+    ensures reads { ReadsUnit (unit_under journal.now) result
+        (H.outside host.old) (H.outside host.new) }
 {
     match places.get(&number) {
         Some(place) => {
@@ -68,11 +70,12 @@ pub(crate) fn read_pages<H: Host>(
     requires { Stands H.told journal.now (H.outside host.old) }
     ensures sound { IfOk result (λ kept. AreSound kept.entries) }
     ensures pages { IsTrue H.told → IfOk result
-        (λ kept. pages_of (image journal.now.unit (H.outside host.old).now)
+        (λ kept. pages_of (image (unit_under journal.now) (H.outside host.old).now)
         ≡ Some (map_of kept.entries)) }
     ensures not_store { IsErrOf result BookFault.NotStore → IsTrue H.told
-        → pages_of (image journal.now.unit (H.outside host.old).now) ≡ None }
-    ensures reads { ReadsBook journal.now.unit result (H.outside host.old) (H.outside host.new) }
+        → pages_of (image (unit_under journal.now) (H.outside host.old).now) ≡ None }
+    ensures reads { ReadsBook (unit_under journal.now) result
+        (H.outside host.old) (H.outside host.new) }
 {
     let places = replay(alloc, journal, host)?;
     let mut pages = HashMap::new(alloc);

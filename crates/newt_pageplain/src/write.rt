@@ -3,7 +3,7 @@ ghost use Rattle.std.specs.Prelude.{IsTrue, ◌≡◌, ◌+◌, ◌*◌, ◌≤�
 ghost use Rattle.std.specs.List.{flat_map};
 ghost use Rattle.newt_spec_image.specs.Pages.{written_put, written_change};
 ghost use Rattle.newt_spec_image.specs.Records.{bank_size};
-ghost use Rattle.newt_journal.specs.Journal.{Stands};
+ghost use Rattle.newt_journal.specs.Journal.{Stands, blocks_under};
 ghost use Rattle.newt_journal.specs.Draft.{IsDraftOf, unit_of, len_of, put_of};
 ghost use Rattle.newt_pagelog.specs.Kept.{all_of};
 ghost use Rattle.newt_pagelog.specs.Commits.{Rewrites, switch_work};
@@ -55,8 +55,9 @@ pub(crate) fn replace_all<H: Host>(
 ) -> Result<Journal, Failed>
     requires stands { Stands H.told journal (H.outside host.old) }
     requires few { length pages.now.entries < 65536 }
-    requires fits { 25 + 516 * length pages.now.entries ≤ bank_size journal.blocks }
-    ensures { Rewrites H.told journal (switch_work journal.blocks (length pages.now.entries))
+    requires fits { 25 + 516 * length pages.now.entries ≤ bank_size (blocks_under journal) }
+    ensures { Rewrites H.told journal (switch_work (blocks_under journal)
+        (length pages.now.entries))
         (Some (written_change (all_of pages.now.entries) ∷ [])) result
         (H.outside host.old) (H.outside host.new) }
 {

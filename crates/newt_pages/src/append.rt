@@ -1,7 +1,7 @@
 // A batch is committed behind the other records.
 ghost use Rattle.std.specs.Prelude.{IsTrue, ℕ, List, ◌≡◌, ◌≤◌, ◌+◌, ◌*◌, IfOk};
 ghost use Rattle.newt_host.specs.Moments.{image};
-ghost use Rattle.newt_journal.specs.Journal.{room};
+ghost use Rattle.newt_journal.specs.Journal.{room, unit_under};
 ghost use Rattle.newt_pagebook.specs.Batch.{IsBatch};
 ghost use Rattle.newt_pagelog.specs.Commits.{Commits, append_work};
 ghost use Rattle.newt_pagelog.specs.Kept.{needed, payload_bytes};
@@ -29,8 +29,8 @@ pub(crate) fn commit_behind<H: Host>(
         (H.outside host.new) }
     // what was cached of the records before is still what stands there
     ensures caches { IsTrue H.told → IfOk result (λ after. (cached : List (ℕ × List ℕ))
-        → EachIsPageAtPlace journal (image journal.unit (H.outside host.old).now) cached
-        → EachIsPageAtPlace after (image journal.unit (H.outside host.new).now) cached) }
+        → EachIsPageAtPlace journal (image (unit_under journal) (H.outside host.old).now) cached
+        → EachIsPageAtPlace after (image (unit_under journal) (H.outside host.new).now) cached) }
 {
     let first = journal.end() + FIRST_PAGE;
     let journal = append_batch(journal, host, places, batch)?;

@@ -3,6 +3,7 @@
 ghost use Rattle.std.specs.Prelude.{IsTrue, ◌≡◌, IfOk};
 ghost use Rattle.std.specs.FinSet as set;
 ghost use Rattle.newt_host.specs.Moments.{image};
+ghost use Rattle.newt_journal.specs.Journal.{unit_under, blocks_under};
 ghost use Rattle.newt_pagebook.specs.Batch.{IsBatch};
 ghost use Rattle.newt_pagebook.specs.Book.{changed_numbers};
 ghost use Rattle.newt_pagelog.specs.Commits.{AppendsWhereOpen, Commits, commit_work, switch_work};
@@ -29,8 +30,8 @@ fn commit_beside<H: Host>(
     requires ready { IsReadyFor H.told batch.now journal places.old (H.outside host.old) }
     requires batch { IsBatch batch.now }
     requires live { live ≡ set.len (changed_numbers batch.now (numbers_in places.old.entries)) }
-    ensures commits { Commits H.told journal (switch_work journal.blocks live) batch.now result
-        (H.outside host.old) (H.outside host.new) }
+    ensures commits { Commits H.told journal (switch_work (blocks_under journal) live) batch.now
+        result (H.outside host.old) (H.outside host.new) }
     ensures takes { TakesOver H.told batch.now places.old.entries places.new.entries result
         (H.outside host.new) }
 {
@@ -53,17 +54,17 @@ pub(crate) fn commit_with<H: Host>(
 ) -> Result<Journal, Failed>
     requires ready { IsReadyFor H.told batch.now journal places.old (H.outside host.old) }
     requires caches { IsTrue H.told → EachIsPageAtPlace journal
-        (image journal.unit (H.outside host.old).now) cache.old.entries }
+        (image (unit_under journal) (H.outside host.old).now) cache.old.entries }
     requires live { live ≡ set.len (changed_numbers batch.now (numbers_in places.old.entries)) }
-    ensures commits { Commits H.told journal (commit_work journal.blocks batch.now
+    ensures commits { Commits H.told journal (commit_work (blocks_under journal) batch.now
         (set.len (changed_numbers batch.now (numbers_in places.old.entries)))) batch.now result
         (H.outside host.old) (H.outside host.new) }
     ensures takes { TakesOver H.told batch.now places.old.entries places.new.entries result
         (H.outside host.new) }
     ensures caches { IsTrue H.told → IfOk result
         (λ after. EachIsPageAtPlace after
-        (image journal.unit (H.outside host.new).now) cache.new.entries) }
-    ensures appends { AppendsWhereOpen H.told journal.unit batch.now
+        (image (unit_under journal) (H.outside host.new).now) cache.new.entries) }
+    ensures appends { AppendsWhereOpen H.told (unit_under journal) batch.now
         (H.outside host.old) (H.outside host.new) }
 {
     if has_room(&journal, places, batch) {

@@ -2,7 +2,7 @@
 ghost use Rattle.std.specs.Prelude.{IsTrue, ◌≡◌, [], IfOk};
 ghost use Rattle.newt_host.specs.Moments.{image};
 ghost use Rattle.newt_journal.specs.Calls.{Reads};
-ghost use Rattle.newt_journal.specs.Journal.{Stands};
+ghost use Rattle.newt_journal.specs.Journal.{Stands, unit_under};
 ghost use Rattle.newt_pages.specs.Disk.{Brings, EachIsPageAtPlace, LiesAt, bytes_fetched, shown_in};
 
 use lru::LruCache;
@@ -35,13 +35,13 @@ pub(crate) fn bring<H: Host>(
     requires lies { LiesAt journal.now at }
     requires stands { Stands H.told journal.now (H.outside host.old) }
     requires caches { IsTrue H.told → EachIsPageAtPlace journal.now
-        (image journal.now.unit (H.outside host.old).now) cache.old.entries }
+        (image (unit_under journal.now) (H.outside host.old).now) cache.old.entries }
     ensures brings { IfOk result (λ hand. Brings H.told journal.now at (H.outside host.old)
         (shown_in cache.new.entries spare.new hand)) }
     ensures caches { IsTrue H.told → EachIsPageAtPlace journal.now
-        (image journal.now.unit (H.outside host.old).now) cache.new.entries }
+        (image (unit_under journal.now) (H.outside host.old).now) cache.new.entries }
     // for a page that is cached nothing is fetched
-    ensures reads { Reads journal.now.unit (bytes_fetched at cache.old.entries) result
+    ensures reads { Reads (unit_under journal.now) (bytes_fetched at cache.old.entries) result
         (H.outside host.old) (H.outside host.new) }
 {
     if cache.promote(&at) {

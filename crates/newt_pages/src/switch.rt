@@ -5,7 +5,7 @@ ghost use Rattle.std.specs.Map.{lookup};
 ghost use Rattle.newt_host.specs.Moments.{image};
 ghost use Rattle.newt_spec_image.specs.Records.{records, bank_size};
 ghost use Rattle.newt_spec_image.specs.Pages.{written_change};
-ghost use Rattle.newt_journal.specs.Journal.{Stands};
+ghost use Rattle.newt_journal.specs.Journal.{Stands, unit_under, blocks_under, end_of};
 ghost use Rattle.newt_journal.specs.Places.{first_place};
 ghost use Rattle.newt_journal.specs.Draft.{journal_of, unit_of, len_of, put_of};
 ghost use Rattle.newt_pagelog.specs.Commits.{Rewrites, switch_work};
@@ -112,15 +112,17 @@ pub(crate) fn replace_all<H: Host>(
 ) -> Result<Journal, Failed>
     requires stands { Stands H.told journal (H.outside host.old) }
     requires count { live ≡ length (below 65536 places.now.entries) + length puts.now }
-    requires fits { 25 + 516 * live ≤ bank_size journal.blocks }
+    requires fits { 25 + 516 * live ≤ bank_size (blocks_under journal) }
     requires placed { ArePlaced journal places.now.entries }
     ensures rewrites { (payloads : List (List ℕ))
-        → (IsTrue H.told → records (image journal.unit (H.outside host.old).now) ≡ Some payloads)
-        → Rewrites H.told journal (switch_work journal.blocks live)
+        → (IsTrue H.told → records (image (unit_under journal) (H.outside host.old).now)
+        ≡ Some payloads)
+        → Rewrites H.told journal (switch_work (blocks_under journal) live)
         (Some (written_change (all_of
         (lifted (page_of journal payloads) (below 65536 places.now.entries) ++ puts.now)) ∷ []))
         result (H.outside host.old) (H.outside host.new) }
-    ensures places { IfOk result (λ after. after.end ≡ first_place after + 5 + (4 + 516 * live)) }
+    ensures places { IfOk result (λ after. end_of after
+        ≡ first_place after + 5 + (4 + 516 * live)) }
 {
     let mut draft = begin_alone(journal, host, 4 + 516 * u32::from(live))?;
     copy_whole(&mut draft, host, places, puts, live)?;

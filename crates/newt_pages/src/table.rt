@@ -7,6 +7,7 @@ ghost use Rattle.std.specs.Map.{lookup};
 ghost use Rattle.std.specs.HashMap as hash;
 ghost use Rattle.std.specs.FinMap as map;
 ghost use Rattle.newt_spec_image.specs.Pages.{Put, with_puts, after};
+ghost use Rattle.newt_journal.specs.Journal.{end_of};
 ghost use Rattle.newt_journal.specs.Places.{first_place};
 ghost use Rattle.newt_journal.specs.declared.journal.Journal.{Journal};
 ghost use Rattle.newt_pagelog.specs.Kept.{page_in, map_of, numbers_in, is_kept};
@@ -49,7 +50,7 @@ pub(crate) fn place_puts(places: &mut Table<u32>, puts: &[(u32, Page)], first: u
         ≡ map.get (with_puts puts.now (map_of (lifted page places.old.entries))) q }
     ensures placed { (j : Journal) → ArePlaced j places.old.entries
         → All (λ put. put.0 < 65536) puts.now → first_place j ≤ first
-        → first + 516 * length puts.now ≤ j.end + 4 → ArePlaced j places.new.entries }
+        → first + 516 * length puts.now ≤ end_of j + 4 → ArePlaced j places.new.entries }
     ensures len { hash.hash_map_len places.new ≤ hash.hash_map_len places.old + length puts.now }
     ensures unique { hash.IsUnique nat_eq places.new }
 {
@@ -98,7 +99,7 @@ pub(crate) fn apply(places: &mut Table<u32>, batch: &Batch, first: u32)
     ensures numbers { numbers_in places.new.entries
         ≡ changed_numbers batch.now (numbers_in places.old.entries) }
     ensures placed { (j : Journal) → ArePlaced j places.old.entries → first_place j ≤ first
-        → first + 516 * length batch.now.puts ≤ j.end + 4 → ArePlaced j places.new.entries }
+        → first + 516 * length batch.now.puts ≤ end_of j + 4 → ArePlaced j places.new.entries }
     ensures unique { hash.IsUnique nat_eq places.new }
 {
     place_puts(places, batch.puts(), first);

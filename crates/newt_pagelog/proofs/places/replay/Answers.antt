@@ -53,15 +53,17 @@ replay_record-requires g c =
     let o = g.H.Host.outside in
     let inv = c.loop-places.invariant in
     let inside = if_some _ c.in_ok-found.field-0 c.in-Some.found c.in-Some.is c.in_ok-found.ensures.finds.inside in
-    record { replaying = record {
-      within = record {
-        low = omega (arith, inv.low, inside.0);
-        inside = omega arith;
-        high = omega (arith, inside.1, inside.2);
+    record {
+      replaying = record {
+        within = record {
+          low = omega (arith, inv.low, inside.0);
+          inside = omega arith;
+          high = omega (arith, inside.1, inside.2);
+        };
+        stands = looks-stands g.H.Host.told c.args.journal.now (o c.args.host.now) (o c.walk.new.host) (OnlyReads-append inv.looks (looks-read c.walk.ensures.reads)) c.requires;
+        table = record { unique = inv.unique; placed = inv.placed };
       };
-      stands = looks-stands g.H.Host.told c.args.journal.now (o c.args.host.now) (o c.walk.new.host) (OnlyReads-append inv.looks (looks-read c.walk.ensures.reads)) c.requires;
-      table = record { unique = inv.unique; placed = inv.placed };
-    } }
+    }
 
 pub returns-then-not-branch-clause-not_store : goal.returns-then-not-branch-clause-not_store
 returns-then-not-branch-clause-not_store g c = λ _ tells.

@@ -87,16 +87,16 @@ returns-clause-ok g c =
     let z = c.in_ok-write_deletes.ensures.ok in
     record {
       writes = (step told u (4 + n) m (4 + n + m) (counts ++ flat_map written_put puts) (flat_map written_delete gone) (written_change (needed pages c.args.batch.now)) d c.write_puts.new.draft c.write_deletes.new.draft
-    (o c.args.host.now) (o c.write_puts.new.host) (o c.write_deletes.new.host) all (omega arith) s.keeps s.writes (writes-done c.in_ok-write_deletes.ensures.keeps) c.in_ok-write_deletes.ensures.ok).writes;
+          (o c.args.host.now) (o c.write_puts.new.host) (o c.write_deletes.new.host) all (omega arith) s.keeps s.writes (writes-done c.in_ok-write_deletes.ensures.keeps) c.in_ok-write_deletes.ensures.ok).writes;
       put = omega (
-      arith,
-      x.put,
-      y.ok.put,
-      z.put,
-      deletes-size (filter (is_kept c.args.pages.now.entries) c.deletes.result.now),
-      ap (λ (l : List (ℕ × List ℕ)). length l) c.puts-puts.ensures.puts,
-      ap (λ (l : List ℕ). length (filter (is_kept c.args.pages.now.entries) l)) c.deletes.ensures.deletes,
-    );
+        arith,
+        x.put,
+        y.ok.put,
+        z.put,
+        deletes-size (filter (is_kept c.args.pages.now.entries) c.deletes.result.now),
+        ap (λ (l : List (ℕ × List ℕ)). length l) c.puts-puts.ensures.puts,
+        ap (λ (l : List ℕ). length (filter (is_kept c.args.pages.now.entries) l)) c.deletes.ensures.deletes,
+      );
     }
 
 pub write_deletes-requires-clause-room : goal.write_deletes-requires-clause-room
