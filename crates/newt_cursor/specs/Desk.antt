@@ -10,7 +10,8 @@ with_key key place = place
 
 -- the place is on the entry of these signatures and this id (this project's own)
 abbrev pub is_on : ℕ → ℕ → ℕ → Place → Bool
-is_on store soup uid (on hit) = same_identity hit (record hit { store = store; soup = soup; uid = uid })
+is_on store soup uid (on hit) =
+    same_identity hit (record hit { store = store; soup = soup; uid = uid })
 is_on store soup uid place = false
 
 -- a cursor is open and stands on this entry (this project's own)

@@ -6,12 +6,16 @@ ghost use Rattle.std.specs.List.{position};
 ghost use Rattle.newt_spec_world.specs.World.{change_at, flat};
 ghost use Rattle.newt_tags.specs.Masks.{number};
 ghost use Rattle.newt_cursor.specs.Seen.{query_of, place_of, cursor_of, cursors_of};
+ghost use Rattle.newt_spec_query.specs.Cursor.{start};
 ghost use Rattle.newt_cursor.specs.Desk.{keyed, put_on, stands_on};
+ghost use Rattle.newt_cursor.specs.Table.{IsTable, IsTableBut, IsTableSave, entry_of};
 ghost use Rattle.newt_cursor.specs.declared.fault.DeskFault.{DeskFault};
 
 use crate::fault::DeskFault;
 use crate::place::Place;
 use crate::query::Query;
+use crate::table::{Row, add_row, cursors_on, remove_row};
+use arrayvec::ArrayVec;
 use newt_base::{Sig, Uid};
 use newt_keys::Key;
 use std::alloc::{AllocError, Global};
@@ -41,21 +45,24 @@ impl Cursor {
 }
 
 /// The 32 places for cursors, numbered from 0. At each a cursor is open, or the place is free.
+/// Beside them stand the entries on which cursors stand, each once and in order.
 #[derive(Drop)]
 pub struct Desk {
     cursors: Vec<Option<Cursor>>,
+    rows: ArrayVec<Row, 32>,
 }
 
 impl Model for Desk {
-    ghost use Rattle.std.specs.Prelude.{◌≡◌, List, Option, length};
+    ghost use Rattle.std.specs.Prelude.{List, Option};
     ghost use Rattle.newt_spec_query.specs.Cursor.{Cursor};
     ghost use Rattle.newt_cursor.specs.Seen.{cursors_of};
+    ghost use Rattle.newt_cursor.specs.Table.{IsDesk};
 
     ghost Value = { List (Option Cursor) };
 
     ghost view = { λ desk. cursors_of desk.cursors.items };
 
-    ghost invariant = { λ desk. length desk.cursors.items ≡ 32 };
+    ghost invariant = { λ desk. IsDesk (cursors_of desk.cursors.items) desk.rows.items };
 }
 
 impl Desk {
@@ -66,12 +73,13 @@ impl Desk {
     {
         Ok(Desk {
             cursors: free_places(alloc)?,
+            rows: ArrayVec::new(),
         })
     }
 
     /// Opens a cursor at the least free number, and answers this number. Limit exactly where 32 are
     /// open. The query's memory alone is taken.
-    #[tactic(auto, using(crate::proofs::Places::set_seen))]
+    #[tactic(auto, using(crate::proofs::Rows::free_at))]
     pub fn open(&mut self, query: Query, place: Place) -> Result<u8, DeskFault>
         ensures number { IfOk result (λ c. position is_none self.old ≡ Some c) }
         ensures ok { IfOk result (λ c. self.new ≡ slice_set self.old c
@@ -81,13 +89,13 @@ impl Desk {
     {
         let free = self.free()?;
         let query = Rc::new(*self.cursors.allocator(), query)?;
-        self.cursors[free] = Some(Cursor { query, place });
+        self.seat(free as u8, query, place);
         Ok(free as u8)
     }
 
     /// Opens another cursor with the query and the place of one that is open, at the least free
     /// number, and answers this number. Limit exactly where 32 are open.
-    #[tactic(auto, using(crate::proofs::Places::set_seen, crate::proofs::Places::seen_at))]
+    #[tactic(auto, using(crate::proofs::Rows::free_at, crate::proofs::Places::seen_at))]
     pub fn clone_of(&mut self, cursor: u8) -> Result<u8, DeskFault>
         requires { IsSome (flat (slice_get self.old cursor)) }
         ensures number { IfOk result (λ c. position is_none self.old ≡ Some c) }
@@ -101,7 +109,7 @@ impl Desk {
             Some(open) => open.copy()?,
             None => unreachable!(),
         };
-        self.cursors[free] = Some(copy);
+        self.seat(free as u8, copy.query, copy.place);
         Ok(free as u8)
     }
 
@@ -130,21 +138,21 @@ impl Desk {
 
     /// Puts a cursor at another place. Nothing changes where no cursor of this number is open. It
     /// takes no memory.
-    #[tactic(auto, using(crate::proofs::Places::changed_at, crate::proofs::Places::stays_at))]
+    #[tactic(auto, using(crate::proofs::Rows::put_twice, crate::proofs::Rows::left_nowhere))]
     pub fn step(&mut self, cursor: u8, place: Place)
         ensures { self.new ≡ change_at cursor (put_on (place_of place)) self.old }
     {
-        if usize::from(cursor) < self.cursors.len() {
-            put_at(&mut self.cursors[usize::from(cursor)], place);
-        }
+        self.leave(cursor);
+        self.land(cursor, place);
     }
 
     /// Which cursors stand on an entry, whatever its key: bit c is that of cursor c. It takes no
     /// memory.
+    #[tactic(auto, using(crate::proofs::Rows::looked_up))]
     pub fn watchers(&self, store: Sig, soup: Sig, uid: Uid) -> u32
         ensures { result ≡ number (map (stands_on store soup uid) self.now) }
     {
-        watching(&self.cursors, store, soup, uid)
+        cursors_on(&self.rows, store, soup, uid)
     }
 
     /// Sets the key of the entry on which a cursor stands, whose graph has changed. Nothing changes
@@ -160,12 +168,57 @@ impl Desk {
 
     /// Frees the place of a cursor. Nothing changes where no cursor of this number is open. It
     /// takes no memory.
-    #[tactic(auto, using(crate::proofs::Places::set_seen, crate::proofs::Places::set_beyond))]
+    #[tactic(auto, using(crate::proofs::Places::set_seen, crate::proofs::Rows::set_changed))]
     pub fn close(&mut self, cursor: u8)
         ensures { self.new ≡ slice_set self.old cursor None }
     {
+        self.leave(cursor);
         if usize::from(cursor) < self.cursors.len() {
-            self.cursors[usize::from(cursor)] = None;
+            close_at(&mut self.cursors[usize::from(cursor)]);
+        }
+    }
+
+    /// Opens a cursor at a number that is free.
+    #[tactic(auto, using(crate::proofs::Places::set_seen, crate::proofs::Rows::seated))]
+    fn seat(&mut self, free: u8, query: Rc<Query>, place: Place)
+        requires { slice_get self.old free ≡ Some None }
+        ensures { self.new ≡ slice_set self.old free
+            (Some (record { query = query_of query.value; place = place_of place })) }
+    {
+        open_at(
+            &mut self.cursors[usize::from(free)],
+            Cursor {
+                query,
+                place: Place::Start,
+            },
+        );
+        self.land(free, place);
+    }
+
+    /// Puts a cursor before all hits, so that it stands on no entry.
+    #[tactic(auto, using(crate::proofs::Places::changed_at, crate::proofs::Places::stays_at))]
+    fn leave(&mut self, cursor: u8)
+        ensures { self.new ≡ change_at cursor (put_on start) self.old }
+    {
+        let at = usize::from(cursor);
+        if at < self.cursors.len() {
+            let left = entry_at(&self.cursors[at]);
+            put_at(&mut self.cursors[at], Place::Start);
+            refresh_any(&mut self.rows, &self.cursors, left);
+        }
+    }
+
+    /// Puts a cursor that is before all hits at another place.
+    #[tactic(auto, using(crate::proofs::Places::changed_at, crate::proofs::Places::stays_at))]
+    fn land(&mut self, cursor: u8, place: Place)
+        requires { entry_of (flat (slice_get self.old cursor)) ≡ None }
+        ensures { self.new ≡ change_at cursor (put_on (place_of place)) self.old }
+    {
+        let at = usize::from(cursor);
+        if at < self.cursors.len() {
+            let entry = place.entry();
+            put_at(&mut self.cursors[at], place);
+            refresh_any(&mut self.rows, &self.cursors, entry);
         }
     }
 
@@ -213,6 +266,20 @@ fn first_free(cursors: &[Option<Cursor>]) -> Option<usize>
     cursors.iter().position(|cursor| cursor.is_none())
 }
 
+/// Opens a cursor at a place for one.
+fn open_at(cursor: &mut Option<Cursor>, opened: Cursor)
+    ensures { cursor.new ≡ Some opened }
+{
+    *cursor = Some(opened);
+}
+
+/// Frees a place for a cursor.
+fn close_at(cursor: &mut Option<Cursor>)
+    ensures { cursor.new ≡ None }
+{
+    *cursor = None;
+}
+
 /// Puts the cursor at a place, where there is a cursor.
 fn put_at(cursor: &mut Option<Cursor>, place: Place)
     ensures { option_map cursor_of cursor.new
@@ -230,6 +297,58 @@ fn key_at(cursor: &mut Option<Cursor>, key: Key)
 {
     if let Some(open) = cursor {
         open.place.set_key(key);
+    }
+}
+
+/// The entry on which a cursor stands, if there is a cursor and it stands on one.
+fn entry_at(cursor: &Option<Cursor>) -> Option<(Sig, Sig, Uid)>
+    ensures { result ≡ entry_of (option_map cursor_of cursor.now) }
+{
+    match cursor {
+        Some(open) => open.place.entry(),
+        None => None,
+    }
+}
+
+/// Makes the row of an entry anew, if there is one.
+fn refresh_any(
+    rows: &mut ArrayVec<Row, 32>,
+    cursors: &[Option<Cursor>],
+    entry: Option<(Sig, Sig, Uid)>,
+)
+    requires places { length cursors.now ≡ 32 }
+    requires rows { IsTableSave entry (cursors_of cursors.now) rows.old.items }
+    ensures { IsTable (cursors_of cursors.now) rows.new.items }
+{
+    if let Some((store, soup, uid)) = entry {
+        refresh(rows, cursors, store, soup, uid);
+    }
+}
+
+/// Makes the row of an entry anew, on which other cursors may stand now.
+fn refresh(
+    rows: &mut ArrayVec<Row, 32>,
+    cursors: &[Option<Cursor>],
+    store: Sig,
+    soup: Sig,
+    uid: Uid,
+)
+    requires places { length cursors.now ≡ 32 }
+    requires rows { IsTableBut store soup uid (cursors_of cursors.now) rows.old.items }
+    ensures { IsTable (cursors_of cursors.now) rows.new.items }
+{
+    remove_row(rows, store, soup, uid);
+    let standing = watching(cursors, store, soup, uid);
+    if standing != 0 {
+        add_row(
+            rows,
+            Row {
+                store,
+                soup,
+                uid,
+                cursors: standing,
+            },
+        );
     }
 }
 

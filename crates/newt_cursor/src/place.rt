@@ -2,6 +2,7 @@
 ghost use Rattle.std.specs.Prelude.{◌≡◌, IfOk};
 ghost use Rattle.newt_cursor.specs.Seen.{place_of};
 ghost use Rattle.newt_cursor.specs.Desk.{is_on, with_key};
+ghost use Rattle.newt_cursor.specs.Table.{entry_on};
 
 use newt_base::{Sig, Uid};
 use newt_index::Spot;
@@ -38,6 +39,16 @@ impl Place {
         match self {
             Place::On(spot) => spot.store == store && spot.soup == soup && spot.uid == uid,
             Place::Start | Place::Finish => false,
+        }
+    }
+
+    /// The entry that it is on, if it is on one. It takes no memory.
+    pub fn entry(&self) -> Option<(Sig, Sig, Uid)>
+        ensures { result ≡ entry_on (place_of self.now) }
+    {
+        match self {
+            Place::On(spot) => Some((spot.store, spot.soup, spot.uid)),
+            Place::Start | Place::Finish => None,
         }
     }
 
