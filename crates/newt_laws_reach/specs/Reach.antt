@@ -1,0 +1,84 @@
+-- Which cursors a command can give another key.
+use Rattle.std.specs.Prelude.{ℕ, Bool, false, ◌&&◌, ◌==◌, List, map, cond}
+use Rattle.std.specs.Prelude.{Option, Some, None, option_map}
+use Rattle.newt_spec_store.specs.Store.{Store, Soup, soup_named}
+use Rattle.newt_spec_query.specs.Hits.{Hit}
+use Rattle.newt_spec_query.specs.Cursor.{Cursor, Place, on}
+use Rattle.newt_spec_world.specs.declared.command.Command.{Command}
+use Rattle.newt_spec_world.specs.declared.command.Command.TheVariants as command
+use Rattle.newt_spec_world.specs.World.{World, default_unit, mounted_store}
+use Rattle.newt_spec_world.specs.World.{settle_cursor, store_on_unit}
+
+-- what a command reaches: no entry, the entries of a store, those of a soup of a store, or one
+-- entry, by their signatures and its id (this project's own)
+pub data Reach : Type 0 where
+  nowhere : Reach
+  on_store : ℕ → Reach
+  on_soup : ℕ → ℕ → Reach
+  on_entry : ℕ → ℕ → ℕ → Reach
+
+-- a hit is of an entry that is reached (this project's own)
+abbrev pub reaches : Reach → Hit → Bool
+reaches nowhere h = false
+reaches (on_store store) h = h.store == store
+reaches (on_soup store soup) h = (h.store == store) && (h.soup == soup)
+reaches (on_entry store soup uid) h = (h.store == store) && (h.soup == soup) && (h.uid == uid)
+
+-- a place is on an entry that is reached (a word of these definitions)
+abbrev pub is_reached : Reach → Place → Bool
+is_reached r (on at) = reaches r at
+is_reached r place = false
+
+-- a cursor that is on an entry that is reached is settled; every other stays (this project's own)
+abbrev pub settle_where : Reach → World → Cursor → Cursor
+settle_where r w k = cond (is_reached r k.place) (settle_cursor w k) k
+
+-- the same of all cursors (this project's own)
+abbrev pub settle_reached : Reach → World → World
+settle_reached r w = record w { cursors = map (option_map (settle_where r w)) w.cursors }
+
+-- ---- what is reached
+
+-- what is reached of the soup that is found (a word of these definitions)
+abbrev pub in_soup : (Soup → Reach) → Option Soup → Reach
+in_soup made None = nowhere
+in_soup made (Some p) = made p
+
+-- what is reached of the soup of a name in the store that is found (a word of these definitions)
+abbrev pub in_store : (Store → Soup → Reach) → List ℕ → Option Store → Reach
+in_store made name None = nowhere
+in_store made name (Some s) = in_soup (made s) (soup_named name s)
+
+-- the entries of the soup of a name on a unit (a word of these definitions)
+abbrev pub soup_reach : World → ℕ → List ℕ → Reach
+soup_reach w u name = in_store (λ s p. on_soup s.sig p.sig) name (mounted_store w u)
+
+-- an entry of the soup of a name on a unit (a word of these definitions)
+abbrev pub entry_reach : World → ℕ → List ℕ → ℕ → Reach
+entry_reach w u name uid = in_store (λ s p. on_entry s.sig p.sig uid) name (mounted_store w u)
+
+-- the next entry of the soup of a name on a unit (a word of these definitions)
+abbrev pub next_reach : World → ℕ → List ℕ → Reach
+next_reach w u name = in_store (λ s p. on_entry s.sig p.sig p.next_uid) name (mounted_store w u)
+
+-- the entries of a store (a word of these definitions)
+abbrev pub store_reach : Option Store → Reach
+store_reach None = nowhere
+store_reach (Some s) = on_store s.sig
+
+-- The table: what each command reaches. An entry that is made or changed; all entries of a soup
+-- whose declarations grow, and of a store that is mounted, since these can come back among the hits
+-- with another key. (this project's own)
+unfoldable pub reach : World → Command → Reach
+reach w (command.Mount u) = store_reach (store_on_unit w u)
+reach w (command.Index u s parts) = soup_reach w u s
+reach w (command.SetTags u s path symbols) = soup_reach w u s
+reach w (command.Add u s g) = next_reach w u s
+reach w (command.Addx u s g) = next_reach w u s
+reach w (command.Addu s g) = next_reach w (default_unit w) s
+reach w (command.Set u s uid path g) = entry_reach w u s uid
+reach w (command.Change u s uid g) = entry_reach w u s uid
+reach w (command.Copy u s uid v t) = next_reach w v t
+reach w (command.Move u s uid v t) = next_reach w v t
+reach w (command.Vwrite u s uid path at bytes) = entry_reach w u s uid
+reach w _ = nowhere
