@@ -42,7 +42,7 @@ use Rattle.newt_store.specs.declared.next.Next.{Next}
 use Rattle.newt_store.specs.declared.next.Gone.{Gone}
 use Rattle.newt_store.specs.declared.next.Gone.TheVariants.{Nothing}
 use Rattle.newt_store_change.specs.Change.{first_checks, is_too_large, has_no_ids, changed_soup, pages_of_entry}
-use Rattle.newt_store.specs.Next.{Goes, IsNew, LosesNames, IsGoing, Turns, IsAdding, IsPlanOf, goes_pages, replaced_pages}
+use Rattle.newt_store.specs.Next.{Goes, HasIdLeft, IsNew, LosesNames, IsGoing, Turns, IsAdding, IsPlanOf, goes_pages, replaced_pages}
 use Rattle.newt_store_catalog.specs.Stands.{Describes}
 use Rattle.newt_store.proofs.Found.{soup-same, soup-some, emptied-some}
 use Rattle.newt_store.proofs.Ids.{is-none, free-in, free-names, are-larges, entry-pages}
@@ -235,6 +235,11 @@ row-room b sig p formed found last =
     let there = soup-there sig b p found in
     let r = soup-good b p formed there.1 in
     omega (arith, r.next, last)
+
+-- a soup that is found has an id left where its next one is not the last
+pub id-left : (catalog : Catalog) (sig : ℕ) (row : SoupRow) → well_formed (bare_store catalog.directory) ≡ true → soup_of sig (bare_store catalog.directory) ≡ Some (bare_soup row) → row.next_uid ≢ 536870911 → HasIdLeft catalog row
+id-left catalog sig row formed found last =
+    record { formed = formed; is_row = (row-is (bare_store catalog.directory) sig row found).1; room = row-room (bare_store catalog.directory) sig (bare_soup row) formed found last }
 
 pub last-ids : (catalog : Catalog) (texts : Objects) (s : Store) (sig : ℕ) (row : SoupRow) → Describes catalog.directory (place_of catalog.places) (names_of catalog.names) texts s → soup_of sig (bare_store catalog.directory) ≡ Some (bare_soup row) → row.next_uid ≡ 536870911
     → has_no_ids (soup_of sig s) ≡ true

@@ -2,7 +2,7 @@
 use Rattle.std.specs.Prelude.{◌≡◌, ◌≢◌, ◌⊎◌, ℕ, ◌+◌, ◌<◌, ◌≤◌, IsTrue, List, [], ◌∷◌, ◌++◌, length, flat_map, map as map_list, Option, Some, None}
 use Rattle.std.specs.FinMap as map
 use Rattle.newt_spec_image.specs.Objects.{Objects}
-use Rattle.newt_spec_store.specs.Store.{Store, take_uid_of, soup_of, entry_at}
+use Rattle.newt_spec_store.specs.Store.{Store, Entry, take_uid_of, soup_of, entry_at}
 use Rattle.newt_spec_image.specs.Pages.{cap}
 use Rattle.newt_spec_store.specs.Cost.{cost, directory_bytes, directory_pages, pages_bytes}
 use Rattle.newt_spec_store.specs.Laid.{bare}
@@ -12,7 +12,8 @@ use Rattle.newt_spec_store.specs.Valid.{well_formed}
 use Rattle.newt_graph.specs.Graph.{RawGraph}
 use Rattle.newt_spec_store.specs.Image.{entry_bytes, larges}
 use Rattle.newt_objects.specs.Held.{Held, held}
-use Rattle.newt_soupdir.specs.Bare.{bare_store}
+use Rattle.newt_soupdir.specs.Bare.{bare_soup, bare_store}
+use Rattle.newt_soupdir.specs.declared.rows.SoupRow.{SoupRow}
 use Rattle.newt_objects.specs.Changing.{HoldsObjects}
 use Rattle.newt_base.specs.Refusals.{first_of}
 use Rattle.newt_pagebook.specs.declared.book.Stop.TheVariants.{Memory, Device}
@@ -153,11 +154,21 @@ pub record HoldsEither (now : List ℕ) (next : Next) (gone : List ℕ) (before 
 abbrev pub IsEitherStore : List ℕ → Store → Store → List ℕ → Type 0
 IsEitherStore now s t left = (readable left ≡ Some s) ⊎ ((cost t ≤ cap (blocks_of now)) × (readable left ≡ Some t))
 
+-- the entry of an id that a graph is written as, at a minute
+abbrev pub written_entry : (uid now : ℕ) → RawGraph → Entry
+written_entry uid now graph = record { uid = uid; time = now; graph = graph }
+
+-- The directory is well formed, and this is the row of a soup of it that has an id left.
+pub record HasIdLeft (catalog : Catalog) (row : SoupRow) : Type 0 where
+  pub formed : IsTrue (well_formed (bare_store catalog.directory))
+  pub is_row : soup_of row.sig (bare_store catalog.directory) ≡ Some (bare_soup row)
+  pub room : row.next_uid < 536_870_911
+
 -- The new entry's record is that of this graph, and its large binaries are the graph's.
 pub record IsEntryOf (sig uid now : ℕ) (graph : RawGraph) (e : NewEntry) : Type 0 where
   pub of_sig : e.sig ≡ sig
   pub of_uid : e.uid ≡ uid
-  pub bytes : e.bytes.items ≡ entry_bytes sig (record { uid = uid; time = now; graph = graph }) (large_ids e)
+  pub bytes : e.bytes.items ≡ entry_bytes sig (written_entry uid now graph) (large_ids e)
   pub larges_are : map_list (λ l. l.bytes.items) e.larges.items ≡ map_list (λ l. l.1) (larges graph)
   pub ids : HasIds e
   pub ids_fit : (id : ℕ) → Among (large_ids e) id → id < 4294967296

@@ -1,6 +1,6 @@
 // What each change makes of a store, or why it is refused.
 ghost use Rattle.std.specs.Prelude.{IsTrue, ◌≡◌, ◌*◌, ◌+◌, ◌%◌, ◌<◌, ◌≤◌, ℕ, false};
-ghost use Rattle.std.specs.Prelude.{map as map_list, length, Some, None, IfOk, IfErr, IfSome};
+ghost use Rattle.std.specs.Prelude.{map as map_list, length, None, IfOk, IfErr, IfSome};
 ghost use Rattle.std.specs.Prelude.{IsSome};
 ghost use Rattle.newt_base.specs.Refusals.{first_of};
 ghost use Rattle.newt_host.specs.Moments.{image};
@@ -8,13 +8,14 @@ ghost use Rattle.newt_host.specs.Outside.{Spends};
 ghost use Rattle.newt_objects.specs.Held.{held};
 ghost use Rattle.newt_spec_graph.specs.Lists.{Among};
 ghost use Rattle.newt_spec_store.specs.Image.{entry_bytes, larges as larges_in};
-ghost use Rattle.newt_spec_store.specs.Store.{soup_of, entry_at};
+ghost use Rattle.newt_spec_store.specs.Store.{entry_at};
 ghost use Rattle.newt_spec_store.specs.Valid.{well_formed, valid_entry};
-ghost use Rattle.newt_soupdir.specs.Bare.{bare_soup, bare_store};
+ghost use Rattle.newt_soupdir.specs.Bare.{bare_store};
 ghost use Rattle.newt_store_change.specs.Change.{first_checks, entry_fetched, is_patch};
 ghost use Rattle.newt_store_change.specs.Change.{pages_of_entry, is_too_large as too_large};
 ghost use Rattle.newt_objects_commit.specs.Batch.{AreOnce, large_ids};
-ghost use Rattle.newt_store.specs.Next.{IsNextOf, IsPlanOf, IsAdding, IsEntryOf, IsNoDevice};
+ghost use Rattle.newt_store.specs.Next.{HasIdLeft, IsNextOf, IsPlanOf, IsAdding, IsEntryOf};
+ghost use Rattle.newt_store.specs.Next.{IsNoDevice, written_entry};
 ghost use Rattle.newt_store_catalog.specs.Reading.{ReadsOf};
 ghost use Rattle.newt_store.specs.Calls.{AreOpen, CallEnds, ForDescribed, ForStore, KeepsStore};
 ghost use Rattle.newt_store.specs.Calls.{PlansChange};
@@ -148,7 +149,7 @@ fn record_of(
     requires small { sig < 65536 }
     requires named { length (larges_in graph.now) ≡ length ids.now }
     ensures { IfOk result (λ bytes. bytes.items ≡ entry_bytes sig
-        (record { uid = uid; time = now; graph = graph.now }) ids.now) }
+        (written_entry uid now graph.now) ids.now) }
 {
     let row = row_of(alloc, sig, uid, now, graph, ids)?;
     write_entry(alloc, &row)
@@ -246,16 +247,8 @@ fn next_with(
     now: u32,
     gone: Gone,
 ) -> Result<Next, StoreFault>
-    requires formed { IsTrue (well_formed (bare_store catalog.now.directory)) }
-    requires row { soup_of row.now.sig (bare_store catalog.now.directory)
-        ≡ Some (bare_soup row.now) }
-    requires room { row.now.next_uid < 536_870_911 }
-    requires valid { IsTrue (valid_entry (record {
-      uid = row.now.next_uid;
-      time = now;
-      graph =
-          graph.now;
-    })) }
+    requires id_left { HasIdLeft catalog.now row.now }
+    requires valid { IsTrue (valid_entry (written_entry row.now.next_uid now graph.now)) }
     ensures next { IfOk result (IsNextOf catalog.now) }
     ensures adds { IfOk result (IsAdding catalog.now row.now.sig row.now.next_uid now graph.now
         gone) }

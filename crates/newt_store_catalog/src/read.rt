@@ -18,7 +18,7 @@ use newt_store_change::Entry;
 use std::alloc::Global;
 
 /// The device gave other bytes than were written. Over a host that tells its bytes this is never
-/// called; over another the run ends as for want of memory, since no fault was counted.
+/// called; over another the run ends out of memory, since no fault was counted.
 fn lies<H: Host>() -> Stop
     requires { IsTrue H.told → ⊥ }
     ensures { result ≡ Stop.Memory }

@@ -1,5 +1,5 @@
 -- Why a conversion halts, and a run of a script.
-use Rattle.std.proofs.Common.{◌≡◌, ◌⊎◌, inl, inr, ℕ, ◌<◌, List, [], length, take, Some, None, Ok, Err, refl, sym, ◌∙◌, subst, append-nil}
+use Rattle.std.proofs.Common.{◌≡◌, ◌≢◌, ◌⊎◌, inl, inr, ℕ, ◌<◌, List, [], length, take, Some, None, Ok, Err, refl, sym, ◌∙◌, subst, append-nil}
 use Rattle.newt_host.specs.Meanings.{out_of, since}
 use Rattle.newt_host.specs.Outside.{Outside, Rose}
 use Rattle.newt_script_session.specs.Calls.{Faults}
@@ -13,6 +13,7 @@ use Rattle.newt_script_session.specs.Stream.{WroteSome}
 use Rattle.newt_script_session.proofs.Writing.{wrote_nothing}
 use Rattle.newt_script_session.specs.declared.halt.Halt.{Halt}
 use Rattle.newt_script_session.specs.declared.halt.Halt.TheVariants.{Memory, Device, Source, Sink, TooLong}
+use Rattle.newt_top.specs.Calls.{RunEnds}
 use Rattle.newt_top.specs.Modes.{first, LeavesCounted, RanCounted, RanScript}
 use Rattle.newt_top.specs.Script.{summary_of}
 use Rattle.newt_top.proofs.Plain.{given_put, some_put, summary_is, whole_lines}
@@ -70,26 +71,29 @@ module _ (old new : Outside) where
   complete_of statuses.Source cause source sink device = absurd (source cause)
   complete_of statuses.Sink cause source sink device = absurd (sink cause)
 
-  pub faults_ok : {T E : Type 0} {Cause : E → (old new : Outside) → Type 0} {x : T} → Faults Cause (Ok x) old new → StatusFaults statuses.Ok old new
-  faults_ok f = record { later = f.later; cause = tt; no_fault = f.no_fault; complete = complete_of statuses.Ok tt }
+  pub ends_ok : {T E : Type 0} {Cause : E → (old new : Outside) → Type 0} {x : T} → Faults Cause (Ok x) old new → RunEnds statuses.Ok old new
+  ends_ok f = record { faults = record { later = f.later; cause = tt; no_fault = f.no_fault; complete = complete_of statuses.Ok tt }; not_usage = λ same. absurd (cc) }
 
   -- nothing was done
   pub faults_quiet : (status : Status) → HasStatusCause status old new → IsFaultFree status old new → NeverLess old new → StatusFaults status old new
   faults_quiet status cause free later = record { later = later; cause = cause; no_fault = free; complete = complete_of status cause }
 
-  pub faults_halted : {T : Type 0} (halt : Halt) → Faults {T = T} HasCause (Err halt) old new → StatusFaults (status_of halt) old new
-  faults_halted Memory f = faults_quiet statuses.Memory tt tt f.later
-  faults_halted (Device unit) f = faults_quiet (statuses.Device unit) f.cause tt f.later
-  faults_halted Source f = faults_quiet statuses.Source f.cause tt f.later
-  faults_halted Sink f = faults_quiet statuses.Sink f.cause tt f.later
-  faults_halted TooLong f = faults_quiet statuses.TooLong tt tt f.later
+  pub ends_quiet : (status : Status) → HasStatusCause status old new → IsFaultFree status old new → status ≢ statuses.Usage → NeverLess old new → RunEnds status old new
+  ends_quiet status cause free other later = record { faults = faults_quiet status cause free later; not_usage = other }
 
-  pub faults_counting : {T : Type 0} (halt : Halt) → Faults {T = T} HasWriteCause (Err halt) old new → StatusFaults (status_of halt) old new
-  faults_counting Memory f = faults_quiet statuses.Memory tt tt f.later
-  faults_counting (Device unit) f = faults_quiet (statuses.Device unit) f.cause tt f.later
-  faults_counting Source f = absurd f.cause
-  faults_counting Sink f = faults_quiet statuses.Sink f.cause tt f.later
-  faults_counting TooLong f = absurd f.cause
+  pub ends_halted : {T : Type 0} (halt : Halt) → Faults {T = T} HasCause (Err halt) old new → RunEnds (status_of halt) old new
+  ends_halted Memory f = ends_quiet statuses.Memory tt tt (λ same. absurd (cc)) f.later
+  ends_halted (Device unit) f = ends_quiet (statuses.Device unit) f.cause tt (λ same. absurd (cc)) f.later
+  ends_halted Source f = ends_quiet statuses.Source f.cause tt (λ same. absurd (cc)) f.later
+  ends_halted Sink f = ends_quiet statuses.Sink f.cause tt (λ same. absurd (cc)) f.later
+  ends_halted TooLong f = ends_quiet statuses.TooLong tt tt (λ same. absurd (cc)) f.later
+
+  pub ends_counting : {T : Type 0} (halt : Halt) → Faults {T = T} HasWriteCause (Err halt) old new → RunEnds (status_of halt) old new
+  ends_counting Memory f = ends_quiet statuses.Memory tt tt (λ same. absurd (cc)) f.later
+  ends_counting (Device unit) f = ends_quiet (statuses.Device unit) f.cause tt (λ same. absurd (cc)) f.later
+  ends_counting Source f = absurd f.cause
+  ends_counting Sink f = ends_quiet statuses.Sink f.cause tt (λ same. absurd (cc)) f.later
+  ends_counting TooLong f = absurd f.cause
 
 -- nothing is left of devices that were not attached
 pub none_attached : (script : List ℕ) (names : List (List ℕ)) (old : Outside) → ((unit : ℕ) → since old unit ≡ None) → LeavesCounted script names old old

@@ -1,13 +1,14 @@
 -- An input that is read to its end, and then converted.
-use Rattle.std.proofs.Common.{◌≡◌, Bool, Result, Ok, Err, refl, sym, ◌∙◌, subst, arith}
+use Rattle.std.proofs.Common.{◌≡◌, ℕ, ◌<◌, Bool, IsTrue, List, length, Result, Ok, Err, sym, subst, arith}
+use Rattle.newt_host.specs.Meanings.{out_of}
 use Rattle.newt_host.specs.Outside.{Outside, NoFault}
 use Rattle.newt_host.proofs.Outside.{NoFault-append, NoFault-refl}
-use Rattle.newt_script_session.specs.Calls.{Faults, HasReadCause as ReadFailed, ReadCall, WriteCall}
+use Rattle.newt_script_session.specs.Calls.{HasReadCause as ReadFailed, ReadCall, WriteCall}
 use Rattle.newt_script_session.specs.Causes.{HasCause, HasSinkCause, SameDevices}
 use Rattle.newt_script_session.specs.declared.halt.Halt.{Halt}
 use Rattle.newt_script_session.specs.declared.halt.Halt.TheVariants.{Memory, Device, Source, Sink, TooLong}
 use Rattle.newt_script_session.proofs.Counting.{faults_end, faults_err, faults_none, faults_same, same-refl, same-trans, sink_from}
-use Rattle.newt_top.specs.Whole.{HasReadCause, WholeCall}
+use Rattle.newt_top.specs.Whole.{HasReadCause, ReadsAll, WholeCall}
 
 -- So far no device is other than it was, and no fault was counted.
 pub record Reading (told : Bool) (old now : Outside) : Type 0 where
@@ -26,6 +27,12 @@ whole_ok {x = x} {Cause = Cause} {a = a} {b = b} r = record { devices = r.device
 -- it ended where no fault was counted
 pub whole_end : {told : Bool} {T : Type 0} (halt : Halt) {a b : Outside} → HasReadCause halt a b → Reading told a b → WholeCall {T = T} told HasReadCause (Err halt) a b
 whole_end halt {a} {b} cause r = record { devices = r.devices; faults = faults_end HasReadCause halt a b r.no_fault cause }
+
+-- not all of it was read
+pub unread : {told : Bool} {T : Type 0} {limit : ℕ} {read : List ℕ} (result : Result T Halt) (halt : Halt) {a b : Outside} → result ≡ Err halt
+    → (IsTrue told → halt ≡ TooLong → limit < length a.input) → (IsTrue told → out_of b ≡ out_of a) → ReadsAll told limit read result a b
+unread {told} {T} {limit} {read} result halt {a} {b} is long quiet = subst (λ (r : Result T Halt). ReadsAll told limit read r a b) (sym is)
+    (record { input = λ _. tt; left = λ _. tt; within = tt; too_long = long; quiet = quiet })
 
 pub whole_memory : {told : Bool} {T : Type 0} {a b : Outside} → Reading told a b → WholeCall {T = T} told HasCause (Err Memory) a b
 whole_memory {a = a} {b = b} r = record { devices = r.devices; faults = faults_end HasCause Memory a b r.no_fault tt }

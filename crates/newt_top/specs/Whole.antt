@@ -1,5 +1,5 @@
 -- What is made of an input that is taken as a whole.
-use Rattle.std.specs.Prelude.{◌≡◌, ℕ, ◌<◌, Bool, List, [], length, Result, Ok, Err}
+use Rattle.std.specs.Prelude.{◌≡◌, ℕ, ◌<◌, ◌≤◌, Bool, IsTrue, IfErr, OnOk, List, [], length, Result, Ok, Err}
 use Rattle.newt_base.specs.declared.Refusal.TheVariants as refusals
 use Rattle.newt_graph.specs.Graph.{RawGraph}
 use Rattle.newt_lit_read.specs.declared.fault.LitFault.{LitFault}
@@ -10,6 +10,7 @@ use Rattle.newt_nsof_read.specs.declared.fault.NsofFault.{NsofFault}
 use Rattle.newt_nsof_read.specs.declared.fault.NsofFault.TheVariants as nsof_faults
 use Rattle.newt_spec_world.specs.Reply as replies
 use Rattle.newt_script.specs.Graphs.{literal_of}
+use Rattle.newt_host.specs.Meanings.{out_of}
 use Rattle.newt_host.specs.Outside.{Outside, Rose}
 use Rattle.newt_script_session.specs.Calls.{Faults}
 use Rattle.newt_script_session.specs.Causes.{SameDevices}
@@ -52,6 +53,16 @@ HasReadCause TooLong old new = Unit {0}
 HasReadCause Source old new = Rose old.in_faults new.in_faults
 HasReadCause Sink old new = ⊥
 HasReadCause (Device unit) old new = ⊥
+
+-- All of the input was read, at most so many bytes, and nothing of it is left; or it was halted,
+-- for too long an input only where there are more. Nothing is written.
+pub record ReadsAll {T : Type 0} (told : Bool) (limit : ℕ) (read : List ℕ) (result : Result T Halt)
+    (old new : Outside) : Type 0 where
+  pub input : IsTrue told → OnOk result (read ≡ old.input)
+  pub left : IsTrue told → OnOk result (new.input ≡ [])
+  pub within : OnOk result (length read ≤ limit)
+  pub too_long : IsTrue told → IfErr result (λ halt. halt ≡ TooLong → limit < length old.input)
+  pub quiet : IsTrue told → out_of new ≡ out_of old
 
 -- What every call of a conversion promises: no device is other than it was, and no fault is swallowed.
 pub record WholeCall {T : Type 0} (told : Bool) (Cause : Halt → (old new : Outside) → Type 0) (result : Result T Halt) (old new : Outside) : Type 0 where

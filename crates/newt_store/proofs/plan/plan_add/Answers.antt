@@ -3,7 +3,7 @@ use Rattle.std.specs.Option.{is_some}
 use Rattle.newt_soupdir.specs.Bare.{bare_soup, bare_store}
 use Rattle.newt_spec_store.specs.Store.{soup_of}
 use Rattle.newt_store.proofs.Planned.{seen-some}
-use Rattle.newt_store.proofs.Adding.{row-is, row-room, is-valid-graph, small-is, add-no-soup, add-no-frame, add-size, add-ids, add-planned, last-ids}
+use Rattle.newt_store.proofs.Adding.{id-left, row-is, row-room, is-valid-graph, small-is, add-no-soup, add-no-frame, add-size, add-ids, add-planned, last-ids}
 use Rattle.newt_store.proofs.plan.plan_add.Goals as goal
 
 pub returns-in_default-clause-refused : goal.returns-in_default-clause-refused
@@ -23,11 +23,8 @@ returns-then-row-eq-LAST_ID-clause-refused c = λ texts s d.
     add-ids c.args.catalog.now texts s d c.args.sig c.args.graph.now (ap is_some (sym c.in-Some.ensures)) (sym c.is_frame.ensures.frame ∙ c.if-not-is_frame.false) (sym c.is_too_large.ensures ∙ c.if-is_too_large.false)
     (last-ids c.args.catalog.now texts s c.args.sig c.in-Some.row.now d (sym c.in-Some.ensures) c.if-row-eq-LAST_ID.true)
 
-pub next_with-requires-clause-row : goal.next_with-requires-clause-row
-next_with-requires-clause-row c = (row-is (bare_store c.args.catalog.now.directory) c.args.sig c.in-Some.row.now (sym c.in-Some.ensures)).1
-
-pub next_with-requires-clause-room : goal.next_with-requires-clause-room
-next_with-requires-clause-room c = row-room (bare_store c.args.catalog.now.directory) c.args.sig (bare_soup c.in-Some.row.now) c.requires.formed (sym c.in-Some.ensures) c.if-row-eq-LAST_ID.false
+pub next_with-requires-clause-id_left : goal.next_with-requires-clause-id_left
+next_with-requires-clause-id_left c = id-left c.args.catalog.now c.args.sig c.in-Some.row.now c.requires.formed (sym c.in-Some.ensures) c.if-row-eq-LAST_ID.false
 
 pub next_with-requires-clause-valid : goal.next_with-requires-clause-valid
 next_with-requires-clause-valid c =

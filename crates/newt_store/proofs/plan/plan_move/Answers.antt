@@ -18,17 +18,14 @@ use Rattle.newt_store_change.specs.declared.change.Change.TheVariants.{Move}
 use Rattle.newt_store.proofs.Unanswered.{no-value, by-error}
 use Rattle.newt_store.specs.Next.{IsAdding}
 use Rattle.newt_store.proofs.Planned.{reads-nothing, seen-some}
-use Rattle.newt_store.proofs.Adding.{row-is, row-room, last-ids}
+use Rattle.newt_store.proofs.Adding.{id-left, row-is, row-room, last-ids}
 use Rattle.newt_store.proofs.Moving.{move-no-source, move-no-target, move-no-entry, move-ids, move-planned}
 use Rattle.newt_store.proofs.Entries.{found-at}
 use Rattle.newt_store.proofs.Opened.{can-open, has-record}
 use Rattle.newt_store.proofs.plan.plan_move.Goals as goal
 
-pub next_with-requires-clause-row : goal.next_with-requires-clause-row
-next_with-requires-clause-row g c = (row-is (bare_store c.args.catalog.now.directory) c.args.target c.in-Some.row.now (sym c.in-Some.ensures)).1
-
-pub next_with-requires-clause-room : goal.next_with-requires-clause-room
-next_with-requires-clause-room g c = row-room (bare_store c.args.catalog.now.directory) c.args.target (bare_soup c.in-Some.row.now) c.requires.is_open.sound.formed (sym c.in-Some.ensures) c.if-row-eq-LAST_ID.false
+pub next_with-requires-clause-id_left : goal.next_with-requires-clause-id_left
+next_with-requires-clause-id_left g c = id-left c.args.catalog.now c.args.target c.in-Some.row.now c.requires.is_open.sound.formed (sym c.in-Some.ensures) c.if-row-eq-LAST_ID.false
 
 pub read_whole-requires-clause-can : goal.read_whole-requires-clause-can
 read_whole-requires-clause-can g c = can-open c.requires.is_open

@@ -2,18 +2,18 @@ use Rattle.std.proofs.Common.{◌++◌, map, Global, string_bytes, ap, ◌∙◌
 use Rattle.newt_host.specs.Meanings.{out_of}
 use Rattle.std.proofs.lemmas.List.{length-map}
 use Rattle.newt_top.proofs.Crashing.{is_left_counted}
-use Rattle.newt_top.proofs.Halting.{faults_counting, faults_ok, halted_counting}
+use Rattle.newt_top.proofs.Halting.{ends_counting, ends_ok, halted_counting}
 use Rattle.newt_top.proofs.Plain.{summary_is}
 use Rattle.newt_top.proofs.Naming.{few_names, distinct_names}
 use Rattle.newt_top.proofs.top.run_counted.Goals as goal
 
 pub tally_named-requires-clause-few : goal.tally_named-requires-clause-few
 tally_named-requires-clause-few g c =
-    let few = few_names (map (string_bytes {Z = Global}) c.args.names.now) c.requires.names in
+    let few = few_names (map (string_bytes {Z = Global}) c.args.names.now) c.requires.may.names in
     omega (arith, few, length-map c.args.names.now (string_bytes {Z = Global}))
 
 pub tally_named-requires-clause-distinct : goal.tally_named-requires-clause-distinct
-tally_named-requires-clause-distinct g c = distinct_names (map (string_bytes {Z = Global}) c.args.names.now) c.requires.names
+tally_named-requires-clause-distinct g c = distinct_names (map (string_bytes {Z = Global}) c.args.names.now) c.requires.may.names
 
 pub returns-in-Ok-clause-leaves : goal.returns-in-Ok-clause-leaves
 returns-in-Ok-clause-leaves g c = λ told unit t left out at some.
@@ -35,8 +35,8 @@ returns-in-Err-clause-ran g c = λ told.
     let r = c.in-Err.ensures.counted told in
     rw c.halted.ensures (halted_counting c.in-Err.halt c.args.script.now (map (string_bytes {Z = Global}) c.args.names.now) _ _ r.given r.halted)
 
-pub returns-in-Ok-clause-faults : goal.returns-in-Ok-clause-faults
-returns-in-Ok-clause-faults g c = faults_ok _ _ c.in-Ok.ensures.faults
+pub returns-in-Ok-clause-ends : goal.returns-in-Ok-clause-ends
+returns-in-Ok-clause-ends g c = ends_ok _ _ c.in-Ok.ensures.faults
 
-pub returns-in-Err-clause-faults : goal.returns-in-Err-clause-faults
-returns-in-Err-clause-faults g c = rw c.halted.ensures (faults_counting _ _ c.in-Err.halt c.in-Err.ensures.faults)
+pub returns-in-Err-clause-ends : goal.returns-in-Err-clause-ends
+returns-in-Err-clause-ends g c = rw c.halted.ensures (ends_counting _ _ c.in-Err.halt c.in-Err.ensures.faults)

@@ -7,7 +7,7 @@ use Rattle.newt_spec_script.specs.Generator.{gen_script}
 use Rattle.newt_top.specs.Script.{summary_of}
 use Rattle.newt_top.specs.Modes.{first, LeavesCounted, RanCounted}
 use Rattle.newt_script_session.proofs.Counting.{never-refl}
-use Rattle.newt_top.proofs.Halting.{faults_quiet, none_attached}
+use Rattle.newt_top.proofs.Halting.{ends_quiet, none_attached}
 use Rattle.newt_top.specs.declared.status.Status.TheVariants.{Memory}
 use Rattle.newt_top.proofs.top.run_generated.Goals as goal
 
@@ -22,10 +22,10 @@ pub returns-in_default-clause-leaves : goal.returns-in_default-clause-leaves
 returns-in_default-clause-leaves g c = λ told.
     let before = g.H.Host.outside c.args.host.now in
     none_attached (gen_script c.args.seed c.args.count) (map (string_bytes {Z = Global}) c.args.names.now) before
-    (λ unit. untouched-attached unit before.now (g.met.H.Host.untouched c.args.host.now unit told (c.requires.free unit)))
+    (λ unit. untouched-attached unit before.now (g.met.H.Host.untouched c.args.host.now unit told (c.requires.may.free unit)))
 
-pub returns-in_default-clause-faults : goal.returns-in_default-clause-faults
-returns-in_default-clause-faults g c = faults_quiet _ _ Memory tt tt (never-refl _)
+pub returns-in_default-clause-ends : goal.returns-in_default-clause-ends
+returns-in_default-clause-ends g c = ends_quiet _ _ Memory tt tt (λ same. absurd (cc)) (never-refl _)
 
 -- ---- the script
 

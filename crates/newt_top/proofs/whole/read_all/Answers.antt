@@ -2,8 +2,7 @@ use Rattle.std.proofs.Common.{◌≡◌, ◌++◌, ℕ, List, Err, length, take,
 use Rattle.std.proofs.lemmas.Grind.{common_steps}
 use Rattle.std.proofs.lemmas.Result.{err_from_is_err_and}
 use Rattle.newt_host.specs.Moments.{Moment, output}
-use Rattle.newt_script_session.specs.declared.halt.Halt.TheVariants.{Memory, TooLong}
-use Rattle.newt_top.proofs.Wholes.{reading-refl, reading_more, whole_end, whole_ok, whole_unread}
+use Rattle.newt_top.proofs.Wholes.{reading-refl, reading_more, unread, whole_unread}
 use Rattle.newt_top.proofs.whole.read_all.Goals as goal
 
 pub pieces-init : goal.pieces-init
@@ -31,8 +30,12 @@ pieces-preserved g c =
 
 -- ---- a read failed
 
-pub returns-in_err-moved-clause-quiet : goal.returns-in_err-moved-clause-quiet
-returns-in_err-moved-clause-quiet g c = λ told. ap (λ (m : Moment). output m) c.in_err-moved.ensures.failed.1 ∙ c.pieces.invariant.quiet told
+pub returns-in_err-moved-clause-all : goal.returns-in_err-moved-clause-all
+returns-in_err-moved-clause-all g c =
+    let p = err_from_is_err_and c.from_residual.result c.from_residual.ensures.1 in
+    let source = c.in_err-moved.ensures.call.faults.cause.0 in
+    unread _ c.in_err-moved.field-0.0 (p.1 ∙ ap Err p.2) (λ told same. absurd (cc))
+    (λ told. ap (λ (m : Moment). output m) c.in_err-moved.ensures.failed.1 ∙ c.pieces.invariant.quiet told)
 
 pub returns-in_err-moved-clause-call : goal.returns-in_err-moved-clause-call
 returns-in_err-moved-clause-call g c =
