@@ -9,8 +9,6 @@
 #[cfg(test)]
 mod failing;
 #[cfg(test)]
-mod names;
-#[cfg(test)]
 mod plain;
 #[cfg(test)]
 mod script;
