@@ -1,10 +1,18 @@
 -- How much a call programs, erases and syncs, and that it leaves no bank closed.
-use Rattle.std.specs.Prelude.{◌≡◌, ◌≢◌, ◌⊎◌, ℕ, ◌+◌, ◌≤◌, Result}
+use Rattle.std.specs.Prelude.{◌≡◌, ◌≢◌, ◌⊎◌, ℕ, ◌+◌, ◌≤◌, ◌==◌, if◌then◌else◌, Result}
 use Rattle.newt_host.specs.Moments.{Moment, changes, image}
 use Rattle.newt_host.specs.Outside.{Outside, Wears}
 use Rattle.newt_pagebook.specs.Book.{IsOpenFor}
 use Rattle.newt_store_change.specs.declared.fault.StoreFault.{StoreFault}
 use Rattle.newt_store_change.specs.Faults.{GoesOn}
+
+-- so much of one unit, and nothing of any other
+abbrev pub of_unit : ℕ → ℕ → ℕ → ℕ
+of_unit unit n u = if unit == u then n else 0
+
+-- of each unit at most so many bytes were fetched
+abbrev pub FetchesAtMost : (ℕ → ℕ) → Outside → Outside → Type 0
+FetchesAtMost most old new = (u : ℕ) → new.fetched u ≤ old.fetched u + most u
 
 -- A unit whose bank is not closed and has room for so many bytes is programmed by no more, no block
 -- of it is erased, and it is synced twice at most.

@@ -1,7 +1,7 @@
 -- What calls on the units promise. All of it is this project's own.
 use Rattle.std.specs.Prelude.{◌≡◌, ◌*◌, ℕ, Bool, IsTrue, List, Option, Some, None, Result, IfOk, IfErr, OnOk}
 use Rattle.newt_host.specs.Moments.{Always}
-use Rattle.newt_host.specs.Outside.{Outside, NoFault, OnDevices, Spends}
+use Rattle.newt_host.specs.Outside.{Outside, NoFault, OnDevices}
 use Rattle.newt_pagebook.specs.Stops.{HasStopCause}
 use Rattle.newt_pagebook.specs.declared.book.Stop.{Stop}
 use Rattle.newt_spec_store.specs.Keys.{Path}
@@ -15,13 +15,13 @@ use Rattle.newt_laws_answers.specs.Bounds.{most_programmed}
 use Rattle.newt_spec_world.specs.Answer.{answer}
 use Rattle.newt_laws_answers.specs.Tests.{formatted}
 use Rattle.newt_laws_answers.specs.There.{OnUnit}
-use Rattle.newt_store_change.specs.Change.{changed_by, answer_of, refusals, refusal_of, most_bytes}
+use Rattle.newt_store_change.specs.Change.{changed_by, answer_of, refusals, refusal_of, most_bytes, pages_of_entry}
 use Rattle.newt_store_change.specs.Entries.{ReadsLarge, entry_said, large_fetches}
 use Rattle.newt_store_change.specs.Faults.{Does, GoesOn, HasFaultCause, IsEnd}
 use Rattle.newt_store_change.specs.declared.change.Change.{Change}
 use Rattle.newt_store_change.specs.declared.entry.Entry.{Entry}
 use Rattle.newt_store_change.specs.declared.fault.StoreFault.{StoreFault}
-use Rattle.newt_engine_card.specs.Bounds.{Costs, CostsOn, IsOpenOrSame, LeftAlone}
+use Rattle.newt_engine_card.specs.Bounds.{Costs, CostsOn, FetchesAtMost, IsOpenOrSame, LeftAlone, of_unit}
 use Rattle.newt_engine_units.specs.Answers.{Answers}
 use Rattle.newt_engine_units.specs.Stands.{Stands, mounted_in, world_of}
 use Rattle.newt_engine_units.specs.declared.units.Units.{Units}
@@ -48,6 +48,8 @@ module _ {C : Type 0} (reads : List ℕ → Option Store) (place : C → ℕ) (s
   pub record Fetches (told : Bool) (unit soup uid : ℕ) (old new : Units C) (before after : Outside) (result : Result (Option Entry) Stop) : Type 0 where
     pub looks : AreRead told old new before after
     pub read : IsTrue told → (blocks : ℕ) (s : Store) → OnUnit (world_of reads old before) unit blocks s → IfOk result (λ found. entry_said found ≡ entry_at soup uid s)
+    pub fetches : IsTrue told → (blocks : ℕ) (s : Store) → OnUnit (world_of reads old before) unit blocks s
+        → FetchesAtMost (of_unit unit (512 * pages_of_entry (entry_at soup uid s))) before after
     pub cause : IfErr result (λ stop. HasStopCause stop before after)
     pub no_fault : OnOk result (NoFault before after)
 
@@ -57,7 +59,7 @@ module _ {C : Type 0} (reads : List ℕ → Option Store) (place : C → ℕ) (s
     pub looks : AreRead told old new before after
     pub read : IsTrue told → (blocks : ℕ) (s : Store) → OnUnit (world_of reads old before) unit blocks s → ReadsLarge path at many (entry_at soup uid s) result
     pub fetches : IsTrue told → (blocks : ℕ) (s : Store) → OnUnit (world_of reads old before) unit blocks s
-        → Spends unit 0 (512 * large_fetches many (entry_at soup uid s)) before after
+        → FetchesAtMost (of_unit unit (512 * large_fetches many (entry_at soup uid s))) before after
     pub ends : Ended result before after
 
   -- A change of the store that is mounted on a unit, at the present minute: the world has it changed, or is as it was where the first of its refusals is
