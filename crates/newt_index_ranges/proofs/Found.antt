@@ -11,13 +11,13 @@ use Rattle.newt_spec_store.specs.Store.{Entry, Soup, Store, TagTable, entry_of}
 use Rattle.newt_spec_store.specs.Valid.{well_formed}
 use Rattle.newt_laws_images.proofs.Stores.{IsSoup}
 use Rattle.newt_laws_images.proofs.Chosen.{find-passes, find-one, one-uid, soup-good}
-use Rattle.newt_index.specs.Pairs.{Pair, Sorted, key_at, parts_of, IsPair, IsSorted}
+use Rattle.newt_index.specs.Pairs.{Pair, Sorted, parts_of, IsPair, IsSorted}
 use Rattle.newt_index.specs.Range.{entry_pair, entry_pairs, range_of}
 use Rattle.newt_tags.specs.Masks.{mask_of, mask_by}
 use Rattle.newt_index_ranges.specs.Masks.{Masks}
 use Rattle.newt_index_ranges.specs.Range.{key_by, range_of_soup, range_in, mask_at}
 use Rattle.newt_index_ranges.specs.declared.rows.SoupRanges.{SoupRanges}
-use Rattle.newt_index_ranges.specs.Rows.{carries, find_range, find_mask, ranges_of, range_found, mask_found}
+use Rattle.newt_index_ranges.specs.Rows.{carries, find_range, find_mask, mask_by_id, ranges_of, range_found, mask_found}
 use Rattle.newt_index_ranges.specs.Stands.{graphs_of, IsRange, AreIndexes, AreMasks, IsRangesOf, AreRangesOf}
 use Rattle.newt_index_ranges.proofs.Ordered.{is_sorted}
 use Rattle.newt_index_ranges.proofs.Lookups.{Once, key-among, among-key}
@@ -128,7 +128,7 @@ mask_in : (uid : ℕ) (p : Soup) (r : SoupRanges) → IsRangesOf p (graphs_of p)
 mask_in uid p r is = go p.tags r.masks is.masks
   where
     go : (tags : Option TagTable) (o : Option Masks) → AreMasks (graphs_of p) tags o
-        → (elim o [ None ↦ option_map (λ k. 0) (key_at r.all.pairs uid) | Some m ↦ m.masks uid ]) ≡ option_map (λ (e : Entry). mask_by tags e.graph) (entry_of uid p)
+        → mask_by_id o r.all uid ≡ option_map (λ (e : Entry). mask_by tags e.graph) (entry_of uid p)
     go None None are = ap (option_map (λ k. 0)) (is.all.keys uid) ∙ untagged_mask (entry_of uid p)
     go (Some t) (Some m) are = are.masks uid ∙ tagged_mask t (entry_of uid p)
     go None (Some m) are = absurd are

@@ -131,8 +131,11 @@ module _ (g h : RawGraph) (like : AreLike g h) where
 
   -- ---- symbols
 
+  abbrev name_in : Option Node → Option (List ℕ)
+  name_in o = elim o [ Some (Symbol name) ↦ Some name | _ ↦ None ]
+
   same-name : (r : Ref) → symbol_name g.nodes r ≡ symbol_name h.nodes r
-  same-name r = seen-at (λ o. elim o [ Some (Symbol name) ↦ Some name | _ ↦ None ]) (λ c a b. refl) r
+  same-name r = seen-at name_in (λ c a b. refl) r
 
   same-names : (o : Option Node) → symbols_of g.nodes o ≡ symbols_of h.nodes o
   same-names None = refl

@@ -13,6 +13,7 @@ use Rattle.newt_index_ranges.specs.Range.{key_by}
 use Rattle.newt_index_ranges.specs.declared.rows.SoupRanges.{SoupRanges}
 use Rattle.newt_index_ranges.specs.Rows.{no_pairs, with_entry, without_entry, has_paths, change_kept, entry_kept, entry_forgotten, entry_renewed, with_range, without_range, with_masks, ranges_of, change_ranges, drop_ranges}
 use Rattle.newt_index_ranges.specs.Stands.{Graphs, IsRange, AreIndexes, AreMasks, IsRangesOf, AreRanges}
+use Rattle.newt_index_ranges.proofs.Kept.{mark-added, mark-removed}
 use Rattle.newt_index_ranges.proofs.Lookups.{agree, key_added, key_filtered, once_added, once_filtered}
 
 -- ---- graphs that change
@@ -107,7 +108,7 @@ is_no_masks t graphs h = record { declared = refl; masks = λ w. ap (mask_if t) 
 pub mask_added : (t : TagTable) (old new : Graphs) (m : Masks) (u : ℕ) (g : RawGraph) → AreGraphsWith u (Some g) old new → IsMasks t old m → IsMasks t new (with_mask u g m)
 mask_added t old new m u g h is = record {
   declared = is.declared;
-  masks = λ w. ap (λ (o : Option ℕ). cond (u == w) (Some (mask_of m.table g)) o) (is.masks w)
+  masks = λ w. mark-added m.masks u (mask_of m.table g) w ∙ ap (λ (o : Option ℕ). cond (u == w) (Some (mask_of m.table g)) o) (is.masks w)
       ∙ ap (λ (x : TagTable). cond (u == w) (Some (mask_of x g)) (mask_if t (old w))) is.declared
       ∙ chosen_mask t (u == w) (Some g) (old w) ∙ ap (mask_if t) (sym (h w));
 }
@@ -115,7 +116,7 @@ mask_added t old new m u g h is = record {
 pub mask_removed : (t : TagTable) (old new : Graphs) (m : Masks) (u : ℕ) → AreGraphsWith u None old new → IsMasks t old m → IsMasks t new (without_mask u m)
 mask_removed t old new m u h is = record {
   declared = is.declared;
-  masks = λ w. ap (λ (o : Option ℕ). cond (u == w) None o) (is.masks w) ∙ chosen_mask t (u == w) None (old w) ∙ ap (mask_if t) (sym (h w));
+  masks = λ w. mark-removed m.masks u w ∙ ap (λ (o : Option ℕ). cond (u == w) None o) (is.masks w) ∙ chosen_mask t (u == w) None (old w) ∙ ap (mask_if t) (sym (h w));
 }
 
 -- masks changed, and not changed, where there are some

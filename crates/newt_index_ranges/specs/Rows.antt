@@ -5,7 +5,7 @@ use Rattle.newt_graph.specs.Graph.{RawGraph}
 use Rattle.newt_spec_store.specs.Keys.{Path, IndexSpec, paths_of, same_paths, same_spec}
 use Rattle.newt_spec_store.specs.Store.{TagTable, change_first}
 use Rattle.newt_index.specs.Pairs.{Sorted, key_at, parts_of, with_pair}
-use Rattle.newt_index_ranges.specs.Masks.{Masks, no_masks, with_mask, without_mask}
+use Rattle.newt_index_ranges.specs.Masks.{Masks, kept_mask, no_masks, with_mask, without_mask}
 use Rattle.newt_index_ranges.specs.Range.{key_by}
 use Rattle.newt_index_ranges.specs.declared.rows.SoupRanges.{SoupRanges}
 
@@ -74,9 +74,14 @@ abbrev pub find_range : Option IndexSpec → SoupRanges → Option Sorted
 find_range None r = Some r.all
 find_range (Some spec) r = find (carries spec) r.indexes
 
--- the mask of an entry: the one that is kept, or 0 where none are kept and the entry is there (this project's own)
+-- the mask of an id: the one that is kept, or 0 where none are kept and the id is among those of all entries (this project's own)
+abbrev pub mask_by_id : Option Masks → Sorted → ℕ → Option ℕ
+mask_by_id None all uid = option_map (λ k. 0) (key_at all.pairs uid)
+mask_by_id (Some m) all uid = kept_mask uid m
+
+-- the mask of an entry of the soup (this project's own)
 abbrev pub find_mask : ℕ → SoupRanges → Option ℕ
-find_mask uid r = elim r.masks [ None ↦ option_map (λ k. 0) (key_at r.all.pairs uid) | Some m ↦ m.masks uid ]
+find_mask uid r = mask_by_id r.masks r.all uid
 
 -- ---- the ranges of all soups
 

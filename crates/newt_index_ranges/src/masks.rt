@@ -1,6 +1,6 @@
 //! The masks of a soup's entries.
 ghost use Rattle.std.specs.Prelude.{◌≡◌, OnOk, OnErr, IfOk, option_map};
-ghost use Rattle.newt_index_ranges.specs.Masks.{no_masks, with_mask, without_mask};
+ghost use Rattle.newt_index_ranges.specs.Masks.{no_masks, kept_mask, with_mask, without_mask};
 
 use newt_base::Uid;
 use newt_graph::Graph;
@@ -17,13 +17,11 @@ pub struct Masks {
 }
 
 impl Model for Masks {
-    ghost use Rattle.std.specs.Ordering.{nat_cmp};
-    ghost use Rattle.std.specs.BTreeMap.{get};
     ghost use Rattle.newt_index_ranges.specs.Masks.{Masks};
 
     ghost Value = { Masks };
 
-    ghost view = { λ m. record { table = m.table; masks = λ uid. get nat_cmp m.masks uid } };
+    ghost view = { λ m. record { table = m.table; masks = m.masks.entries } };
 }
 
 impl Masks {
@@ -56,7 +54,7 @@ impl Masks {
 
     /// The mask of an entry. It takes no memory.
     pub(crate) fn get(&self, uid: Uid) -> Option<u64>
-        ensures { result ≡ self.now.masks uid }
+        ensures { result ≡ kept_mask uid self.now }
     {
         self.masks.get(&uid.0).copied()
     }
@@ -74,11 +72,7 @@ pub(crate) fn no_masks(alloc: Global, tags: Option<&TagTable>) -> Result<Option<
 }
 
 /// Keeps the mask of an entry, where masks are kept.
-pub(crate) fn add_mask(
-    masks: &mut Option<Masks>,
-    uid: Uid,
-    graph: &Graph,
-) -> Result<(), AllocError>
+pub(crate) fn add_mask(masks: &mut Option<Masks>, uid: Uid, graph: &Graph) -> Result<(), AllocError>
     ensures { OnOk result (masks.new ≡ option_map (with_mask uid graph.now) masks.old) }
 {
     match masks {

@@ -117,6 +117,8 @@ masks 2 1 => [None]
 #[test]
 fn masks_follow_the_store(rt: HostRuntime) -> Result<(), Fail> {
     let alloc = rt.alloc();
-    let table = format!(in alloc; "{TAGGED}{TAGS_CHANGED}{TAGS_AFTER}reopen\n{TAGS_AFTER}drop 0\nmasks 0 1 => [None]\n")?;
+    let table = format!(in alloc;
+        "{TAGGED}{TAGS_CHANGED}{TAGS_AFTER}reopen\n{TAGS_AFTER}drop 0\nmasks 0 1 => [None]\n"
+    )?;
     play::<PlainBook>(alloc, 200, table.as_str())
 }

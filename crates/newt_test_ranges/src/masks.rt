@@ -33,8 +33,7 @@ const BEFORE: &str = "[Some(1), Some(2), Some(1), Some(0), Some(0), Some(2), Som
 const AFTER: &str = "[Some(0), Some(1), None, Some(0), Some(0), Some(2), Some(0), Some(0)]";
 
 /// The same without a declaration.
-const UNDECLARED: &str =
-    "[Some(0), Some(0), Some(0), Some(0), Some(0), Some(0), Some(0), Some(0)]";
+const UNDECLARED: &str = "[Some(0), Some(0), Some(0), Some(0), Some(0), Some(0), Some(0), Some(0)]";
 
 /// Fails where the masks of the first eight entries are others.
 fn expect_masks(alloc: Global, ranges: &Ranges, wanted: &str) -> Result<(), Fail> {
