@@ -14,7 +14,7 @@ use Rattle.newt_spec_store.specs.declared.Kind.TheVariants as kind
 use Rattle.newt_spec_store.specs.Keys.{IndexSpec, object_part, part_of, if_first_is_there, key}
 use Rattle.newt_spec_store.specs.Store.{TagTable}
 use Rattle.newt_spec_store.specs.StoreOf.{with_bytes, fill}
-use Rattle.newt_spec_query.specs.Tags.{symbol_name, symbols_in, symbols_at, is_among}
+use Rattle.newt_spec_query.specs.Tags.{symbol_name, symbols_at, is_among}
 use Rattle.newt_laws_images.proofs.Both.{Both}
 use Rattle.newt_laws_images.proofs.Skeletons.{Like}
 use Rattle.newt_tags.specs.Masks.{symbols_of, number, mask_of}
