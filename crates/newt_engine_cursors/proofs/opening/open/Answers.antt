@@ -10,12 +10,12 @@ use Rattle.newt_store_change.specs.declared.fault.StoreFault.{StoreFault}
 use Rattle.newt_engine_units.specs.Stands.{world_of}
 use Rattle.newt_engine_cursors.specs.Fits.{DeskFits}
 use Rattle.newt_engine_cursors.specs.Opening.{Opens}
-use Rattle.newt_engine_cursors.proofs.Calls.{walks-end}
+use Rattle.newt_engine_cursors.proofs.Calls.{turns-end}
 use Rattle.newt_engine_cursors.proofs.opening.open.Goals as goal
 
 pub returns-in_err-first : goal.returns-in_err-first
 returns-in_err-first g c =
-    walks-end (λ (r : Result ℕ StoreFault) (w v : World). Opens w v (query_of c.args.query) r) c.in_err-first.ensures.reading c.requires.desk
+    turns-end (λ (r : Result ℕ StoreFault) (w v : World). Opens w v (query_of c.args.query) r) c.in_err-first.ensures.reading c.requires.desk
     c.from_residual.result (err_from_is_err_and c.from_residual.result c.from_residual.ensures.1) (λ w v. tt)
 
 pub returns-in-Err-Limit : goal.returns-in-Err-Limit
@@ -25,7 +25,7 @@ returns-in-Err-Limit g c =
     record {
       read = read.read;
       desk = subst DeskFits (sym same) c.requires.desk;
-      answered = λ t apart. (
+      turned = λ t apart. (
         refl,
         c.in-Err-Limit.ensures.limit.0 (ap Err c.in-Err-Limit.field-0-is),
         ap (with_cursors c.open.new.self) (read.read.world t)
@@ -38,4 +38,4 @@ returns-in-Err-Limit g c =
 pub returns-in-Err-Memory : goal.returns-in-Err-Memory
 returns-in-Err-Memory g c =
     let read = c.in_ok-first.ensures.reading in
-    record { read = read.read; desk = subst DeskFits (sym c.in-Err-Memory.ensures.err) c.requires.desk; answered = λ t apart. tt; cause = tt; no_fault = λ goes. absurd goes }
+    record { read = read.read; desk = subst DeskFits (sym c.in-Err-Memory.ensures.err) c.requires.desk; turned = λ t apart. tt; cause = tt; no_fault = λ goes. absurd goes }
