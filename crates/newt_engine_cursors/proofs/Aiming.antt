@@ -137,3 +137,24 @@ module _ (w : World) (it : Aim) where
   pub move-aims : (u : ℕ) (s : List ℕ) (uid x : ℕ) (t : List ℕ) → ((v : World) (reply : Reply) → IsNew (new_uid w x t) reply → reached_by it v reply ≡ plain.next_reach w x t) → Aims w (command.Move u s uid x t) it
   unfolding plain.reach fields
   move-aims u s uid x t all = newly-aims w (command.Move u s uid x t) it (new_uid w x t) (plain.next_reach w x t) refl (λ v. refl) all
+
+-- any other command reaches no entry
+pub others-nowhere : (w : World) (k : Command)
+    → ((a : _) → k ≡ command.Mount a → ⊥) → ((a b c : _) → k ≡ command.Index a b c → ⊥) → ((a b c d : _) → k ≡ command.SetTags a b c d → ⊥)
+    → ((a b c : _) → k ≡ command.Add a b c → ⊥) → ((a b c : _) → k ≡ command.Addx a b c → ⊥) → ((a b : _) → k ≡ command.Addu a b → ⊥)
+    → ((a b c d e : _) → k ≡ command.Set a b c d e → ⊥) → ((a b c d : _) → k ≡ command.Change a b c d → ⊥) → ((a b c d e f : _) → k ≡ command.Vwrite a b c d e f → ⊥)
+    → ((a b c d e : _) → k ≡ command.Copy a b c d e → ⊥) → ((a b c d e : _) → k ≡ command.Move a b c d e → ⊥)
+    → plain.nowhere ≡ plain.reach w k
+unfolding plain.reach
+others-nowhere w (command.Mount a) mount index settags add addx addu set change vwrite copy move = absurd (mount a refl)
+others-nowhere w (command.Index a b c) mount index settags add addx addu set change vwrite copy move = absurd (index a b c refl)
+others-nowhere w (command.SetTags a b c d) mount index settags add addx addu set change vwrite copy move = absurd (settags a b c d refl)
+others-nowhere w (command.Add a b c) mount index settags add addx addu set change vwrite copy move = absurd (add a b c refl)
+others-nowhere w (command.Addx a b c) mount index settags add addx addu set change vwrite copy move = absurd (addx a b c refl)
+others-nowhere w (command.Addu a b) mount index settags add addx addu set change vwrite copy move = absurd (addu a b refl)
+others-nowhere w (command.Set a b c d e) mount index settags add addx addu set change vwrite copy move = absurd (set a b c d e refl)
+others-nowhere w (command.Change a b c d) mount index settags add addx addu set change vwrite copy move = absurd (change a b c d refl)
+others-nowhere w (command.Vwrite a b c d e f) mount index settags add addx addu set change vwrite copy move = absurd (vwrite a b c d e f refl)
+others-nowhere w (command.Copy a b c d e) mount index settags add addx addu set change vwrite copy move = absurd (copy a b c d e refl)
+others-nowhere w (command.Move a b c d e) mount index settags add addx addu set change vwrite copy move = absurd (move a b c d e refl)
+others-nowhere w _ mount index settags add addx addu set change vwrite copy move = refl

@@ -4,7 +4,7 @@ use Rattle.newt_spec_world.specs.declared.command.Command.{Command}
 use Rattle.newt_engine_units.specs.Stands.{world_of}
 use Rattle.newt_engine_cursors.specs.Reached.{Aims}
 use Rattle.newt_engine_cursors.specs.declared.reach.Aim.TheVariants as aim
-use Rattle.newt_engine_cursors.proofs.Aiming.{mount-aims, index-aims, tags-aims, add-aims, addx-aims, addu-aims, set-aims, change-aims, vwrite-aims, copy-aims, move-aims}
+use Rattle.newt_engine_cursors.proofs.Aiming.{mount-aims, index-aims, tags-aims, add-aims, addx-aims, addu-aims, set-aims, change-aims, vwrite-aims, copy-aims, move-aims, others-nowhere}
 use Rattle.newt_engine_cursors.proofs.reach.aim_of.Goals as goal
 
 pub returns-in-Mount-clause-aims : goal.returns-in-Mount-clause-aims
@@ -71,3 +71,8 @@ returns-in-Move-clause-aims g c o eight stand =
     let w = world_of g.C.Card.reads c.args.units.now o in
     subst (λ (x : Command). Aims w x c.next_aim-in-Move.result) (sym c.in-Move.is)
     (move-aims w c.next_aim-in-Move.result c.in-Move._unit c.in-Move._name c.in-Move._uid c.in-Move.to c.in-Move.target (c.next_aim-in-Move.ensures o eight stand))
+
+pub returns-in_default-clause-aims : goal.returns-in_default-clause-aims
+returns-in_default-clause-aims g c o eight stand pass =
+    let d = c.in_default in
+    others-nowhere (world_of g.C.Card.reads c.args.units.now o) c.args.command.now d.not-Mount d.not-Index d.not-SetTags d.not-Add d.not-Addx d.not-Addu d.not-Set d.not-Change d.not-Vwrite d.not-Copy d.not-Move
