@@ -33,18 +33,6 @@ use Rattle.newt_engine_cursors.specs.World.{world_with}
 
 -- ---- what is fetched
 
--- where nothing is, no more than anything is
-pub none-more : {f : ℕ → ℕ} {o p : Outside} → FetchesAtMost (λ u. 0) o p → FetchesAtMost f o p
-none-more h u = let k = h u in omega (arith, k)
-
--- nothing, and then so much
-pub then-fetched : {f : ℕ → ℕ} {o p q : Outside} → FetchesAtMost (λ u. 0) o p → FetchesAtMost f p q → FetchesAtMost f o q
-then-fetched h k u = let a = h u in let b = k u in omega (arith, a, b)
-
--- as much
-pub fetched-as : {f g : ℕ → ℕ} {o p : Outside} → ((u : ℕ) → f u ≡ g u) → FetchesAtMost f o p → FetchesAtMost g o p
-fetched-as same h u = let k = h u in let e = same u in omega (arith, k, e)
-
 -- the query of an open cursor that asks for none
 pub unread-query : (o : Option Cursor) (k : Cursor) → Some k ≡ o → is_unread o ≡ true → asks_texts k.query.spec ≡ false
 unread-query None k e h = absurd (none-some k (sym e))
@@ -112,7 +100,7 @@ module _ {C : Type 0} {reads : List ℕ → Option Store} {place : C → ℕ} {s
       → IfErr result (λ fault. NoDevice fault) → (IsTrue told → let w = world_with reads units was o in MountedApart w → Answers w w c reply result)
       → Walks reads place stands told c reply units units was was o o result
   stays {c = c} {reply} {result} s d none answers =
-      walks-of (stays-turn {becomes = λ w v. Answers w v c reply result} s d none answers) (λ t apart settled d. d) (λ t apart settled un. none-more (λ u. omega arith))
+      walks-of (stays-turn {becomes = λ w v. Answers w v c reply result} s d none answers) (λ t apart settled d. d) (λ t apart settled un. (λ u. omega arith))
 
   -- ---- a call that settles
 

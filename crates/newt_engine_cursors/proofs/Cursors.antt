@@ -1,12 +1,13 @@
 -- The places for cursors, where some change.
 use Rattle.std.proofs.Common.{arith, ◌≡◌, refl, ap, sym, ◌∙◌, ◌⊎◌, inl, inr, ℕ, zero, suc, ◌+◌, ◌<◌, ◌≤◌, List, [], ◌∷◌, length, map, find, Option, Some, None, option_map, unwrap_or, add-one}
-use Rattle.std.specs.Prelude.{slice_get}
+use Rattle.std.specs.Prelude.{slice_get, slice_set}
 use Rattle.newt_spec_graph.specs.Lists.{Each}
 use Rattle.newt_spec_graph.proofs.Lists.{some-same, none-some}
 use Rattle.newt_spec_store.specs.Keys.{Key}
 use Rattle.newt_spec_query.specs.Hits.{Hit}
 use Rattle.newt_spec_query.specs.Cursor.{Place, start, finish, on, Cursor, hit_at, settled, same_identity}
-use Rattle.newt_spec_world.specs.World.{World, change_at, flat, hits_of, settle_cursor}
+use Rattle.newt_spec_world.specs.Changed.{open_at, open_cursor}
+use Rattle.newt_spec_world.specs.World.{World, change_at, flat, free_cursor, hits_of, settle_cursor}
 use Rattle.newt_laws_images.proofs.Chosen.{find-passes}
 use Rattle.newt_laws_world.proofs.Settled.{three-equal}
 use Rattle.newt_cursor.specs.Desk.{keyed, put_on, with_key}
@@ -54,6 +55,24 @@ change-each P f (x ∷ xs) (suc c) e h = (e.0, change-each P f xs c e.1 h)
 pub change-fits : (f : Cursor → Cursor) (xs : List (Option Cursor)) (c : ℕ) → DeskFits xs → ((k : Cursor) → flat (slice_get xs c) ≡ Some k → KeyFits (Some (f k)))
     → DeskFits (change_at c f xs)
 change-fits f xs c d h = record { places = change-length f xs c ∙ d.places; keys = change-each KeyFits f xs c d.keys h }
+
+-- ---- a cursor that is opened
+
+set-length : (xs : List (Option Cursor)) (c : ℕ) (k : Option Cursor) → length (slice_set xs c k) ≡ length xs
+set-length [] c k = refl
+set-length (x ∷ xs) zero k = refl
+set-length (x ∷ xs) (suc c) k = ap suc (set-length xs c k)
+
+set-each : (P : Option Cursor → Type 0) (xs : List (Option Cursor)) (c : ℕ) (k : Option Cursor) → Each P xs → P k → Each P (slice_set xs c k)
+set-each P [] c k e h = tt
+set-each P (x ∷ xs) zero k e h = (h, e.1)
+set-each P (x ∷ xs) (suc c) k e h = (e.0, set-each P xs c k e.1 h)
+
+pub set-fits : (xs : List (Option Cursor)) (c : ℕ) (k : Option Cursor) → DeskFits xs → KeyFits k → DeskFits (slice_set xs c k)
+set-fits xs c k d h = record { places = set-length xs c k ∙ d.places; keys = set-each KeyFits xs c k d.keys h }
+
+pub opens-at : (w : World) (k : Cursor) (c : ℕ) → free_cursor w ≡ Some c → record w { cursors = slice_set w.cursors c (Some k) } ≡ open_cursor w k
+opens-at w k c e = sym (ap (open_at w k) e)
 
 -- ---- the present key
 

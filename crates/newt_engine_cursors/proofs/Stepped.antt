@@ -1,5 +1,5 @@
 -- Commands that leave a settled world settled, and those that step a cursor.
-use Rattle.std.proofs.Common.{◌≡◌, refl, ap, sym, ◌∙◌, ◌*◌, subst, ℕ, Bool, true, false, IsTrue, List, Option, Some, None}
+use Rattle.std.proofs.Common.{arith, ◌≡◌, refl, ap, sym, ◌∙◌, ◌*◌, subst, ℕ, Bool, true, false, IsTrue, List, Option, Some, None}
 use Rattle.std.specs.Prelude.{Result}
 use Rattle.newt_host.specs.Moments.{image}
 use Rattle.newt_host.specs.Outside.{Outside}
@@ -27,7 +27,7 @@ use Rattle.newt_engine_cursors.specs.Unread.{is_unread}
 use Rattle.newt_engine_cursors.specs.World.{world_with}
 use Rattle.newt_engine_cursors.specs.declared.show.Shown.{Shown}
 use Rattle.newt_engine_cursors.proofs.Answering.{IsStepping, steered-answers, stepped-pages}
-use Rattle.newt_engine_cursors.proofs.Calls.{fetched-as, walks-of}
+use Rattle.newt_engine_cursors.proofs.Calls.{walks-of}
 
 module _ {C : Type 0} {reads : List ℕ → Option Store} {place : C → ℕ} {soups : C → Store} {stands : Bool → C → Outside → Type 0} (l : Laws reads place soups stands)
     (told : Bool) (units : Units C) (ks : List (Option Cursor)) (o : Outside) (eight : Eight o) (s : Stands place stands told units o) where
@@ -60,7 +60,7 @@ module _ {C : Type 0} {reads : List ℕ → Option Store} {place : C → ℕ} {s
       → Walks reads place stands told c shown_reply units later ks is o q result
   walks-stepped {c} {n} {step} {result = result} steps turns fetches =
       walks-of turns (λ t apart settled d. steered-answers _ _ c n step steps (after t apart settled) result d)
-      (λ t apart settled un. fetched-as (λ u. ap (λ (k : ℕ). 512 * k) (stepped-pages w c n step steps (after t apart settled) u)) (fetches t apart (sym (steps.unread w) ∙ un)))
+      (λ t apart settled un. (λ u. let e = ap (λ (k : ℕ). 512 * k) (stepped-pages w c n step steps (after t apart settled) u) in let more = (fetches t apart (sym (steps.unread w) ∙ un)) u in omega (arith, e, more)))
     where
       after : IsTrue told → MountedApart w → IsSettled w → IsSettled (stepped w n step)
       after t apart settled = subst IsSettled (steps.does w) (still-settled c t apart settled steps.few)

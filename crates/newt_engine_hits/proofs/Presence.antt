@@ -204,7 +204,7 @@ module _ (w : World) (q : Query) (store soup uid : ℕ) where
 
 -- ---- what a reading of an entry fetches
 
-module _ (w : World) (store soup uid u : ℕ) (s : Store) {o p : Outside} where
+module _ (w : World) (store soup uid u : ℕ) (s : Store) (o p : Outside) where
   pub fetched-sharply : find (λ m. m.1.sig == store) (mounted w) ≡ Some (u, s) → FetchesAtMost (of_unit u (512 * pages_of_entry (entry_at soup uid s))) o p → FetchesAtMost (fetched_there w store soup uid) o p
   fetched-sharply found most n =
       subst (λ (x : Option (ℕ × Store)). p.fetched n ≤ o.fetched n + (elim x [ None ↦ 0 | Some m ↦ of_unit m.0 (512 * pages_of_entry (entry_at soup uid m.1)) n ])) (sym found) (most n)

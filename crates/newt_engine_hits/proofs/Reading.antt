@@ -25,14 +25,8 @@ cause-since o p q (Device u) a h = let x = a.dev_faults u in omega (arith, h)
 abbrev pub Unread : Bool → Outside → Outside → Type 0
 Unread asks o p = asks ≡ false → FetchesAtMost (λ u. 0) o p
 
-pub none-fetched : {asks : Bool} (o : Outside) → Unread asks o o
-none-fetched o e u = omega arith
-
-pub then-unread : {asks : Bool} {o p q : Outside} → Unread asks o p → Unread asks p q → Unread asks o q
-then-unread a b e u = let x = a e u in let y = b e u in omega (arith, x, y)
-
 -- where they are asked for, nothing is said
-pub asked-read : {asks : Bool} {o p : Outside} → asks ≡ true → Unread asks o p
+pub asked-read : {asks : Bool} {T : Type 0} → asks ≡ true → asks ≡ false → T
 asked-read is e = absurd (both is e)
   where
     both : {b : Bool} → b ≡ true → b ≡ false → ⊥
@@ -44,6 +38,10 @@ module _ {C : Type 0} {reads : List ℕ → Option Store} {place : C → ℕ} {s
   not-read {units} {o} s = record { stand = s; world = λ t. refl; marks = λ u. refl; moment = refl; untouched = λ u. alone-refl u o; alone = OnDevices-refl o }
 
   -- one call after another
+  pub then-unread : {asks : Bool} {units mid later : Units C} {o p q : Outside} → AreRead reads place stands told units mid o p → AreRead reads place stands told mid later p q
+      → Unread asks o p → Unread asks p q → Unread asks o q
+  then-unread r s a b e u = let x = a e u in let y = b e u in omega (arith, x, y)
+
   pub read-then : {units mid later : Units C} {o p q : Outside} → AreRead reads place stands told units mid o p → AreRead reads place stands told mid later p q
       → AreRead reads place stands told units later o q
   read-then a b = record {
@@ -64,8 +62,8 @@ module _ {C : Type 0} {reads : List ℕ → Option Store} {place : C → ℕ} {s
   -- a call behind one that has read
   pub read-more : {T : Type 0} {units mid later : Units C} {o p q : Outside} {result : Result T Stop} → AreRead reads place stands told units mid o p → NoFault o p → Unread asks o p
       → IsReading reads place stands asks told mid later p q result → IsReading reads place stands asks told units later o q result
-  read-more {result = Ok x} a f n r = record { read = read-then a r.read; cause = tt; no_fault = NoFault-append f r.no_fault; unread = then-unread n r.unread }
-  read-more {result = Err stop} a f n r = record { read = read-then a r.read; cause = cause-since _ _ _ stop a.alone r.cause; no_fault = tt; unread = then-unread n r.unread }
+  read-more {result = Ok x} a f n r = record { read = read-then a r.read; cause = tt; no_fault = NoFault-append f r.no_fault; unread = then-unread a r.read n r.unread }
+  read-more {result = Err stop} a f n r = record { read = read-then a r.read; cause = cause-since _ _ _ stop a.alone r.cause; no_fault = tt; unread = then-unread a r.read n r.unread }
 
   -- want of memory
   pub end-memory : {T : Type 0} {units later : Units C} {o q : Outside} → AreRead reads place stands told units later o q → Unread asks o q → (r : Result T Stop)
@@ -80,7 +78,7 @@ module _ {C : Type 0} {reads : List ℕ → Option Store} {place : C → ℕ} {s
       → IsReading reads place stands asks told units later o q r
   end-read {T = T} {stop} {units} {later = later} {o} {q = q} a n h r is =
       subst (λ (r : Result T Stop). IsReading reads place stands asks told units later o q r) (sym (is.1 ∙ ap {B = Result T Stop} (λ e. Err e) is.2))
-      (record { read = read-then a h.read; cause = cause-since _ _ _ stop a.alone h.cause; no_fault = tt; unread = then-unread n h.unread })
+      (record { read = read-then a h.read; cause = cause-since _ _ _ stop a.alone h.cause; no_fault = tt; unread = then-unread a h.read n h.unread })
 
   -- what is said of a query that asks for words or texts is said of one that may
   pub asked-reading : {T : Type 0} {units later : Units C} {o q : Outside} {result : Result T Stop} → asks ≡ true → IsReading reads place stands true told units later o q result

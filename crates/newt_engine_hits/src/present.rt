@@ -64,7 +64,11 @@ pub fn find_hit<C: Card, H: Host>(
 {
     let entry = entry_if_asked(units, host, query, store, soup, uid)?;
     match hit_key(units, query, store, soup, uid, &entry)? {
-        Some((unit, key)) => Ok(Some(Present { unit, key, entry })),
+        Some(hit) => Ok(Some(Present {
+            unit: hit.0,
+            key: hit.1,
+            entry,
+        })),
         None => Ok(None),
     }
 }

@@ -1,5 +1,5 @@
 -- All hits of the query of the cursor are counted.
-use Rattle.std.proofs.Common.{◌≡◌, ◌∙◌, ap, refl, sym, true, false, option_map, ℕ, Option}
+use Rattle.std.proofs.Common.{arith, ◌≡◌, ◌∙◌, ap, refl, sym, true, false, option_map, ℕ, Option}
 use Rattle.std.specs.Prelude.{Result, slice_get, is_some}
 use Rattle.std.proofs.lemmas.Result.{err_from_is_err_and}
 use Rattle.newt_cursor.specs.Seen.{query_of}
@@ -11,7 +11,7 @@ use Rattle.newt_store_change.specs.declared.fault.StoreFault.{StoreFault}
 use Rattle.newt_engine_units.specs.Answers.{Answers}
 use Rattle.newt_engine_cursors.specs.World.{world_with}
 use Rattle.newt_engine_cursors.proofs.Answered.{open-alike, count-closed, count-open, count-said, unread-open}
-use Rattle.newt_engine_cursors.proofs.Calls.{stays, turns-end, turns-read, walks-of, none-more}
+use Rattle.newt_engine_cursors.proofs.Calls.{stays, turns-end, turns-read, walks-of}
 use Rattle.newt_engine_cursors.proofs.commands.count.Goals as goal
 
 pub returns-in_default : goal.returns-in_default
@@ -24,8 +24,8 @@ returns-in_err-count_hits g c =
     walks-of (turns-end (λ (r : Result ℕ StoreFault) (w v : World). Answers w v (command.Count c.args.cursor) (λ n. Reply.number n) r) c.in_err-count_hits.ensures.reading c.requires.desk
     c.from_residual.result (err_from_is_err_and c.from_residual.result c.from_residual.ensures.1) (λ w v. tt))
     (λ t apart settled d. d)
-    (λ t apart settled un. none-more (c.in_err-count_hits.ensures.reading.unread
-    (unread-open (flat (slice_get c.args.desk.now c.args.cursor)) (query_of c.in-Some.query.now) (ap (option_map (λ q. query_of q.now)) (sym c.in-Some.is) ∙ c.query.ensures.query) un)))
+    (λ t apart settled un. (λ u. let z = (c.in_err-count_hits.ensures.reading.unread
+    (unread-open (flat (slice_get c.args.desk.now c.args.cursor)) (query_of c.in-Some.query.now) (ap (option_map (λ q. query_of q.now)) (sym c.in-Some.is) ∙ c.query.ensures.query) un)) u in omega (arith, z)))
 
 pub returns : goal.returns
 returns g c =
@@ -36,4 +36,4 @@ returns g c =
     (open-alike (λ q. query_of q.now) (λ (k : Cursor). k.query) c.query.result (flat (slice_get c.args.desk.now c.args.cursor)) true c.query.ensures.query (ap is_some c.in-Some.is))
     (same ∙ sym settled)
     (count-said w (flat (slice_get c.args.desk.now c.args.cursor)) (query_of c.in-Some.query.now) c.in_ok-count_hits.field-0 is (c.in_ok-count_hits.ensures.count t apart)))
-    (λ t apart settled un. none-more (c.in_ok-count_hits.ensures.reading.unread (unread-open (flat (slice_get c.args.desk.now c.args.cursor)) (query_of c.in-Some.query.now) is un)))
+    (λ t apart settled un. (λ u. let z = (c.in_ok-count_hits.ensures.reading.unread (unread-open (flat (slice_get c.args.desk.now c.args.cursor)) (query_of c.in-Some.query.now) is un)) u in omega (arith, z)))

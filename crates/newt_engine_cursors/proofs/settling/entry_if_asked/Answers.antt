@@ -10,7 +10,6 @@ use Rattle.newt_engine_units.specs.Stands.{world_of}
 use Rattle.newt_engine_hits.specs.Present.{entry_there}
 use Rattle.newt_engine_hits.proofs.Reading.{asked-read, is-read, not-read}
 use Rattle.newt_engine_cursors.specs.Reached.{IsAtHand}
-use Rattle.newt_engine_cursors.proofs.Calls.{none-more}
 use Rattle.newt_engine_cursors.proofs.settling.entry_if_asked.Goals as goal
 
 both-ways : {b : Bool} → b ≡ true → b ≡ false → ⊥
@@ -30,4 +29,4 @@ pub returns-else-asks_any-clause-reading : goal.returns-else-asks_any-clause-rea
 returns-else-asks_any-clause-reading g c = is-read (not-read c.requires.stands) (NoFault-refl _) (asked-read refl)
 
 pub returns-else-asks_any-clause-fetches : goal.returns-else-asks_any-clause-fetches
-returns-else-asks_any-clause-fetches g c t = none-more (λ u. omega arith)
+returns-else-asks_any-clause-fetches g c t u = omega arith

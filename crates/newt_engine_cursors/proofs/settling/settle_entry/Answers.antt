@@ -15,7 +15,7 @@ use Rattle.std.specs.Prelude.{slice_get}
 use Rattle.newt_engine_cursors.specs.Reached.{IsAtHand}
 use Rattle.newt_engine_hits.proofs.Reading.{asked-read, not-read}
 use Rattle.newt_engine_cursors.specs.World.{world_with}
-use Rattle.newt_engine_cursors.proofs.Calls.{none-more, settles-end}
+use Rattle.newt_engine_cursors.proofs.Calls.{settles-end}
 use Rattle.newt_engine_cursors.proofs.Reaches.{no-watchers}
 use Rattle.newt_engine_cursors.proofs.settling.settle_entry.Goals as goal
 
@@ -29,7 +29,7 @@ returns-then-not-is_watched-clause-settles g c = record {
 }
 
 pub returns-then-not-is_watched-clause-fetches : goal.returns-then-not-is_watched-clause-fetches
-returns-then-not-is_watched-clause-fetches g c t = none-more (λ u. omega arith)
+returns-then-not-is_watched-clause-fetches g c t u = omega arith
 
 pub returns-in_err-entry-clause-settles : goal.returns-in_err-entry-clause-settles
 returns-in_err-entry-clause-settles g c =

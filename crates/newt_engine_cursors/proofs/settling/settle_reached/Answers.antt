@@ -10,7 +10,7 @@ use Rattle.newt_engine_units.specs.Stands.{world_of}
 use Rattle.newt_engine_hits.proofs.Reading.{not-read}
 use Rattle.newt_engine_cursors.specs.Reached.{seen_reach}
 use Rattle.newt_engine_cursors.specs.World.{world_with}
-use Rattle.newt_engine_cursors.proofs.Calls.{fetched-as, none-more, settles-as}
+use Rattle.newt_engine_cursors.proofs.Calls.{settles-as}
 use Rattle.newt_engine_cursors.proofs.Reaches.{within-reached}
 use Rattle.newt_engine_cursors.proofs.settling.settle_reached.Goals as goal
 
@@ -29,7 +29,7 @@ returns-in-Nowhere-clause-settles g c = record {
 }
 
 pub returns-in-Nowhere-clause-fetches : goal.returns-in-Nowhere-clause-fetches
-returns-in-Nowhere-clause-fetches g c t one = none-more (λ u. omega arith)
+returns-in-Nowhere-clause-fetches g c t one u = omega arith
 
 pub returns-in-Entry-clause-settles : goal.returns-in-Entry-clause-settles
 returns-in-Entry-clause-settles g c =
@@ -38,8 +38,8 @@ returns-in-Entry-clause-settles g c =
 pub returns-in-Entry-clause-fetches : goal.returns-in-Entry-clause-fetches
 returns-in-Entry-clause-fetches g c t one =
     let w = world_of g.C.Card.reads c.args.units.now (g.H.Host.outside c.args.host.now) in
-    fetched-as (λ u. within-reached c.in-Entry.store c.in-Entry.soup c.in-Entry.uid (mounted_store w u)
-    ∙ ap (λ (r : Reach). 512 * pages_of_entry (entry_reached r (mounted_store w u))) (ap seen_reach (sym c.in-Entry.is))) (c.settle_entry.ensures.fetches t)
+    (λ u. let e = within-reached c.in-Entry.store c.in-Entry.soup c.in-Entry.uid (mounted_store w u)
+    ∙ ap (λ (r : Reach). 512 * pages_of_entry (entry_reached r (mounted_store w u))) (ap seen_reach (sym c.in-Entry.is)) in let more = (c.settle_entry.ensures.fetches t) u in omega (arith, e, more))
 
 pub returns-in-Store-clause-fetches : goal.returns-in-Store-clause-fetches
 returns-in-Store-clause-fetches g c t one = absurd (no-true (ap is_of_one (ap seen_reach (sym c.in-Store.is)) ∙ one))

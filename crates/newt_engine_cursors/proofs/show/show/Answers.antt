@@ -1,5 +1,5 @@
 -- The entry, or that it is no longer a hit.
-use Rattle.std.proofs.Common.{◌≡◌, ◌∙◌, ◌*◌, ap, sym, subst, refl, ℕ, true, option_map, Option, None}
+use Rattle.std.proofs.Common.{arith, ◌≡◌, ◌∙◌, ◌*◌, ap, sym, subst, refl, ℕ, true, option_map, Option, None}
 use Rattle.std.specs.Prelude.{Result, IfOk, slice_get}
 use Rattle.std.proofs.lemmas.Result.{IfOk-weaker, err_from_is_err_and}
 use Rattle.newt_cursor.specs.Seen.{query_of}
@@ -14,12 +14,11 @@ use Rattle.newt_engine_cursors.specs.Keyed.{seen_cursor, stands_on}
 use Rattle.newt_engine_cursors.specs.Replies.{hit_reply, shown_at, shown_reply}
 use Rattle.newt_engine_cursors.specs.World.{world_with}
 use Rattle.newt_engine_cursors.specs.declared.show.Shown.{Shown}
-use Rattle.newt_engine_cursors.proofs.Calls.{fetched-as, none-more, then-fetched}
 use Rattle.newt_engine_cursors.proofs.Standing.{absent-shown, shown-there, stands-query}
 use Rattle.newt_engine_cursors.proofs.show.show.Goals as goal
 
 pub returns-in_default-clause-fetches : goal.returns-in_default-clause-fetches
-returns-in_default-clause-fetches g c t apart un = none-more (λ u. omega Rattle.std.proofs.Common.arith)
+returns-in_default-clause-fetches g c t apart un u = omega Rattle.std.proofs.Common.arith
 
 pub returns-in-Some-2-clause-reading : goal.returns-in-Some-2-clause-reading
 returns-in-Some-2-clause-reading g c =
@@ -41,9 +40,8 @@ returns-in-Some-2-clause-fetches g c t apart un =
     let there = shown-there w (flat (slice_get c.args.desk.now c.args.cursor)) (query_of c.in-Some.query.now) _ c.in-Some.ensures c.in-Some-2.hit
     (subst (λ (f : Option Present). IsPresent f (present_in w (query_of c.in-Some.query.now) (identity c.in-Some.spot.now.store c.in-Some.spot.now.soup c.in-Some.spot.now.uid))) c.in-Some-2.is (c.in_ok-hit.ensures.found t apart)) in
     let same = c.in_ok-hit.ensures.reading.read.world t in
-    then-fetched (c.in_ok-hit.ensures.reading.unread (stands-query (flat (slice_get c.args.desk.now c.args.cursor)) (query_of c.in-Some.query.now) _ c.in-Some.ensures un))
-    (fetched-as there.pages (subst (λ (v : World). FetchesAtMost (fetched_there v c.in-Some.spot.now.store c.in-Some.spot.now.soup c.in-Some.spot.now.uid) (g.H.Host.outside c.find_hit.new.host) (g.H.Host.outside c.show_hit.new.host)) same
-    (c.show_hit.ensures.fetches t)))
+    (λ u. let x = (c.in_ok-hit.ensures.reading.unread (stands-query (flat (slice_get c.args.desk.now c.args.cursor)) (query_of c.in-Some.query.now) _ c.in-Some.ensures un)) u in let e = there.pages u in let more = (subst (λ (v : World). FetchesAtMost (fetched_there v c.in-Some.spot.now.store c.in-Some.spot.now.soup c.in-Some.spot.now.uid) (g.H.Host.outside c.find_hit.new.host) (g.H.Host.outside c.show_hit.new.host)) same
+    (c.show_hit.ensures.fetches t)) u in omega (arith, x, e, more))
 
 pub returns-in-None-clause-reading : goal.returns-in-None-clause-reading
 returns-in-None-clause-reading g c = is-read c.in_ok-hit.ensures.reading.read c.in_ok-hit.ensures.reading.no_fault (asked-read refl)
@@ -56,7 +54,7 @@ returns-in-None-clause-shown g c t apart =
 
 pub returns-in-None-clause-fetches : goal.returns-in-None-clause-fetches
 returns-in-None-clause-fetches g c t apart un =
-    none-more (c.in_ok-hit.ensures.reading.unread (stands-query (flat (slice_get c.args.desk.now c.args.cursor)) (query_of c.in-Some.query.now) _ c.in-Some.ensures un))
+    (λ u. let z = (c.in_ok-hit.ensures.reading.unread (stands-query (flat (slice_get c.args.desk.now c.args.cursor)) (query_of c.in-Some.query.now) _ c.in-Some.ensures un)) u in omega (arith, z))
 
 pub returns-in_err-hit-clause-reading : goal.returns-in_err-hit-clause-reading
 returns-in_err-hit-clause-reading g c =
@@ -65,4 +63,4 @@ returns-in_err-hit-clause-reading g c =
 
 pub returns-in_err-hit-clause-fetches : goal.returns-in_err-hit-clause-fetches
 returns-in_err-hit-clause-fetches g c t apart un =
-    none-more (c.in_err-hit.ensures.reading.unread (stands-query (flat (slice_get c.args.desk.now c.args.cursor)) (query_of c.in-Some.query.now) _ c.in-Some.ensures un))
+    (λ u. let z = (c.in_err-hit.ensures.reading.unread (stands-query (flat (slice_get c.args.desk.now c.args.cursor)) (query_of c.in-Some.query.now) _ c.in-Some.ensures un)) u in omega (arith, z))

@@ -1,5 +1,5 @@
 -- The unit is looked up, the cursor is open, and the hit is there.
-use Rattle.std.proofs.Common.{◌≡◌, ◌∙◌, ◌*◌, refl, ap, sym, subst, ℕ, true, option_map}
+use Rattle.std.proofs.Common.{arith, ◌≡◌, ◌∙◌, ◌*◌, refl, ap, sym, subst, ℕ, true, option_map}
 use Rattle.std.specs.Prelude.{Result, is_none, slice_get}
 use Rattle.std.proofs.lemmas.Result.{err_from_is_err_and}
 use Rattle.newt_spec_query.specs.Cursor.{on}
@@ -25,7 +25,7 @@ use Rattle.newt_engine_cursors.specs.Replies.{shown_at, shown_reply}
 use Rattle.newt_engine_cursors.specs.Calls.{Shows}
 use Rattle.newt_engine_cursors.specs.World.{world_with}
 use Rattle.newt_engine_cursors.specs.declared.show.Shown.{Shown}
-use Rattle.newt_engine_cursors.proofs.Calls.{stays, turns-end, turns-read, turns-settled, settles-reads, settles-after, walks-of, fetched-as, none-more, then-fetched, unread-query}
+use Rattle.newt_engine_cursors.proofs.Calls.{stays, turns-end, turns-read, turns-settled, settles-reads, settles-after, walks-of, unread-query}
 use Rattle.newt_engine_cursors.proofs.Stepped.{still-settled}
 use Rattle.newt_engine_cursors.proofs.Going.{unit-faults, no-cursor-goto, no-hit-goto, hit-goto, goto-does-so, goto-few, goto-pages}
 use Rattle.newt_engine_cursors.proofs.stepping.go_to.Goals as goal
@@ -58,7 +58,7 @@ returns-in_err-spot g c =
     walks-of (turns-end (λ (r : Result Shown StoreFault) (w v : World). Answers w v (command.Goto c.args.cursor c.args.unit c.args.uid) shown_reply r) c.in_err-spot.ensures.reading c.requires.desk
     c.from_residual-in_err-spot.result (err_from_is_err_and c.from_residual-in_err-spot.result c.from_residual-in_err-spot.ensures.1) (λ w v. tt))
     (λ t apart settled d. d)
-    (λ t apart settled un. none-more (c.in_err-spot.ensures.reading.unread (unread-query (flat (slice_get c.args.desk.now c.args.cursor)) (seen_cursor (c.in-Some.query, c.in-Some.field-0-1)) c.in-Some.ensures un)))
+    (λ t apart settled un. (λ u. let z = (c.in_err-spot.ensures.reading.unread (unread-query (flat (slice_get c.args.desk.now c.args.cursor)) (seen_cursor (c.in-Some.query, c.in-Some.field-0-1)) c.in-Some.ensures un)) u in omega (arith, z)))
 
 pub returns-in_default-2 : goal.returns-in_default-2
 returns-in_default-2 g c =
@@ -75,7 +75,7 @@ returns-in_default-2 g c =
     no-hit-goto w c.args.cursor c.args.unit c.args.uid (o.blocks c.args.unit) p.store there k (sym c.in-Some.ensures)
     (sym (c.in_ok-spot.ensures.found t apart k refl) ∙ ap (option_map spot_hit) c.in_default-2.is)))
     (λ t apart settled d. d)
-    (λ t apart settled un. none-more (c.in_ok-spot.ensures.reading.unread (unread-query (flat (slice_get c.args.desk.now c.args.cursor)) k c.in-Some.ensures un)))
+    (λ t apart settled un. (λ u. let z = (c.in_ok-spot.ensures.reading.unread (unread-query (flat (slice_get c.args.desk.now c.args.cursor)) k c.in-Some.ensures un)) u in omega (arith, z)))
 
 pub returns-in_err-move_to : goal.returns-in_err-move_to
 returns-in_err-move_to g c =
@@ -100,10 +100,8 @@ returns-in_err-move_to g c =
     subst IsSettled (goto-does-so w c.args.cursor c.args.unit c.args.uid (o.blocks c.args.unit) p.store there k (sym c.in-Some.ensures) h is)
     (still-settled laws g.H.Host.told c.args.units.now c.args.desk.now o eight c.requires.stands (command.Goto c.args.cursor c.args.unit c.args.uid) t apart settled (goto-few w c.args.cursor c.args.unit c.args.uid)) in
     let same : world_with g.C.Card.reads c.spot_on.new.units c.args.desk.now (g.H.Host.outside c.spot_on.new.host) ≡ w = ap (with_cursors c.args.desk.now) (read.read.world t) in
-    fetched-as (λ n. ap (λ (k : ℕ). 512 * k) (goto-pages w c.args.cursor c.args.unit c.args.uid (o.blocks c.args.unit) p.store there k (sym c.in-Some.ensures) h is after n))
-    (then-fetched (read.unread (unread-query (flat (slice_get c.args.desk.now c.args.cursor)) k c.in-Some.ensures un))
-    (subst (λ (x : World). FetchesAtMost (λ u. 512 * pages_shown (shown_at (set_place x c.args.cursor (on h)) c.args.cursor) u) (g.H.Host.outside c.spot_on.new.host) (g.H.Host.outside c.move_to.new.host)) same
-    (c.in_err-move_to.ensures.fetches t (subst MountedApart (sym same) apart) un))))
+    (λ u. let e = ap (λ (k : ℕ). 512 * k) (goto-pages w c.args.cursor c.args.unit c.args.uid (o.blocks c.args.unit) p.store there k (sym c.in-Some.ensures) h is after u) in let x = (read.unread (unread-query (flat (slice_get c.args.desk.now c.args.cursor)) k c.in-Some.ensures un)) u in let y = (subst (λ (x : World). FetchesAtMost (λ u. 512 * pages_shown (shown_at (set_place x c.args.cursor (on h)) c.args.cursor) u) (g.H.Host.outside c.spot_on.new.host) (g.H.Host.outside c.move_to.new.host)) same
+    (c.in_err-move_to.ensures.fetches t (subst MountedApart (sym same) apart) un)) u in omega (arith, e, x, y)))
 
 pub returns : goal.returns
 returns g c =
@@ -135,7 +133,5 @@ returns g c =
     subst IsSettled (goto-does-so w c.args.cursor c.args.unit c.args.uid (o.blocks c.args.unit) p.store there k (sym c.in-Some.ensures) h is)
     (still-settled laws g.H.Host.told c.args.units.now c.args.desk.now o eight c.requires.stands (command.Goto c.args.cursor c.args.unit c.args.uid) t apart settled (goto-few w c.args.cursor c.args.unit c.args.uid)) in
     let same : world_with g.C.Card.reads c.spot_on.new.units c.args.desk.now (g.H.Host.outside c.spot_on.new.host) ≡ w = ap (with_cursors c.args.desk.now) (read.read.world t) in
-    fetched-as (λ n. ap (λ (k : ℕ). 512 * k) (goto-pages w c.args.cursor c.args.unit c.args.uid (o.blocks c.args.unit) p.store there k (sym c.in-Some.ensures) h is after n))
-    (then-fetched (read.unread (unread-query (flat (slice_get c.args.desk.now c.args.cursor)) k c.in-Some.ensures un))
-    (subst (λ (x : World). FetchesAtMost (λ u. 512 * pages_shown (shown_at (set_place x c.args.cursor (on h)) c.args.cursor) u) (g.H.Host.outside c.spot_on.new.host) (g.H.Host.outside c.move_to.new.host)) same
-    (c.in_ok-move_to.ensures.fetches t (subst MountedApart (sym same) apart) un))))
+    (λ u. let e = ap (λ (k : ℕ). 512 * k) (goto-pages w c.args.cursor c.args.unit c.args.uid (o.blocks c.args.unit) p.store there k (sym c.in-Some.ensures) h is after u) in let x = (read.unread (unread-query (flat (slice_get c.args.desk.now c.args.cursor)) k c.in-Some.ensures un)) u in let y = (subst (λ (x : World). FetchesAtMost (λ u. 512 * pages_shown (shown_at (set_place x c.args.cursor (on h)) c.args.cursor) u) (g.H.Host.outside c.spot_on.new.host) (g.H.Host.outside c.move_to.new.host)) same
+    (c.in_ok-move_to.ensures.fetches t (subst MountedApart (sym same) apart) un)) u in omega (arith, e, x, y)))

@@ -18,14 +18,14 @@ use Rattle.newt_engine_cursors.specs.Replies.{shown_at}
 use Rattle.newt_engine_cursors.specs.World.{world_with}
 use Rattle.newt_engine_cursors.specs.declared.show.Shown.{Shown}
 use Rattle.newt_engine_cursors.proofs.Answering.{steers-there, there-stepped}
-use Rattle.newt_engine_cursors.proofs.Calls.{stays-turn, turns-end, turns-settled, settles-reads, settles-after, none-more, then-fetched, unread-query}
+use Rattle.newt_engine_cursors.proofs.Calls.{stays-turn, turns-end, turns-settled, settles-reads, settles-after, unread-query}
 use Rattle.newt_engine_cursors.proofs.stepping.steer.Goals as goal
 
 pub returns-in_default-clause-turns : goal.returns-in_default-clause-turns
 returns-in_default-clause-turns g c = stays-turn c.requires.stands c.requires.desk tt (λ t apart. (ap is_none (sym c.in_default.ensures), refl, refl))
 
 pub returns-in_default-clause-fetches : goal.returns-in_default-clause-fetches
-returns-in_default-clause-fetches g c t apart un = none-more (λ u. omega arith)
+returns-in_default-clause-fetches g c t apart un u = omega arith
 
 pub returns-in_err-place-clause-turns : goal.returns-in_err-place-clause-turns
 returns-in_err-place-clause-turns g c =
@@ -34,7 +34,7 @@ returns-in_err-place-clause-turns g c =
 
 pub returns-in_err-place-clause-fetches : goal.returns-in_err-place-clause-fetches
 returns-in_err-place-clause-fetches g c t apart un =
-    none-more (c.in_err-place.ensures.reading.unread (unread-query (flat (slice_get c.args.desk.now c.args.cursor)) (seen_cursor (c.in-Some.query, c.in-Some.place)) c.in-Some.ensures un))
+    (λ u. let z = (c.in_err-place.ensures.reading.unread (unread-query (flat (slice_get c.args.desk.now c.args.cursor)) (seen_cursor (c.in-Some.query, c.in-Some.place)) c.in-Some.ensures un)) u in omega (arith, z))
 
 pub returns-in_err-move_to-clause-turns : goal.returns-in_err-move_to-clause-turns
 returns-in_err-move_to-clause-turns g c =
@@ -49,10 +49,9 @@ returns-in_err-move_to-clause-fetches g c t apart un =
     let w = world_with g.C.Card.reads c.args.units.now c.args.desk.now (g.H.Host.outside c.args.host.now) in
     let same : world_with g.C.Card.reads c.target.new.units c.args.desk.now (g.H.Host.outside c.target.new.host) ≡ w = ap (with_cursors c.args.desk.now) (read.read.world t) in
     let k = seen_cursor (c.in-Some.query, c.in-Some.place) in
-    then-fetched (read.unread (unread-query (flat (slice_get c.args.desk.now c.args.cursor)) k c.in-Some.ensures un))
-    (subst (λ (x : World). FetchesAtMost (λ u. 512 * pages_shown (shown_at x c.args.cursor) u) (g.H.Host.outside c.target.new.host) (g.H.Host.outside c.move_to.new.host))
+    (λ u. let x = (read.unread (unread-query (flat (slice_get c.args.desk.now c.args.cursor)) k c.in-Some.ensures un)) u in let y = (subst (λ (x : World). FetchesAtMost (λ u. 512 * pages_shown (shown_at x c.args.cursor) u) (g.H.Host.outside c.target.new.host) (g.H.Host.outside c.move_to.new.host))
     (ap (λ (x : World). set_place x c.args.cursor (place_of c.in_ok-place.place)) same ∙ there-stepped w c.args.cursor (step_of c.args.motion) k (place_of c.in_ok-place.place) c.in-Some.ensures (c.in_ok-place.ensures.place t apart))
-    (c.in_err-move_to.ensures.fetches t (subst MountedApart (sym same) apart) un))
+    (c.in_err-move_to.ensures.fetches t (subst MountedApart (sym same) apart) un)) u in omega (arith, x, y))
 
 pub returns-clause-turns : goal.returns-clause-turns
 returns-clause-turns g c =
@@ -67,7 +66,6 @@ returns-clause-fetches g c t apart un =
     let w = world_with g.C.Card.reads c.args.units.now c.args.desk.now (g.H.Host.outside c.args.host.now) in
     let same : world_with g.C.Card.reads c.target.new.units c.args.desk.now (g.H.Host.outside c.target.new.host) ≡ w = ap (with_cursors c.args.desk.now) (read.read.world t) in
     let k = seen_cursor (c.in-Some.query, c.in-Some.place) in
-    then-fetched (read.unread (unread-query (flat (slice_get c.args.desk.now c.args.cursor)) k c.in-Some.ensures un))
-    (subst (λ (x : World). FetchesAtMost (λ u. 512 * pages_shown (shown_at x c.args.cursor) u) (g.H.Host.outside c.target.new.host) (g.H.Host.outside c.move_to.new.host))
+    (λ u. let x = (read.unread (unread-query (flat (slice_get c.args.desk.now c.args.cursor)) k c.in-Some.ensures un)) u in let y = (subst (λ (x : World). FetchesAtMost (λ u. 512 * pages_shown (shown_at x c.args.cursor) u) (g.H.Host.outside c.target.new.host) (g.H.Host.outside c.move_to.new.host))
     (ap (λ (x : World). set_place x c.args.cursor (place_of c.in_ok-place.place)) same ∙ there-stepped w c.args.cursor (step_of c.args.motion) k (place_of c.in_ok-place.place) c.in-Some.ensures (c.in_ok-place.ensures.place t apart))
-    (c.in_ok-move_to.ensures.fetches t (subst MountedApart (sym same) apart) un))
+    (c.in_ok-move_to.ensures.fetches t (subst MountedApart (sym same) apart) un)) u in omega (arith, x, y))

@@ -8,7 +8,7 @@ use Rattle.newt_spec_world.specs.World.{World, hits_of}
 use Rattle.newt_laws_world.specs.Settled.{MountedApart}
 use Rattle.newt_engine_units.specs.Stands.{world_of}
 use Rattle.newt_engine_hits.specs.Ways.{stepping}
-use Rattle.newt_engine_hits.proofs.Reading.{not-read, read-then, is-read, end-read, none-fetched, then-unread}
+use Rattle.newt_engine_hits.proofs.Reading.{not-read, read-then, is-read, end-read, then-unread}
 use Rattle.newt_engine_hits.proofs.Walking.{repeated-edge, at-edge}
 use Rattle.newt_engine_hits.proofs.places.steps.Goals as goal
 
@@ -16,7 +16,7 @@ pub steps-init : goal.steps-init
 steps-init g c = record {
   read = not-read c.requires.stands;
   no_fault = NoFault-refl _;
-  unread = none-fetched _;
+  unread = λ e u. omega arith;
   fits = c.requires.fits;
   left = λ t apart.
       let w = world_of g.C.Card.reads c.args.units.now (g.H.Host.outside c.args.host.now) in
@@ -49,7 +49,7 @@ pub steps-preserved : goal.steps-preserved
 steps-preserved g c = record {
   read = read-then c.steps.invariant.read c.step.ensures.reading.read;
   no_fault = NoFault-append c.steps.invariant.no_fault c.in_ok-place.ensures.reading.no_fault;
-  unread = then-unread c.steps.invariant.unread c.step.ensures.reading.unread;
+  unread = then-unread c.steps.invariant.read c.step.ensures.reading.read c.steps.invariant.unread c.step.ensures.reading.unread;
   fits = c.in_ok-place.ensures.fits;
   left = λ t apart.
       let w = world_of g.C.Card.reads c.args.units.now (g.H.Host.outside c.args.host.now) in

@@ -1,7 +1,7 @@
 -- The entry is read where words or texts are asked for.
 use Rattle.std.proofs.Common.{◌≡◌, ◌∙◌, sym, true, false, Bool}
 use Rattle.newt_host.proofs.Outside.{NoFault-refl}
-use Rattle.newt_engine_hits.proofs.Reading.{asked-reading, not-read, none-fetched}
+use Rattle.newt_engine_hits.proofs.Reading.{asked-reading, not-read}
 use Rattle.newt_engine_hits.proofs.present.entry_if_asked.Goals as goal
 
 both : {b : Bool} → b ≡ true → b ≡ false → ⊥

@@ -11,10 +11,10 @@ use Rattle.newt_engine_hits.proofs.Presence.{is-present, is-absent}
 use Rattle.newt_engine_hits.proofs.Reading.{is-read, end-memory}
 use Rattle.newt_engine_hits.proofs.present.find_hit.Goals as goal
 
-pub returns-in_err-hit_key-clause-reading : goal.returns-in_err-hit_key-clause-reading
-returns-in_err-hit_key-clause-reading g c =
-    let r = c.from_residual-in_err-hit_key.result in
-    end-memory c.in_ok-entry.ensures.reading.read c.in_ok-entry.ensures.reading.unread r (err_from_is_err_and r c.from_residual-in_err-hit_key.ensures.1)
+pub returns-in_err-hit-clause-reading : goal.returns-in_err-hit-clause-reading
+returns-in_err-hit-clause-reading g c =
+    let r = c.from_residual-in_err-hit.result in
+    end-memory c.in_ok-entry.ensures.reading.read c.in_ok-entry.ensures.reading.unread r (err_from_is_err_and r c.from_residual-in_err-hit.ensures.1)
 
 pub returns-in-Some-clause-reading : goal.returns-in-Some-clause-reading
 returns-in-Some-clause-reading g c = is-read c.in_ok-entry.ensures.reading.read c.in_ok-entry.ensures.reading.no_fault c.in_ok-entry.ensures.reading.unread
@@ -27,7 +27,7 @@ returns-in-Some-clause-found g c t apart =
     let w = world_of g.C.Card.reads c.args.units.now (g.H.Host.outside c.args.host.now) in
     let same = c.in_ok-entry.ensures.reading.read.world t in
     is-present w (query_of c.args.query.now) c.args.store c.args.soup c.args.uid _ _ _ (asks_texts c.args.query.now.spec) (c.in_ok-entry.ensures.entry t) c.in_ok-entry.ensures.none
-    (sym c.in-Some.is ∙ c.in_ok-hit_key.ensures.found p eight2 stand2 (subst MountedApart (sym same) apart)
+    (sym c.in-Some.is ∙ c.in_ok-hit.ensures.found p eight2 stand2 (subst MountedApart (sym same) apart)
     (λ asks. c.in_ok-entry.ensures.entry t asks ∙ ap (λ (v : World). entry_there v c.args.store c.args.soup c.args.uid) (sym same))
     ∙ ap (λ (v : World). keyed_in (present_in v (query_of c.args.query.now) (identity c.args.store c.args.soup c.args.uid))) same)
 
@@ -42,6 +42,6 @@ returns-in-None-clause-found g c t apart =
     let w = world_of g.C.Card.reads c.args.units.now (g.H.Host.outside c.args.host.now) in
     let same = c.in_ok-entry.ensures.reading.read.world t in
     is-absent w (query_of c.args.query.now) c.args.store c.args.soup c.args.uid
-    (sym c.in-None.is ∙ c.in_ok-hit_key.ensures.found p eight2 stand2 (subst MountedApart (sym same) apart)
+    (sym c.in-None.is ∙ c.in_ok-hit.ensures.found p eight2 stand2 (subst MountedApart (sym same) apart)
     (λ asks. c.in_ok-entry.ensures.entry t asks ∙ ap (λ (v : World). entry_there v c.args.store c.args.soup c.args.uid) (sym same))
     ∙ ap (λ (v : World). keyed_in (present_in v (query_of c.args.query.now) (identity c.args.store c.args.soup c.args.uid))) same)

@@ -40,7 +40,7 @@ returns-in-Some-clause-fetches g c t =
     let stand : Stands g.C.Card.place g.C.Card.stands true c.args.units.now o = subst (λ b. Stands g.C.Card.place g.C.Card.stands b c.args.units.now o) t c.requires in
     let w = world_of g.C.Card.reads c.args.units.now o in
     let k = shows-some laws c.args.units.now o eight stand c.args.store c.in-Some.unit (sym c.in-Some.ensures) in
-    fetched-sharply w c.args.store c.args.soup c.args.uid c.in-Some.unit k.store k.found_with (c.entry_on.ensures.fetches t k.blocks k.store k.on)
+    fetched-sharply w c.args.store c.args.soup c.args.uid c.in-Some.unit k.store o (g.H.Host.outside c.entry_on.new.host) k.found_with (c.entry_on.ensures.fetches t k.blocks k.store k.on)
 
 pub returns-in-Some-clause-within : goal.returns-in-Some-clause-within
 returns-in-Some-clause-within g c t =
@@ -50,7 +50,7 @@ returns-in-Some-clause-within g c t =
     let stand : Stands g.C.Card.place g.C.Card.stands true c.args.units.now o = subst (λ b. Stands g.C.Card.place g.C.Card.stands b c.args.units.now o) t c.requires in
     let w = world_of g.C.Card.reads c.args.units.now o in
     let k = shows-some laws c.args.units.now o eight stand c.args.store c.in-Some.unit (sym c.in-Some.ensures) in
-    fetched-within w c.args.store c.args.soup c.args.uid c.in-Some.unit k.store (is-mounted w c.in-Some.unit k.blocks k.store k.on) k.sig_is (c.entry_on.ensures.fetches t k.blocks k.store k.on)
+    fetched-within w c.args.store c.args.soup c.args.uid c.in-Some.unit k.store o (g.H.Host.outside c.entry_on.new.host) (is-mounted w c.in-Some.unit k.blocks k.store k.on) k.sig_is (c.entry_on.ensures.fetches t k.blocks k.store k.on)
 
 pub returns-in-None-clause-reading : goal.returns-in-None-clause-reading
 returns-in-None-clause-reading g c = record { read = not-read c.requires; cause = tt; no_fault = Rattle.newt_host.proofs.Outside.NoFault-refl _; unread = asked-read refl }

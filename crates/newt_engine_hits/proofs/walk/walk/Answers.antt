@@ -14,7 +14,7 @@ use Rattle.newt_engine_units.specs.Stands.{Stands, Eight, world_of}
 use Rattle.newt_engine_units.proofs.Known.{Laws}
 use Rattle.newt_index.specs.Spots.{spot_hit}
 use Rattle.newt_engine_hits.specs.Ways.{beyond}
-use Rattle.newt_engine_hits.proofs.Reading.{not-read, read-then, is-read, end-read, end-memory, none-fetched, then-unread}
+use Rattle.newt_engine_hits.proofs.Reading.{not-read, read-then, is-read, end-read, end-memory, then-unread}
 use Rattle.newt_engine_hits.proofs.Stores.{stores-formed, stores-few}
 use Rattle.newt_engine_hits.proofs.Walking.{ahead, comes_to, ahead-start, ahead-fewer, passed-goal, over-goal}
 use Rattle.newt_engine_hits.proofs.walk.walk.Goals as goal
@@ -23,7 +23,7 @@ pub steps-init : goal.steps-init
 steps-init g c = record {
   read = not-read c.requires.stands;
   no_fault = NoFault-refl _;
-  unread = none-fetched _;
+  unread = λ e u. omega arith;
   key = c.requires.key;
   walked = λ t apart. refl;
   ahead = λ t apart.
@@ -53,7 +53,7 @@ returns-in_err-keeps-clause-reading g c = end-read c.steps.invariant.read c.step
 
 pub returns-then-branch-clause-reading : goal.returns-then-branch-clause-reading
 returns-then-branch-clause-reading g c = is-read (read-then c.steps.invariant.read c.in_ok-keeps.ensures.reading.read) (NoFault-append c.steps.invariant.no_fault c.in_ok-keeps.ensures.reading.no_fault)
-    (then-unread c.steps.invariant.unread c.in_ok-keeps.ensures.reading.unread)
+    (then-unread c.steps.invariant.read c.in_ok-keeps.ensures.reading.read c.steps.invariant.unread c.in_ok-keeps.ensures.reading.unread)
 
 pub returns-then-branch-clause-fits : goal.returns-then-branch-clause-fits
 returns-then-branch-clause-fits g c = subst (λ (o : Option Spot). IfSome o (λ spot. IsKeyOf c.args.query.now.spec.index spot.key)) c.in-Some.is c.steps.invariant.key
@@ -76,13 +76,13 @@ beyond-requires-clause-key g c = subst (λ (o : Option Spot). IfSome o (λ spot.
 pub returns-in_err-found-clause-reading : goal.returns-in_err-found-clause-reading
 returns-in_err-found-clause-reading g c =
     let r = c.from_residual-in_err-found.result in
-    end-memory (read-then c.steps.invariant.read c.keeps.ensures.reading.read) (then-unread c.steps.invariant.unread c.keeps.ensures.reading.unread) r (err_from_is_err_and r c.from_residual-in_err-found.ensures.1)
+    end-memory (read-then c.steps.invariant.read c.keeps.ensures.reading.read) (then-unread c.steps.invariant.read c.keeps.ensures.reading.read c.steps.invariant.unread c.keeps.ensures.reading.unread) r (err_from_is_err_and r c.from_residual-in_err-found.ensures.1)
 
 pub steps-preserved : goal.steps-preserved
 steps-preserved g c = record {
   read = read-then c.steps.invariant.read c.keeps.ensures.reading.read;
   no_fault = NoFault-append c.steps.invariant.no_fault c.in_ok-keeps.ensures.reading.no_fault;
-  unread = then-unread c.steps.invariant.unread c.keeps.ensures.reading.unread;
+  unread = then-unread c.steps.invariant.read c.keeps.ensures.reading.read c.steps.invariant.unread c.keeps.ensures.reading.unread;
   key = c.in_ok-found.ensures.key;
   walked = λ t apart.
       let laws : Laws g.C.Card.reads g.C.Card.place g.C.Card.soups g.C.Card.stands = record { formed = g.met.C.Card.formed; plain = g.met.C.Card.plain; durable = g.met.C.Card.durable; banks = g.met.C.Card.banks; kept = g.met.C.Card.kept } in
