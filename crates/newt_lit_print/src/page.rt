@@ -72,17 +72,17 @@ impl Page {
         tokens::name(&mut self.text, name)
     }
 
-    pub fn string(&mut self, alloc: Global, units: &[u16]) -> Result<(), AllocError>
+    pub fn string(&mut self, units: &[u16]) -> Result<(), AllocError>
         ensures { OnOk result (self.new ≡ spelled self.old (plain
             (printed.string_text units.now))) }
     {
-        tokens::string(alloc, &mut self.text, units)
+        tokens::string(&mut self.text, units)
     }
 
-    pub fn hex(&mut self, alloc: Global, bytes: &[u8]) -> Result<(), AllocError>
+    pub fn hex(&mut self, bytes: &[u8]) -> Result<(), AllocError>
         ensures { OnOk result (self.new ≡ spelled self.old (plain (hex_text bytes.now))) }
     {
-        tokens::hex(alloc, &mut self.text, bytes)
+        tokens::hex(&mut self.text, bytes)
     }
 
     /// A label and the mark behind it, or nothing.

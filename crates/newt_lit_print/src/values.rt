@@ -63,7 +63,7 @@ impl Source<'_> {
         page.put(before)?;
         self.symbol(page, class)?;
         page.put(b":")?;
-        page.hex(self.alloc, bytes)?;
+        page.hex(bytes)?;
         page.put(after)
     }
 
@@ -123,7 +123,7 @@ impl Source<'_> {
                 page.put(b"'")?;
                 page.name(name.list())
             }
-            Node::Str(units) => page.string(self.alloc, units.list()),
+            Node::Str(units) => page.string(units.list()),
             Node::Binary(class, bytes) => self.binary(page, b"<", b">", *class, bytes.list()),
             Node::Large(class, bytes) => self.binary(page, b"<<", b">>", *class, bytes.list()),
             Node::Array(class, values) => {
