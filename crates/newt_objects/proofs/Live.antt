@@ -1,5 +1,5 @@
 -- The flags of the numbers that objects have.
-use Rattle.std.proofs.Common.{◌≡◌, ◌≢◌, ℕ, zero, suc, ◌<◌, ◌≤◌, ◌==◌, ◌||◌, ◌&&◌, Bool, true, false, not, cond, List, [], ◌∷◌, ◌++◌, length, slice_get, replicate, Option, Some, None, refl, sym, ◌∙◌, ap, arith, ⊎_elim}
+use Rattle.std.proofs.Common.{◌≡◌, ◌≢◌, ℕ, zero, suc, ◌<◌, ◌==◌, ◌||◌, ◌&&◌, Bool, true, false, not, cond, List, [], ◌∷◌, ◌++◌, length, slice_get, replicate, Option, Some, None, refl, sym, ◌∙◌, ap, subst, arith, ⊎_elim}
 use Rattle.std.specs.List.{list_any}
 use Rattle.std.specs.Map.{values_of}
 use Rattle.std.specs.Ordering.{nat_cmp}
@@ -15,7 +15,7 @@ use Rattle.newt_spec_image.specs.Objects.{Extent, Table}
 use Rattle.newt_pagebook.proofs.Tests.{some_inj, true_or_false, is_equal, equal_true, equal_false}
 use Rattle.newt_objects.specs.Headers.{Rows, held_in}
 use Rattle.newt_objects.specs.Extents.{has_number, AreFlags, MarksAlso}
-use Rattle.newt_objects.specs.Taken.{ClearsAlso, IsLive, AreSameBut, row_at}
+use Rattle.newt_objects.specs.Taken.{ClearsAlso, IsLive, IsFull, AreSameBut, row_at, group_of}
 use Rattle.newt_objects.proofs.Plans.{slice_get-among}
 use Rattle.newt_objects.proofs.Pushed.{push_last}
 
@@ -143,19 +143,52 @@ clears-more first second every a b c is one other = record {
   joined true false b = refl
   joined false a b = refl
 
--- below the lowest of the numbers nothing is cleared
-pub clears-below : (flags flags' : List Bool) (numbers : List ℕ) (low number : ℕ) → ClearsAlso (λ q. list_any (λ n. q == n) numbers) flags flags' → ((k n : ℕ) → slice_get numbers k ≡ Some n → low ≤ n) → number < low
-    → slice_get flags number ≡ Some true → slice_get flags' number ≡ Some true
-clears-below flags flags' numbers low number clears each less t = ⊎_elim
-    (λ (yes : list_any (λ n. number == n) numbers ≡ true). absurd (let w = slice_get-among numbers number yes in let le : low ≤ number = each w.0 number w.1 in omega arith))
-    (λ (f : list_any (λ n. number == n) numbers ≡ false). clears.each number true t ∙ ap (λ (b : Bool). Some (true && not b)) f)
+or_true : (b : Bool) → (b || true) ≡ true
+or_true true = refl
+or_true false = refl
+
+left_true : (b : Bool) → (b || false) ≡ true → b ≡ true
+left_true true e = refl
+left_true false e = e
+
+-- the group of a number among some is among their groups
+any_group : (numbers : List ℕ) (number group : ℕ) → group_of number ≡ group → list_any (λ n. number == n) numbers ≡ true → list_any (λ n. group == group_of n) numbers ≡ true
+any_group [] number group is t = absurd (cc)
+any_group (n ∷ ns) number group is t = ⊎_elim
+    (λ (e : number ≡ n). ap (λ (b : Bool). b || list_any (λ n. group == group_of n) ns) (equal_true group (group_of n) (sym is ∙ ap group_of e)))
+    (λ (ne : number ≢ n). ap (λ (b : Bool). (group == group_of n) || b) (any_group ns number group is (sym (ap (λ (b : Bool). b || list_any (λ n. number == n) ns) (equal_false number n ne)) ∙ t)) ∙ or_true (group == group_of n))
+    (cases_eq number n)
+
+-- a group that is full still has none of the numbers that were cleared
+pub clears-full : (flags flags' full full' : List Bool) (numbers : List ℕ) → ClearsAlso (λ q. list_any (λ n. q == n) numbers) flags flags' → ClearsAlso (λ q. list_any (λ n. q == group_of n) numbers) full full'
+    → ((group : ℕ) → slice_get full group ≡ Some true → IsFull flags group) → (group : ℕ) → slice_get full' group ≡ Some true → IsFull flags' group
+clears-full flags flags' full full' numbers clears groups sound group marked number is =
+    let w = at_place full group (omega (arith, slice_get_within full' group true marked, groups.size)) in
+    let test : Bool = list_any (λ n. group == group_of n) numbers in
+    let set : (w.0 && not test) ≡ true = some_inj (w.0 && not test) true (sym (groups.each group w.0 w.1) ∙ marked) in
+    let parts = both w.0 (not test) set in
+    let other : test ≡ false = negated test parts.1 in
+    ⊎_elim
+    (λ (t : list_any (λ n. number == n) numbers ≡ true). absurd (let here : test ≡ true = any_group numbers number group is t in cc))
+    (λ (f : list_any (λ n. number == n) numbers ≡ false). clears.each number true (sound group (w.1 ∙ ap Some parts.0) number is) ∙ ap (λ (b : Bool). Some (true && not b)) f)
     (true_or_false (list_any (λ n. number == n) numbers))
+
+-- a group more is known to be full
+pub marks-full : (flags full full' : List Bool) (group : ℕ) → MarksAlso (λ q. q == group) full full' → IsFull flags group
+    → ((other : ℕ) → slice_get full other ≡ Some true → IsFull flags other) → (other : ℕ) → slice_get full' other ≡ Some true → IsFull flags other
+marks-full flags full full' group marks it sound other marked = ⊎_elim
+    (λ (e : other ≡ group). subst (IsFull flags) (sym e) it)
+    (λ (ne : other ≢ group).
+    let w = at_place full other (omega (arith, slice_get_within full' other true marked, marks.size)) in
+    let set : (w.0 || (other == group)) ≡ true = some_inj (w.0 || (other == group)) true (sym (marks.each other w.0 w.1) ∙ marked) in
+    sound other (w.1 ∙ ap Some (left_true w.0 (ap (λ (b : Bool). w.0 || b) (sym (equal_false other group ne)) ∙ set))))
+    (cases_eq other group)
 
 -- flags that are not set belong to no object
 pub no_objects : Table
 no_objects id = None
 
-all_false : (n q : ℕ) (b : Bool) → slice_get (replicate n false) q ≡ Some b → b ≡ false
+pub all_false : (n q : ℕ) (b : Bool) → slice_get (replicate n false) q ≡ Some b → b ≡ false
 all_false zero q b e = absurd (cc)
 all_false (suc n) zero b e = sym (some_inj false b e)
 all_false (suc n) (suc q) b e = all_false n q b e

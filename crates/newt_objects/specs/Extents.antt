@@ -62,3 +62,7 @@ pub record MarksAlso (test : ℕ → Bool) (old new : List Bool) : Type 0 where
 -- each flag that is there tells whether the change names its number
 abbrev pub TellNames : Change → List Bool → Type 0
 TellNames change flags = (number : ℕ) (flag : Bool) → slice_get flags number ≡ Some flag → flag ≡ names change number
+
+-- one flag for each page number: whether an object of these rows has it
+abbrev pub AreFlagsOf : List (ℕ × Option Extent) → List Bool → Type 0
+AreFlagsOf rows flags = AreFlags 65536 (λ q. list_any (has_number q) (values_of rows)) flags

@@ -1,5 +1,5 @@
 -- Which page numbers the objects have, as flags that are kept from one plan to the next.
-use Rattle.std.specs.Prelude.{◌≡◌, ◌≢◌, ℕ, ◌<◌, ◌≤◌, ◌&&◌, Bool, true, not, List, length, slice_get, Option, Some, IfSome}
+use Rattle.std.specs.Prelude.{◌≡◌, ◌≢◌, ℕ, ◌/◌, ◌&&◌, Bool, true, not, List, length, slice_get, Option, Some, IfSome}
 use Rattle.std.specs.Option.{option_flatten}
 use Rattle.newt_spec_image.specs.Objects.{Extent, Table}
 use Rattle.newt_objects.specs.Extents.{has_number}
@@ -20,11 +20,23 @@ pub record IsLive (table : Table) (flags : List Bool) : Type 0 where
   pub real : (number : ℕ) → slice_get flags number ≡ Some true → (id : ℕ) × (has_number number (table id) ≡ true)
   pub apart : (id other number : ℕ) → has_number number (table id) ≡ true → has_number number (table other) ≡ true → id ≡ other
 
--- what is known of the numbers that objects have: the flags, and a number below which all are had
+-- the group of a page number, of 128 of them
+abbrev pub group_of : ℕ → ℕ
+group_of number = number / 128
+
+-- all numbers of a group are had
+abbrev pub IsFull : List Bool → ℕ → Type 0
+IsFull flags group = (number : ℕ) → group_of number ≡ group → slice_get flags number ≡ Some true
+
+-- each group that is said to be full is
+abbrev pub AreFull : Taken → Type 0
+AreFull taken = (group : ℕ) → slice_get taken.full.items group ≡ Some true
+    → IsFull taken.flags.items group
+
+-- what is known of the numbers that objects have: the flags, and groups of which all are had
 pub record IsTaken (table : Table) (taken : Taken) : Type 0 where
   pub live : IsLive table taken.flags.items
-  pub small : taken.least ≤ 65536
-  pub below : (number : ℕ) → number < taken.least → slice_get taken.flags.items number ≡ Some true
+  pub full : AreFull taken
 
 -- the same, where it is known
 abbrev pub IsKnown : Table → Option Taken → Type 0

@@ -1,24 +1,31 @@
 // Which page numbers the objects have, kept from one plan to the next.
-ghost use Rattle.std.specs.Prelude.{◌≡◌, ℕ, [], ◌==◌, ◌<◌, ◌≤◌, true, false, IsTrue, IfOk, None};
-ghost use Rattle.std.specs.Prelude.{Some, slice_get};
+ghost use Rattle.std.specs.Prelude.{◌≡◌, ℕ, [], ◌==◌, ◌<◌, true, false, IsTrue, IfOk, None, Some};
+ghost use Rattle.std.specs.Prelude.{length, slice_get};
 ghost use Rattle.std.specs.List.{list_any};
 ghost use Rattle.std.specs.Option.{option_copied};
 ghost use Rattle.newt_objects.specs.Headers.{held_in};
 ghost use Rattle.newt_objects.specs.Taken.{ClearsAlso, IsLive, IsTaken, IsKnown, Follows, row_at};
+ghost use Rattle.newt_objects.specs.Taken.{AreFull, IsFull, group_of};
 ghost use Rattle.std.specs.BTreeMap as tree;
 
 use crate::extent::Extent;
-use crate::free::{PAGE_NUMBERS, mark_numbers};
+use crate::free::{PAGE_NUMBERS, mark, mark_numbers};
 use std::alloc::{AllocError, Global};
 use std::collections::BTreeMap;
+
+/// How many page numbers, one behind the other, are a group.
+pub(crate) const GROUP: u32 = 128;
+
+/// How many groups there are.
+pub(crate) const GROUPS: u32 = PAGE_NUMBERS / GROUP;
 
 /// Which page numbers the objects have.
 #[derive(Drop)]
 pub(crate) struct Taken {
     /// For each page number whether an object has it.
     pub(crate) flags: Vec<bool>,
-    /// A number below which all are had.
-    pub(crate) least: u32,
+    /// For each group of page numbers whether all of them are known to be had.
+    pub(crate) full: Vec<bool>,
 }
 
 // Clears the flag of a number, if it has one.
@@ -40,6 +47,16 @@ fn clear_numbers(flags: &mut Vec<bool>, numbers: &[u32])
     }
 }
 
+// Clears the flags of the groups of some numbers.
+fn clear_groups(full: &mut Vec<bool>, numbers: &[u32])
+    ensures { ClearsAlso (λ q. list_any (λ n. q == group_of n) numbers.now) full.old.items
+        full.new.items }
+{
+    for number in numbers {
+        clear_flag(full, *number / GROUP);
+    }
+}
+
 // Whether none of these numbers is had.
 fn are_free(flags: &[bool], numbers: &[u32]) -> bool
     ensures { IsTrue result → (k number : ℕ) → slice_get numbers.now k ≡ Some number
@@ -52,18 +69,6 @@ fn are_free(flags: &[bool], numbers: &[u32]) -> bool
         }
     }
     true
-}
-
-// The least of these numbers and one more.
-fn lowest(numbers: &[u32], least: u32) -> u32
-    ensures low { result ≤ least }
-    ensures each { (k number : ℕ) → slice_get numbers.now k ≡ Some number → result ≤ number }
-{
-    let mut low = least;
-    for number in numbers {
-        low = low.min(*number);
-    }
-    low
 }
 
 // Takes the numbers of an object, if there is one. False where another object has one of them.
@@ -87,14 +92,11 @@ fn take_row(flags: &mut Vec<bool>, row: &Option<Extent>) -> bool
 fn give_row(taken: &mut Taken, was: Option<&Extent>)
     ensures live { Follows (option_copied was.entry) None (λ t. IsLive t taken.old.flags.items)
         (λ t. IsLive t taken.new.flags.items) }
-    ensures below { (number : ℕ) → number < taken.new.least
-        → slice_get taken.old.flags.items number ≡ Some true
-        → slice_get taken.new.flags.items number ≡ Some true }
-    ensures least { taken.new.least ≤ taken.old.least }
+    ensures full { AreFull taken.old → AreFull taken.new }
 {
     if let Some(extent) = was {
         clear_numbers(&mut taken.flags, &extent.numbers);
-        taken.least = lowest(&extent.numbers, taken.least);
+        clear_groups(&mut taken.full, &extent.numbers);
     }
 }
 
@@ -142,24 +144,53 @@ fn taken_by(
     // Its contract tells that the rows rise.
     let _count = rows.len();
     let mut flags = vec![in alloc; false; PAGE_NUMBERS as usize]?;
+    let full = vec![in alloc; false; GROUPS as usize]?;
     if take_rows(&mut flags, rows) {
-        return Ok(Some(Taken { flags, least: 0 }));
+        return Ok(Some(Taken { flags, full }));
     }
     Ok(None)
 }
 
-// The first number from one on that is not had, where all below that one are.
-fn first_free(flags: &[bool], least: u32) -> u32
-    requires small { least ≤ 65536 }
-    requires below { (number : ℕ) → number < least → slice_get flags.now number ≡ Some true }
-    ensures small { result ≤ 65536 }
-    ensures below { (number : ℕ) → number < result → slice_get flags.now number ≡ Some true }
+// Whether the flag of a place is set.
+fn has_flag(flags: &[bool], place: u32) -> bool
+    ensures { IsTrue result → slice_get flags.now place ≡ Some true }
 {
-    let mut at = least;
-    while at < PAGE_NUMBERS && (at as usize) < flags.len() && flags[at as usize] {
-        at += 1;
+    let place = place as usize;
+    place < flags.len() && flags[place]
+}
+
+// Whether the flags of all numbers of a group are set.
+fn are_set(flags: &[bool], group: u32) -> bool
+    requires inside { group < 512 }
+    requires size { length flags.now ≡ 65536 }
+    ensures { IsTrue result → IsFull flags.now group }
+{
+    let first = group * GROUP;
+    for number in first..first + GROUP {
+        if !flags[number as usize] {
+            return false;
+        }
     }
-    at
+    true
+}
+
+/// Whether all page numbers of a group are had. Where they are, this is known from then on.
+pub(crate) fn is_full(taken: &mut Taken, group: u32) -> bool
+    requires inside { group < 512 }
+    requires size { length taken.old.flags.items ≡ 65536 }
+    requires full { AreFull taken.old }
+    ensures flags { taken.new.flags.items ≡ taken.old.flags.items }
+    ensures full { AreFull taken.new }
+    ensures yes { IsTrue result → IsFull taken.old.flags.items group }
+{
+    if has_flag(&taken.full, group) {
+        return true;
+    }
+    let full = are_set(&taken.flags, group);
+    if full {
+        mark(&mut taken.full, group);
+    }
+    full
 }
 
 /// Makes known which page numbers the objects have, unless two of them have one number.
@@ -173,9 +204,6 @@ pub(crate) fn make_known(
 {
     if known.is_none() {
         *known = taken_by(alloc, rows)?;
-    }
-    if let Some(taken) = known {
-        taken.least = first_free(&taken.flags, taken.least);
     }
     Ok(())
 }
