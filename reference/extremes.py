@@ -172,6 +172,12 @@ def indexed_entries() -> bytes:
     return entries(specs_of_four(names, "string"), lambda _: Frame([Symbol(it) for it in names], [string] * 3))
 
 
+def named_entries() -> bytes:
+    """Entries in 16 indexes of symbols, each key four times the longest name."""
+    value, names = Symbol(b"x" * 254), [b"a", b"b", b"c"]
+    return entries(specs_of_four(names, "symbol"), lambda _: Frame([Symbol(it) for it in names], [value] * 3))
+
+
 def falling_entries() -> bytes:
     """Entries in 16 indexes, each before all that were read until then."""
     names = [b"a", b"b", b"c"]
@@ -256,6 +262,7 @@ CASES: list[tuple[str, Callable[[], Input]]] = [
     ("mount, the same page put again and again", mounted(put_again)),
     ("mount, entries of a page each", mounted(plain_entries)),
     ("mount, the same with 16 indexes of the longest keys", mounted(indexed_entries)),
+    ("mount, the same with 16 indexes of the longest names", mounted(named_entries)),
     ("mount, the same with 16 indexes in falling order", mounted(falling_entries)),
     ("mount, entries of 31,900 nodes each", mounted(full_entries)),
     ("mount, entries with a large binary each", mounted(large_binaries)),

@@ -1,9 +1,14 @@
 -- What a table of names finds, and what it knows as nodes are added and filled.
-use Rattle.std.proofs.Common.{◌≡◌, ℕ, zero, suc, ◌+◌, ◌<◌, Bool, true, false, cond, List, [], ◌∷◌, ◌++◌, length, take, drop, get_or, Option, Some, None, Vec, refl, sym, ap, subst, ◌∙◌, append_assoc, arith, inl, inr}
+use Rattle.std.proofs.Common.{◌≡◌, ℕ, zero, suc, ◌+◌, ◌<◌, Bool, true, false, cond, List, [], ◌∷◌, ◌++◌, length, take, drop, get_or, Option, Some, None, refl, sym, ap, subst, ◌∙◌, append_assoc, arith, inl, inr}
 use Rattle.std.specs.Prelude.{slice_get, set, nat_lt}
 use Rattle.std.specs.Map.{lookup, KeepsOthers}
 use Rattle.std.specs.Str.{bytes_eq}
-use Rattle.std.specs.HashMap.{HashMap, Updates}
+use Rattle.std.specs.BTreeMap.{BTreeMap, Updates, is_at}
+use Rattle.std.specs.declared.cmp.Ordering.{Ordering}
+use Rattle.std.specs.declared.cmp.Ordering.TheVariants.{Less, Equal, Greater}
+use Rattle.std.specs.Ordering.{nat_cmp, is_eq, ordering_then}
+use Rattle.std.specs.FinMap.{nat_cmp-IsAntisymmetric, slice_cmp-IsAntisymmetric}
+use Rattle.std.specs.Cmp.Lexicographic.{slice_cmp}
 use Rattle.std.proofs.lemmas.Slice.Eq.{bytes_eq-Decides}
 use Rattle.std.proofs.lemmas.List.{length-append, length-take, take_more, take-append-drop}
 use Rattle.std.proofs.lemmas.Option.{slice_get_within}
@@ -13,7 +18,8 @@ use Rattle.newt_graph.specs.declared.node.Ref.{Ref}
 use Rattle.newt_graph.specs.Graph.{folded, IsAlike, AreFoldedOnce}
 use Rattle.newt_graph.specs.Draft.{IsFilling, is_alike, find_alike, slot_put, with_slot}
 use Rattle.newt_graph.specs.Meeting.{place}
-use Rattle.newt_graph.specs.Names.{KnowsBy, Knows, NotesBy, checked, checked_among}
+use Rattle.newt_graph.specs.declared.names.Key.{Key}
+use Rattle.newt_graph.specs.Names.{KnowsBy, Knows, NotesBy, IsKeyOf, checked, checked_among, compared, is_under, key_cmp, mixed, number_of}
 use Rattle.newt_graph.proofs.Elements.{get_append, at_push, any_at}
 use Rattle.newt_graph.proofs.Drafts.{bytes_eq-sym, alike_found, alike_symbol, none_alike, get_set, filling_is_no_symbol}
 
@@ -46,24 +52,52 @@ found number nodes name knows = by (find_alike name nodes) refl
 
 -- ---- what a table knows after an entry
 
--- a new entry is found at its own key alone
-pub noted : {A S : Type 0} (old new : HashMap (Vec ℕ A) ℕ S) (key : Vec ℕ A) (n : ℕ) → Updates (λ a b. bytes_eq a.items b.items) old new key (Some n)
-    → (q : List ℕ) → lookup (λ k. bytes_eq q k.items) new.entries ≡ cond (bytes_eq key.items q) (Some n) (lookup (λ k. bytes_eq q k.items) old.entries)
-unfolding KeepsOthers
-noted {A} old new key n updates q = by (bytes_eq key.items q) refl
-  where
-    test : Vec ℕ A → Bool
-    test k = bytes_eq q k.items
+both_equal : (o p : Ordering) → is_eq (ordering_then o p) ≡ true → (o ≡ Equal) × (p ≡ Equal)
+both_equal Less p e = absurd cc
+both_equal Greater p e = absurd cc
+both_equal Equal Less e = absurd cc
+both_equal Equal Equal e = (refl, refl)
+both_equal Equal Greater e = absurd cc
 
-    by : (b : Bool) → bytes_eq key.items q ≡ b → lookup (λ k. bytes_eq q k.items) new.entries ≡ cond b (Some n) (lookup (λ k. bytes_eq q k.items) old.entries)
-    by true is = subst (λ (q : List ℕ). lookup (λ k. bytes_eq q k.items) new.entries ≡ Some n) ((bytes_eq-Decides key.items q).0 is) updates.1
+told : (name : List ℕ) (key : Key) → is_under name key ≡ true → (mixed name ≡ key.mix) × (name ≡ key.name.items)
+told name key e =
+    let both = both_equal (nat_cmp (mixed name) key.mix) (slice_cmp nat_cmp name key.name.items) e in
+    (nat_cmp-IsAntisymmetric (mixed name) key.mix both.0, slice_cmp-IsAntisymmetric nat_cmp-IsAntisymmetric name key.name.items both.1)
+
+-- a key finds what is under its name
+pub found_under : (name : List ℕ) (key : Key) → IsKeyOf name key → (es : List (Key × ℕ)) → lookup (is_at (key_cmp key)) es ≡ lookup (is_under (folded name)) es
+found_under name key of es = λ i. lookup (λ k. is_eq (compared (of.mix i) (of.text i) k)) es
+
+-- a new entry is found under its own name alone
+pub noted : (old new : BTreeMap Key ℕ) (name : List ℕ) (key : Key) (n : ℕ) → IsKeyOf name key → Updates key_cmp old new key (Some n) → NotesBy (number_of old) name n (number_of new)
+unfolding KeepsOthers
+noted old new name key n of updates q = by (bytes_eq (folded name) q) refl
+  where
+    apart : bytes_eq (folded name) q ≡ false → (k : Key) → is_at (key_cmp key) k ≡ true → is_under q k ≡ false
+    apart is k same = go (is_under q k) refl
+      where
+        under : is_under (folded name) k ≡ true
+        under = (λ i. is_eq (compared (sym of.mix i) (sym of.text i) k)) ∙ same
+
+        go : (b : Bool) → is_under q k ≡ b → is_under q k ≡ false
+        go false e = e
+        go true e =
+            let one : folded name ≡ q = (told (folded name) k under).1 ∙ sym (told q k e).1 in
+            let yes : bytes_eq (folded name) q ≡ true = (bytes_eq-Decides (folded name) q).1 one in
+            absurd (no (sym yes ∙ is))
+          where
+            no : true ≡ false → ⊥
+            no e = absurd cc
+
+    by : (b : Bool) → bytes_eq (folded name) q ≡ b → number_of new q ≡ cond b (Some n) (number_of old q)
+    by true is = subst (λ (q : List ℕ). number_of new q ≡ Some n) ((bytes_eq-Decides (folded name) q).0 is) (sym (found_under name key of new.entries) ∙ updates.1)
     by false is =
-        updates.3 (λ k. bytes_eq q k.items)
-        (λ x y same. ap (λ (q : List ℕ). bytes_eq q y.items) ((bytes_eq-Decides q x.items).0 same))
-        (λ k same. ap (bytes_eq q) (sym ((bytes_eq-Decides key.items k.items).0 same)) ∙ (bytes_eq-sym q key.items ∙ is))
+        updates.3 (is_under q)
+        (λ x y same. let t = told q x same in λ i. is_eq (compared (t.0 i) (t.1 i) y))
+        (apart is)
 
 -- entries that stayed
-pub knows_kept : {A S : Type 0} (old new : HashMap (Vec ℕ A) ℕ S) (nodes more : List Node) → new.entries ≡ old.entries → Knows old (nodes ++ more) → Knows new nodes
+pub knows_kept : (old new : BTreeMap Key ℕ) (nodes more : List Node) → new.entries ≡ old.entries → Knows old (nodes ++ more) → Knows new nodes
 knows_kept old new nodes more same knows k name named = rw same (knows k name (get_append nodes more k (Symbol name) named))
 
 -- an entry for a name that no node has
@@ -76,15 +110,15 @@ knows_noted old new nodes name n knows none notes k other named = by (bytes_eq (
 
 -- ---- what a table knows of more nodes
 
-pub knows_held : (number : List ℕ → Option ℕ) (nodes items : List Node) → items ≡ nodes ++ Array None [] ∷ [] → KnowsBy number nodes → KnowsBy number items
-knows_held number nodes items all knows = subst (KnowsBy number) (sym all) (λ k name named.
-    elim (at_push nodes (Array None []) k (Symbol name) named) [
+pub knows_pushed : (number : List ℕ → Option ℕ) (nodes items : List Node) (node : Node) → items ≡ nodes ++ node ∷ [] → ((name : List ℕ) → node ≡ Symbol name → ⊥) → KnowsBy number nodes → KnowsBy number items
+knows_pushed number nodes items node all none knows = subst (KnowsBy number) (sym all) (λ k name named.
+    elim (at_push nodes node k (Symbol name) named) [
       | inl old ↦ knows k name old
-      | inr last ↦ absurd (no_symbol last.1)
+      | inr last ↦ absurd (none name last.1)
     ])
-  where
-    no_symbol : {name : List ℕ} → Array None [] ≡ Symbol name → ⊥
-    no_symbol e = absurd cc
+
+pub knows_held : (number : List ℕ → Option ℕ) (nodes items : List Node) → items ≡ nodes ++ Array None [] ∷ [] → KnowsBy number nodes → KnowsBy number items
+knows_held number nodes items all knows = knows_pushed number nodes items (Array None []) all (λ name e. absurd cc) knows
 
 pub knows_symbol : (old new : List ℕ → Option ℕ) (nodes : List Node) (name : List ℕ) → KnowsBy old nodes → ((k : ℕ) → IsAlike nodes k name → ⊥) → NotesBy old name (length nodes) new → KnowsBy new (nodes ++ Symbol name ∷ [])
 knows_symbol old new nodes name knows none notes k other named =
@@ -92,13 +126,13 @@ knows_symbol old new nodes name knows none notes k other named =
       | inl before ↦ knows_noted old new nodes name (length nodes) knows none notes k other before
       | inr last ↦
           let own : bytes_eq (folded name) (folded name) ≡ true = (bytes_eq-Decides (folded name) (folded name)).1 refl in
-          let is : name ≡ other = same_name last.1 in
+          let is : name ≡ other = one_name last.1 in
           let e : new (folded name) ≡ Some (length nodes) = notes (folded name) ∙ rw own refl in
           ap (λ (x : List ℕ). new (folded x)) (sym is) ∙ (e ∙ ap (λ (m : ℕ). Some m) (sym last.0))
     ]
   where
-    same_name : {a b : List ℕ} → Symbol a ≡ Symbol b → a ≡ b
-    same_name e = cc
+    one_name : {a b : List ℕ} → Symbol a ≡ Symbol b → a ≡ b
+    one_name e = cc
 
 -- a symbol that was pushed
 pub symbol_known : (old new : List ℕ → Option ℕ) (nodes items : List Node) (name : List ℕ) (n : ℕ) → n ≡ length nodes → items ≡ nodes ++ Symbol name ∷ [] → KnowsBy old nodes → find_alike name nodes ≡ None → NotesBy old name n new → KnowsBy new items
@@ -108,7 +142,7 @@ symbol_known old new nodes items name n is all knows none notes =
 pub knows_fewer : (number : List ℕ → Option ℕ) (nodes more : List Node) → KnowsBy number (nodes ++ more) → KnowsBy number nodes
 knows_fewer number nodes more knows k name named = knows k name (get_append nodes more k (Symbol name) named)
 
-set_with : (number : List ℕ → Option ℕ) (nodes : List Node) (n : ℕ) (node : Node) → ((name : List ℕ) → node ≡ Symbol name → ⊥) → KnowsBy number nodes → KnowsBy number (set nodes n node)
+pub set_with : (number : List ℕ → Option ℕ) (nodes : List Node) (n : ℕ) (node : Node) → ((name : List ℕ) → node ≡ Symbol name → ⊥) → KnowsBy number nodes → KnowsBy number (set nodes n node)
 set_with number nodes n node none knows k name named =
     elim (get_set nodes n node k (Symbol name) named) [
       | inl h ↦ absurd (none name h.1)

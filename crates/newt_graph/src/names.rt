@@ -2,32 +2,43 @@
 ghost use Rattle.std.specs.Prelude.{◌≡◌, ◌+◌, ◌<◌, ◌++◌, [], length, Some, IfOk, OnOk, OnErr};
 ghost use Rattle.newt_graph.specs.Graph.{folded, AreFoldedOnce};
 ghost use Rattle.newt_graph.specs.Draft.{is_alike, find_alike};
-ghost use Rattle.newt_graph.specs.Names.{Knows, Notes, checked_among};
+ghost use Rattle.newt_graph.specs.Names.{IsKeyOf, Knows, Notes, checked_among, mixed};
 
 use crate::node::Node;
 use std::alloc::{AllocError, Global};
-use std::collections::HashMap;
+use std::collections::BTreeMap;
+use std::hash::{FoldHasher, Hasher};
 
-/// Numbers of symbols by their names in lower case.
+/// A name in lower case, behind a number that is made of it. The derived order looks at the number
+/// first, so names are compared byte by byte only where their numbers are equal.
+#[derive(PartialEq, Eq, PartialOrd, Ord, Drop)]
+struct Key {
+    mix: u64,
+    name: Vec<u8>,
+}
+
+/// Numbers of symbols by their names in lower case. They stand in order, so that a search takes a
+/// few comparisons whatever the names are.
 ///
 /// A number is looked at before it is answered, so one that no longer leads to its symbol does no
 /// harm.
 #[derive(Drop)]
-pub(crate) struct Names {
-    numbers: HashMap<Vec<u8>, u32>,
+pub struct Names {
+    numbers: BTreeMap<Key, u32>,
 }
 
 impl Names {
-    pub(crate) fn new(alloc: Global) -> Names
+    /// No names. It takes no memory.
+    pub fn new(alloc: Global) -> Names
         ensures { Knows result.numbers [] }
     {
         Names {
-            numbers: HashMap::new(alloc),
+            numbers: BTreeMap::new(alloc),
         }
     }
 
-    /// The first symbol of this name but for ASCII case.
-    pub(crate) fn find(
+    /// The number of the first symbol of this name but for ASCII case, where there is one.
+    pub fn find(
         &self,
         alloc: Global,
         nodes: &[Node],
@@ -36,19 +47,19 @@ impl Names {
         requires { Knows self.now.numbers nodes.now }
         ensures { IfOk result (λ k. k ≡ find_alike name.now nodes.now) }
     {
-        let key = in_lower_case(alloc, name)?;
-        match self.numbers.get(key.as_slice()) {
+        let key = key_of(alloc, name)?;
+        match self.numbers.get(&key) {
             Some(k) => Ok(checked(name, nodes, *k)),
             None => Ok(None),
         }
     }
 
-    /// Gives a name this number.
-    pub(crate) fn note(&mut self, alloc: Global, name: &[u8], n: u32) -> Result<(), AllocError>
+    /// Gives a name this number. After an error the numbers are as they were.
+    pub fn note(&mut self, alloc: Global, name: &[u8], n: u32) -> Result<(), AllocError>
         ensures noted { OnOk result (Notes self.old.numbers name.now n self.new.numbers) }
         ensures kept { OnErr result (self.new.numbers.entries ≡ self.old.numbers.entries) }
     {
-        let key = in_lower_case(alloc, name)?;
+        let key = key_of(alloc, name)?;
         self.numbers.insert(key, n)?;
         Ok(())
     }
@@ -94,10 +105,23 @@ fn is_alike(name: &[u8], node: &Node) -> bool
     }
 }
 
-fn in_lower_case(alloc: Global, name: &[u8]) -> Result<Vec<u8>, AllocError>
-    ensures { IfOk result (λ lower. lower.items ≡ folded name.now) }
+/// The number of a name in lower case.
+#[tactic(auto, unfolding(crate::specs::Names::mixed))]
+fn mixed(name: &[u8]) -> u64
+    ensures { result ≡ mixed name.now }
 {
-    let mut lower = Vec::from_slice(alloc, name)?;
-    lower.make_ascii_lowercase();
-    Ok(lower)
+    let mut hasher = FoldHasher::default();
+    hasher.write(name);
+    hasher.finish()
+}
+
+fn key_of(alloc: Global, name: &[u8]) -> Result<Key, AllocError>
+    ensures { IfOk result (λ key. IsKeyOf name.now key) }
+{
+    let mut name = Vec::from_slice(alloc, name)?;
+    name.make_ascii_lowercase();
+    Ok(Key {
+        mix: mixed(&name),
+        name,
+    })
 }

@@ -1,0 +1,255 @@
+"""Refuses the program's memory, one allocation at a time, and looks at how it ends.
+
+usage: python3 reference/refused.py PROGRAM [EACH]
+
+Three scripts are played over two files of 13 blocks: one on a unit alone, one of all commands, and one that fills a unit
+until its bank is switched. For each number N from 1 on, up to the allocations of a run to which nothing is refused, a
+run is played in which the N-th is refused, and one in which all from the N-th on are. With EACH every EACH-th number is
+tried. It ends with 1 at the first run that is not so:
+
+- it ends with the status of want of memory and its line on standard error, or, where the program can do without what was
+  refused, as it would have ended with it;
+- the replies before are whole, and the first of those of the run to which nothing is refused; where a file could not be
+  attached for want of memory, of those over the other file alone;
+- each file is read as its unit's store after these commands or after one more.
+
+It needs a C compiler, cc, for the library that refuses (refused.c).
+"""
+
+import os
+import subprocess
+import sys
+import tempfile
+from collections import Counter
+from pathlib import Path
+from typing import NamedTuple, Optional
+
+from commands import answer
+from images import BLOCK, is_same_store, store_of_image
+from stores import Store
+from world import Unit, World
+
+BLOCKS = 13
+MEMORY = 3
+
+ALONE = """
+mount 0
+format 0 Internal 7
+mount 0
+mount 0
+format 0 Again 8
+unmount 0
+format 0 Again 8
+mount 2
+"""
+
+ALL = """
+nsof 0206010701610004
+lit {a: [1, 'b, "c", $d], e: <f: 00FF>}
+time 5
+format 0 Internal 7
+format 1 "Other Card" 9
+mount 0
+mount 1
+stores
+default 1
+default 0
+soup 0 S
+soup 1 S
+soups 0
+index 0 S k:string:ascend n:int:descend
+index 1 S k:string:ascend n:int:descend
+index 0 S c:char:ascend
+unindex 0 S c
+indexes 0 S
+tags 0 S labels work home
+tags 0 S
+add 0 S {k: "b", n: 2, labels: 'work, v: <<w:*1200>>}
+addx 0 S 020602070 
+addx 0 S 02060107016B0804006100000
+addx 0 S 02060107016B080400610000
+addu S {k: "c", deep: {x: {y: 1}}, t: "Stra\\u00DFe"}
+get 0 S 0
+getx 0 S 1
+set 0 S 2 deep.x.y "z"
+change 0 S 1 {k: "aa", labels: ['home, 'work]}
+copy 0 S 0 1 S
+move 0 S 2 1 S
+remove 1 S 0
+vread 0 S 0 v 498 4
+vwrite 0 S 0 v 499 4142
+alias 0 S 0
+resolve [alias: 7, 0, 0]
+query 0 S {indexPath: ['k, 'n], tagSpec: {any: ['work, 'home]}}
+query * S {indexPath: ['k, 'n], beginKey: ["a"]}
+query 0 S {words: "stra", entireWords: true}
+query 0 S {text: ["b"]}
+entry 1
+next 1
+prev 1
+end 1
+reset 1
+moveby 1 2
+goto 0 0 0
+gotokey 1 ["b", nil]
+count 1
+which 1
+clone 1
+close 4
+set 0 S 0 k "x"
+entry 0
+unmount 1
+entry 1
+mount 1
+drop 1 S
+soup 0 T
+drop 0 T
+unmount 0
+quit
+"""
+
+FULL = (
+    ["format 0 Full 1", "mount 0", "soup 0 S"]
+    + [f'add 0 S {{n: {at}, t: "{"x" * 300}"}}' for at in range(12)]
+    + [f'change 0 S {at % 12} {{n: {at}, t: "{"y" * 310}"}}' for at in range(24)]
+)
+
+SCRIPTS = {
+    "a unit alone": ALONE.split("\n")[1:-1],
+    "all commands": ALL.split("\n")[1:-1],
+    "a full bank": FULL,
+}
+
+
+class Ended(NamedTuple):
+    status: int
+    output: bytes
+    told: bytes
+    calls: int
+
+
+class Wrong(Exception):
+    """A run did not end as it should."""
+
+
+def built_library(folder: Path) -> Path:
+    library = folder / "refused.so"
+    source = Path(__file__).with_name("refused.c")
+    subprocess.run(["cc", "-O2", "-shared", "-fPIC", "-o", library, source], check=True)
+    return library
+
+
+class Bench:
+    def __init__(self, program: Path, folder: Path):
+        self.program, self.folder, self.library = program, folder, built_library(folder)
+        self.files = [folder / "unit0", folder / "unit1"]
+
+    def ran(self, script: bytes, at: int, goes_on: bool) -> Ended:
+        for file in self.files:
+            file.write_bytes(bytes(BLOCK * BLOCKS))
+        told = self.folder / "told"
+        told.unlink(missing_ok=True)
+        given = {"REFUSED_AT": str(at), "REFUSED_ON": "1" if goes_on else "0", "REFUSED_TOLD": str(told)}
+        ended = subprocess.run(
+            [self.program, "run", *self.files],
+            input=script,
+            capture_output=True,
+            env={**os.environ, **given, "LD_PRELOAD": str(self.library)},
+        )
+        calls = int(told.read_text()) if told.exists() else 0
+        return Ended(ended.returncode, ended.stdout, ended.stderr, calls)
+
+    def stores(self) -> list[Optional[Store]]:
+        return [store_of_image(file.read_bytes()) for file in self.files]
+
+
+def world_without(absent: set[int]) -> World:
+    return World([None if number in absent else Unit(BLOCKS) for number in (0, 1)])
+
+
+def replies_of(script: list[str], absent: set[int]) -> list[str]:
+    world = world_without(absent)
+    replies = [answer(world, it.encode()) for it in script]
+    return [it for it in replies if it is not None]
+
+
+def stores_of(script: list[str], absent: set[int], most: int) -> list[Optional[Store]]:
+    """The stores of both units after so many commands with a reply."""
+    world = world_without(absent)
+    for line in script:
+        if most == 0:
+            break
+        most -= answer(world, line.encode()) is not None
+    return [it.store if it else None for it in world.units[:2]]
+
+
+def is_one_of(found: Optional[Store], wanted: list[Optional[Store]]) -> bool:
+    return any(
+        found is None and it is None or found is not None and it is not None and is_same_store(found, it)
+        for it in wanted
+    )
+
+
+class Script(NamedTuple):
+    """A script, and its output with both files and without one or both."""
+
+    lines: list[str]
+    outputs: list[tuple[set[int], bytes]]
+
+
+def played(lines: list[str]) -> Script:
+    def output(absent: set[int]) -> bytes:
+        return "".join(it + "\n" for it in replies_of(lines, absent)).encode()
+
+    return Script(lines, [(it, output(it)) for it in (set(), {0}, {1}, {0, 1})])
+
+
+def look(bench: Bench, script: Script, ended: Ended) -> str:
+    """Looks at the end of a run, and says what it was."""
+    if ended.status == 0 and not ended.told:
+        for absent, output in script.outputs:
+            if ended.output == output:
+                return "did without a file" if absent else "did without"
+        raise Wrong(f"other replies: {ended.output[-200:]!r}")
+    if ended.status != MEMORY or ended.told.count(b"\n") != 1 or not ended.told.endswith(b"\n"):
+        raise Wrong(f"status {ended.status}, {ended.told!r}")
+    for absent, output in script.outputs:
+        if output.startswith(ended.output) and ended.output[-1:] in (b"", b"\n"):
+            replies = ended.output.count(b"\n")
+            before, after = stores_of(script.lines, absent, replies), stores_of(script.lines, absent, replies + 1)
+            if all(is_one_of(found, both) for found, *both in zip(bench.stores(), before, after)):
+                return "ended as want of memory"
+    raise Wrong(f"other replies or another store: {ended.output[-200:]!r}")
+
+
+def refuse_each(bench: Bench, name: str, lines: list[str], each: int) -> None:
+    script, text = played(lines), "\n".join(lines).encode() + b"\n"
+    whole = bench.ran(text, 0, False)
+    if whole.status != 0 or whole.output != script.outputs[0][1]:
+        raise Wrong(f"{name}: status {whole.status}, other replies")
+    print(f"{name}: {whole.calls} allocations, {len(replies_of(lines, set()))} replies", flush=True)
+    for goes_on, word in ((False, "one"), (True, "all from one on")):
+        counts: Counter = Counter()
+        for at in range(1, whole.calls + 1, each):
+            try:
+                counts[look(bench, script, bench.ran(text, at, goes_on))] += 1
+            except Wrong as fault:
+                raise Wrong(f"{name}, {word}, allocation {at}: {fault}") from fault
+        told = ", ".join(f"{count} {what}" for what, count in sorted(counts.items()))
+        print(f"  {word} refused: {told}", flush=True)
+
+
+def main(program: str, each: str = "1") -> int:
+    with tempfile.TemporaryDirectory() as folder:
+        bench = Bench(Path(program).resolve(), Path(folder))
+        try:
+            for name, script in SCRIPTS.items():
+                refuse_each(bench, name, script, int(each))
+        except Wrong as fault:
+            print(fault)
+            return 1
+    return 0
+
+
+if __name__ == "__main__":
+    sys.exit(main(*sys.argv[1:]))
