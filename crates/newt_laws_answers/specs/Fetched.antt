@@ -66,3 +66,7 @@ pages_there w u entries = sum_by (λ e. pages_of_entry (entry_in w u e.0 e.1)) e
 -- the pages of the entries of a unit that a command names or appends, before it and after it
 unfoldable pub pages_meant : World → Command → ℕ → ℕ
 pages_meant w c u = pages_there w u (meant w c u) + pages_there (answer w c).0 u (meant w c u)
+
+-- the most bytes that are fetched of a unit for such a command itself
+abbrev pub most_fetched : World → Command → ℕ → ℕ
+most_fetched w c u = 1024 * pages_there w u (meant w c u)
