@@ -127,10 +127,10 @@ fn stop_script(alloc: Global, unit: Unit) -> Result<Counts, Fail> {
 
 #[test]
 fn a_stop_leaves_each_store_of_the_first_unit(rt: HostRuntime) -> Result<(), Fail> {
-    stop_script(rt.alloc(), Unit(0))?.expect(1, 1)
+    stop_script(rt.alloc(), Unit(0))?.expect(1_600, 100)
 }
 
 #[test]
 fn a_stop_leaves_each_store_of_the_second_unit(rt: HostRuntime) -> Result<(), Fail> {
-    stop_script(rt.alloc(), Unit(1))?.expect(1, 1)
+    stop_script(rt.alloc(), Unit(1))?.expect(1_600, 100)
 }
