@@ -34,11 +34,11 @@ from extremes import CASES, DEPTHS, inputs_of_names, other_names
 from images import BLOCK, NoStore, is_same_store, payloads, store_of_image
 from layouts import random_image
 from literals import NoLiteral, print_literal, read_literal
+from preload import built_library
 from replies import of_name
 from scripts import written
 from stores import Store
 from streams import Malformed, decode, encode
-from torn import built_library
 from values import Values
 from world import Unit, World
 
@@ -68,7 +68,7 @@ class Bench:
 
     def __init__(self, program: Path, folder: Path):
         self.program, self.folder = program, folder
-        self.library = built_library(folder)
+        self.library = built_library("torn", folder)
         self.counts: Counter = Counter()
         self.most_seconds, self.most_memory = 0.0, 0
         # A program that is built with checks of each access asks for more than it takes.

@@ -26,6 +26,7 @@ from typing import NamedTuple, Optional
 
 from commands import answer
 from images import BLOCK, is_same_store, store_of_image
+from preload import built_library
 from stores import Store
 from world import Unit, World
 
@@ -132,16 +133,9 @@ class Wrong(Exception):
     """A run did not end as it should."""
 
 
-def built_library(folder: Path) -> Path:
-    library = folder / "refused.so"
-    source = Path(__file__).with_name("refused.c")
-    subprocess.run(["cc", "-O2", "-shared", "-fPIC", "-o", library, source], check=True)
-    return library
-
-
 class Bench:
     def __init__(self, program: Path, folder: Path):
-        self.program, self.folder, self.library = program, folder, built_library(folder)
+        self.program, self.folder, self.library = program, folder, built_library("refused", folder)
         self.files = [folder / "unit0", folder / "unit1"]
 
     def ran(self, script: bytes, at: int, goes_on: bool) -> Ended:

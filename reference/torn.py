@@ -25,6 +25,7 @@ from typing import NamedTuple, Optional
 
 from commands import answer
 from images import BLOCK, HEADER, bank_of, is_same_store, payloads, store_of_image
+from preload import built_library
 from replies import of_name
 from scripts import written
 from stores import Store
@@ -39,13 +40,6 @@ Stores = tuple
 
 class Differs(Exception):
     """What the program does or leaves is not what is wanted."""
-
-
-def built_library(folder: Path) -> Path:
-    library = folder / "torn.so"
-    source = Path(__file__).with_name("torn.c")
-    subprocess.run(["cc", "-O2", "-shared", "-fPIC", "-o", library, source], check=True)
-    return library
 
 
 class Played(NamedTuple):
@@ -198,7 +192,7 @@ def compared(bench: Bench, seed: int, stops: int) -> None:
 
 def main(program: str, first: str, count: str, stops: str) -> int:
     folder = Path(tempfile.mkdtemp())
-    bench = Bench(Path(program).resolve(), built_library(folder), folder, ())
+    bench = Bench(Path(program).resolve(), built_library("torn", folder), folder, ())
     try:
         for seed in range(int(first), int(first) + int(count)):
             compared(bench, seed, int(stops))
