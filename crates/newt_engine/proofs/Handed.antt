@@ -1,6 +1,8 @@
 -- What a call says of a command.
-use Rattle.std.proofs.Common.{◌≡◌, refl, sym, ◌∙◌, ap, subst, ℕ, List, Bool, true, IsTrue, Option}
-use Rattle.std.specs.Prelude.{Result, Ok, Err, IfErr}
+use Rattle.std.proofs.Common.{◌≡◌, refl, sym, ◌∙◌, ap, subst, ℕ, List, Bool, true, IsTrue, Option, Some, None}
+use Rattle.std.specs.Prelude.{Result, Ok, Err, IfErr, OnOk}
+use Rattle.newt_base.specs.Refusals.{first_of}
+use Rattle.newt_base.specs.declared.Refusal.{Refusal}
 use Rattle.newt_host.specs.Moments.{Moment, Always}
 use Rattle.newt_host.specs.Outside.{Outside}
 use Rattle.newt_pagebook.specs.declared.book.Stop.{Stop as End}
@@ -12,7 +14,8 @@ use Rattle.newt_spec_world.specs.declared.command.Command.{Command}
 use Rattle.newt_spec_world.specs.Reply as plain
 use Rattle.newt_spec_world.specs.World.{World}
 use Rattle.newt_laws_world.specs.Answering.{Answering}
-use Rattle.newt_spec_world.specs.Answer.{answer}
+use Rattle.newt_spec_world.specs.Answer.{answer, answered}
+use Rattle.newt_spec_world.specs.Refused.{checks}
 use Rattle.newt_store_change.specs.declared.fault.StoreFault.{StoreFault}
 use Rattle.newt_store_change.specs.declared.fault.StoreFault.TheVariants.{Refused, Stop}
 use Rattle.newt_engine_units.specs.declared.units.Units.{Units}
@@ -47,6 +50,16 @@ module _ {T : Type 0} {made : T → plain.Reply} {found : Result T StoreFault} {
       go (Ok x) (Err g) s h = absurd s
       go (Err f) (Ok y) s h = absurd s
 
+  -- and what holds where the call is done holds where the command is
+  pub ok_on : (P : Type 0) → OnOk found P → OnOk result P
+  ok_on P h = go found result on.same h
+    where
+      go : (f : Result T StoreFault) (r : Result Reply StoreFault) → IsHanded made f r → OnOk f P → OnOk r P
+      go (Ok x) (Ok y) s h = h
+      go (Err f) (Err g) s h = tt
+      go (Ok x) (Err g) s h = tt
+      go (Err f) (Ok y) s h = absurd s
+
   -- what the call answers is what the command answers
   pub answered_on : (w v : World) {c d : Command} → c ≡ d → Answers w v d made found → Answers w v c said result
   answered_on w v {c} {d} is h = go found result on.same (subst (λ x. Answers w v x made found) (sym is) h)
@@ -60,6 +73,17 @@ module _ {T : Type 0} {made : T → plain.Reply} {found : Result T StoreFault} {
       go (Err f) (Err g) s h = subst (λ e. Answers w v c said (Err e)) (sym s) (fault f h)
       go (Ok x) (Err g) s h = absurd s
       go (Err f) (Ok y) s h = absurd s
+
+-- a command whose reply is no refusal was not refused
+pub unrefused_on : {T : Type 0} {made : T → plain.Reply} (w v : World) (c : Command) (found : Result T StoreFault) → ((x : T) (r : Refusal) → made x ≡ plain.Reply.refused r → ⊥) → Answers w v c made found
+    → OnOk found (first_of (checks w c) ≡ None)
+unfolding answer
+unrefused_on {T} {made} w v c (Ok x) never h = go (first_of (checks w c)) refl
+  where
+    go : (o : Option Refusal) → first_of (checks w c) ≡ o → first_of (checks w c) ≡ None
+    go None e = e
+    go (Some r) e = absurd (never x r (sym (ap (λ (a : World × plain.Reply). a.1) h) ∙ ap (λ (o : Option Refusal). (answered w c o).1) e))
+unrefused_on w v c (Err fault) never h = tt
 
 -- the moments of a call are those of the command
 pub moments_same : (reads : List ℕ → Option Store) (w : World) (start now : Moment) (c d : Command) → c ≡ d → Always (Answering reads w (answer w d).0 start) start now → Always (Answering reads w (answer w c).0 start) start now

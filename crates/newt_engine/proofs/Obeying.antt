@@ -1,36 +1,46 @@
 -- What a call on the units answers, handed on as the reply to its command.
-use Rattle.std.proofs.Common.{◌≡◌, ap, sym, ◌∙◌, ℕ, List, Bool, true, false, IsTrue, Option}
-use Rattle.std.specs.Prelude.{Result, IfErr}
-use Rattle.newt_host.specs.Outside.{Outside, NoFault}
+use Rattle.std.proofs.Common.{arith, ◌≡◌, ap, sym, ◌∙◌, subst, ℕ, ◌+◌, ◌≤◌, List, Bool, true, false, IsTrue, Option, None}
+use Rattle.std.specs.Prelude.{Result, IfErr, OnOk}
+use Rattle.newt_base.specs.Refusals.{first_of}
+use Rattle.newt_base.specs.declared.Refusal.{Refusal}
+use Rattle.newt_host.specs.Outside.{Outside}
 use Rattle.newt_host.proofs.Outside.{NoFault-refl}
 use Rattle.newt_reply.specs.declared.reply.Reply.{Reply}
 use Rattle.newt_spec_graph.proofs.Lists.{both-ways}
 use Rattle.newt_spec_store.specs.Store.{Store}
 use Rattle.newt_spec_world.specs.declared.command.Command.{Command}
+use Rattle.newt_spec_world.specs.Refused.{checks}
 use Rattle.newt_spec_world.specs.Reply as plain
 use Rattle.newt_store_change.specs.declared.fault.StoreFault.{StoreFault}
-use Rattle.newt_laws_world.specs.Settled.{IsSettled, MountedApart}
-use Rattle.newt_store_change.specs.Faults.{GoesOn, HasFaultCause, IsRefusal, NoDevice}
+use Rattle.newt_laws_world.specs.Settled.{IsSettled}
+use Rattle.newt_store_change.specs.Faults.{IsRefusal, NoDevice}
 use Rattle.newt_engine_units.specs.Answers.{Answers}
+use Rattle.newt_engine_card.specs.Bounds.{FetchesAtMost}
 use Rattle.newt_engine_units.specs.Calls.{AreRead, Obeys}
+use Rattle.newt_engine_units.specs.Stands.{world_of}
+use Rattle.newt_engine_cursors.specs.Calls.{Walks}
+use Rattle.newt_engine_cursors.specs.Unread.{steps_unread}
 use Rattle.newt_engine_cursors.specs.Fits.{DeskFits}
 use Rattle.newt_engine_cursors.specs.World.{world_with}
+use Rattle.newt_engine.specs.Bounds.{most_stepped}
 use Rattle.newt_engine.specs.Calls.{Obeyed, Walked}
 use Rattle.newt_engine.specs.Ends.{takes_memory, uses_device}
 use Rattle.newt_engine.specs.Handed.{HandsOn}
 use Rattle.newt_engine.specs.declared.world.World.{World}
 use Rattle.newt_engine.proofs.Costing.{costs_on}
-use Rattle.newt_engine.proofs.Handed.{answered_on, err_on, goes_back, has_cause, moments_same}
+use Rattle.newt_engine.proofs.Handed.{answered_on, err_on, goes_back, has_cause, moments_same, ok_on, unrefused_on}
 
 -- the command is one that may take memory and use a device
 pub handed_obeyed : {C : Type 0} {reads : List ℕ → Option Store} {place : C → ℕ} {standing : Bool → C → Outside → Type 0} {told : Bool} {T : Type 0} {made : T → plain.Reply} {found : Result T StoreFault}
     {result : Result Reply StoreFault} {c d : Command} {old new : World C} {o p : Outside} → HandsOn made found result → c ≡ d → takes_memory d ≡ true → uses_device d ≡ true
-    → Obeys reads place standing told d made old.units new.units o p found → new.desk ≡ old.desk → Obeyed reads place standing told c old new o p result
-handed_obeyed {reads = reads} {c = c} on is memory device call desk = record {
+    → ((x : T) (r : Refusal) → made x ≡ plain.Reply.refused r → ⊥) → Obeys reads place standing told d made old.units new.units o p found → new.desk ≡ old.desk → Obeyed reads place standing told c old new o p result
+handed_obeyed {reads = reads} {result = result} {c = c} {old = old} {o = o} on is memory device never call desk = record {
   stands = λ goes. call.stands (goes_back on goes);
   answered = λ t. answered_on on _ _ is (call.answered t);
   moments = λ t. moments_same reads _ _ _ c _ is (call.moments t);
   desk = desk;
+  unrefused = λ t moves. subst (λ x. OnOk result (first_of (checks (world_of reads old.units o) x) ≡ None)) (sym is)
+      (ok_on on _ (unrefused_on _ _ _ _ never (call.answered t)));
   costs = λ t. costs_on on is (call.costs t);
   alone = call.alone;
   cause = err_on on _ call.cause;
@@ -42,15 +52,15 @@ handed_obeyed {reads = reads} {c = c} on is memory device call desk = record {
 -- a call on cursors that reads, handed on as the reply to its command
 pub handed_walked : {C : Type 0} {reads : List ℕ → Option Store} {place : C → ℕ} {standing : Bool → C → Outside → Type 0} {told : Bool} {T : Type 0} {made : T → plain.Reply} {found : Result T StoreFault}
     {result : Result Reply StoreFault} {c d : Command} {old new : World C} {o p : Outside} → HandsOn made found result → c ≡ d → takes_memory d ≡ true → uses_device d ≡ true
-    → AreRead reads place standing told old.units new.units o p → DeskFits new.desk
-    → (IsTrue told → MountedApart (world_with reads old.units old.desk o) → Answers (world_with reads old.units old.desk o) (world_with reads new.units new.desk p) d made found)
-    → IfErr found (λ fault. HasFaultCause fault o p) → (GoesOn found → NoFault o p) → Walked reads place standing told c old new o p result
-handed_walked on is memory device read desk answered cause none = record {
-  read = read;
-  desk = desk;
-  answered = λ t apart settled. answered_on on _ _ is (answered t apart);
-  cause = err_on on _ cause;
-  no_fault = λ goes. none (goes_back on goes);
+    → Walks reads place standing told d made old.units new.units old.desk new.desk o p found → Walked reads place standing told c old new o p result
+handed_walked {reads = reads} {old = old} {o = o} {p} on is memory device call = record {
+  read = call.read;
+  desk = call.desk;
+  answered = λ t apart settled. answered_on on _ _ is (call.answered t apart settled);
+  fetches = λ t apart settled. subst (λ x. steps_unread (world_with reads old.units old.desk o) x ≡ true → FetchesAtMost (most_stepped (world_with reads old.units old.desk o) x) o p) (sym is)
+      (call.fetches t apart settled);
+  cause = err_on on _ call.cause;
+  no_fault = λ goes. call.no_fault (goes_back on goes);
   ends = λ no. absurd (both-ways (sym no ∙ ap takes_memory is ∙ memory));
   device = λ no. absurd (both-ways (sym no ∙ ap uses_device is ∙ device));
 }
@@ -61,12 +71,16 @@ pub handed_placed : {C : Type 0} {reads : List ℕ → Option Store} {place : C 
     → AreRead reads place standing told old.units new.units o o → DeskFits new.desk
     → (IsSettled (world_with reads old.units old.desk o) → Answers (world_with reads old.units old.desk o) (world_with reads new.units new.desk o) d made found)
     → IfErr found (λ fault. NoDevice fault) → (takes_memory d ≡ false → IfErr found (λ fault. IsRefusal fault)) → Walked reads place standing told c old new o o result
-handed_placed {found = found} {o = o} on is read desk answered none only = record {
+handed_placed {reads = reads} {found = found} {c = c} {old = old} {o = o} on is read desk answered none only = record {
   read = read;
   desk = desk;
   answered = λ t apart settled. answered_on on _ _ is (answered settled);
+  fetches = λ t apart settled unread u. up (o.fetched u) (most_stepped (world_with reads old.units old.desk o) c u);
   cause = err_on on _ (has_cause o o found none);
   no_fault = λ goes. NoFault-refl o;
   ends = λ no. err_on on _ (only (sym (ap takes_memory is) ∙ no));
   device = λ no. err_on on _ none;
 }
+  where
+    up : (a b : ℕ) → a ≤ a + b
+    up a b = omega arith

@@ -1,6 +1,7 @@
 -- Commands of a world without cursors, and the cursors settled after them.
-use Rattle.std.proofs.Common.{◌≡◌, refl, ap, sym, ◌∙◌, subst, ℕ, List, Bool, true, false, IsTrue, Option, Some, None}
+use Rattle.std.proofs.Common.{◌≡◌, refl, ap, sym, ◌∙◌, subst, ℕ, ◌≤◌, List, Bool, true, false, IsTrue, Option, Some, None}
 use Rattle.std.specs.Prelude.{Result, Ok, Err, IfErr, IfOk, OnOk}
+use Rattle.newt_base.specs.Refusals.{first_of}
 use Rattle.newt_base.specs.declared.Refusal.{Refusal}
 use Rattle.newt_host.specs.Moments.{Moment, Always, image}
 use Rattle.newt_host.specs.Outside.{Outside}
@@ -14,16 +15,24 @@ use Rattle.newt_spec_world.specs.declared.command.Command.{Command}
 use Rattle.newt_spec_world.specs.declared.command.Command.TheVariants as command
 use Rattle.newt_spec_world.specs.First.{media_of}
 use Rattle.newt_spec_world.specs.Reply as plain
-use Rattle.newt_spec_world.specs.World.{World, Device, settle}
+use Rattle.newt_spec_world.specs.Changed.{changed}
+use Rattle.newt_spec_world.specs.Refused.{checks}
+use Rattle.newt_spec_world.specs.World.{World, Device, mounted_store, settle}
 use Rattle.newt_laws_world.specs.Settled.{IsSettled, MountedApart, moves_keys}
-use Rattle.newt_laws_world.specs.Worlds.{OnMedia}
-use Rattle.newt_laws_world.proofs.Kept.{Every, Wf}
+use Rattle.newt_laws_world.specs.Worlds.{OnMedia, has_form}
+use Rattle.newt_laws_world.proofs.Kept.{Every, Wf, all-false}
+use Rattle.newt_laws_world.proofs.Rows.{wf-row}
+use Rattle.newt_laws_world.proofs.Uncursored.{changed-apart}
 use Rattle.newt_laws_world.specs.Cursors.{with_cursors, uses_cursors}
 use Rattle.newt_laws_world.specs.Answering.{Answering}
-use Rattle.newt_spec_world.specs.Answer.{answer}
-use Rattle.newt_laws_world.proofs.Mounted.{answer-apart}
+use Rattle.newt_spec_world.specs.Answer.{answer, answered}
+use Rattle.newt_laws_world.proofs.Mounted.{answer-apart, row-apart}
 use Rattle.newt_laws_world.proofs.Settled.{answer-settled}
+use Rattle.newt_laws_answers.specs.Fetched.{meant, means_entries, pages_there}
 use Rattle.newt_laws_answers.proofs.Apart.{answer-beside, answer-still}
+use Rattle.newt_laws_reach.specs.Reach.{Reach, entry_reached, reach, settle_reached}
+use Rattle.newt_laws_reach.proofs.Reaching.{row-reached}
+use Rattle.newt_store_change.specs.Change.{pages_of_entry}
 use Rattle.newt_store_change.specs.declared.fault.StoreFault.{StoreFault}
 use Rattle.newt_store_change.specs.declared.fault.StoreFault.TheVariants.{Refused, Stop as Ends}
 use Rattle.newt_engine_units.specs.declared.units.Units.{Units}
@@ -33,9 +42,11 @@ use Rattle.newt_engine_units.specs.Stands.{Eight, Stands, world_of}
 use Rattle.newt_engine_units.proofs.Known.{Laws, at-card, at-none}
 use Rattle.newt_engine_cursors.specs.Fits.{DeskFits}
 use Rattle.newt_engine_cursors.specs.World.{world_with}
+use Rattle.newt_engine_cursors.proofs.Reaches.{reach-beside}
 use Rattle.newt_engine.specs.Ends.{takes_memory, uses_device}
 use Rattle.newt_engine.specs.Standing.{Standing}
 use Rattle.newt_engine.proofs.Handed.{quiet}
+use Rattle.newt_engine.proofs.Reaching.{reached-meant}
 use Rattle.newt_engine.proofs.Refusing.{refused_stays}
 
 -- ---- what settling needs
@@ -45,6 +56,11 @@ pub moves_on_devices : (c : Command) → moves_keys c ≡ true → uses_device c
 unfolding moves_keys
 moves_on_devices (command.Mount _) h k = cc
 moves_on_devices _ h k = cc
+
+-- a format moves no key
+pub moves_no_format : (u : ℕ) (name : List ℕ) (sig : ℕ) → moves_keys (command.Format u name sig) ≡ true → ⊥
+unfolding moves_keys
+moves_no_format u name sig h = cc
 
 -- and takes memory
 pub moves_in_memory : (c : Command) → moves_keys c ≡ true → takes_memory c ≡ false → ⊥
@@ -72,7 +88,7 @@ module _ {C : Type 0} {reads : List ℕ → Option Store} {place : C → ℕ} {s
   abbrev w : World
   w = world_of reads units o
 
-  formed : Every Wf w
+  pub formed : Every Wf w
   formed u k d is = go (o.card u) refl
     where
       stand : Stands place stands true units o
@@ -86,7 +102,7 @@ module _ {C : Type 0} {reads : List ℕ → Option Store} {place : C → ℕ} {s
       go None e = absurd (none-some d (sym (at-none l units o s.eight stand u e) ∙ is))
       go (Some name) e = subst (λ (x : Device). OnMedia Wf x.blocks x.media) (some-same _ d (sym (at-card l units o s.eight stand u name e) ∙ is)) (media (reads (image u o.now)) refl)
 
-  whole : answer (with_cursors ks w) c ≡ (settle (with_cursors ks (answer w c).0), (answer w c).1)
+  pub whole : answer (with_cursors ks w) c ≡ (settle (with_cursors ks (answer w c).0), (answer w c).1)
   whole = answer-beside ks w c none refl (s.settled t)
 
   -- where keys are as before, nothing is left to settle
@@ -103,6 +119,37 @@ module _ {C : Type 0} {reads : List ℕ → Option Store} {place : C → ℕ} {s
   -- and else they are settled
   pub settled_after : (v later : World) (r : plain.Reply) → answer w c ≡ (v, r) → later ≡ settle (with_cursors ks v) → answer (with_cursors ks w) c ≡ (later, r)
   settled_after v later r done is = whole ∙ ap (λ (a : World × plain.Reply). (settle (with_cursors ks a.0), a.1)) done ∙ ap {A = World} (λ x. (x, r)) (sym is)
+
+  -- to settle them is to settle those that the command reaches
+  pub reached_after : (v : World) (r : plain.Reply) → first_of (checks w c) ≡ None → answer w c ≡ (v, r) → settle (with_cursors ks v) ≡ settle_reached (reach w c) (with_cursors ks v)
+  unfolding answer
+  reached_after v r passed done = subst (λ (x : World). settle (with_cursors ks x) ≡ settle_reached (reach w c) (with_cursors ks x))
+      (sym (ap (λ (o : Option Refusal). (answered w c o).0) passed) ∙ ap (λ (a : World × plain.Reply). a.0) done)
+      (subst (λ (r : Reach). settle (with_cursors ks (changed w c)) ≡ settle_reached r (with_cursors ks (changed w c))) (reach-beside ks w c)
+      (subst (λ (x : World). settle x ≡ settle_reached (reach (with_cursors ks w) c) x) (changed-apart ks w c none) (row-reached (with_cursors ks w) c formed (s.apart t) (s.settled t))))
+
+  -- which the call has done
+  pub settled_reached : (v later : World) (r : plain.Reply) (result : Result Reply StoreFault) (ls : List (Option Cursor)) (reached : Reach) → ls ≡ ks → first_of (checks w c) ≡ None → answer w c ≡ (v, r)
+      → reached ≡ reach w c → OnOk result (later ≡ settle_reached reached (with_cursors ls v)) → OnOk result (later ≡ settle (with_cursors ls v))
+  settled_reached v later r (Ok x) ls reached desk passed done is on = on ∙ ap (λ (q : Reach). settle_reached q (with_cursors ls v)) is
+      ∙ subst (λ (xs : List (Option Cursor)). settle_reached (reach w c) (with_cursors xs v) ≡ settle (with_cursors xs v)) (sym desk) (sym (reached_after v r passed done))
+  settled_reached v later r (Err fault) ls reached desk passed done is on = on
+
+  -- and the entry that it reaches is one that it means
+  pub reached_within : (v : World) (r : plain.Reply) (reached : Reach) → first_of (checks w c) ≡ None → answer w c ≡ (v, r) → reached ≡ reach w c → has_form c ≡ true → means_entries c ≡ true → (u : ℕ)
+      → pages_of_entry (entry_reached reached (mounted_store v u)) ≤ pages_there (answer w c).0 u (meant w c u)
+  unfolding answer
+  reached_within v r reached passed done is form means u =
+      subst (λ (q : Reach). pages_of_entry (entry_reached q (mounted_store v u)) ≤ pages_there (answer w c).0 u (meant w c u)) (sym is)
+      (subst (λ (x : World). pages_of_entry (entry_reached (reach w c) (mounted_store x u)) ≤ pages_there (answer w c).0 u (meant w c u)) (ap (λ (a : World × plain.Reply). a.0) done)
+      (subst (λ (x : World). pages_of_entry (entry_reached (reach w c) (mounted_store x u)) ≤ pages_there x u (meant w c u)) (sym (ap (λ (o : Option Refusal). (answered w c o).0) passed))
+      (reached-meant w c means all-formed all-apart u)))
+    where
+      all-formed : Every Wf (changed w c)
+      all-formed = wf-row w c formed form (all-false (checks w c) passed)
+
+      all-apart : MountedApart (changed w c)
+      all-apart = row-apart w c (s.apart t) (all-false (checks w c) passed)
 
   -- the same of what is answered
   pub done_answers : (v : World) (reply : Reply) → moves_keys c ≡ false → answer w c ≡ (v, said reply) → (ls : List (Option Cursor)) → ls ≡ ks → Answers (with_cursors ks w) (with_cursors ls v) c said (Ok reply)

@@ -1,5 +1,6 @@
 -- What the world promises of a command. All of it is this project's own.
-use Rattle.std.specs.Prelude.{◌≡◌, ℕ, Bool, true, false, IsTrue, List, Option, Result, Ok, IfErr, IfOk, IsOk, OnOk}
+use Rattle.std.specs.Prelude.{◌≡◌, ◌*◌, ℕ, Bool, true, false, IsTrue, List, Option, None, Result, Ok, IfErr, IfOk, IsOk, OnOk}
+use Rattle.newt_base.specs.Refusals.{first_of}
 use Rattle.newt_base.specs.declared.Refusal.{Refusal}
 use Rattle.newt_host.specs.Moments.{Always}
 use Rattle.newt_host.specs.Outside.{Outside, NoFault, OnDevices}
@@ -11,20 +12,25 @@ use Rattle.newt_reply.specs.declared.reply.Reply.{Reply}
 use Rattle.newt_reply.specs.declared.reply.Reply.TheVariants as reply
 use Rattle.newt_spec_store.specs.Store.{Store}
 use Rattle.newt_spec_world.specs.Answer.{answer}
-use Rattle.newt_spec_world.specs.World.{settle}
+use Rattle.newt_spec_world.specs.Refused.{checks}
+use Rattle.newt_spec_world.specs.World.{mounted_store}
 use Rattle.newt_spec_world.specs.declared.command.Command.{Command}
 use Rattle.newt_laws_world.specs.Answering.{Answering}
 use Rattle.newt_laws_answers.specs.Bounds.{most_programmed}
-use Rattle.newt_laws_world.specs.Settled.{IsSettled, MountedApart}
+use Rattle.newt_laws_answers.specs.Fetched.{means_entries, most_fetched}
+use Rattle.newt_laws_world.specs.Settled.{IsSettled, MountedApart, moves_keys}
+use Rattle.newt_laws_reach.specs.Reach.{Reach, entry_reached, is_of_one, settle_reached}
+use Rattle.newt_store_change.specs.Change.{pages_of_entry}
 use Rattle.newt_store_change.specs.Faults.{GoesOn, HasFaultCause, IsEnd, IsRefusal, NoDevice}
 use Rattle.newt_store_change.specs.declared.fault.StoreFault.{StoreFault}
-use Rattle.newt_engine_card.specs.Bounds.{IsOpenOrSame, ProgramsAtMost}
+use Rattle.newt_engine_card.specs.Bounds.{FetchesAtMost, FetchesWithin, IsOpenOrSame, ProgramsAtMost}
 use Rattle.newt_engine_units.specs.Answers.{Answers}
 use Rattle.newt_engine_units.specs.Calls.{AreRead, Ended}
 use Rattle.newt_engine_units.specs.Stands.{Eight, Stands, world_of}
 use Rattle.newt_engine_cursors.specs.Fits.{DeskFits}
+use Rattle.newt_engine_cursors.specs.Unread.{steps_unread}
 use Rattle.newt_engine_cursors.specs.World.{world_with}
-use Rattle.newt_engine.specs.Bounds.{CommandCosts, is_format}
+use Rattle.newt_engine.specs.Bounds.{CommandCosts, is_format, most_settled, most_stepped}
 use Rattle.newt_engine.specs.Ends.{takes_memory, uses_device}
 use Rattle.newt_engine.specs.Standing.{Standing}
 use Rattle.newt_engine.specs.declared.world.World.{World}
@@ -37,7 +43,8 @@ module _ {C : Type 0} (reads : List ℕ → Option Store) (place : C → ℕ) (s
     pub answered : IsTrue told → Answers (world_of reads old.units before) (world_of reads new.units after) command said result
     pub moments : IsTrue told → let w = world_of reads old.units before in Always (Answering reads w (answer w command).0 before.now) before.now after.now
     pub desk : new.desk ≡ old.desk
-    pub costs : IsTrue told → CommandCosts (world_of reads old.units before) command result before after
+    pub unrefused : IsTrue told → moves_keys command ≡ true → OnOk result (first_of (checks (world_of reads old.units before) command) ≡ None)
+    pub costs : IsTrue told → let w = world_of reads old.units before in CommandCosts w command (most_fetched w command) result before after
     pub alone : OnDevices before after
     pub cause : IfErr result (λ fault. HasFaultCause fault before after)
     pub no_fault : GoesOn result → NoFault before after
@@ -55,11 +62,14 @@ module _ {C : Type 0} (reads : List ℕ → Option Store) (place : C → ℕ) (s
     pub device : IfErr result (λ fault. NoDevice fault)
     pub ends : takes_memory command ≡ false → IfErr result (λ fault. IsRefusal fault)
 
-  -- The cursors are settled, and a reply is handed on; or the run ends. Devices are read alone.
-  pub record Settles (told : Bool) (reply : Reply) (old new : World C) (before after : Outside) (result : Result Reply StoreFault) : Type 0 where
+  -- The cursors that are reached are settled, and a reply is handed on; or the run ends. Devices are
+  -- read alone; and where one entry at most is reached, nothing else is fetched.
+  pub record Settles (told : Bool) (reached : Reach) (reply : Reply) (old new : World C) (before after : Outside) (result : Result Reply StoreFault) : Type 0 where
     pub read : AreRead reads place standing told old.units new.units before after
     pub desk : DeskFits new.desk
-    pub settled : IsTrue told → let w = world_with reads old.units old.desk before in MountedApart w → OnOk result (world_with reads new.units new.desk after ≡ settle w)
+    pub settled : IsTrue told → let w = world_with reads old.units old.desk before in MountedApart w → OnOk result (world_with reads new.units new.desk after ≡ settle_reached reached w)
+    pub fetches : IsTrue told → let w = world_of reads old.units before in is_of_one reached ≡ true
+        → FetchesAtMost (λ u. 512 * pages_of_entry (entry_reached reached (mounted_store w u))) before after
     pub same : IfOk result (λ it. it ≡ reply)
     pub ends : Ended result before after
     pub only : IfErr result (λ fault. IsEnd fault)
@@ -70,6 +80,8 @@ module _ {C : Type 0} (reads : List ℕ → Option Store) (place : C → ℕ) (s
     pub desk : DeskFits new.desk
     pub answered : IsTrue told → let w = world_with reads old.units old.desk before in MountedApart w → IsSettled w
         → Answers w (world_with reads new.units new.desk after) command said result
+    pub fetches : IsTrue told → let w = world_with reads old.units old.desk before in MountedApart w → IsSettled w → steps_unread w command ≡ true
+        → FetchesAtMost (most_stepped w command) before after
     pub cause : IfErr result (λ fault. HasFaultCause fault before after)
     pub no_fault : GoesOn result → NoFault before after
     pub ends : takes_memory command ≡ false → IfErr result (λ fault. IsRefusal fault)
@@ -80,7 +92,8 @@ module _ {C : Type 0} (reads : List ℕ → Option Store) (place : C → ℕ) (s
     pub stands : GoesOn result → Standing reads place standing told new.units new.desk after
     pub answered : IsTrue told → Answers (world_with reads old.units old.desk before) (world_with reads new.units new.desk after) command said result
     pub moments : IsTrue told → let w = world_with reads old.units old.desk before in Always (Answering reads w (answer w command).0 before.now) before.now after.now
-    pub costs : IsTrue told → CommandCosts (world_with reads old.units old.desk before) command result before after
+    pub costs : IsTrue told → let w = world_with reads old.units old.desk before in CommandCosts w command (most_settled w command) result before after
+    pub step : IsTrue told → let w = world_with reads old.units old.desk before in steps_unread w command ≡ true → FetchesAtMost (most_stepped w command) before after
     pub alone : OnDevices before after
     pub cause : IfErr result (λ fault. HasFaultCause fault before after)
     pub no_fault : GoesOn result → NoFault before after
@@ -90,12 +103,16 @@ module _ {C : Type 0} (reads : List ℕ → Option Store) (place : C → ℕ) (s
 module _ {C : Type 0} (reads : List ℕ → Option Store) where
   -- How a command ends. What is attached, the input and the output are as they were. But for a
   -- format each unit that has room is programmed by no more than the command may, is not erased, and
-  -- is synced twice at most; after a reply each bank is not closed or is as it was. A reply tells
+  -- is synced twice at most; where the command is one of entries, for each page of those that it
+  -- means 1024 bytes at most are fetched there; a step of a cursor whose query has no words fetches
+  -- 512 for each page of the entry that it answers; after a reply each bank is not closed or is as it was. A reply tells
   -- that no fault was counted, an end of the run has its cause, and only what may take memory or use
   -- a device ends the run so.
   pub record Finished (told : Bool) (command : Command) (old : World C) (before after : Outside) (result : Result Reply Stop) : Type 0 where
     pub alone : OnDevices before after
     pub bound : IsTrue told → is_format command ≡ false → (u : ℕ) → ProgramsAtMost (most_programmed (world_with reads old.units old.desk before) command u) u before after
+    pub settling : IsTrue told → means_entries command ≡ true → let w = world_with reads old.units old.desk before in FetchesWithin (most_programmed w command) (most_settled w command) before after
+    pub step : IsTrue told → let w = world_with reads old.units old.desk before in steps_unread w command ≡ true → FetchesAtMost (most_stepped w command) before after
     pub open_after : IsTrue told → OnOk result ((u : ℕ) → IsOpenOrSame u before.now after.now)
     pub cause : IfErr result (λ stop. HasStopCause stop before after)
     pub no_fault : OnOk result (NoFault before after)

@@ -3,8 +3,8 @@ use Rattle.std.specs.Prelude.{Bool, true, false}
 use Rattle.newt_spec_world.specs.declared.command.Command.{Command}
 use Rattle.newt_spec_world.specs.declared.command.Command.TheVariants as command
 
--- A device is read or written. Most commands of cursors settle them all, so they may read entries;
--- one that tells a side, or clones or closes a cursor, reads none.
+-- A device is read or written. Most commands of cursors may read entries, to show one or for the
+-- words of a query; one that tells a side, or clones or closes a cursor, reads none.
 abbrev pub uses_device : Command → Bool
 uses_device (command.Format _ _ _) = true
 uses_device (command.Mount _) = true

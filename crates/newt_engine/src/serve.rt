@@ -3,12 +3,15 @@ ghost use Rattle.std.specs.Prelude.{◌≡◌, false, true};
 ghost use Rattle.newt_laws_world.specs.Settled.{moves_keys};
 ghost use Rattle.newt_laws_world.specs.Cursors.{uses_cursors};
 ghost use Rattle.newt_laws_world.specs.Worlds.{has_form};
+ghost use Rattle.newt_reply.specs.Said.{said};
+ghost use Rattle.newt_engine_units.specs.Stands.{world_of};
+ghost use Rattle.newt_engine_cursors.specs.Reached.{reached_by};
 ghost use Rattle.newt_engine.specs.Calls.{Served, Settles};
 ghost use Rattle.newt_engine.specs.Standing.{CursorsFit, IsStanding, UnitsStand};
 
 use crate::world::World;
 use newt_engine_card::Card;
-use newt_engine_cursors::settle;
+use newt_engine_cursors::{Aim, aim_of, reach_by, settle_reached};
 use newt_host::Host;
 use newt_reply::Reply;
 use newt_script::Command;
@@ -51,10 +54,11 @@ impl<C: Card> World<C> {
             (H.outside host.old) (H.outside host.new) result }
     {
         let settles = settles(&command);
+        let aim = aim_of(&self.units, &command);
         match self.obey(host, command) {
             Ok(reply) => {
                 if settles {
-                    self.settled(host, reply)
+                    self.settled(host, &aim, reply)
                 } else {
                     Ok(reply)
                 }
@@ -63,14 +67,22 @@ impl<C: Card> World<C> {
         }
     }
 
-    /// Settles the cursors, and hands a reply on.
-    fn settled<H: Host>(&mut self, host: &mut H, reply: Reply) -> Result<Reply, StoreFault>
+    /// Settles the cursors that a command with this reply has reached, and hands the reply on.
+    fn settled<H: Host>(
+        &mut self,
+        host: &mut H,
+        aim: &Aim,
+        reply: Reply,
+    ) -> Result<Reply, StoreFault>
         requires stands { UnitsStand C.place C.stands H.told self.old (H.outside host.old) }
         requires desk { CursorsFit self.old }
-        ensures { Settles C.reads C.place C.stands H.told reply self.old self.new
+        ensures { let reached =
+            reached_by aim.now (world_of C.reads self.old.units (H.outside host.old)) (said reply) in
+            Settles C.reads C.place C.stands H.told reached reply self.old self.new
             (H.outside host.old) (H.outside host.new) result }
     {
-        match settle(&mut self.units, &mut self.desk, host) {
+        let reach = reach_by(&self.units, aim, &reply);
+        match settle_reached(&mut self.units, &mut self.desk, host, &reach) {
             Ok(()) => Ok(reply),
             Err(stop) => {
                 drop(reply);

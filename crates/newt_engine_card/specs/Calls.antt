@@ -79,14 +79,15 @@ module _ {C : Type 0} (reads : List ℕ → Option Store) (place : C → ℕ) (s
     pub no_fault : OnOk result (NoFault before after)
 
   -- Bytes of a large binary of an entry that are read, or the first test that holds; but for the
-  -- pages of the entry's record and of the range nothing is fetched. It leaves what a reading of an
-  -- entry leaves.
+  -- pages of the entry's record and of the range nothing is fetched, and no more than the pages of
+  -- the entry. It leaves what a reading of an entry leaves.
   pub record FetchesLarge (told : Bool) (soup uid : ℕ) (path : Path) (at many : ℕ) (old new : C) (before after : Outside) (result : Result (List ℕ) StoreFault) : Type 0 where
     pub stands : standing told new after
     pub same_place : place new ≡ place old
     pub same_soups : soups new ≡ soups old
     pub found : IsTrue told → (s : Store) → reads (image (place old) before.now) ≡ Some s → ReadsLarge path at many (entry_at soup uid s) result
     pub costs : IsTrue told → (s : Store) → reads (image (place old) before.now) ≡ Some s → Spends (place old) 0 (512 * large_fetches many (entry_at soup uid s)) before after
+    pub whole : IsTrue told → (s : Store) → reads (image (place old) before.now) ≡ Some s → Spends (place old) 0 (512 * pages_of_entry (entry_at soup uid s)) before after
     pub looks : OnlyReads (place old) before after
     pub cause : IfErr result (FaultsAt (place old) before after)
     pub no_fault : GoesOn result → NoFault before after

@@ -1,4 +1,5 @@
 -- What a crash leaves of a store on a card, and what else is told of one. All of it is this project's own.
+pub use Rattle.newt_index_ranges.specs.Range.{mask_at}
 use Rattle.std.specs.Prelude.{◌≡◌, ◌⊎◌, ℕ, List, length, map, Option, Some, None}
 use Rattle.newt_base.specs.Refusals.{Checks, first_of}
 use Rattle.newt_host.specs.Moments.{Moment, changes}

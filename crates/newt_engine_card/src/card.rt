@@ -10,6 +10,7 @@ ghost use Rattle.newt_spec_store.specs.Laid.{bare};
 ghost use Rattle.newt_spec_store.specs.Store.{Store as Plain, soup_named, soup_of, entry_at};
 ghost use Rattle.newt_spec_store.specs.Store.{count_in};
 ghost use Rattle.newt_spec_store.specs.Valid.{well_formed};
+ghost use Rattle.newt_engine_card.specs.Cards.{mask_at};
 ghost use Rattle.newt_engine_card.specs.Calls.{Formats, Opens, Changes, Fetches, FetchesLarge};
 
 use newt_base::{Name, Sig, Uid};
@@ -142,6 +143,12 @@ pub trait Card: Sized + Drop {
         ensures { (outside : Outside) (s : Plain) → stands true self.now outside
             → reads (image (place self.now) outside.now) ≡ Some s
             → result ≡ is_some (entry_at soup uid s) };
+
+    /// The tags of an entry, as the mask by its soup's declaration, 0 where the soup has none. None
+    /// exactly where the entry is not there. It takes no memory.
+    fn mask(&self, soup: Sig, uid: Uid) -> Option<u64>
+        ensures { (outside : Outside) (s : Plain) → stands true self.now outside
+            → reads (image (place self.now) outside.now) ≡ Some s → result ≡ mask_at soup uid s };
 
     /// Only stores of this form are read.
     ghost formed: { (bytes : List ℕ) (s : Plain) → reads bytes ≡ Some s → IsTrue (well_formed s) };

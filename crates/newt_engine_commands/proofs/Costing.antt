@@ -1,5 +1,5 @@
 -- What the commands cost, by what the calls on one store cost that they are done by.
-use Rattle.std.proofs.Common.{◌≡◌, subst, ℕ, ◌≤◌, List, [], ◌∷◌, true, false, None, Some, length, nat_lt}
+use Rattle.std.proofs.Common.{arith, ◌≡◌, ap, sym, ◌∙◌, subst, ℕ, ◌+◌, ◌*◌, ◌≤◌, List, [], ◌∷◌, ◌++◌, Bool, true, false, None, Some, length, nat_lt, option_and_then}
 use Rattle.std.specs.Prelude.{Result, Err}
 use Rattle.newt_base.specs.Refusals.{first_of}
 use Rattle.newt_graph.specs.Graph.{RawGraph}
@@ -8,33 +8,94 @@ use Rattle.newt_laws_images.proofs.Within.{graph-within}
 use Rattle.newt_path.specs.Put.{IsFormOf}
 use Rattle.newt_spec_graph.specs.Slots.{put}
 use Rattle.newt_spec_store.specs.Keys.{Path, IndexSpec, has_paths}
-use Rattle.newt_spec_store.specs.Store.{Store, Soup, TagTable, Entry, entry_of, drop_soup, change_soup, add_entry, remove_entry, with_index, without_index, with_graph}
+use Rattle.newt_spec_store.specs.Store.{Store, Soup, TagTable, Entry, entry_at, entry_of, drop_soup, change_soup, add_entry, remove_entry, with_index, without_index, with_graph}
 use Rattle.newt_spec_store.specs.Valid.{valid_entry}
 use Rattle.newt_spec_world.specs.declared.command.Command.{Command}
 use Rattle.newt_spec_world.specs.declared.command.Command.TheVariants as command
 use Rattle.newt_spec_world.specs.declared.command.PartWord.{PartWord}
 use Rattle.newt_spec_graph.specs.Larges.{large_at}
 use Rattle.newt_spec_world.specs.Changed.{spec_of_words}
-use Rattle.newt_spec_world.specs.World.{World, default_unit}
+use Rattle.newt_spec_graph.proofs.Lists.{both-ways}
+use Rattle.newt_spec_world.specs.World.{World, default_unit, entry_in}
 use Rattle.newt_spec_store.specs.Cost.{patch_bytes}
 use Rattle.newt_laws_answers.specs.Bounds.{change_bytes, unless, most_programmed}
+use Rattle.newt_laws_answers.specs.Fetched.{if_on, means_entries, most_fetched, next_if_on, pages_there}
+use Rattle.newt_laws_answers.proofs.Answers.{entry-named}
+use Rattle.newt_laws_answers.proofs.Fetched.{first-pages, named-pages}
 use Rattle.newt_laws_answers.proofs.Tests.{add_tests, replace_tests, replaced, patch_tests, move_tests, moved_within, index_tests, tagged, tags_tests}
 use Rattle.newt_laws_answers.proofs.Most.{drop-most, add-most, addx-most, addu-most, remove-most, change-most, set-most, vwrite-most, copy-most, move-to-most, move-from-most, within-most, index-most, unindex-most, set-tags-most}
 use Rattle.newt_store_change.specs.declared.fault.StoreFault.{StoreFault}
 use Rattle.newt_store_change.specs.declared.fault.StoreFault.TheVariants.{Refused, Stop}
-use Rattle.newt_engine_card.specs.Bounds.{Costs, CostsOn, LeftAlone}
+use Rattle.newt_engine_card.specs.Bounds.{Costs, CostsOn, FetchesAtMost, FetchesOn, FetchesWithin, LeftAlone, of_unit}
+use Rattle.newt_store_change.specs.Change.{pages_of_entry}
 use Rattle.newt_store_change.specs.Faults.{GoesOn}
+use Rattle.newt_engine_units.specs.Calls.{CostsOf}
 use Rattle.newt_engine_units.specs.Found.{HasSoup, HasEntry}
-use Rattle.newt_engine_units.proofs.Costs.{on-costs, costs-of, after-read, both-costs}
+use Rattle.newt_engine_units.proofs.Costs.{after-read, behind-read, both-costs, both-few, costs-of, none-fits, of-unit-most, on-costs, on-few, on-within, read-few, same-fits}
 use Rattle.newt_engine_commands.specs.Declares.{has_parts, has_real}
 use Rattle.newt_engine_commands.proofs.Commands.{entry-fits}
 use Rattle.newt_engine_commands.proofs.Replacing.{raw-of}
 use Rattle.newt_engine_commands.proofs.Moves.{move-named, inside-named}
+use Rattle.newt_engine_commands.proofs.Said.{Spent}
 
--- by the name that a soup has
+-- ---- what is fetched
+
+half : (a b : ℕ) → a ≤ b → 512 * a ≤ 1024 * b
+half a b h = omega (arith, h)
+
+twice : (a b : ℕ) → a ≤ b → 512 * a + 512 * a ≤ 1024 * b
+twice a b h = omega (arith, h)
+
+thrice : (a b : ℕ) → a ≤ b → 512 * a + (512 * 0 + 512 * a) ≤ 1024 * b
+thrice a b h = omega (arith, h)
+
+none-low : (n : ℕ) → 0 ≤ n
+none-low n = omega arith
+
+-- the pages of an entry of a soup that is there
+abbrev pub its_pages : {w : World} {u : ℕ} {name : List ℕ} {sig : ℕ} → HasSoup w u name sig → ℕ → ℕ
+its_pages {sig = sig} h uid = pages_of_entry (entry_at sig uid h.store)
+
+its-pages : {w : World} {u : ℕ} {name : List ℕ} {sig : ℕ} (h : HasSoup w u name sig) (uid : ℕ) → its_pages h uid ≡ pages_of_entry (entry_in w u name uid)
+its-pages {w} {u} {name} {sig} h uid = ap pages_of_entry (ap (option_and_then (entry_of uid)) h.by_sig ∙ sym (entry-named w u h.blocks h.store name h.soup uid h.on h.named))
+
+named-low : {w : World} {u : ℕ} {name : List ℕ} {sig : ℕ} (h : HasSoup w u name sig) (uid : ℕ) → its_pages h uid ≤ pages_there w u (if_on u u name uid)
+named-low {w} {u} {name} h uid = low _ _ _ (its-pages h uid) (named-pages w u name uid)
+  where
+    low : (a b c : ℕ) → a ≡ b → c ≡ b → a ≤ c
+    low a b c h k = omega (arith, h, k)
+
+first-low : {w : World} {u : ℕ} {name : List ℕ} {sig : ℕ} (h : HasSoup w u name sig) (uid : ℕ) (more : List (List ℕ × ℕ)) → its_pages h uid ≤ pages_there w u (if_on u u name uid ++ more)
+first-low {w} {u} {name} h uid more = low _ _ _ (its-pages h uid) (first-pages w u name uid more)
+  where
+    low : (a b c : ℕ) → a ≡ b → b ≤ c → a ≤ c
+    low a b c h k = omega (arith, h, k)
+
+-- an entry that was read
+pub get-few : {w : World} {u : ℕ} {name : List ℕ} {sig : ℕ} (h : HasSoup w u name sig) (uid : ℕ) (o p : Outside) → FetchesAtMost (of_unit u (512 * its_pages h uid)) o p
+    → FetchesAtMost (λ j. 1024 * pages_there w j (if_on u j name uid)) o p
+get-few {w} {u} {name} h uid o p reads = read-few u (512 * its_pages h uid) (λ j. 1024 * pages_there w j (if_on u j name uid)) o p reads (half _ _ (named-low h uid))
+
+-- and one that was to be copied or moved
+pub copy-few : {w : World} {u : ℕ} {name : List ℕ} {sig : ℕ} (h : HasSoup w u name sig) (uid to : ℕ) (target : List ℕ) (o p : Outside) → FetchesAtMost (of_unit u (512 * its_pages h uid)) o p
+    → FetchesAtMost (λ j. 1024 * pages_there w j (if_on u j name uid ++ next_if_on w to j target)) o p
+copy-few {w} {u} {name} h uid to target o p reads =
+    read-few u (512 * its_pages h uid) (λ j. 1024 * pages_there w j (if_on u j name uid ++ next_if_on w to j target)) o p reads (half _ _ (first-low h uid (next_if_on w to u target)))
+
+-- ---- by the name that a soup has
+
+named-most : {w : World} {v n : ℕ} (u : ℕ) {name : List ℕ} {sig : ℕ} (h : HasSoup w v name sig) (c : List ℕ → Command) → n ≤ most_programmed w (c h.soup.name) u → n ≤ most_programmed w (c name) u
+named-most {w} {n = n} u h c low = subst (λ m. n ≤ most_programmed w (c m) u) h.name_is low
+
 named-costs : {T : Type 0} {w : World} {u v n : ℕ} {name : List ℕ} {sig : ℕ} {result : Result T StoreFault} {o p : Outside} (h : HasSoup w v name sig) (c : List ℕ → Command)
-    → CostsOn u n result o p → n ≤ most_programmed w (c h.soup.name) u → Costs (most_programmed w (c name)) result o p
-named-costs {w = w} {u} {n = n} h c costs low = on-costs costs (subst (λ m. n ≤ most_programmed w (c m) u) h.name_is low)
+    → CostsOn u n result o p → n ≤ most_programmed w (c h.soup.name) u → (means_entries (c name) ≡ true → FetchesWithin (most_programmed w (c name)) (most_fetched w (c name)) o p)
+    → CostsOf w (c name) result o p
+named-costs {u = u} h c costs low few = on-costs costs (named-most u h c low) few
+
+-- a call on one unit is the command
+named-spent : {T : Type 0} {w : World} {u v n k : ℕ} {name : List ℕ} {sig : ℕ} {result : Result T StoreFault} {o p : Outside} (h : HasSoup w v name sig) (c : List ℕ → Command)
+    → Spent u n k result o p → n ≤ most_programmed w (c h.soup.name) u → k ≤ most_fetched w (c name) u → CostsOf w (c name) result o p
+named-spent {w = w} {u = u} {name = name} h c spent low less = named-costs h c spent.programs low (λ means. on-within (most_programmed w (c name)) (most_fetched w (c name)) spent.reads (named-most u h c low) less)
 
 -- the bytes of an entry that is added, in a world
 abbrev pub added_bytes : ℕ → RawGraph → Store → Soup → World → ℕ
@@ -67,71 +128,107 @@ fits {name = name} h uid e found = entry-fits h.store name h.soup uid e h.formed
 -- ---- one change of one store
 
 module _ {w : World} {u : ℕ} {name : List ℕ} {sig : ℕ} (h : HasSoup w u name sig) {T : Type 0} {result : Result T StoreFault} {o p : Outside} where
-  pub drop-costs : CostsOn u (change_bytes h.store (drop_soup h.soup.name h.store) [] h.soup.entries) result o p → Costs (most_programmed w (command.Drop u name)) result o p
-  drop-costs k = named-costs h (command.Drop u) k (drop-most w u h.blocks h.store h.soup.name h.on h.soup h.self_named)
+  pub drop-costs : {f : ℕ} → Spent u (change_bytes h.store (drop_soup h.soup.name h.store) [] h.soup.entries) f result o p → CostsOf w (command.Drop u name) result o p
+  drop-costs k = named-costs h (command.Drop u) k.programs (drop-most w u h.blocks h.store h.soup.name h.on h.soup h.self_named) (λ means. absurd (both-ways means))
 
-  pub add-costs : (g : RawGraph) → CostsOn u (added_bytes h.blocks g h.store h.soup w) result o p → Costs (most_programmed w (command.Add u name g)) result o p
-  add-costs g k = named-costs h (λ m. command.Add u m g) k (add-most w u h.blocks h.store h.soup.name h.soup g h.on h.self_named)
+  pub add-costs : (g : RawGraph) → Spent u (added_bytes h.blocks g h.store h.soup w) 0 result o p → CostsOf w (command.Add u name g) result o p
+  add-costs g k = named-spent h (λ m. command.Add u m g) k (add-most w u h.blocks h.store h.soup.name h.soup g h.on h.self_named) (none-low _)
 
-  pub addx-costs : (g : RawGraph) → CostsOn u (added_bytes h.blocks g h.store h.soup w) result o p → Costs (most_programmed w (command.Addx u name g)) result o p
-  addx-costs g k = named-costs h (λ m. command.Addx u m g) k (addx-most w u h.blocks h.store h.soup.name h.soup g h.on h.self_named)
+  pub addx-costs : (g : RawGraph) → Spent u (added_bytes h.blocks g h.store h.soup w) 0 result o p → CostsOf w (command.Addx u name g) result o p
+  addx-costs g k = named-spent h (λ m. command.Addx u m g) k (addx-most w u h.blocks h.store h.soup.name h.soup g h.on h.self_named) (none-low _)
 
-  pub addu-costs : (g : RawGraph) → default_unit w ≡ u → CostsOn u (added_bytes h.blocks g h.store h.soup w) result o p → Costs (most_programmed w (command.Addu name g)) result o p
-  addu-costs g default k = named-costs h (λ m. command.Addu m g) k (addu-most w u h.blocks h.store h.soup.name h.soup g default h.on h.self_named)
+  pub addu-costs : (g : RawGraph) → default_unit w ≡ u → Spent u (added_bytes h.blocks g h.store h.soup w) 0 result o p → CostsOf w (command.Addu name g) result o p
+  addu-costs g default k = named-spent h (λ m. command.Addu m g) k (addu-most w u h.blocks h.store h.soup.name h.soup g default h.on h.self_named) (none-low _)
 
-  pub index-costs : (parts : List PartWord) → has_parts parts h.soup ≡ false → has_real parts ≡ false → (spec : IndexSpec) → spec ≡ spec_of_words parts
-      → CostsOn u (index_bytes h.blocks h.store h.soup spec) result o p → Costs (most_programmed w (command.Index u name parts)) result o p
-  index-costs parts new typed spec words k = named-costs h (λ m. command.Index u m parts) (subst (λ x. CostsOn u (index_bytes h.blocks h.store h.soup x) result o p) words k)
-      (index-most w u h.blocks h.store h.soup.name h.soup h.on h.self_named parts new typed)
+  pub index-costs : {f : ℕ} (parts : List PartWord) → has_parts parts h.soup ≡ false → has_real parts ≡ false → (spec : IndexSpec) → spec ≡ spec_of_words parts
+      → Spent u (index_bytes h.blocks h.store h.soup spec) f result o p → CostsOf w (command.Index u name parts) result o p
+  index-costs parts new typed spec words k = named-costs h (λ m. command.Index u m parts) (subst (λ x. CostsOn u (index_bytes h.blocks h.store h.soup x) result o p) words k.programs)
+      (index-most w u h.blocks h.store h.soup.name h.soup h.on h.self_named parts new typed) (λ means. absurd (both-ways means))
 
-  pub unindex-costs : (paths shown : List Path) → has_paths paths h.soup.specs ≡ true → shown ≡ paths → CostsOn u (unindex_bytes h.store h.soup shown) result o p
-      → Costs (most_programmed w (command.Unindex u name paths)) result o p
-  unindex-costs paths shown there same k = named-costs h (λ m. command.Unindex u m paths) (subst (λ x. CostsOn u (unindex_bytes h.store h.soup x) result o p) same k)
-      (unindex-most w u h.blocks h.store h.soup.name h.soup h.on h.self_named paths there)
+  pub unindex-costs : {f : ℕ} (paths shown : List Path) → has_paths paths h.soup.specs ≡ true → shown ≡ paths → Spent u (unindex_bytes h.store h.soup shown) f result o p
+      → CostsOf w (command.Unindex u name paths) result o p
+  unindex-costs paths shown there same k = named-costs h (λ m. command.Unindex u m paths) (subst (λ x. CostsOn u (unindex_bytes h.store h.soup x) result o p) same k.programs)
+      (unindex-most w u h.blocks h.store h.soup.name h.soup h.on h.self_named paths there) (λ means. absurd (both-ways means))
 
-  pub tags-costs : (path : Path) (symbols : List (List ℕ)) → nat_lt 64 (length symbols) ≡ false → (table : TagTable) → table ≡ record { path = path; symbols = symbols }
-      → CostsOn u (tags_bytes h.blocks h.store h.soup table) result o p → Costs (most_programmed w (command.SetTags u name path symbols)) result o p
-  tags-costs path symbols few table words k = named-costs h (λ m. command.SetTags u m path symbols) (subst (λ x. CostsOn u (tags_bytes h.blocks h.store h.soup x) result o p) words k)
-      (set-tags-most w u h.soup.name path symbols h.blocks h.store h.soup h.on h.self_named few)
+  pub tags-costs : {f : ℕ} (path : Path) (symbols : List (List ℕ)) → nat_lt 64 (length symbols) ≡ false → (table : TagTable) → table ≡ record { path = path; symbols = symbols }
+      → Spent u (tags_bytes h.blocks h.store h.soup table) f result o p → CostsOf w (command.SetTags u name path symbols) result o p
+  tags-costs path symbols few table words k = named-costs h (λ m. command.SetTags u m path symbols) (subst (λ x. CostsOn u (tags_bytes h.blocks h.store h.soup x) result o p) words k.programs)
+      (set-tags-most w u h.soup.name path symbols h.blocks h.store h.soup h.on h.self_named few) (λ means. absurd (both-ways means))
 
 module _ {w : World} {u : ℕ} {name : List ℕ} {sig uid : ℕ} (x : HasEntry w u name sig uid) {T : Type 0} {result : Result T StoreFault} {o p : Outside} where
-  pub remove-costs : CostsOn u (removed_bytes x.of.store x.of.soup x.entry uid) result o p → Costs (most_programmed w (command.Remove u name uid)) result o p
-  remove-costs k = named-costs x.of (λ m. command.Remove u m uid) k (remove-most w u x.of.blocks x.of.store x.of.soup.name x.of.soup uid x.of.on x.of.self_named x.entry x.found)
+  pub remove-costs : Spent u (removed_bytes x.of.store x.of.soup x.entry uid) 0 result o p → CostsOf w (command.Remove u name uid) result o p
+  remove-costs k = named-spent x.of (λ m. command.Remove u m uid) k (remove-most w u x.of.blocks x.of.store x.of.soup.name x.of.soup uid x.of.on x.of.self_named x.entry x.found) (none-low _)
 
-  pub change-costs : (g : RawGraph) → CostsOn u (replaced_bytes x.of.blocks g x.of.store x.of.soup x.entry uid w) result o p → Costs (most_programmed w (command.Change u name uid g)) result o p
-  change-costs g k = named-costs x.of (λ m. command.Change u m uid g) k (change-most w u x.of.blocks x.of.store x.of.soup.name x.of.soup uid x.of.on x.of.self_named x.entry x.found g)
+  pub change-costs : (g : RawGraph) → Spent u (replaced_bytes x.of.blocks g x.of.store x.of.soup x.entry uid w) 0 result o p → CostsOf w (command.Change u name uid g) result o p
+  change-costs g k = named-spent x.of (λ m. command.Change u m uid g) k (change-most w u x.of.blocks x.of.store x.of.soup.name x.of.soup uid x.of.on x.of.self_named x.entry x.found g) (none-low _)
 
   -- within one store
   pub inside-costs : {target : List ℕ} {into : ℕ} (k : HasSoup w u target into)
-      → CostsOn u (unless (move_tests x.of.blocks w.minute x.of.soup.name uid k.soup.name x.entry.graph x.of.store k.soup)
-      (change_bytes x.of.store (moved_within w.minute x.of.soup.name uid k.soup.name x.entry.graph x.of.store) (record { uid = k.soup.next_uid; time = w.minute; graph = x.entry.graph } ∷ []) (x.entry ∷ []))) result o p
-      → Costs (most_programmed w (command.Move u name uid u target)) result o p
-  inside-costs {target} {into} k costs = subst (λ c. Costs (most_programmed w c) result o p) (move-named w u u name target sig into uid x.of k)
-      (on-costs costs (within-most w u x.of.blocks x.of.store x.of.soup.name x.of.soup uid x.of.on x.of.self_named k.soup.name k.soup (inside-named w u name target sig into uid x k) x.entry x.found))
+      → Spent u (unless (move_tests x.of.blocks w.minute x.of.soup.name uid k.soup.name x.entry.graph x.of.store k.soup)
+      (change_bytes x.of.store (moved_within w.minute x.of.soup.name uid k.soup.name x.entry.graph x.of.store) (record { uid = k.soup.next_uid; time = w.minute; graph = x.entry.graph } ∷ []) (x.entry ∷ [])))
+      (512 * its_pages x.of uid + 512 * its_pages x.of uid) result o p
+      → CostsOf w (command.Move u name uid u target) result o p
+  inside-costs {target} {into} k spent = subst (λ c. CostsOf w c result o p) (move-named w u u name target sig into uid x.of k) (on-costs spent.programs most (λ means.
+      on-within (most_programmed w (command.Move u x.of.soup.name uid u k.soup.name)) (most_fetched w (command.Move u x.of.soup.name uid u k.soup.name)) spent.reads most few))
+    where
+      most : unless (move_tests x.of.blocks w.minute x.of.soup.name uid k.soup.name x.entry.graph x.of.store k.soup)
+          (change_bytes x.of.store (moved_within w.minute x.of.soup.name uid k.soup.name x.entry.graph x.of.store) (record { uid = k.soup.next_uid; time = w.minute; graph = x.entry.graph } ∷ []) (x.entry ∷ []))
+          ≤ most_programmed w (command.Move u x.of.soup.name uid u k.soup.name) u
+      most = within-most w u x.of.blocks x.of.store x.of.soup.name x.of.soup uid x.of.on x.of.self_named k.soup.name k.soup (inside-named w u name target sig into uid x k) x.entry x.found
+
+      few : 512 * its_pages x.of uid + 512 * its_pages x.of uid ≤ most_fetched w (command.Move u x.of.soup.name uid u k.soup.name) u
+      few = twice _ _ (subst (λ n. its_pages x.of uid ≤ pages_there w u (if_on u u n uid ++ next_if_on w u u k.soup.name)) (sym x.of.name_is) (first-low x.of uid (next_if_on w u u k.soup.name)))
 
 -- ---- after the entry was read
 
+-- a call that read of one unit, and did nothing
+pub record Seen (u n : ℕ) (o p : Outside) : Type 0 where
+  pub alone : (j : ℕ) → LeftAlone j o p
+  pub moment : p.now ≡ o.now
+  pub reads : FetchesAtMost (of_unit u n) o p
+
+-- what it fetches with the call behind it
+after-seen : {w : World} {u : ℕ} {name : List ℕ} {sig : ℕ} (h : HasSoup w u name sig) (uid : ℕ) (x : World) (same : x ≡ w) {o p q : Outside} (seen : Seen u (512 * its_pages h uid) o p) {v k : ℕ}
+    (n : World → ℕ) (c : Command) → FetchesOn v (n x) k p q → n w ≤ most_programmed w c v → ((j : ℕ) → of_unit u (512 * its_pages h uid) j + of_unit v k j ≤ most_fetched w c j)
+    → FetchesWithin (most_programmed w c) (most_fetched w c) o q
+after-seen {w} {u} h uid x same {o} {p} {q} seen {v} {k} n c f low enough = behind-read (most_programmed w c) (of_unit u (512 * its_pages h uid)) (of_unit v k) (most_fetched w c) o p q seen.reads seen.moment
+    (on-few (most_programmed w c) (subst (λ (y : World). FetchesOn v (n y) k p q) same f) low) enough
+
 module _ {w : World} {u : ℕ} {name : List ℕ} {sig : ℕ} (h : HasSoup w u name sig) (uid : ℕ) (e : Entry) (found : entry_of uid h.soup ≡ Some e)
-    (x : World) (same : x ≡ w) {o p q : Outside} (alone : (j : ℕ) → LeftAlone j o p) {T : Type 0} {result : Result T StoreFault} where
+    (x : World) (same : x ≡ w) {o p q : Outside} (seen : Seen u (512 * its_pages h uid) o p) {T : Type 0} {result : Result T StoreFault} where
   -- what the second call costs, the two cost in the world before
   pub before : {v : ℕ} (n : World → ℕ) → CostsOn v (n x) result p q → CostsOn v (n w) result o q
-  before {v} n k = after-read alone (subst (λ (y : World). CostsOn v (n y) result p q) same k)
+  before {v} n k = after-read seen.alone (subst (λ (y : World). CostsOn v (n y) result p q) same k)
 
-  pub set-costs : (path : Path) (g new : RawGraph) → IsFormOf (put e.graph path g) new → CostsOn u (replaced_bytes h.blocks new h.store h.soup e uid x) result p q
-      → Costs (most_programmed w (command.Set u name uid path g)) result o q
-  set-costs path g new form k = let r = raw-of new (put e.graph path g) form in
-      named-costs h (λ m. command.Set u m uid path g) (before (replaced_bytes h.blocks new h.store h.soup e uid) k)
-      (set-most w u h.blocks h.store h.soup.name h.soup uid h.on h.self_named e found path g r.0 r.1 new r.2 (graph-within new r.3) (fits h uid e found))
+  pub set-costs : (path : Path) (g new : RawGraph) → IsFormOf (put e.graph path g) new → Spent u (replaced_bytes h.blocks new h.store h.soup e uid x) 0 result p q
+      → CostsOf w (command.Set u name uid path g) result o q
+  set-costs path g new form k = named-costs h (λ m. command.Set u m uid path g) (before (replaced_bytes h.blocks new h.store h.soup e uid) k.programs) low
+      (λ means. after-seen h uid x same seen (replaced_bytes h.blocks new h.store h.soup e uid) (command.Set u name uid path g) k.reads (named-most u h (λ m. command.Set u m uid path g) low)
+      (none-fits u (512 * its_pages h uid) u (most_fetched w (command.Set u name uid path g)) (half _ _ (named-low h uid))))
+    where
+      low : replaced_bytes h.blocks new h.store h.soup e uid w ≤ most_programmed w (command.Set u h.soup.name uid path g) u
+      low = let r = raw-of new (put e.graph path g) form in
+          set-most w u h.blocks h.store h.soup.name h.soup uid h.on h.self_named e found path g r.0 r.1 new r.2 (graph-within new r.3) (fits h uid e found)
 
-  pub vwrite-costs : (path : Path) (at node : ℕ) → large_at e.graph path ≡ Some node → (bytes : List ℕ) → CostsOn u (unless (patch_tests node at (length bytes) e) (patch_bytes (length bytes))) result p q
-      → Costs (most_programmed w (command.Vwrite u name uid path at bytes)) result o q
-  vwrite-costs path at node reach bytes k = named-costs h (λ m. command.Vwrite u m uid path at bytes) (after-read alone k)
-      (vwrite-most w u h.blocks h.store h.soup.name h.soup uid h.on h.self_named e found path at node reach bytes)
+  pub vwrite-costs : (path : Path) (at node : ℕ) → large_at e.graph path ≡ Some node → (bytes : List ℕ)
+      → Spent u (unless (patch_tests node at (length bytes) e) (patch_bytes (length bytes))) (512 * 0 + 512 * its_pages h uid) result p q
+      → CostsOf w (command.Vwrite u name uid path at bytes) result o q
+  vwrite-costs path at node reach bytes k = named-costs h (λ m. command.Vwrite u m uid path at bytes) (after-read seen.alone k.programs) low
+      (λ means. after-seen h uid x same seen (λ _. unless (patch_tests node at (length bytes) e) (patch_bytes (length bytes))) (command.Vwrite u name uid path at bytes) k.reads
+      (named-most u h (λ m. command.Vwrite u m uid path at bytes) low)
+      (same-fits u (512 * its_pages h uid) (512 * 0 + 512 * its_pages h uid) (most_fetched w (command.Vwrite u name uid path at bytes)) (thrice _ _ (named-low h uid))))
+    where
+      low : unless (patch_tests node at (length bytes) e) (patch_bytes (length bytes)) ≤ most_programmed w (command.Vwrite u h.soup.name uid path at bytes) u
+      low = vwrite-most w u h.blocks h.store h.soup.name h.soup uid h.on h.self_named e found path at node reach bytes
 
   module _ {to : ℕ} {target : List ℕ} {into : ℕ} (k : HasSoup w to target into) where
-    pub copy-costs : CostsOn to (added_bytes k.blocks e.graph k.store k.soup x) result p q → Costs (most_programmed w (command.Copy u name uid to target)) result o q
-    copy-costs costs = named-costs k (λ m. command.Copy u name uid to m) (before (added_bytes k.blocks e.graph k.store k.soup) costs)
-        (copy-most w u h.blocks h.store name h.soup uid h.on h.named to k.blocks k.store k.soup.name k.soup k.on k.self_named e found (fits h uid e found))
+    pub copy-costs : Spent to (added_bytes k.blocks e.graph k.store k.soup x) 0 result p q → CostsOf w (command.Copy u name uid to target) result o q
+    copy-costs spent = named-costs k (λ m. command.Copy u name uid to m) (before (added_bytes k.blocks e.graph k.store k.soup) spent.programs) low
+        (λ means. after-seen h uid x same seen (added_bytes k.blocks e.graph k.store k.soup) (command.Copy u name uid to target) spent.reads (named-most to k (λ m. command.Copy u name uid to m) low)
+        (none-fits u (512 * its_pages h uid) to (most_fetched w (command.Copy u name uid to target)) (half _ _ (first-low h uid (next_if_on w to u target)))))
+      where
+        low : added_bytes k.blocks e.graph k.store k.soup w ≤ most_programmed w (command.Copy u name uid to k.soup.name) to
+        low = copy-most w u h.blocks h.store name h.soup uid h.on h.named to k.blocks k.store k.soup.name k.soup k.on k.self_named e found (fits h uid e found)
 
 -- ---- between two stores
 
@@ -139,6 +236,13 @@ module _ (w : World) (u to : ℕ) (name target : List ℕ) (sig into uid : ℕ) 
     (differ : to ≡ u → ⊥) where
   abbrev most : ℕ → ℕ
   most = most_programmed w (command.Move u name uid to target)
+
+  -- the bytes that are fetched for the command
+  abbrev fetches : ℕ → ℕ
+  fetches = most_fetched w (command.Move u name uid to target)
+
+  few : 512 * its_pages h uid ≤ fetches u
+  few = half _ _ (first-low h uid (next_if_on w to u target))
 
   to-most : added_bytes k.blocks e.graph k.store k.soup w ≤ most to
   to-most = subst (λ c. added_bytes k.blocks e.graph k.store k.soup w ≤ most_programmed w c to) (move-named w u to name target sig into uid h k)
@@ -148,18 +252,34 @@ module _ (w : World) (u to : ℕ) (name target : List ℕ) (sig into uid : ℕ) 
   from-most passed = subst (λ c. removed_bytes h.store h.soup e uid ≤ most_programmed w c u) (move-named w u to name target sig into uid h k)
       (move-from-most w u h.blocks h.store h.soup.name h.soup uid h.on h.self_named to k.blocks k.store k.soup.name k.soup k.on k.self_named e found (fits h uid e found) differ passed)
 
-  module _ (x : World) (same : x ≡ w) {o p q : Outside} (alone : (j : ℕ) → LeftAlone j o p) {T : Type 0} {first : Result T StoreFault} where
+  module _ (x : World) (same : x ≡ w) {o p q : Outside} (seen : Seen u (512 * its_pages h uid) o p) {T : Type 0} {first : Result T StoreFault} where
     -- it was added, or was not
-    pub first-costs : CostsOn to (added_bytes k.blocks e.graph k.store k.soup x) first p q → Costs most first o q
-    first-costs costs = on-costs (before h uid e found x same alone (added_bytes k.blocks e.graph k.store k.soup) costs) to-most
+    pub first-costs : Spent to (added_bytes k.blocks e.graph k.store k.soup x) 0 first p q → CostsOf w (command.Move u name uid to target) first o q
+    first-costs spent = on-costs (before h uid e found x same seen (added_bytes k.blocks e.graph k.store k.soup) spent.programs) to-most
+        (λ means. after-seen h uid x same seen (added_bytes k.blocks e.graph k.store k.soup) (command.Move u name uid to target) spent.reads to-most
+        (none-fits u (512 * its_pages h uid) to fetches few))
 
     -- and removed
-    pub whole-costs : {S : Type 0} {second : Result S StoreFault} {r : Outside} → CostsOn to (added_bytes k.blocks e.graph k.store k.soup x) first p q → GoesOn first
-        → first_of (add_tests k.blocks w.minute k.soup.name e.graph k.store k.soup) ≡ None → CostsOn u (removed_bytes h.store h.soup e uid) second q r → Costs most second o r
-    whole-costs added goes passed removed = both-costs (before h uid e found x same alone (added_bytes k.blocks e.graph k.store k.soup) added) removed differ to-most (from-most passed) goes
+    pub whole-costs : {S : Type 0} {second : Result S StoreFault} {r : Outside} → Spent to (added_bytes k.blocks e.graph k.store k.soup x) 0 first p q → GoesOn first
+        → first_of (add_tests k.blocks w.minute k.soup.name e.graph k.store k.soup) ≡ None → Spent u (removed_bytes h.store h.soup e uid) 0 second q r
+        → CostsOf w (command.Move u name uid to target) second o r
+    whole-costs {S} {second} {r} added goes passed removed =
+        both-costs (before h uid e found x same seen (added_bytes k.blocks e.graph k.store k.soup) added.programs) removed.programs differ to-most (from-most passed) goes (λ means. read)
+      where
+        adds : FetchesOn to (added_bytes k.blocks e.graph k.store k.soup w) 0 p q
+        adds = subst (λ (y : World). FetchesOn to (added_bytes k.blocks e.graph k.store k.soup y) 0 p q) same added.reads
+
+        low : (a b : ℕ) → a ≤ b → a + 0 ≤ b
+        low a b h = omega (arith, h)
+
+        read : FetchesWithin most fetches o r
+        read = behind-read most (of_unit u (512 * its_pages h uid)) (λ _. 0) fetches o p r seen.reads seen.moment
+            (both-few most adds removed.reads (added.programs.others u (λ e. differ (sym e))).changes differ to-most (from-most passed))
+            (λ j. low _ _ (of-unit-most u (512 * its_pages h uid) fetches few j))
 
 -- the fault of a call is handed on
-pub handed-costs : {S T : Type 0} {most : ℕ → ℕ} {fault : StoreFault} {result : Result T StoreFault} {o p : Outside} → result ≡ Err fault → Costs {T = S} most (Err fault) o p → Costs most result o p
+pub handed-costs : {S T : Type 0} {most : ℕ → ℕ} {said : Bool} {fetches : ℕ → ℕ} {fault : StoreFault} {result : Result T StoreFault} {o p : Outside} → result ≡ Err fault
+    → Costs {T = S} most said fetches (Err fault) o p → Costs most said fetches result o p
 handed-costs {S} {T} {fault = fault} is costs = costs-of costs (λ goes. go fault (subst (λ r. GoesOn r) is goes))
   where
     go : (f : StoreFault) → GoesOn {T = T} (Err f) → GoesOn {T = S} (Err f)

@@ -11,16 +11,21 @@ use Rattle.newt_laws_world.specs.Answering.{Answering}
 use Rattle.newt_laws_answers.specs.There.{OnUnit}
 use Rattle.newt_laws_answers.proofs.Changes.{SaidAs}
 use Rattle.newt_laws_answers.proofs.Units.{store-alike}
-use Rattle.newt_store_change.specs.Change.{changed_by, answer_of, refusals}
+use Rattle.newt_store_change.specs.Change.{bytes_fetched, changed_by, answer_of, refusals}
 use Rattle.newt_store_change.specs.Faults.{Does, GoesOn}
 use Rattle.newt_store_change.specs.declared.change.Change.{Change}
 use Rattle.newt_store_change.specs.declared.fault.StoreFault.{StoreFault}
 use Rattle.newt_store_change.specs.declared.fault.StoreFault.TheVariants.{Refused, Stop}
-use Rattle.newt_engine_card.specs.Bounds.{CostsOn}
+use Rattle.newt_engine_card.specs.Bounds.{CostsOn, FetchesOn}
 use Rattle.newt_engine_units.specs.Calls.{Changes}
 use Rattle.newt_engine_units.specs.Stands.{world_of}
 use Rattle.newt_engine_units.specs.declared.units.Units.{Units}
 use Rattle.newt_engine_commands.specs.Done.{done_of}
+
+-- what a call on one unit programs and fetches
+pub record Spent {T : Type 0} (u n k : ℕ) (result : Result T StoreFault) (o p : Outside) : Type 0 where
+  pub programs : CostsOn u n result o p
+  pub reads : FetchesOn u n k o p
 
 -- the same tests in other words, the same store after, and what is good of an answer
 does-as : {T : Type 0} (w v : World) (u blocks : ℕ) (s : Store) → OnUnit w u blocks s → (xs ys : Checks) (good fine : T → Type 0) (f g : Store → Store) → first_of xs ≡ first_of ys
@@ -51,8 +56,11 @@ module _ (result : Result ℕ StoreFault) {r : Result (Unit {0}) StoreFault} (is
       go (Ok n) h = tt
       go (Err fault) h = h
 
-  pub done-costs : {u n : ℕ} {o p : Outside} → CostsOn u n result o p → CostsOn u n r o p
-  done-costs c = record { bound = c.bound; open_after = λ goes. c.open_after (done-goes goes); others = c.others }
+  pub done-costs : {u n k : ℕ} {o p : Outside} → Spent u n k result o p → Spent u n k r o p
+  done-costs c = record {
+    programs = record { bound = c.programs.bound; open_after = λ goes. c.programs.open_after (done-goes goes); others = c.programs.others };
+    reads = c.reads;
+  }
 
 module _ {C : Type 0} {reads : List ℕ → Option Store} {place : C → ℕ} {standing : Bool → C → Outside → Type 0} {told : Bool} {u : ℕ} {change : Change} {units later : Units C} {o p : Outside}
     {result : Result ℕ StoreFault} (e : Changes reads place standing told u change units later o p result) (t : IsTrue told) {blocks : ℕ} {s : Store} (on : OnUnit (world_of reads units o) u blocks s)
@@ -71,5 +79,8 @@ module _ {C : Type 0} {reads : List ℕ → Option Store} {place : C → ℕ} {s
   said-moments v makes = e.moments t blocks s on v (λ passed. makes (sym said.tests_are ∙ passed) ∙ ap {B = Option Store} (λ x. Some x) (sym said.made_is))
 
   -- what it costs
-  pub said-costs : CostsOn u most result o p
-  said-costs = subst (λ n. CostsOn u n result o p) said.most_is (e.costs t blocks s on)
+  pub said-costs : Spent u most (bytes_fetched change s) result o p
+  said-costs = record {
+    programs = subst (λ n. CostsOn u n result o p) said.most_is (e.costs t blocks s on);
+    reads = subst (λ n. FetchesOn u n (bytes_fetched change s) o p) said.most_is (e.fetches t blocks s on);
+  }

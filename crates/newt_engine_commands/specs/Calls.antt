@@ -7,12 +7,10 @@ use Rattle.newt_spec_world.specs.Answer.{answer}
 use Rattle.newt_spec_world.specs.Reply.{Reply}
 use Rattle.newt_spec_world.specs.declared.command.Command.TheVariants as command
 use Rattle.newt_laws_world.specs.Answering.{Answering}
-use Rattle.newt_laws_answers.specs.Bounds.{most_programmed}
 use Rattle.newt_store_change.specs.Faults.{GoesOn}
 use Rattle.newt_store_change.specs.declared.fault.StoreFault.{StoreFault}
-use Rattle.newt_engine_card.specs.Bounds.{Costs}
 use Rattle.newt_engine_units.specs.Answers.{Answers}
-use Rattle.newt_engine_units.specs.Calls.{Ended}
+use Rattle.newt_engine_units.specs.Calls.{CostsOf, Ended}
 use Rattle.newt_engine_units.specs.Found.{HasSoup}
 use Rattle.newt_engine_units.specs.Stands.{Stands, world_of}
 use Rattle.newt_engine_units.specs.declared.units.Units.{Units}
@@ -20,11 +18,11 @@ use Rattle.newt_engine_units.specs.declared.units.Units.{Units}
 module _ {C : Type 0} (reads : List ℕ → Option Store) where
   -- An entry is moved as the command by these names of soups moves it: the call answers what the
   -- world answers; at each moment a crash leaves each store as it was or as it is then; and the call
-  -- programs no more than the command may.
+  -- programs and fetches no more than the command may.
   pub record MovesNamed (unit : ℕ) (name : List ℕ) (uid to : ℕ) (target : List ℕ) (old new : Units C) (before after : Outside) (result : Result ℕ StoreFault) : Type 0 where
     pub answered : Answers (world_of reads old before) (world_of reads new after) (command.Move unit name uid to target) (λ n. Reply.number n) result
     pub moments : let w = world_of reads old before in Always (Answering reads w (answer w (command.Move unit name uid to target)).0 before.now) before.now after.now
-    pub costs : Costs (most_programmed (world_of reads old before) (command.Move unit name uid to target)) result before after
+    pub costs : CostsOf (world_of reads old before) (command.Move unit name uid to target) result before after
 
 module _ {C : Type 0} (reads : List ℕ → Option Store) (place : C → ℕ) (standing : Bool → C → Outside → Type 0) where
   -- An entry is moved from one soup to another, each of a mounted store and given by its signature:

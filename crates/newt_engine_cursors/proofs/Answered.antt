@@ -14,7 +14,11 @@ use Rattle.newt_spec_world.specs.World.{World, cursor, free_cursor, hits_of, set
 use Rattle.newt_spec_world.specs.Changed.{changed, cloned, open_at}
 use Rattle.newt_spec_world.specs.Refused.{checks, no_cursor, no_free_cursor}
 use Rattle.newt_spec_world.specs.Answer.{answer, answered, current, fields, or_nil, side}
-use Rattle.newt_engine_cursors.specs.Replies.{side_at}
+use Rattle.newt_query.specs.Filter.{asks_texts}
+use Rattle.newt_engine_cursors.specs.Unread.{is_unread}
+use Rattle.newt_laws_answers.specs.Fetched.{pages_shown}
+use Rattle.newt_laws_world.specs.Settled.{IsSettled}
+use Rattle.newt_engine_cursors.specs.Replies.{shown_at, side_at}
 
 pub refused-answer : (w : World) (c : Command) (r : Refusal) → first_of (checks w c) ≡ Some r → answer w c ≡ (w, Reply.refused r)
 unfolding answer
@@ -71,6 +75,12 @@ pub entry-open : (w v : World) (n : ℕ) (reply : Reply) → is_none (cursor w n
 unfolding checks changed fields
 entry-open w v n reply e after said = done-goal w w v (command.Entry n) reply (open-cursor w n [] e) refl after said
 
+-- and its pages
+pub entry-pages : (w : World) (n : ℕ) → is_none (cursor w n) ≡ false → IsSettled w → (u : ℕ) → pages_shown (shown_at w n) u ≡ pages_shown (answer w (command.Entry n)).1 u
+entry-pages w n e settled u =
+    ap (λ (x : World). pages_shown (shown_at x n) u) (sym settled)
+    ∙ sym (ap (λ (a : World × Reply). pages_shown a.1 u) (entry-open w (settle w) n (shown_at (settle w) n) e refl refl))
+
 pub count-open : (w v : World) (n : ℕ) (reply : Reply) → is_none (cursor w n) ≡ false → v ≡ settle w → reply ≡ or_nil (λ k. Reply.number (length (hits_of w k.query))) (cursor w n) → answer w (command.Count n) ≡ (v, reply)
 unfolding checks changed fields
 count-open w v n reply e after said = done-goal w w v (command.Count n) reply (open-cursor w n [] e) refl after said
@@ -109,3 +119,12 @@ clone-full w n e free =
 pub close-open : (w u v : World) (n : ℕ) → is_none (cursor w n) ≡ false → u ≡ record w { cursors = slice_set w.cursors n None } → v ≡ settle u → answer w (command.Close n) ≡ (v, Reply.done)
 unfolding checks changed fields
 close-open w u v n e is after = done-goal w u v (command.Close n) Reply.done (open-cursor w n [] e) (sym is) after refl
+
+-- the query of an open cursor that asks for no words or texts
+pub unread-open : (o : Option Cursor) (q : Query) → Some q ≡ option_map (λ k. k.query) o → is_unread o ≡ true → asks_texts q.spec ≡ false
+unread-open None q e un = absurd (none-some q (sym e))
+unread-open (Some k) q e un = ap (λ (x : Query). asks_texts x.spec) (some-same q k.query e) ∙ not-true (asks_texts k.query.spec) un
+  where
+    not-true : (b : Bool) → not b ≡ true → b ≡ false
+    not-true true h = cc
+    not-true false h = refl

@@ -1,15 +1,17 @@
 -- The places for cursors, where some change.
-use Rattle.std.proofs.Common.{arith, ◌≡◌, refl, ap, sym, ◌∙◌, ℕ, zero, suc, ◌+◌, ◌≤◌, List, [], ◌∷◌, length, map, find, Option, Some, None, option_map, unwrap_or, add-one}
-use Rattle.std.specs.Prelude.{slice_get}
+use Rattle.std.proofs.Common.{arith, ◌≡◌, refl, ap, sym, ◌∙◌, ◌⊎◌, inl, inr, ℕ, zero, suc, ◌+◌, ◌<◌, ◌≤◌, List, [], ◌∷◌, length, map, find, Option, Some, None, option_map, unwrap_or, add-one}
+use Rattle.std.specs.Prelude.{slice_get, slice_set}
 use Rattle.newt_spec_graph.specs.Lists.{Each}
 use Rattle.newt_spec_graph.proofs.Lists.{some-same, none-some}
 use Rattle.newt_spec_store.specs.Keys.{Key}
 use Rattle.newt_spec_query.specs.Hits.{Hit}
 use Rattle.newt_spec_query.specs.Cursor.{Place, start, finish, on, Cursor, hit_at, settled, same_identity}
-use Rattle.newt_spec_world.specs.World.{World, change_at, flat, hits_of, settle_cursor}
+use Rattle.newt_spec_world.specs.Changed.{open_at, open_cursor}
+use Rattle.newt_spec_world.specs.World.{World, change_at, flat, free_cursor, hits_of, settle_cursor}
 use Rattle.newt_laws_images.proofs.Chosen.{find-passes}
 use Rattle.newt_laws_world.proofs.Settled.{three-equal}
-use Rattle.newt_cursor.specs.Desk.{keyed, with_key}
+use Rattle.newt_cursor.specs.Desk.{keyed, put_on, with_key}
+use Rattle.newt_engine_cursors.specs.Unread.{is_unread}
 use Rattle.newt_keys.specs.KeyForm.{IsKeyOf}
 use Rattle.newt_engine_cursors.specs.Fits.{DeskFits, KeyFits}
 use Rattle.newt_engine_hits.specs.Fits.{PlaceFits}
@@ -53,6 +55,24 @@ change-each P f (x ∷ xs) (suc c) e h = (e.0, change-each P f xs c e.1 h)
 pub change-fits : (f : Cursor → Cursor) (xs : List (Option Cursor)) (c : ℕ) → DeskFits xs → ((k : Cursor) → flat (slice_get xs c) ≡ Some k → KeyFits (Some (f k)))
     → DeskFits (change_at c f xs)
 change-fits f xs c d h = record { places = change-length f xs c ∙ d.places; keys = change-each KeyFits f xs c d.keys h }
+
+-- ---- a cursor that is opened
+
+set-length : (xs : List (Option Cursor)) (c : ℕ) (k : Option Cursor) → length (slice_set xs c k) ≡ length xs
+set-length [] c k = refl
+set-length (x ∷ xs) zero k = refl
+set-length (x ∷ xs) (suc c) k = ap suc (set-length xs c k)
+
+set-each : (P : Option Cursor → Type 0) (xs : List (Option Cursor)) (c : ℕ) (k : Option Cursor) → Each P xs → P k → Each P (slice_set xs c k)
+set-each P [] c k e h = tt
+set-each P (x ∷ xs) zero k e h = (h, e.1)
+set-each P (x ∷ xs) (suc c) k e h = (e.0, set-each P xs c k e.1 h)
+
+pub set-fits : (xs : List (Option Cursor)) (c : ℕ) (k : Option Cursor) → DeskFits xs → KeyFits k → DeskFits (slice_set xs c k)
+set-fits xs c k d h = record { places = set-length xs c k ∙ d.places; keys = set-each KeyFits xs c k d.keys h }
+
+pub opens-at : (w : World) (k : Cursor) (c : ℕ) → free_cursor w ≡ Some c → record w { cursors = slice_set w.cursors c (Some k) } ≡ open_cursor w k
+opens-at w k c e = sym (ap (open_at w k) e)
 
 -- ---- the present key
 
@@ -118,3 +138,35 @@ below-all zero f [] h = refl
 below-all zero f (x ∷ xs) h = absurd (omega (arith, h))
 below-all (suc n) f [] h = refl
 below-all (suc n) f (x ∷ xs) h = ap (λ (ys : List (Option Cursor)). option_map f x ∷ ys) (below-all n f xs (omega (arith, h)))
+
+-- the place that is next is as it was
+pub below-at : (n : ℕ) (f : Cursor → Cursor) (xs : List (Option Cursor)) → flat (slice_get (below n f xs) n) ≡ flat (slice_get xs n)
+unfolding below
+below-at zero f xs = refl
+below-at (suc n) f [] = refl
+below-at (suc n) f (x ∷ xs) = below-at n f xs
+
+-- a number before the next, and one of a place or behind all
+pub one-or-behind : (n m : ℕ) → (n < m) ⊎ (m ≤ n)
+one-or-behind zero zero = inr (omega arith)
+one-or-behind zero (suc m) = inl (omega arith)
+one-or-behind (suc n) zero = inr (omega arith)
+one-or-behind (suc n) (suc m) = elim (one-or-behind n m) [ inl h ↦ inl (omega (arith, h)) | inr h ↦ inr (omega (arith, h)) ]
+
+pub next-or-before : (n m : ℕ) → n < m + 1 → (n < m) ⊎ (n ≡ m)
+next-or-before n m h = elim (one-or-behind n m) [ inl less ↦ inl less | inr more ↦ inr (omega (arith, h, more)) ]
+
+-- there is none behind all
+pub none-behind : (xs : List (Option Cursor)) (n : ℕ) → length xs ≤ n → flat (slice_get xs n) ≡ None
+none-behind [] n h = refl
+none-behind (x ∷ xs) zero h = absurd (omega (arith, h))
+none-behind (x ∷ xs) (suc n) h = none-behind xs n (omega (arith, h))
+
+-- ---- another place
+
+-- a cursor that is put elsewhere has its query
+pub put-unread : (place : Place) (xs : List (Option Cursor)) (c : ℕ) → is_unread (flat (slice_get (change_at c (put_on place) xs) c)) ≡ is_unread (flat (slice_get xs c))
+put-unread place [] c = refl
+put-unread place (None ∷ xs) zero = refl
+put-unread place (Some k ∷ xs) zero = refl
+put-unread place (x ∷ xs) (suc c) = put-unread place xs c

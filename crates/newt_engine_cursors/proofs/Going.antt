@@ -18,7 +18,8 @@ use Rattle.newt_spec_world.specs.Changed.{changed, hit_for, hit_in, put_on, sig_
 use Rattle.newt_spec_world.specs.Refused.{checks, no_cursor, not_a_hit, no_unit, not_mounted, on_some}
 use Rattle.newt_spec_world.specs.Alias.{Spot, resolved}
 use Rattle.newt_spec_world.specs.Answer.{answer, current, fields, or_nil}
-use Rattle.newt_laws_world.specs.Settled.{MountedApart}
+use Rattle.newt_laws_answers.specs.Fetched.{pages_shown}
+use Rattle.newt_laws_world.specs.Settled.{IsSettled, MountedApart, moves_keys}
 use Rattle.newt_laws_answers.specs.Tests.{unit_checks}
 use Rattle.newt_laws_answers.specs.There.{OnUnit}
 use Rattle.newt_laws_answers.proofs.Answers.{unit-passes}
@@ -31,12 +32,15 @@ use Rattle.newt_engine_units.specs.declared.units.Units.{Units}
 use Rattle.newt_store_change.specs.Faults.{RefusesBy}
 use Rattle.newt_engine_units.specs.Stands.{Stands, Eight, card_at, world_of}
 use Rattle.newt_engine_units.proofs.Known.{Laws, bare-sig, card-known, none-mounted}
-use Rattle.newt_engine_hits.specs.Present.{Present, identity, present_in, with_entry}
+use Rattle.newt_spec_store.specs.Keys.{Key}
+use Rattle.newt_engine_hits.specs.Present.{IsPresent, Present, identity, present_in, with_entry}
+use Rattle.newt_engine_hits.specs.declared.present.Present as code
+use Rattle.newt_engine_cursors.proofs.Standing.{present-keys}
 use Rattle.newt_engine_units.specs.Answers.{Answers}
 use Rattle.newt_engine_cursors.specs.Calls.{Shows}
-use Rattle.newt_engine_cursors.specs.Replies.{shown_reply}
+use Rattle.newt_engine_cursors.specs.Replies.{shown_at, shown_reply}
 use Rattle.newt_engine_cursors.specs.declared.show.Shown.{Shown}
-use Rattle.newt_engine_cursors.proofs.Answered.{refused-answer}
+use Rattle.newt_engine_cursors.proofs.Answered.{refused-answer, done-answer}
 use Rattle.newt_engine_cursors.proofs.Answering.{shown-answers, no-cursor, one-cursor}
 use Rattle.newt_engine_hits.proofs.Stores.{find-store}
 
@@ -59,6 +63,10 @@ module _ (w : World) (n u uid : ℕ) where
   goto-shows : (v : World) → fields w v (command.Goto n u uid) ≡ or_nil (current v) (cursor v n)
   unfolding fields
   goto-shows v = refl
+
+  pub goto-few : moves_keys (command.Goto n u uid) ≡ false
+  unfolding moves_keys
+  goto-few = refl
 
   no-unit-goto : (r : Refusal) → first_of (unit_checks w u) ≡ Some r → answer w (command.Goto n u uid) ≡ (w, Reply.refused r)
   no-unit-goto r h = refused-answer w (command.Goto n u uid) r
@@ -89,11 +97,21 @@ module _ (w : World) (n u uid : ℕ) where
       pub no-hit-goto : hit_for w u uid k ≡ None → answer w (command.Goto n u uid) ≡ (w, Reply.refused NoEntry)
       no-hit-goto e = refused-answer w (command.Goto n u uid) NoEntry (hit-tested ∙ ap (λ (o : Option Hit). first_of ((NoEntry, is_none o) ∷ [])) e)
 
-      pub hit-goto : (h : Hit) → hit_for w u uid k ≡ Some h → (v : World) (shown : Shown) → Shows (settle (set_place w n (on h))) v n shown
-          → answer w (command.Goto n u uid) ≡ (v, shown_reply shown)
-      hit-goto h e v shown s =
-          shown-answers w v (set_place w n (on h)) (command.Goto n u uid) n shown (hit-tested ∙ ap (λ (o : Option Hit). first_of ((NoEntry, is_none o) ∷ [])) e)
-          (goto-does ∙ ap (λ (o : Option Cursor). put_on w n (option_and_then (hit_for w u uid) o)) open_one ∙ ap (put_on w n) e) goto-shows s
+      module _ (h : Hit) (e : hit_for w u uid k ≡ Some h) where
+        pub goto-does-so : changed w (command.Goto n u uid) ≡ set_place w n (on h)
+        goto-does-so = goto-does ∙ ap (λ (o : Option Cursor). put_on w n (option_and_then (hit_for w u uid) o)) open_one ∙ ap (put_on w n) e
+
+        passes : first_of (checks w (command.Goto n u uid)) ≡ None
+        passes = hit-tested ∙ ap (λ (o : Option Hit). first_of ((NoEntry, is_none o) ∷ [])) e
+
+        pub hit-goto : IsSettled (set_place w n (on h)) → (v : World) (shown : Shown) → Shows (set_place w n (on h)) v n shown → answer w (command.Goto n u uid) ≡ (v, shown_reply shown)
+        hit-goto settled v shown s = shown-answers w v (set_place w n (on h)) (command.Goto n u uid) n shown passes goto-does-so goto-shows settled s
+
+        pub goto-pages : IsSettled (set_place w n (on h)) → (m : ℕ) → pages_shown (shown_at (set_place w n (on h)) n) m ≡ pages_shown (answer w (command.Goto n u uid)).1 m
+        goto-pages settled m = sym
+            (ap (λ (a : World × Reply). pages_shown a.1 m) (done-answer w (set_place w n (on h)) (command.Goto n u uid) passes goto-does-so)
+            ∙ ap (λ (r : Reply). pages_shown r m) (goto-shows (settle (set_place w n (on h))))
+            ∙ ap (λ (v : World). pages_shown (shown_at v n) m) settled)
 
 -- ---- the soup on a unit
 
@@ -144,6 +162,10 @@ module _ (w : World) (store soup uid : ℕ) where
       on_store None e = absurd (none-some f e)
       on_store (Some m) e = on_soup m.0 m.1 (soup_of soup m.1) e
 
+-- the hit of an identity, of a hit of the code
+abbrev pub seen_made : ℕ → ℕ → ℕ → code.Present → Hit
+seen_made store soup uid p = record { key = p.key; store = store; soup = soup; uid = uid }
+
 -- the hit of an identity
 abbrev pub made : ℕ → ℕ → ℕ → Present → Hit
 made store soup uid p = record { key = p.key; store = store; soup = soup; uid = uid }
@@ -192,3 +214,21 @@ module _ (w : World) (u uid : ℕ) (k : Cursor) (q : Query) (same : k.query ≡ 
           let t = some-same (store, soup) (sig_of w u, p.sig) e in
           found-hit w q store soup uid apart formed x h
           ∙ (λ i. find (λ (h : Hit). (h.store == (t i).0) && (h.soup == (t i).1) && (h.uid == uid)) (hits_of w (sym same i)))
+
+  -- the same of a hit of the code
+  pub present-spot : (store soup : ℕ) → Some (store, soup) ≡ option_map {U = ℕ × ℕ} (λ (p : Soup). (sig_of w u, p.sig)) (soup_in w u q.name) → MountedApart w
+      → Each (λ s. IsTrue (well_formed s)) (mounted_stores w) → (found : Option code.Present) → IsPresent found (present_in w q (identity store soup uid))
+      → option_map (seen_made store soup uid) found ≡ hit_for w u uid k
+  present-spot store soup e apart formed found is =
+      made-seen found ∙ ap (option_map (λ (key : Key). record { key = key; store = store; soup = soup; uid = uid })) (present-keys found (present_in w q (identity store soup uid)) is)
+      ∙ seen-made (present_in w q (identity store soup uid)) ∙ found-spot store soup e apart formed (present_in w q (identity store soup uid)) refl
+    where
+      made-seen : (o : Option code.Present) → option_map (seen_made store soup uid) o
+          ≡ option_map {U = Hit} (λ (key : Key). record { key = key; store = store; soup = soup; uid = uid }) (option_map (λ (p : code.Present). p.key) o)
+      made-seen None = refl
+      made-seen (Some p) = refl
+
+      seen-made : (o : Option Present) → option_map {U = Hit} (λ (key : Key). record { key = key; store = store; soup = soup; uid = uid }) (option_map (λ (p : Present). p.key) o)
+          ≡ option_map (made store soup uid) o
+      seen-made None = refl
+      seen-made (Some p) = refl

@@ -1,5 +1,5 @@
 -- What the world answers to the commands that open a cursor.
-use Rattle.std.proofs.Common.{◌≡◌, refl, ap, sym, ◌∙◌, ℕ, ◌+◌, ◌<◌, List, [], ◌∷◌, ◌++◌, Bool, true, false, ◌||◌, drop, Option, Some, None, option_map, option_and_then}
+use Rattle.std.proofs.Common.{◌≡◌, refl, ap, sym, subst, ◌∙◌, ℕ, ◌+◌, ◌<◌, List, [], ◌∷◌, ◌++◌, Bool, true, false, ◌||◌, drop, Option, Some, None, option_map, option_and_then}
 use Rattle.std.specs.Prelude.{Result, Ok, Err, not, is_none, is_some}
 use Rattle.std.specs.List.{list_any, cons_option}
 use Rattle.newt_base.specs.Refusals.{Checks, first_of}
@@ -16,6 +16,7 @@ use Rattle.newt_spec_world.specs.World.{World, Device, device, free_cursor, moun
 use Rattle.newt_spec_world.specs.Changed.{changed, opened, query_of, sig_of}
 use Rattle.newt_spec_world.specs.Refused.{checks, no_free_cursor, no_soup_anywhere}
 use Rattle.newt_spec_world.specs.Answer.{answer, fields, or_nil}
+use Rattle.newt_laws_world.specs.Settled.{IsSettled, moves_keys}
 use Rattle.newt_laws_answers.specs.Tests.{soup_checks}
 use Rattle.newt_laws_answers.proofs.Firsts.{first-found}
 use Rattle.newt_cursor.specs.declared.query.Query as code
@@ -47,13 +48,13 @@ module _ (w : World) (c : Command) (tests : Checks) (are : checks w c ≡ tests 
     free : (o : Option ℕ) → free_cursor w ≡ o → first_of (checks w c) ≡ first_of ((Limit, is_none o) ∷ [])
     free o e = ap first_of are ∙ first-on tests (no_free_cursor w ∷ []) passed ∙ ap (λ (o : Option ℕ). first_of ((Limit, is_none o) ∷ [])) e
 
-    pub opens-answer : (v : World) (r : Result ℕ StoreFault) → Opens w v p r → Answers w v c (λ n. Reply.number n) r
-    opens-answer v (Ok n) h =
-        done-goal w (opened w q) v c (Reply.number n) (free (Some n) h.0) does (h.1 ∙ ap (λ q. settle (opened w q)) is)
+    pub opens-answer : IsSettled (changed w c) → (v : World) (r : Result ℕ StoreFault) → Opens w v p r → Answers w v c (λ n. Reply.number n) r
+    opens-answer settled v (Ok n) h =
+        done-goal w (opened w q) v c (Reply.number n) (free (Some n) h.0) does (h.1 ∙ ap (opened w) is ∙ sym (subst IsSettled does settled))
         (sym (says (settle (opened w q)) ∙ ap (or_nil Reply.number) h.0))
-    opens-answer v (Err (Refused r)) h =
+    opens-answer settled v (Err (Refused r)) h =
         refused-answer w c r (free None h.1 ∙ ap Some (sym h.0)) ∙ (λ i. (sym h.2 i, Reply.refused r))
-    opens-answer v (Err (Stop stop)) h = tt
+    opens-answer settled v (Err (Stop stop)) h = tt
 
 -- ---- the two commands
 
@@ -64,6 +65,10 @@ abbrev pub all_tests : World → List ℕ → RawGraph → Checks
 all_tests w name g = no_soup_anywhere w name ∷ bind_tests w None name g
 
 module _ (w : World) (u : ℕ) (name : List ℕ) (g : RawGraph) where
+  pub query-few : moves_keys (command.Query u name g) ≡ false
+  unfolding moves_keys
+  query-few = refl
+
   query-are : checks w (command.Query u name g) ≡ query_tests w u name g ++ no_free_cursor w ∷ []
   unfolding checks
   query-are = refl
@@ -79,12 +84,16 @@ module _ (w : World) (u : ℕ) (name : List ℕ) (g : RawGraph) where
   pub query-refused : (fault : StoreFault) → Binds (query_tests w u name g) (query_of w (Some (sig_of w u)) name g) (Err fault) → Answers {T = ℕ} w w (command.Query u name g) (λ n. Reply.number n) (Err fault)
   query-refused fault h = refused-asked w (command.Query u name g) (query_tests w u name g) query-are (query_of w (Some (sig_of w u)) name g) fault h
 
-  pub query-opens : (v : World) (asked : code.Query) → Binds (query_tests w u name g) (query_of w (Some (sig_of w u)) name g) (Ok asked) → (r : Result ℕ StoreFault) → Opens w v (seen asked) r
+  pub query-opens : IsSettled (changed w (command.Query u name g)) → (v : World) (asked : code.Query) → Binds (query_tests w u name g) (query_of w (Some (sig_of w u)) name g) (Ok asked) → (r : Result ℕ StoreFault) → Opens w v (seen asked) r
       → Answers w v (command.Query u name g) (λ n. Reply.number n) r
-  query-opens v asked h r o =
-      opens-answer w (command.Query u name g) (query_tests w u name g) query-are (seen asked) (query_of w (Some (sig_of w u)) name g) query-does query-says h.0 h.1 v r o
+  query-opens settled v asked h r o =
+      opens-answer w (command.Query u name g) (query_tests w u name g) query-are (seen asked) (query_of w (Some (sig_of w u)) name g) query-does query-says h.0 h.1 settled v r o
 
 module _ (w : World) (name : List ℕ) (g : RawGraph) where
+  pub all-few : moves_keys (command.QueryAll name g) ≡ false
+  unfolding moves_keys
+  all-few = refl
+
   all-are : checks w (command.QueryAll name g) ≡ all_tests w name g ++ no_free_cursor w ∷ []
   unfolding checks
   all-are = refl
@@ -109,10 +118,10 @@ module _ (w : World) (name : List ℕ) (g : RawGraph) where
     all-refused fault h = refused-asked w (command.QueryAll name g) (all_tests w name g) all-are (query_of w None name g) fault
         (binds-same (bind_tests w None name g) (all_tests w name g) (query_of w None name g) (query_of w None name g) there refl (Err fault) h)
 
-    pub all-opens : (v : World) (asked : code.Query) → Binds (bind_tests w None name g) (query_of w None name g) (Ok asked) → (r : Result ℕ StoreFault) → Opens w v (seen asked) r
+    pub all-opens : IsSettled (changed w (command.QueryAll name g)) → (v : World) (asked : code.Query) → Binds (bind_tests w None name g) (query_of w None name g) (Ok asked) → (r : Result ℕ StoreFault) → Opens w v (seen asked) r
         → Answers w v (command.QueryAll name g) (λ n. Reply.number n) r
-    all-opens v asked h r o =
-        opens-answer w (command.QueryAll name g) (all_tests w name g) all-are (seen asked) (query_of w None name g) all-does all-says (sym there ∙ h.0) h.1 v r o
+    all-opens settled v asked h r o =
+        opens-answer w (command.QueryAll name g) (all_tests w name g) all-are (seen asked) (query_of w None name g) all-does all-says (sym there ∙ h.0) h.1 settled v r o
 
 -- ---- the soup of a unit
 

@@ -1,5 +1,5 @@
 -- A cursor that stands on a hit.
-use Rattle.std.proofs.Common.{◌≡◌, refl, ap, sym, ◌∙◌, ℕ, find, Option, Some, None, option_map, option_and_then, ◌==◌, IsTrue}
+use Rattle.std.proofs.Common.{◌≡◌, refl, ap, sym, ◌∙◌, ◌*◌, ℕ, Bool, true, false, find, Option, Some, None, option_map, option_and_then, ◌==◌, IsTrue, if◌then◌else◌}
 use Rattle.newt_spec_graph.specs.Lists.{Each}
 use Rattle.newt_spec_graph.proofs.Lists.{some-same, none-some}
 use Rattle.newt_spec_store.specs.Store.{Store, Soup, Entry, entry_of, soup_of}
@@ -15,8 +15,16 @@ use Rattle.newt_laws_images.proofs.Chosen.{find-passes}
 use Rattle.newt_laws_hits.specs.Located.{Located, located}
 use Rattle.newt_laws_hits.proofs.Origins.{origin, hit-located}
 use Rattle.newt_engine_cursors.specs.Keyed.{stands_on, key_now}
-use Rattle.newt_engine_hits.specs.Present.{Present, identity, with_entry, present_in}
+use Rattle.newt_spec_store.specs.Cost.{entry_pages}
+use Rattle.newt_laws_answers.specs.Fetched.{pages_shown}
+use Rattle.newt_engine_hits.specs.Present.{IsPresent, Present, entry_there, fetched_there, identity, with_entry, present_in}
+use Rattle.newt_engine_hits.specs.declared.present.Present as code
+use Rattle.std.specs.Prelude.{not}
+use Rattle.newt_query.specs.Filter.{asks_texts}
+use Rattle.newt_engine_cursors.specs.Replies.{hit_reply}
+use Rattle.newt_engine_cursors.specs.Unread.{is_unread}
 use Rattle.newt_engine_hits.specs.Searched.{located_in}
+use Rattle.newt_engine_hits.proofs.Presence.{present-entry, present-fetched}
 use Rattle.newt_engine_hits.proofs.Stores.{find-store}
 
 -- ---- the entry of a hit is where its signatures say
@@ -95,3 +103,60 @@ module _ (w : World) where
           let same = some-same (q, at) (query, h) e in
           ap present_reply is ∙ spots (find (same_identity at) (hits_of w q))
           ∙ ap (λ (x : Query × Hit). current w (record { query = x.0; place = on x.1 })) same
+
+-- ---- a hit of the code
+
+-- the keys are the same
+pub present-keys : (found : Option code.Present) (x : Option Present) → IsPresent found x → option_map (λ (p : code.Present). p.key) found ≡ option_map (λ (p : Present). p.key) x
+present-keys None x is = ap (option_map (λ (p : Present). p.key)) (sym is)
+present-keys (Some p) None is = absurd is
+present-keys (Some p) (Some y) is = ap Some is.1
+
+-- what is shown of one
+pub record ShownThere (w : World) (q : Query) (at : Hit) (hit : code.Present) (o : Option Cursor) : Type 0 where
+  pub present : Present
+  pub here : present_in w q (identity at.store at.soup at.uid) ≡ Some present
+  pub same : IsPresent (Some hit) (Some present)
+  pub there : entry_there w at.store at.soup at.uid ≡ Some present.entry
+  pub reply_is : hit_reply present ≡ or_nil (current w) o
+  pub pages : (u : ℕ) → fetched_there w at.store at.soup at.uid u ≡ 512 * pages_shown (or_nil (current w) o) u
+
+pub shown-there : (w : World) (o : Option Cursor) (q : Query) (at : Hit) → Some (q, at) ≡ option_and_then stands_on o → (hit : code.Present)
+    → IsPresent (Some hit) (present_in w q (identity at.store at.soup at.uid)) → ShownThere w q at hit o
+shown-there w o q at e hit is = go (present_in w q (identity at.store at.soup at.uid)) refl is
+  where
+    times : (b : Bool) (n : ℕ) → (if b then 512 * n else 0) ≡ 512 * (if b then n else 0)
+    times true n = refl
+    times false n = refl
+
+    go : (r : Option Present) → present_in w q (identity at.store at.soup at.uid) ≡ r → IsPresent (Some hit) r → ShownThere w q at hit o
+    go None f is = absurd is
+    go (Some x) f is =
+        let reply_is : hit_reply x ≡ or_nil (current w) o = ap present_reply (sym f) ∙ shown-present w o q at e (present_in w q (identity at.store at.soup at.uid)) refl in
+        record {
+          present = x;
+          here = f;
+          same = is;
+          there = present-entry w q at.store at.soup at.uid x f;
+          reply_is = reply_is;
+          pages = λ u. present-fetched w q at.store at.soup at.uid x f u ∙ times (x.unit == u) (entry_pages x.entry) ∙ ap (λ (r : Reply). 512 * pages_shown r u) reply_is;
+        }
+
+-- nothing is shown of what is no hit
+pub absent-shown : (w : World) (o : Option Cursor) (q : Query) (at : Hit) → Some (q, at) ≡ option_and_then stands_on o
+    → IsPresent None (present_in w q (identity at.store at.soup at.uid)) → Reply.deleted ≡ or_nil (current w) o
+absent-shown w o q at e is = ap present_reply (sym is) ∙ shown-present w o q at e (present_in w q (identity at.store at.soup at.uid)) refl
+
+-- the query of a cursor that stands on a hit and asks for no words or texts
+pub stands-query : (o : Option Cursor) (q : Query) (at : Hit) → Some (q, at) ≡ option_and_then stands_on o → is_unread o ≡ true → asks_texts q.spec ≡ false
+stands-query None q at e un = absurd (none-some (q, at) (sym e))
+stands-query (Some k) q at e un = go k.query k.place e un
+  where
+    not-true : (b : Bool) → not b ≡ true → b ≡ false
+    not-true true h = cc
+    not-true false h = refl
+
+    go : (query : Query) (place : Place) → Some (q, at) ≡ stands_on (record { query = query; place = place }) → not (asks_texts query.spec) ≡ true → asks_texts q.spec ≡ false
+    go query start e un = absurd (none-some (q, at) (sym e))
+    go query finish e un = absurd (none-some (q, at) (sym e))
+    go query (on h) e un = ap (λ (x : Query × Hit). asks_texts x.0.spec) (some-same (q, at) (query, h) e) ∙ not-true (asks_texts query.spec) un

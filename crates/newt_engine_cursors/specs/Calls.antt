@@ -1,26 +1,32 @@
 -- What the calls on cursors promise. All of it is this project's own.
-use Rattle.std.specs.Prelude.{◌≡◌, ℕ, Bool, IsTrue, List, Option, Result, IfErr, OnOk}
+use Rattle.std.specs.Prelude.{◌≡◌, ◌*◌, ℕ, Bool, true, IsTrue, List, Option, Result, IfErr, OnOk}
 use Rattle.newt_host.specs.Outside.{Outside, NoFault}
 use Rattle.newt_pagebook.specs.Stops.{HasStopCause}
 use Rattle.newt_pagebook.specs.declared.book.Stop.{Stop}
 use Rattle.newt_spec_query.specs.Cursor.{Cursor}
 use Rattle.newt_spec_store.specs.Store.{Store}
-use Rattle.newt_spec_world.specs.Answer.{current, or_nil}
-use Rattle.newt_spec_world.specs.World.{World, cursor}
-use Rattle.newt_laws_world.specs.Settled.{MountedApart}
+use Rattle.newt_spec_world.specs.Answer.{answer}
+use Rattle.newt_spec_world.specs.Reply.{Reply}
+use Rattle.newt_spec_world.specs.World.{World}
+use Rattle.newt_spec_world.specs.declared.command.Command.{Command}
+use Rattle.newt_laws_world.specs.Settled.{IsSettled, MountedApart}
+use Rattle.newt_laws_answers.specs.Fetched.{pages_shown}
 use Rattle.newt_store_change.specs.Faults.{GoesOn, HasFaultCause}
 use Rattle.newt_store_change.specs.declared.fault.StoreFault.{StoreFault}
+use Rattle.newt_engine_card.specs.Bounds.{FetchesAtMost}
+use Rattle.newt_engine_units.specs.Answers.{Answers}
 use Rattle.newt_engine_units.specs.Calls.{AreRead}
 use Rattle.newt_engine_units.specs.declared.units.Units.{Units}
 use Rattle.newt_engine_cursors.specs.Fits.{DeskFits}
-use Rattle.newt_engine_cursors.specs.Replies.{shown_reply}
+use Rattle.newt_engine_cursors.specs.Replies.{shown_at, shown_reply}
+use Rattle.newt_engine_cursors.specs.Unread.{steps_unread}
 use Rattle.newt_engine_cursors.specs.World.{world_with}
 use Rattle.newt_engine_cursors.specs.declared.show.Shown.{Shown}
 
 -- A world is this one, and what a cursor shows there is shown.
 pub record Shows (w v : World) (n : ℕ) (answer : Shown) : Type 0 where
   pub world : v ≡ w
-  pub shown : shown_reply answer ≡ or_nil (current w) (cursor w n)
+  pub shown : shown_reply answer ≡ shown_at w n
 
 module _ {C : Type 0} (reads : List ℕ → Option Store) (place : C → ℕ) (standing : Bool → C → Outside → Type 0) where
   -- A call that settles the cursors `was`, which are then `is`. The units are read alone and the places fit; the world with its cursors has become what is
@@ -33,11 +39,24 @@ module _ {C : Type 0} (reads : List ℕ → Option Store) (place : C → ℕ) (s
     pub cause : IfErr result (λ stop. HasStopCause stop before after)
     pub no_fault : OnOk result (NoFault before after)
 
-  -- A command of cursors. The same, and the world with its cursors has become what the command is answered by.
-  pub record Walks {T : Type 0} (told : Bool) (becomes : World → World → Type 0) (old new : Units C) (was is : List (Option Cursor)) (before after : Outside)
+  -- A call that turns the world with its cursors into another. The units are read alone and the places fit; an end of the run has its cause; and where the
+  -- run goes on, no fault was counted.
+  pub record Turns {T : Type 0} (told : Bool) (becomes : World → World → Type 0) (old new : Units C) (was is : List (Option Cursor)) (before after : Outside)
       (result : Result T StoreFault) : Type 0 where
     pub read : AreRead reads place standing told old new before after
     pub desk : DeskFits is
-    pub answered : IsTrue told → let w = world_with reads old was before in MountedApart w → becomes w (world_with reads new is after)
+    pub turned : IsTrue told → let w = world_with reads old was before in MountedApart w → becomes w (world_with reads new is after)
+    pub cause : IfErr result (λ fault. HasFaultCause fault before after)
+    pub no_fault : GoesOn result → NoFault before after
+
+  -- A command of cursors, in a world whose cursors are settled. It is answered as that world answers it, and the units are read alone; a step of a cursor whose
+  -- query asks for no words or texts fetches the entry that is shown and nothing else, whatever its result is.
+  pub record Walks {T : Type 0} (told : Bool) (command : Command) (reply : T → Reply) (old new : Units C) (was is : List (Option Cursor)) (before after : Outside)
+      (result : Result T StoreFault) : Type 0 where
+    pub read : AreRead reads place standing told old new before after
+    pub desk : DeskFits is
+    pub answered : IsTrue told → let w = world_with reads old was before in MountedApart w → IsSettled w → Answers w (world_with reads new is after) command reply result
+    pub fetches : IsTrue told → let w = world_with reads old was before in MountedApart w → IsSettled w → steps_unread w command ≡ true
+        → FetchesAtMost (λ u. 512 * pages_shown (answer w command).1 u) before after
     pub cause : IfErr result (λ fault. HasFaultCause fault before after)
     pub no_fault : GoesOn result → NoFault before after

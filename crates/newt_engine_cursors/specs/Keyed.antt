@@ -1,10 +1,11 @@
 -- Where a cursor stands, and the key that it takes.
-use Rattle.std.specs.Prelude.{Option, Some, None, option_map}
+use Rattle.std.specs.Prelude.{Option, Some, None, cond, option_map}
 use Rattle.std.specs.Borrow.{Bor}
 use Rattle.newt_spec_store.specs.Keys.{Key}
 use Rattle.newt_spec_query.specs.Hits.{Query, Hit}
 use Rattle.newt_spec_query.specs.Cursor.{Cursor, start, finish, on, hit_at}
 use Rattle.newt_spec_world.specs.World.{World, hits_of}
+use Rattle.newt_laws_reach.specs.Reach.{Reach, is_reached}
 use Rattle.newt_cursor.specs.Seen.{query_of, place_of}
 use Rattle.newt_cursor.specs.declared.query.Query as code
 use Rattle.newt_cursor.specs.declared.place.Place as codes
@@ -20,3 +21,7 @@ stands_on k = elim k.place [ start ↦ None | finish ↦ None | on h ↦ Some (k
 -- the present key of the entry on which a cursor stands; none where it is on no entry, or its entry is no hit (this project's own)
 abbrev pub key_now : World → Cursor → Option Key
 key_now w k = option_map (λ h. h.key) (hit_at (hits_of w k.query) k.place)
+
+-- the same where the entry is reached (this project's own)
+abbrev pub key_where : Reach → World → Cursor → Option Key
+key_where r w k = cond (is_reached r k.place) (key_now w k) None

@@ -2,6 +2,8 @@
 -- or, for a mere word that states no rule, a word of these definitions.
 pub mod World
 pub mod Calls
+pub mod Unread
+pub mod Reached
 pub mod Fits
 pub mod Replies
 pub mod Keyed

@@ -4,7 +4,7 @@ use Rattle.newt_base.specs.declared.Refusal.TheVariants.{Cursor as NoCursor}
 use Rattle.newt_spec_store.specs.Keys.{IndexSpec}
 use Rattle.newt_spec_query.specs.Cursor.{Place, moved, place_at_key}
 use Rattle.newt_spec_world.specs.Changed.{Step, stepped}
-use Rattle.newt_spec_world.specs.World.{World, cursor, settle}
+use Rattle.newt_spec_world.specs.World.{World, cursor}
 use Rattle.newt_keys.specs.KeyForm.{IsKeyOf}
 use Rattle.newt_store_change.specs.declared.fault.StoreFault.{StoreFault}
 use Rattle.newt_store_change.specs.declared.fault.StoreFault.TheVariants.{Refused, Stop}
@@ -32,9 +32,9 @@ pub record CanMove (index : IndexSpec) (from : Place) (by : Motion) : Type 0 whe
   pub place : PlaceFits index from
   pub motion : MotionFits index by
 
--- A cursor of the world w that is open is stepped, all are settled, which makes the world v, and it is shown. One that is not open is refused, and nothing has
--- changed. (this project's own)
+-- A cursor of the world w that is open is stepped, which makes the world v, and it is shown. One that is not open is refused, and nothing has changed.
+-- (this project's own)
 abbrev pub Steers : World → World → ℕ → Step → Result Shown StoreFault → Type 0
-Steers w v n step (Ok shown) = (is_none (cursor w n) ≡ false) × Shows (settle (stepped w n step)) v n shown
+Steers w v n step (Ok shown) = (is_none (cursor w n) ≡ false) × Shows (stepped w n step) v n shown
 Steers w v n step (Err (Refused refusal)) = (is_none (cursor w n) ≡ true) × (refusal ≡ NoCursor) × (v ≡ w)
 Steers w v n step (Err (Stop stop)) = Unit {0}

@@ -8,7 +8,7 @@ use Rattle.newt_spec_store.specs.Store.{Store, soup_named}
 use Rattle.newt_spec_query.specs.Hits.{Query, in_scope}
 use Rattle.newt_spec_world.specs.Changed.{index_for, index_in_soup, opened}
 use Rattle.newt_spec_world.specs.Refused.{bad_query, no_query_index, bad_keys}
-use Rattle.newt_spec_world.specs.World.{World, free_cursor, settle}
+use Rattle.newt_spec_world.specs.World.{World, free_cursor}
 use Rattle.newt_cursor.specs.declared.query.Query as code
 use Rattle.newt_cursor.specs.Seen.{query_of}
 use Rattle.newt_store_change.specs.declared.fault.StoreFault.{StoreFault}
@@ -39,8 +39,8 @@ Binds tests q (Ok query) = (first_of tests ≡ None) × (query_of query ≡ q)
 Binds tests q (Err (Refused refusal)) = first_of tests ≡ Some refusal
 Binds tests q (Err (Stop stop)) = Unit {0}
 
--- a cursor of the query is opened on its first hit and all cursors settle, or no number is free and nothing has changed (this project's own)
+-- a cursor of the query is opened on its first hit, or no number is free and nothing has changed (this project's own)
 abbrev pub Opens : World → World → Query → Result ℕ StoreFault → Type 0
-Opens w v q (Ok c) = (free_cursor w ≡ Some c) × (v ≡ settle (opened w q))
+Opens w v q (Ok c) = (free_cursor w ≡ Some c) × (v ≡ opened w q)
 Opens w v q (Err (Refused refusal)) = (refusal ≡ Limit) × (free_cursor w ≡ None) × (v ≡ w)
 Opens w v q (Err (Stop stop)) = Unit {0}

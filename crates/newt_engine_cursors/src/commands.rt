@@ -1,9 +1,9 @@
 //! The commands that show, count, clone and close a cursor. Where the number is of no open cursor,
 //! each is refused as `Cursor`.
-ghost use Rattle.std.specs.Prelude.{◌≡◌, IfErr, IfOk};
+ghost use Rattle.std.specs.Prelude.{◌≡◌, IfErr};
 ghost use Rattle.newt_cursor.specs.Seen.{place_of};
 ghost use Rattle.newt_spec_world.specs.Reply.{Reply};
-ghost use Rattle.newt_spec_world.specs.World.{World, settle};
+ghost use Rattle.newt_spec_world.specs.World.{World};
 ghost use Rattle.newt_spec_world.specs.declared.command.Command.{Command};
 ghost use Rattle.newt_laws_world.specs.Settled.{IsSettled};
 ghost use Rattle.newt_store_change.specs.Faults.{IsRefusal, NoDevice};
@@ -12,9 +12,8 @@ ghost use Rattle.newt_engine_units.specs.Stands.{Stands};
 ghost use Rattle.newt_engine_cursors.specs.Fits.{DeskFits};
 ghost use Rattle.newt_engine_units.specs.Answers.{Answers};
 ghost use Rattle.newt_engine_cursors.specs.Replies.{shown_reply, side_at, side_reply};
-ghost use Rattle.newt_engine_cursors.specs.Calls.{Settles, Walks, Shows};
+ghost use Rattle.newt_engine_cursors.specs.Calls.{Walks};
 
-use crate::settling::settle;
 use crate::show::{Shown, Side, show};
 use newt_base::Refusal;
 use newt_cursor::{Desk, DeskFault, Place};
@@ -34,14 +33,13 @@ pub fn entry<C: Card, H: Host>(
 ) -> Result<Shown, StoreFault>
     requires stands { Stands C.place C.stands H.told units.old (H.outside host.old) }
     requires desk { DeskFits desk.old }
-    ensures { Walks C.reads C.place C.stands H.told
-        (λ w v. Answers w v (Command.Entry cursor) shown_reply result) units.old units.new
-        desk.old desk.new (H.outside host.old) (H.outside host.new) result }
+    ensures { Walks C.reads C.place C.stands H.told (Command.Entry cursor) shown_reply
+        units.old units.new desk.old desk.new (H.outside host.old) (H.outside host.new) result }
 {
     if desk.place(cursor).is_none() {
         return Err(StoreFault::Refused(Refusal::Cursor));
     }
-    Ok(settle_and_show(units, desk, host, cursor)?)
+    Ok(show(units, desk, host, cursor)?)
 }
 
 /// The number of the hits of a cursor's query.
@@ -53,16 +51,13 @@ pub fn count<C: Card, H: Host>(
 ) -> Result<u32, StoreFault>
     requires stands { Stands C.place C.stands H.told units.old (H.outside host.old) }
     requires desk { DeskFits desk.old }
-    ensures { Walks C.reads C.place C.stands H.told
-        (λ w v. Answers w v (Command.Count cursor) (λ n. Reply.number n) result) units.old units.new
-        desk.old desk.new (H.outside host.old) (H.outside host.new) result }
+    ensures { Walks C.reads C.place C.stands H.told (Command.Count cursor) (λ n. Reply.number n)
+        units.old units.new desk.old desk.new (H.outside host.old) (H.outside host.new) result }
 {
     let Some(query) = desk.query(cursor) else {
         return Err(StoreFault::Refused(Refusal::Cursor));
     };
-    let count = count_hits(units, host, query)?;
-    settle(units, desk, host)?;
-    Ok(count)
+    Ok(count_hits(units, host, query)?)
 }
 
 /// The side of the hits on which a cursor stands.
@@ -112,23 +107,6 @@ pub fn close(desk: &mut Desk, cursor: u8) -> Result<(), StoreFault>
     }
     desk.close(cursor);
     Ok(())
-}
-
-/// Settles all cursors and shows one.
-pub(crate) fn settle_and_show<C: Card, H: Host>(
-    units: &mut Units<C>,
-    desk: &mut Desk,
-    host: &mut H,
-    cursor: u8,
-) -> Result<Shown, Stop>
-    requires stands { Stands C.place C.stands H.told units.old (H.outside host.old) }
-    requires desk { DeskFits desk.old }
-    ensures { Settles C.reads C.place C.stands H.told
-        (λ w v. IfOk result (Shows (settle w) v cursor)) units.old units.new
-        desk.old desk.new (H.outside host.old) (H.outside host.new) result }
-{
-    settle(units, desk, host)?;
-    show(units, desk, host, cursor)
 }
 
 /// The side of the hits on which a place is.

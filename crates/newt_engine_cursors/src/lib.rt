@@ -16,12 +16,14 @@ mod commands;
 mod declared;
 mod desks;
 mod opening;
+mod reach;
 mod settling;
 mod show;
 mod stepping;
 
 pub use commands::{clone_of, close, count, entry, which};
 pub use opening::{query, query_all};
-pub use settling::settle;
+pub use reach::{Aim, Reach, aim_of, reach_by};
+pub use settling::settle_reached;
 pub use show::{Shown, Side};
 pub use stepping::{end, go_to, go_to_key, moveby, next, prev, reset};

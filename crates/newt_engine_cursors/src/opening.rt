@@ -12,11 +12,9 @@ ghost use Rattle.newt_store_change.specs.Faults.{NoDevice};
 ghost use Rattle.newt_engine_units.specs.Stands.{Eight, Stands, world_of};
 ghost use Rattle.newt_engine_cursors.specs.Fits.{DeskFits};
 ghost use Rattle.newt_engine_cursors.specs.Opening.{Binds, Opens, bind_tests};
-ghost use Rattle.newt_engine_units.specs.Answers.{Answers};
-ghost use Rattle.newt_engine_cursors.specs.Calls.{Walks};
+ghost use Rattle.newt_engine_cursors.specs.Calls.{Turns, Walks};
 
 use crate::asking::query_for;
-use crate::settling::settle;
 use newt_base::{Name, Refusal};
 use newt_cursor::{Desk, DeskFault, Query, Scope};
 use newt_engine_card::Card;
@@ -40,9 +38,9 @@ pub fn query<C: Card, H: Host>(
 ) -> Result<u8, StoreFault>
     requires stands { Stands C.place C.stands H.told units.old (H.outside host.old) }
     requires desk { DeskFits desk.old }
-    ensures { Walks C.reads C.place C.stands H.told
-        (λ w v. Answers w v (Command.Query unit name.now graph.now) (λ n. Reply.number n) result)
-        units.old units.new desk.old desk.new (H.outside host.old) (H.outside host.new) result }
+    ensures { Walks C.reads C.place C.stands H.told (Command.Query unit name.now graph.now)
+        (λ n. Reply.number n) units.old units.new desk.old desk.new
+        (H.outside host.old) (H.outside host.new) result }
 {
     let asked = query_on(units, unit, name, graph);
     match asked {
@@ -62,9 +60,9 @@ pub fn query_all<C: Card, H: Host>(
 ) -> Result<u8, StoreFault>
     requires stands { Stands C.place C.stands H.told units.old (H.outside host.old) }
     requires desk { DeskFits desk.old }
-    ensures { Walks C.reads C.place C.stands H.told
-        (λ w v. Answers w v (Command.QueryAll name.now graph.now) (λ n. Reply.number n) result)
-        units.old units.new desk.old desk.new (H.outside host.old) (H.outside host.new) result }
+    ensures { Walks C.reads C.place C.stands H.told (Command.QueryAll name.now graph.now)
+        (λ n. Reply.number n) units.old units.new desk.old desk.new
+        (H.outside host.old) (H.outside host.new) result }
 {
     if !has_soup(units, name) {
         return Err(StoreFault::Refused(Refusal::Soup));
@@ -122,16 +120,13 @@ fn open<C: Card, H: Host>(
 ) -> Result<u8, StoreFault>
     requires stands { Stands C.place C.stands H.told units.old (H.outside host.old) }
     requires desk { DeskFits desk.old }
-    ensures { Walks C.reads C.place C.stands H.told
+    ensures { Turns C.reads C.place C.stands H.told
         (λ w v. Opens w v (query_of query) result) units.old units.new
         desk.old desk.new (H.outside host.old) (H.outside host.new) result }
 {
     let first = outermost(units, host, &query, Way::On)?;
     match desk.open(query, first) {
-        Ok(cursor) => {
-            settle(units, desk, host)?;
-            Ok(cursor)
-        }
+        Ok(cursor) => Ok(cursor),
         Err(DeskFault::Limit) => Err(StoreFault::Refused(Refusal::Limit)),
         Err(DeskFault::Memory) => Err(StoreFault::Stop(Stop::Memory)),
     }

@@ -1,29 +1,32 @@
 //! The commands that move a cursor. Where the number is of no open cursor, each is refused as
 //! `Cursor`.
-ghost use Rattle.std.specs.Prelude.{◌≡◌, true, IsTrue, Some, IfOk, IfSome, option_map};
+ghost use Rattle.std.specs.Prelude.{◌≡◌, ◌*◌, true, IsTrue, Some, IfOk, IfSome, option_map};
 ghost use Rattle.std.specs.Prelude.{slice_get};
 ghost use Rattle.newt_host.specs.Outside.{Outside};
 ghost use Rattle.newt_keys.specs.KeyForm.{IsKeyOf};
 ghost use Rattle.newt_cursor.specs.Seen.{place_of, query_of};
 ghost use Rattle.newt_spec_store.specs.Store.{soup_named};
 ghost use Rattle.newt_spec_query.specs.Cursor.{Cursor};
-ghost use Rattle.newt_spec_world.specs.Changed.{hit_for, key_from, sig_of};
-ghost use Rattle.newt_spec_world.specs.World.{cursor, flat, hits_of, set_place, settle, soup_in};
+ghost use Rattle.newt_spec_world.specs.Changed.{hit_for, key_from, sig_of, stepped};
+ghost use Rattle.newt_spec_world.specs.World.{flat, hits_of, set_place, soup_in};
 ghost use Rattle.newt_spec_world.specs.declared.command.Command.TheVariants as Command;
+ghost use Rattle.newt_laws_answers.specs.Fetched.{pages_shown};
 ghost use Rattle.newt_laws_world.specs.Settled.{MountedApart};
+ghost use Rattle.newt_query.specs.Filter.{asks_texts};
+ghost use Rattle.newt_engine_card.specs.Bounds.{FetchesAtMost};
 ghost use Rattle.newt_engine_units.specs.Stands.{Eight, Stands, world_of};
 ghost use Rattle.newt_index.specs.Spots.{spot_hit};
 ghost use Rattle.newt_engine_cursors.specs.Fits.{DeskFits};
 ghost use Rattle.newt_engine_hits.specs.Fits.{PlaceFits};
 ghost use Rattle.newt_engine_cursors.specs.Motions.{CanMove, MotionFits, Steers, step_of};
-ghost use Rattle.newt_engine_units.specs.Answers.{Answers};
-ghost use Rattle.newt_engine_cursors.specs.Replies.{shown_reply};
+ghost use Rattle.newt_engine_cursors.specs.Replies.{shown_at, shown_reply};
+ghost use Rattle.newt_engine_cursors.specs.Unread.{is_unread};
+ghost use Rattle.newt_engine_cursors.specs.World.{world_with};
 ghost use Rattle.newt_engine_hits.specs.Calls.{IsReading};
-ghost use Rattle.newt_engine_cursors.specs.Calls.{Settles, Walks, Shows};
+ghost use Rattle.newt_engine_cursors.specs.Calls.{Settles, Shows, Turns, Walks};
 
-use crate::commands::settle_and_show;
 use crate::desks::open_cursor;
-use crate::show::Shown;
+use crate::show::{Shown, show};
 use newt_base::{Name, Refusal, Sig, Uid};
 use newt_cursor::{Desk, Place, Query};
 use newt_engine_card::Card;
@@ -59,9 +62,8 @@ pub fn next<C: Card, H: Host>(
 ) -> Result<Shown, StoreFault>
     requires stands { Stands C.place C.stands H.told units.old (H.outside host.old) }
     requires desk { DeskFits desk.old }
-    ensures { Walks C.reads C.place C.stands H.told
-        (λ w v. Answers w v (Command.Next cursor) shown_reply result) units.old units.new
-        desk.old desk.new (H.outside host.old) (H.outside host.new) result }
+    ensures { Walks C.reads C.place C.stands H.told (Command.Next cursor) shown_reply
+        units.old units.new desk.old desk.new (H.outside host.old) (H.outside host.new) result }
 {
     steer(units, desk, host, cursor, Motion::Step(Way::On))
 }
@@ -75,9 +77,8 @@ pub fn prev<C: Card, H: Host>(
 ) -> Result<Shown, StoreFault>
     requires stands { Stands C.place C.stands H.told units.old (H.outside host.old) }
     requires desk { DeskFits desk.old }
-    ensures { Walks C.reads C.place C.stands H.told
-        (λ w v. Answers w v (Command.Prev cursor) shown_reply result) units.old units.new
-        desk.old desk.new (H.outside host.old) (H.outside host.new) result }
+    ensures { Walks C.reads C.place C.stands H.told (Command.Prev cursor) shown_reply
+        units.old units.new desk.old desk.new (H.outside host.old) (H.outside host.new) result }
 {
     steer(units, desk, host, cursor, Motion::Step(Way::Back))
 }
@@ -91,9 +92,8 @@ pub fn reset<C: Card, H: Host>(
 ) -> Result<Shown, StoreFault>
     requires stands { Stands C.place C.stands H.told units.old (H.outside host.old) }
     requires desk { DeskFits desk.old }
-    ensures { Walks C.reads C.place C.stands H.told
-        (λ w v. Answers w v (Command.Reset cursor) shown_reply result) units.old units.new
-        desk.old desk.new (H.outside host.old) (H.outside host.new) result }
+    ensures { Walks C.reads C.place C.stands H.told (Command.Reset cursor) shown_reply
+        units.old units.new desk.old desk.new (H.outside host.old) (H.outside host.new) result }
 {
     steer(units, desk, host, cursor, Motion::Leap(Way::On))
 }
@@ -107,9 +107,8 @@ pub fn end<C: Card, H: Host>(
 ) -> Result<Shown, StoreFault>
     requires stands { Stands C.place C.stands H.told units.old (H.outside host.old) }
     requires desk { DeskFits desk.old }
-    ensures { Walks C.reads C.place C.stands H.told
-        (λ w v. Answers w v (Command.End cursor) shown_reply result) units.old units.new
-        desk.old desk.new (H.outside host.old) (H.outside host.new) result }
+    ensures { Walks C.reads C.place C.stands H.told (Command.End cursor) shown_reply
+        units.old units.new desk.old desk.new (H.outside host.old) (H.outside host.new) result }
 {
     steer(units, desk, host, cursor, Motion::Leap(Way::Back))
 }
@@ -124,9 +123,8 @@ pub fn moveby<C: Card, H: Host>(
 ) -> Result<Shown, StoreFault>
     requires stands { Stands C.place C.stands H.told units.old (H.outside host.old) }
     requires desk { DeskFits desk.old }
-    ensures { Walks C.reads C.place C.stands H.told
-        (λ w v. Answers w v (Command.Moveby cursor by) shown_reply result) units.old units.new
-        desk.old desk.new (H.outside host.old) (H.outside host.new) result }
+    ensures { Walks C.reads C.place C.stands H.told (Command.Moveby cursor by) shown_reply
+        units.old units.new desk.old desk.new (H.outside host.old) (H.outside host.new) result }
 {
     steer(units, desk, host, cursor, Motion::By(by))
 }
@@ -143,9 +141,8 @@ pub fn go_to_key<C: Card, H: Host>(
 ) -> Result<Shown, StoreFault>
     requires stands { Stands C.place C.stands H.told units.old (H.outside host.old) }
     requires desk { DeskFits desk.old }
-    ensures { Walks C.reads C.place C.stands H.told
-        (λ w v. Answers w v (Command.Gotokey cursor graph.now) shown_reply result) units.old
-        units.new desk.old desk.new (H.outside host.old) (H.outside host.new) result }
+    ensures { Walks C.reads C.place C.stands H.told (Command.Gotokey cursor graph.now) shown_reply
+        units.old units.new desk.old desk.new (H.outside host.old) (H.outside host.new) result }
 {
     let Some((query, _)) = open_cursor(desk, cursor) else {
         return Err(StoreFault::Refused(Refusal::Cursor));
@@ -169,9 +166,8 @@ pub fn go_to<C: Card, H: Host>(
 ) -> Result<Shown, StoreFault>
     requires stands { Stands C.place C.stands H.told units.old (H.outside host.old) }
     requires desk { DeskFits desk.old }
-    ensures { Walks C.reads C.place C.stands H.told
-        (λ w v. Answers w v (Command.Goto cursor unit uid) shown_reply result) units.old units.new
-        desk.old desk.new (H.outside host.old) (H.outside host.new) result }
+    ensures { Walks C.reads C.place C.stands H.told (Command.Goto cursor unit uid) shown_reply
+        units.old units.new desk.old desk.new (H.outside host.old) (H.outside host.new) result }
 {
     units.find_unit(unit)?;
     let Some((query, _)) = open_cursor(desk, cursor) else {
@@ -183,7 +179,7 @@ pub fn go_to<C: Card, H: Host>(
     Ok(move_to(units, desk, host, cursor, Place::On(spot))?)
 }
 
-/// Moves a cursor, settles all, and shows it. Only where it is not open is it refused.
+/// Moves a cursor, and shows it. Only where it is not open is it refused.
 fn steer<C: Card, H: Host>(
     units: &mut Units<C>,
     desk: &mut Desk,
@@ -195,9 +191,14 @@ fn steer<C: Card, H: Host>(
     requires desk { DeskFits desk.old }
     requires fits { (k : Cursor) → flat (slice_get desk.old cursor) ≡ Some k
         → MotionFits k.query.spec.index motion }
-    ensures { Walks C.reads C.place C.stands H.told
+    ensures turns { Turns C.reads C.place C.stands H.told
         (λ w v. Steers w v cursor (step_of motion) result) units.old units.new
         desk.old desk.new (H.outside host.old) (H.outside host.new) result }
+    ensures fetches { IsTrue H.told
+        → let w = world_with C.reads units.old desk.old (H.outside host.old) in MountedApart w
+        → is_unread (flat (slice_get desk.old cursor)) ≡ true → FetchesAtMost
+        (λ u. 512 * pages_shown (shown_at (stepped w cursor (step_of motion)) cursor) u)
+        (H.outside host.old) (H.outside host.new) }
 {
     let Some((query, place)) = open_cursor(desk, cursor) else {
         return Err(StoreFault::Refused(Refusal::Cursor));
@@ -216,8 +217,8 @@ fn target<C: Card, H: Host>(
 ) -> Result<Place, Stop>
     requires stands { Stands C.place C.stands H.told units.old (H.outside host.old) }
     requires fits { CanMove query.now.spec.index (place_of place.now) motion }
-    ensures reading { IsReading C.reads C.place C.stands H.told units.old units.new
-        (H.outside host.old) (H.outside host.new) result }
+    ensures reading { IsReading C.reads C.place C.stands (asks_texts query.now.spec) H.told
+        units.old units.new (H.outside host.old) (H.outside host.new) result }
     ensures fits { IfOk result (λ place. PlaceFits query.now.spec.index (place_of place)) }
     ensures place { IsTrue H.told → let w = world_of C.reads units.old (H.outside host.old) in
         let q = query_of query.now in MountedApart w
@@ -235,7 +236,7 @@ fn target<C: Card, H: Host>(
     }
 }
 
-/// Puts a cursor at a place, settles all, and shows it.
+/// Puts a cursor at a place, and shows it.
 fn move_to<C: Card, H: Host>(
     units: &mut Units<C>,
     desk: &mut Desk,
@@ -247,12 +248,17 @@ fn move_to<C: Card, H: Host>(
     requires desk { DeskFits desk.old }
     requires fits { (k : Cursor) → flat (slice_get desk.old cursor) ≡ Some k
         → PlaceFits k.query.spec.index (place_of place) }
-    ensures { Settles C.reads C.place C.stands H.told
-        (λ w v. IfOk result (Shows (settle (set_place w cursor (place_of place))) v cursor))
+    ensures moved { Settles C.reads C.place C.stands H.told
+        (λ w v. IfOk result (Shows (set_place w cursor (place_of place)) v cursor))
         units.old units.new desk.old desk.new (H.outside host.old) (H.outside host.new) result }
+    ensures fetches { IsTrue H.told
+        → let w = world_with C.reads units.old desk.old (H.outside host.old) in MountedApart w
+        → is_unread (flat (slice_get desk.old cursor)) ≡ true → FetchesAtMost
+        (λ u. 512 * pages_shown (shown_at (set_place w cursor (place_of place)) cursor) u)
+        (H.outside host.old) (H.outside host.new) }
 {
     desk.step(cursor, place);
-    settle_and_show(units, desk, host, cursor)
+    show(units, desk, host, cursor)
 }
 
 /// The key that a literal writes down, if it is one of the query's index.
@@ -275,8 +281,8 @@ fn spot_on<C: Card, H: Host>(
     uid: Uid,
 ) -> Result<Option<Spot>, Stop>
     requires { Stands C.place C.stands H.told units.old (H.outside host.old) }
-    ensures reading { IsReading C.reads C.place C.stands H.told units.old units.new
-        (H.outside host.old) (H.outside host.new) result }
+    ensures reading { IsReading C.reads C.place C.stands (asks_texts query.now.spec) H.told
+        units.old units.new (H.outside host.old) (H.outside host.new) result }
     ensures key { IfOk result (λ found. IfSome found (λ spot. IsKeyOf query.now.spec.index
         spot.key)) }
     ensures found { IsTrue H.told → let w = world_of C.reads units.old (H.outside host.old) in
@@ -298,7 +304,7 @@ fn spot_on<C: Card, H: Host>(
 }
 
 /// The signatures of the store that is mounted on a unit and of its soup of a name.
-fn soup_on<C: Card>(units: &Units<C>, unit: Unit, name: &Name) -> Option<(Sig, Sig)>
+pub(crate) fn soup_on<C: Card>(units: &Units<C>, unit: Unit, name: &Name) -> Option<(Sig, Sig)>
     ensures { (outside : Outside) → Eight outside → Stands C.place C.stands true units.now outside
         → let w = world_of C.reads units.now outside in
         result ≡ option_map (λ p. (sig_of w unit, p.sig)) (soup_in w unit name.now) }

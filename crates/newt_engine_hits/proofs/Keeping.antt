@@ -1,10 +1,11 @@
 -- Whether an entry of the store of one unit passes.
 use Rattle.std.proofs.Common.{◌≡◌, refl, ap, sym, ◌∙◌, ℕ, List, Bool, true, false, ◌&&◌, find, Option, Some, None, option_map, option_and_then, ◌==◌}
-use Rattle.std.specs.Prelude.{is_some}
-use Rattle.newt_spec_graph.proofs.Lists.{some-same, none-some, both-ways}
+use Rattle.newt_spec_graph.proofs.Lists.{some-same, none-some}
 use Rattle.newt_graph.specs.Graph.{RawGraph}
 use Rattle.newt_spec_store.specs.Store.{Store, Soup, Entry, TagTable, entry_of, soup_of, entry_at}
 use Rattle.newt_spec_query.specs.Hits.{Query, Hit, passes}
+use Rattle.newt_tags.specs.Masks.{mask_by}
+use Rattle.newt_engine_card.specs.Cards.{mask_at}
 use Rattle.newt_query.specs.Filter.{in_range}
 use Rattle.newt_laws_hits.specs.Stripped.{entry_passes, passing}
 use Rattle.newt_engine_hits.specs.Searched.{located_in, keeps_in}
@@ -52,17 +53,21 @@ module _ (q : Query) (s : Store) (h : Hit) where
       go None e = absurd (none-some x e)
       go (Some p) e = entry p (entry_of h.uid p) e
 
-  -- whatever the entry's graph is
-  pub unread-kept : (b : Bool) → is_some (entry_at h.soup h.uid s) ≡ true → table_in h.soup s ≡ None → ((g : RawGraph) → b ≡ (in_range q.spec h.key && passes q.spec None g)) → b ≡ keeps_in q s h
-  unread-kept b there none is = go (entry_at h.soup h.uid s) refl there
+  -- the mask of the entry
+  pub masked-kept : (mask : ℕ) (table : Option TagTable) (b : Bool) → table ≡ table_in h.soup s → Some mask ≡ mask_at h.soup h.uid s
+      → ((g : RawGraph) → mask ≡ mask_by table g → b ≡ (in_range q.spec h.key && passes q.spec table g)) → b ≡ keeps_in q s h
+  masked-kept mask table b same has is = go (entry_at h.soup h.uid s) refl has
     where
-      go : (o : Option Entry) → entry_at h.soup h.uid s ≡ o → is_some o ≡ true → b ≡ keeps_in q s h
-      go None e k = absurd (both-ways k)
-      go (Some x) e k = there-kept x b (sym e) (is x.graph ∙ ap (λ t. in_range q.spec h.key && passes q.spec t x.graph) (sym none))
+      go : (o : Option Entry) → entry_at h.soup h.uid s ≡ o → Some mask ≡ option_map (λ e. mask_by (table_in h.soup s) e.graph) o → b ≡ keeps_in q s h
+      go None e k = absurd (none-some mask (sym k))
+      go (Some x) e k =
+          there-kept x b (sym e) (is x.graph (some-same mask (mask_by (table_in h.soup s) x.graph) k ∙ ap (λ (t : Option TagTable). mask_by t x.graph) (sym same))
+          ∙ ap (λ (t : Option TagTable). in_range q.spec h.key && passes q.spec t x.graph) same)
 
-  pub missing-not-kept : is_some (entry_at h.soup h.uid s) ≡ false → false ≡ keeps_in q s h
-  missing-not-kept k = go (entry_at h.soup h.uid s) refl k
+  -- there is none
+  pub no-mask : None ≡ mask_at h.soup h.uid s → false ≡ keeps_in q s h
+  no-mask k = go (entry_at h.soup h.uid s) refl k
     where
-      go : (o : Option Entry) → entry_at h.soup h.uid s ≡ o → is_some o ≡ false → false ≡ keeps_in q s h
+      go : (o : Option Entry) → entry_at h.soup h.uid s ≡ o → None ≡ option_map (λ e. mask_by (table_in h.soup s) e.graph) o → false ≡ keeps_in q s h
       go None e k = gone-not-kept (sym e)
-      go (Some x) e k = absurd (both-ways (sym k))
+      go (Some x) e k = absurd (none-some (mask_by (table_in h.soup s) x.graph) k)

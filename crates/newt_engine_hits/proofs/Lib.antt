@@ -6,3 +6,4 @@ pub mod Searching
 pub mod Walking
 pub mod Cards
 pub mod Counted
+pub mod Ranged

@@ -1,5 +1,6 @@
 //! The number of the hits of a query.
 ghost use Rattle.std.specs.Prelude.{◌≡◌, ◌+◌, ◌^◌, ◌<◌, IsTrue, IfOk, cond, length};
+ghost use Rattle.newt_query.specs.Filter.{asks_texts};
 ghost use Rattle.newt_cursor.specs.Seen.{query_of};
 ghost use Rattle.newt_spec_world.specs.World.{hits_of};
 ghost use Rattle.newt_laws_world.specs.Settled.{MountedApart};
@@ -23,8 +24,8 @@ pub fn count_hits<C: Card, H: Host>(
     query: &Query,
 ) -> Result<u32, Stop>
     requires { Stands C.place C.stands H.told units.old (H.outside host.old) }
-    ensures reading { IsReading C.reads C.place C.stands H.told units.old units.new
-        (H.outside host.old) (H.outside host.new) result }
+    ensures reading { IsReading C.reads C.place C.stands (asks_texts query.now.spec) H.told
+        units.old units.new (H.outside host.old) (H.outside host.new) result }
     ensures count { IsTrue H.told → let w = world_of C.reads units.old (H.outside host.old) in
         let q = query_of query.now in MountedApart w → IfOk result
         (λ count. count ≡ length (hits_of w q)) }

@@ -1,9 +1,10 @@
 //! Whether a hit of an index alone is one of the query.
-ghost use Rattle.std.specs.Prelude.{◌≡◌, ℕ, true, false, IsTrue, None, option_and_then, IfOk};
+ghost use Rattle.std.specs.Prelude.{◌≡◌, ℕ, true, false, IsTrue, Some, IfOk};
+ghost use Rattle.newt_host.specs.Moments.{image};
 ghost use Rattle.newt_host.specs.Outside.{Outside};
 ghost use Rattle.newt_cursor.specs.Seen.{query_of};
 ghost use Rattle.newt_query.specs.Filter.{asks_texts};
-ghost use Rattle.newt_spec_store.specs.Store.{Store, soup_of};
+ghost use Rattle.newt_spec_store.specs.Store.{Store};
 ghost use Rattle.newt_spec_world.specs.World.{mounted_stores};
 ghost use Rattle.newt_laws_answers.specs.There.{OnUnit};
 ghost use Rattle.newt_laws_hits.specs.Stripped.{passing};
@@ -20,10 +21,9 @@ use newt_host::{Host, Unit};
 use newt_index::Spot;
 use newt_pagebook::Stop;
 use newt_query::{is_kept, is_kept_unread};
-use std::alloc::AllocError;
 
 /// Whether a query keeps a hit: its key is in the range, and its entry is there and passes. The
-/// entry is read only where words or texts are asked for or its soup declares tags.
+/// entry is read only where words or texts are asked for.
 pub(crate) fn keeps<C: Card, H: Host>(
     units: &mut Units<C>,
     host: &mut H,
@@ -31,8 +31,8 @@ pub(crate) fn keeps<C: Card, H: Host>(
     spot: &Spot,
 ) -> Result<bool, Stop>
     requires { Stands C.place C.stands H.told units.old (H.outside host.old) }
-    ensures reading { IsReading C.reads C.place C.stands H.told units.old units.new
-        (H.outside host.old) (H.outside host.new) result }
+    ensures reading { IsReading C.reads C.place C.stands (asks_texts query.now.spec) H.told
+        units.old units.new (H.outside host.old) (H.outside host.new) result }
     ensures kept { IsTrue H.told → IfOk result (λ kept. kept ≡ passing
         (mounted_stores (world_of C.reads units.old (H.outside host.old))) (query_of query.now)
         (spot_hit spot.now)) }
@@ -43,22 +43,11 @@ pub(crate) fn keeps<C: Card, H: Host>(
     let Some(unit) = units.unit_of(spot.store) else {
         return Ok(false);
     };
-    if is_read(units, unit, query, spot) {
+    if query.spec.needs_graph() {
         keeps_read(units, host, unit, query, spot)
     } else {
-        Ok(keeps_unread(units, unit, query, spot)?)
+        Ok(keeps_unread(units, unit, query, spot))
     }
-}
-
-/// Whether the entry has to be read: words or texts are asked for, or its soup declares tags.
-fn is_read<C: Card>(units: &Units<C>, unit: Unit, query: &Query, spot: &Spot) -> bool
-    ensures texts { result ≡ false → asks_texts query.now.spec ≡ false }
-    ensures tags { result ≡ false → (outside : Outside) → Eight outside
-        → Stands C.place C.stands true units.now outside → (blocks : ℕ) (s : Store)
-        → OnUnit (world_of C.reads units.now outside) unit blocks s →
-        option_and_then (λ p. p.tags) (soup_of spot.now.soup s) ≡ None }
-{
-    query.spec.needs_graph() || table_on(units, unit, spot.soup).is_some()
 }
 
 /// Whether a query keeps a hit whose entry is read.
@@ -71,7 +60,7 @@ fn keeps_read<C: Card, H: Host>(
 ) -> Result<bool, Stop>
     requires stands { Stands C.place C.stands H.told units.old (H.outside host.old) }
     requires mounted { mounted_in units.old.slots.items unit ≡ true }
-    ensures reading { IsReading C.reads C.place C.stands H.told units.old units.new
+    ensures reading { IsReading C.reads C.place C.stands true H.told units.old units.new
         (H.outside host.old) (H.outside host.new) result }
     ensures kept { IsTrue H.told → (blocks : ℕ) (s : Store)
         → OnUnit (world_of C.reads units.old (H.outside host.old)) unit blocks s →
@@ -87,22 +76,27 @@ fn keeps_read<C: Card, H: Host>(
 }
 
 /// Whether a query keeps a hit whose entry need not be read.
-fn keeps_unread<C: Card>(
-    units: &Units<C>,
-    unit: Unit,
-    query: &Query,
-    spot: &Spot,
-) -> Result<bool, AllocError>
+fn keeps_unread<C: Card>(units: &Units<C>, unit: Unit, query: &Query, spot: &Spot) -> bool
     requires { asks_texts query.now.spec ≡ false }
     ensures { (outside : Outside) → Eight outside → Stands C.place C.stands true units.now outside
-        → (blocks : ℕ) (s : Store) → OnUnit (world_of C.reads units.now outside) unit blocks s →
-        option_and_then (λ p. p.tags) (soup_of spot.now.soup s) ≡ None
-        → IfOk result (λ kept. kept ≡ keeps_in (query_of query.now) s (spot_hit spot.now)) }
+        → (blocks : ℕ) (s : Store) → OnUnit (world_of C.reads units.now outside) unit blocks s
+        → result ≡ keeps_in (query_of query.now) s (spot_hit spot.now) }
 {
     match units.card(unit) {
-        Some(card) if card.has(spot.soup, spot.uid) => {
-            is_kept_unread(units.alloc(), &query.spec, &spot.key)
-        }
-        _ => Ok(false),
+        Some(card) => is_kept_on(card, query, spot),
+        None => false,
+    }
+}
+
+/// Whether a query keeps a hit of the store of a card, whose entry need not be read.
+fn is_kept_on<C: Card>(card: &C, query: &Query, spot: &Spot) -> bool
+    requires { asks_texts query.now.spec ≡ false }
+    ensures { (outside : Outside) (s : Store) → C.stands true card.now outside
+        → C.reads (image (C.place card.now) outside.now) ≡ Some s →
+        result ≡ keeps_in (query_of query.now) s (spot_hit spot.now) }
+{
+    match card.mask(spot.soup, spot.uid) {
+        Some(mask) => is_kept_unread(&query.spec, &spot.key, card.tags(spot.soup), mask),
+        None => false,
     }
 }

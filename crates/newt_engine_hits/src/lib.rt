@@ -18,5 +18,5 @@ mod ways;
 
 pub use counting::count_hits;
 pub use places::{at_key, moved, outermost, step};
-pub use present::{Present, find_hit, in_scope};
+pub use present::{Present, find_hit, hit_key, in_scope, read_entry};
 pub use ways::Way;

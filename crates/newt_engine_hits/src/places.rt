@@ -1,6 +1,7 @@
 //! Where a cursor comes to.
 ghost use Rattle.std.specs.Prelude.{◌≡◌, IsTrue, IfOk};
 ghost use Rattle.newt_keys.specs.KeyForm.{IsKeyOf};
+ghost use Rattle.newt_query.specs.Filter.{asks_texts};
 ghost use Rattle.newt_cursor.specs.Seen.{query_of, place_of};
 ghost use Rattle.newt_spec_query.specs.Cursor.{moved, place_at_key, repeated};
 ghost use Rattle.newt_spec_world.specs.World.{hits_of};
@@ -28,8 +29,8 @@ pub fn outermost<C: Card, H: Host>(
     way: Way,
 ) -> Result<Place, Stop>
     requires { Stands C.place C.stands H.told units.old (H.outside host.old) }
-    ensures reading { IsReading C.reads C.place C.stands H.told units.old units.new
-        (H.outside host.old) (H.outside host.new) result }
+    ensures reading { IsReading C.reads C.place C.stands (asks_texts query.now.spec) H.told
+        units.old units.new (H.outside host.old) (H.outside host.new) result }
     ensures fits { IfOk result (λ place. PlaceFits query.now.spec.index (place_of place)) }
     ensures place { IsTrue H.told → let w = world_of C.reads units.old (H.outside host.old) in
         let q = query_of query.now in MountedApart w → IfOk result
@@ -49,8 +50,8 @@ pub fn step<C: Card, H: Host>(
 ) -> Result<Place, Stop>
     requires stands { Stands C.place C.stands H.told units.old (H.outside host.old) }
     requires fits { PlaceFits query.now.spec.index (place_of place.now) }
-    ensures reading { IsReading C.reads C.place C.stands H.told units.old units.new
-        (H.outside host.old) (H.outside host.new) result }
+    ensures reading { IsReading C.reads C.place C.stands (asks_texts query.now.spec) H.told
+        units.old units.new (H.outside host.old) (H.outside host.new) result }
     ensures fits { IfOk result (λ place. PlaceFits query.now.spec.index (place_of place)) }
     ensures place { IsTrue H.told → let w = world_of C.reads units.old (H.outside host.old) in
         let q = query_of query.now in MountedApart w → IfOk result
@@ -83,8 +84,8 @@ fn steps<C: Card, H: Host>(
 ) -> Result<Place, Stop>
     requires stands { Stands C.place C.stands H.told units.old (H.outside host.old) }
     requires fits { PlaceFits query.now.spec.index (place_of from) }
-    ensures reading { IsReading C.reads C.place C.stands H.told units.old units.new
-        (H.outside host.old) (H.outside host.new) result }
+    ensures reading { IsReading C.reads C.place C.stands (asks_texts query.now.spec) H.told
+        units.old units.new (H.outside host.old) (H.outside host.new) result }
     ensures fits { IfOk result (λ place. PlaceFits query.now.spec.index (place_of place)) }
     ensures place { IsTrue H.told → let w = world_of C.reads units.old (H.outside host.old) in
         let q = query_of query.now in MountedApart w → IfOk result
@@ -121,8 +122,8 @@ pub fn moved<C: Card, H: Host>(
 ) -> Result<Place, Stop>
     requires stands { Stands C.place C.stands H.told units.old (H.outside host.old) }
     requires fits { PlaceFits query.now.spec.index (place_of from) }
-    ensures reading { IsReading C.reads C.place C.stands H.told units.old units.new
-        (H.outside host.old) (H.outside host.new) result }
+    ensures reading { IsReading C.reads C.place C.stands (asks_texts query.now.spec) H.told
+        units.old units.new (H.outside host.old) (H.outside host.new) result }
     ensures fits { IfOk result (λ place. PlaceFits query.now.spec.index (place_of place)) }
     ensures place { IsTrue H.told → let w = world_of C.reads units.old (H.outside host.old) in
         let q = query_of query.now in MountedApart w → IfOk result
@@ -144,8 +145,8 @@ pub fn at_key<C: Card, H: Host>(
 ) -> Result<Place, Stop>
     requires stands { Stands C.place C.stands H.told units.old (H.outside host.old) }
     requires key { IsKeyOf query.now.spec.index key.now }
-    ensures reading { IsReading C.reads C.place C.stands H.told units.old units.new
-        (H.outside host.old) (H.outside host.new) result }
+    ensures reading { IsReading C.reads C.place C.stands (asks_texts query.now.spec) H.told
+        units.old units.new (H.outside host.old) (H.outside host.new) result }
     ensures fits { IfOk result (λ place. PlaceFits query.now.spec.index (place_of place)) }
     ensures place { IsTrue H.told → let w = world_of C.reads units.old (H.outside host.old) in
         let q = query_of query.now in MountedApart w → IfOk result

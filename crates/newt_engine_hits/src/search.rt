@@ -151,7 +151,7 @@ fn member_on<'a, C: Card>(
 
 /// Whether a range is by a declaration that agrees with the given one. Each range that is found for
 /// a declaration is.
-fn agrees(range: &Index, spec: Option<&IndexSpec>) -> bool
+pub(crate) fn agrees(range: &Index, spec: Option<&IndexSpec>) -> bool
     ensures same { result ≡ agrees range.now.spec (option_map (λ s. s.now) spec.entry) }
     ensures sorted { IsSorted range.now }
 {

@@ -1,6 +1,7 @@
 //! The walk from one hit to the next that a query keeps.
 ghost use Rattle.std.specs.Prelude.{◌≡◌, IsTrue, option_map, IfOk, IfSome};
 ghost use Rattle.newt_keys.specs.KeyForm.{IsKeyOf};
+ghost use Rattle.newt_query.specs.Filter.{asks_texts};
 ghost use Rattle.newt_cursor.specs.Seen.{query_of, place_of};
 ghost use Rattle.newt_spec_world.specs.World.{hits_of, mounted_stores};
 ghost use Rattle.newt_laws_world.specs.Settled.{MountedApart};
@@ -33,8 +34,8 @@ pub(crate) fn walk<C: Card, H: Host>(
 ) -> Result<Place, Stop>
     requires stands { Stands C.place C.stands H.told units.old (H.outside host.old) }
     requires key { IfSome start (λ spot. IsKeyOf query.now.spec.index spot.key) }
-    ensures reading { IsReading C.reads C.place C.stands H.told units.old units.new
-        (H.outside host.old) (H.outside host.new) result }
+    ensures reading { IsReading C.reads C.place C.stands (asks_texts query.now.spec) H.told
+        units.old units.new (H.outside host.old) (H.outside host.new) result }
     ensures fits { IfOk result (λ place. PlaceFits query.now.spec.index (place_of place)) }
     ensures walked { IsTrue H.told → let w = world_of C.reads units.old (H.outside host.old) in
         let q = query_of query.now in MountedApart w → IfOk result

@@ -1,7 +1,8 @@
 -- A call on the card of one unit.
-use Rattle.std.proofs.Common.{arith, ◌≡◌, refl, ap, sym, ◌∙◌, subst, ℕ, ◌<◌, ◌≤◌, List, ◌⊎◌, inl, inr, Bool, true, IsTrue, Option, Some, None, length, get_or}
+use Rattle.std.proofs.Common.{arith, ◌≡◌, ◌≢◌, refl, ap, sym, ◌∙◌, subst, ℕ, ◌+◌, ◌<◌, ◌≤◌, List, ◌⊎◌, inl, inr, Bool, true, cond, IsTrue, Option, Some, None, length, get_or}
 use Rattle.std.specs.Prelude.{Result, Ok, Err, OnOk, IfErr, slice_get, is_some}
 use Rattle.std.specs.Vec.{with_item}
+use Rattle.std.proofs.lemmas.Bool.{eq-eqb}
 use Rattle.std.proofs.lemmas.Option.{slice_get_read, slice_get_within}
 use Rattle.newt_base.specs.Refusals.{Checks, first_of}
 use Rattle.newt_host.specs.Moments.{changes, image, Always, IsDurable, Leaves}
@@ -22,7 +23,7 @@ use Rattle.newt_laws_answers.proofs.Worlds.{world-alike, device-stays}
 use Rattle.newt_laws_answers.proofs.Units.{is-there}
 use Rattle.newt_store_change.specs.declared.fault.StoreFault.{StoreFault}
 use Rattle.newt_store_change.specs.declared.fault.StoreFault.TheVariants.{Refused, Stop}
-use Rattle.newt_engine_card.specs.Bounds.{CostsOn, IsOpenOrSame, LeftAlone, ProgramsAtMost}
+use Rattle.newt_engine_card.specs.Bounds.{CostsOn, FetchesAtMost, FetchesOn, IsOpenOrSame, LeftAlone, ProgramsAtMost, of_unit}
 use Rattle.newt_engine_card.specs.Cards.{LeavesEither, OthersSame}
 use Rattle.newt_store_change.specs.Faults.{Does, FaultsAt, GoesOn, HasFaultCause, IsRefused}
 use Rattle.newt_engine_units.specs.declared.units.Slot.{Slot}
@@ -105,6 +106,22 @@ beside {u} {o} {p} t others j e = let same = t.others j e in record {
   wears = record { erased = let k = same.erased in omega (arith, k); synced = let k = same.synced in omega (arith, k) };
   changes = others j e;
 }
+
+-- nothing is fetched of another unit
+pub others-unread : {u : ℕ} {o p : Outside} → Touches u o p → (j : ℕ) → j ≢ u → p.fetched j ≤ o.fetched j
+others-unread t j other = let k = (t.others j other).fetched in omega (arith, k)
+
+-- of its unit so much, and nothing of any other
+pub fetches-of : {u : ℕ} (n : ℕ) {o p : Outside} → Touches u o p → p.fetched u ≤ o.fetched u + n → FetchesAtMost (of_unit u n) o p
+fetches-of {u} n {o} {p} t less j = go (same-or-not j u)
+  where
+    more : (a b c : ℕ) → a ≤ b → a ≤ b + c
+    more a b c h = omega (arith, h)
+
+    go : (j ≡ u) ⊎ (j ≡ u → ⊥) → p.fetched j ≤ o.fetched j + of_unit u n j
+    go (inl is) = subst (λ k. p.fetched k ≤ o.fetched k + of_unit u n k) (sym is)
+        (subst (λ m. p.fetched u ≤ o.fetched u + m) (sym (ap (λ b. cond b n 0) (eq-eqb u u refl))) less)
+    go (inr other) = more (p.fetched j) (o.fetched j) (of_unit u n j) (others-unread t j other)
 
 -- a call that only reads its unit leaves each unit alone
 pub all-alone : {u : ℕ} {o p : Outside} → OnlyReads u o p → (j : ℕ) → LeftAlone j o p
@@ -190,6 +207,19 @@ module _ {C : Type 0} {reads : List ℕ → Option Store} {place : C → ℕ} {s
         others = λ j h. beside c.touches others j h;
       }))
 
+  -- what the card fetches
+  pub call-fetches-on : {told : Bool} → IsTrue told → Eight o → Called place told units u n slot card next o p → Stands place stands told units o
+      → (blocks : ℕ) (a : Store) (most : ℕ → ℕ) {fetches : ℕ}
+      → (reads (image (place card) o.now) ≡ Some a → IsOpenFor (most (o.blocks (place card))) (image (place card) o.now) → p.fetched (place card) ≤ o.fetched (place card) + fetches)
+      → OnUnit (world_of reads units o) u blocks a → FetchesOn u (most blocks) fetches o p
+  call-fetches-on {told} t e c s blocks a most {fetches} less on =
+      let at = place-is c s in
+      let k = on-known l units o e (subst (λ x. Stands place stands x units o) t s) u blocks a on in
+      subst (λ m. FetchesOn u (most m) fetches o p) (sym k.2) (subst (λ m. FetchesOn m (most (o.blocks m)) fetches o p) at (record {
+        fetched = less (ap (λ m. reads (image m o.now)) at ∙ k.3);
+        unread = λ j other. others-unread c.touches j other;
+      }))
+
   -- what a call leaves that only reads
   pub call-looks : {told : Bool} → Called place told units u n slot card next o p → Stands place stands told units o → stands told next p → OnlyReads (place card) o p
       → AreRead reads place stands told units (later units n slot next) o p
@@ -206,6 +236,11 @@ module _ {C : Type 0} {reads : List ℕ → Option Store} {place : C → ℕ} {s
   pub call-spends : {told : Bool} → Called place told units u n slot card next o p → Stands place stands told units o → {programs fetches : ℕ}
       → Spends (place card) programs fetches o p → Spends u programs fetches o p
   call-spends c s {programs} {fetches} h = subst (λ k. Spends k programs fetches o p) (place-is c s) h
+
+  -- what a call that only reads fetches of each unit
+  pub call-fetches : {told : Bool} → Called place told units u n slot card next o p → Stands place stands told units o → {programs fetches : ℕ}
+      → Spends (place card) programs fetches o p → FetchesAtMost (of_unit u fetches) o p
+  call-fetches c s {programs} {fetches} h = fetches-of fetches (subst (λ k. Touches k o p) (place-is c s) c.touches) (call-spends c s h).fetched
 
   -- what was read of the store of the unit
   pub call-reads : {told : Bool} → IsTrue told → Eight o → Called place told units u n slot card next o p → Stands place stands told units o

@@ -1,13 +1,14 @@
 -- What calls cost, and what they cost together.
-use Rattle.std.proofs.Common.{arith, ◌≡◌, ◌≢◌, refl, sym, ◌∙◌, subst, ℕ, ◌≤◌, ◌⊎◌, inl, inr, List}
+use Rattle.std.proofs.Common.{arith, ◌≡◌, ◌≢◌, refl, ap, sym, ◌∙◌, subst, ℕ, ◌+◌, ◌≤◌, ◌==◌, ◌⊎◌, inl, inr, List, Bool, true, false, cond}
 use Rattle.std.specs.Prelude.{Result}
+use Rattle.std.proofs.lemmas.Bool.{eq-eqb, ne_eqb}
 use Rattle.newt_host.specs.Moments.{Moment, bytes_after, changes, image}
 use Rattle.newt_host.specs.Outside.{Outside}
 use Rattle.newt_host.proofs.Outside.{Wears-append, Wears-refl, Wears-widen}
 use Rattle.newt_pagebook.specs.Book.{IsOpenFor}
 use Rattle.newt_laws_world.proofs.Units.{same-or-not}
 use Rattle.newt_store_change.specs.declared.fault.StoreFault.{StoreFault}
-use Rattle.newt_engine_card.specs.Bounds.{Costs, CostsOn, IsOpenOrSame, LeftAlone, ProgramsAtMost}
+use Rattle.newt_engine_card.specs.Bounds.{Costs, CostsOn, FetchesAtMost, FetchesOn, FetchesWithin, IsOpenOrSame, LeftAlone, ProgramsAtMost, of_unit}
 use Rattle.newt_store_change.specs.Faults.{GoesOn}
 
 -- a bank with room for so many bytes has room for fewer
@@ -74,24 +75,140 @@ bound-before b a = record {
   wears = λ room. Wears-append 0 2 0 0 (b.wears room) a.wears;
 }
 
+-- ---- what is fetched
+
+-- nothing is fetched by none
+pub idle-fetches : (most fetches : ℕ → ℕ) (o : Outside) → FetchesWithin most fetches o o
+idle-fetches most fetches o u room = up (o.fetched u) (fetches u)
+  where
+    up : (a b : ℕ) → a ≤ a + b
+    up a b = omega arith
+
+-- so much of one unit is no more than may be of each
+pub of-unit-most : (unit n : ℕ) (most : ℕ → ℕ) → n ≤ most unit → (u : ℕ) → of_unit unit n u ≤ most u
+of-unit-most unit n most less u = go (same-or-not unit u)
+  where
+    low : (a b c : ℕ) → a ≡ b → b ≤ c → a ≤ c
+    low a b c h k = omega (arith, h, k)
+
+    none : (a b : ℕ) → a ≡ 0 → a ≤ b
+    none a b h = omega (arith, h)
+
+    go : (unit ≡ u) ⊎ (unit ≡ u → ⊥) → of_unit unit n u ≤ most u
+    go (inl is) = subst (λ k. of_unit unit n k ≤ most k) is (low (of_unit unit n unit) n (most unit) (ap (λ b. cond b n 0) (eq-eqb unit unit refl)) less)
+    go (inr other) = none (of_unit unit n u) (most u) (ap (λ b. cond b n 0) (ne_eqb unit u other))
+
+-- a call that reads one unit
+pub read-few : (unit n : ℕ) (fetches : ℕ → ℕ) (o p : Outside) → FetchesAtMost (of_unit unit n) o p → n ≤ fetches unit → FetchesAtMost fetches o p
+read-few unit n fetches o p reads less u = low (p.fetched u) (o.fetched u) (of_unit unit n u) (fetches u) (reads u) (of-unit-most unit n fetches less u)
+  where
+    low : (a b c d : ℕ) → a ≤ b + c → c ≤ d → a ≤ b + d
+    low a b c d h k = omega (arith, h, k)
+
+-- a call on one unit
+pub on-few : (most : ℕ → ℕ) {unit n k : ℕ} {o p : Outside} → FetchesOn unit n k o p → n ≤ most unit → (u : ℕ) → IsOpenFor (most u) (image u o.now) → p.fetched u ≤ o.fetched u + of_unit unit k u
+on-few most {unit} {n} {k} {o} {p} f less u room = go (same-or-not unit u)
+  where
+    same : (a b c d : ℕ) → c ≡ d → a ≤ b + d → a ≤ b + c
+    same a b c d h k = omega (arith, h, k)
+
+    more : (a b c : ℕ) → a ≤ b → a ≤ b + c
+    more a b c h = omega (arith, h)
+
+    go : (unit ≡ u) ⊎ (unit ≡ u → ⊥) → p.fetched u ≤ o.fetched u + of_unit unit k u
+    go (inl is) = subst (λ j. p.fetched j ≤ o.fetched j + of_unit unit k j) is
+        (same (p.fetched unit) (o.fetched unit) (of_unit unit k unit) k (ap (λ b. cond b k 0) (eq-eqb unit unit refl))
+        (f.fetched (room-for-less less (subst (λ j. IsOpenFor (most j) (image j o.now)) (sym is) room))))
+    go (inr other) = more (p.fetched u) (o.fetched u) (of_unit unit k u) (f.unread u (λ e. other (sym e)))
+
+pub on-within : (most fetches : ℕ → ℕ) {unit n k : ℕ} {o p : Outside} → FetchesOn unit n k o p → n ≤ most unit → k ≤ fetches unit → FetchesWithin most fetches o p
+on-within most fetches {unit} {n} {k} {o} {p} f less few u room =
+    low (p.fetched u) (o.fetched u) (of_unit unit k u) (fetches u) (on-few most f less u room) (of-unit-most unit k fetches few u)
+  where
+    low : (a b c d : ℕ) → a ≤ b + c → c ≤ d → a ≤ b + d
+    low a b c d h k = omega (arith, h, k)
+
+-- a call behind one that read, and did nothing
+pub behind-read : (most reads fetches both : ℕ → ℕ) (o p q : Outside) → FetchesAtMost reads o p → p.now ≡ o.now → ((u : ℕ) → IsOpenFor (most u) (image u p.now) → q.fetched u ≤ p.fetched u + fetches u)
+    → ((u : ℕ) → reads u + fetches u ≤ both u) → FetchesWithin most both o q
+behind-read most reads fetches both o p q first same second fits u room =
+    low (q.fetched u) (p.fetched u) (o.fetched u) (reads u) (fetches u) (both u) (first u) (second u (subst (λ now. IsOpenFor (most u) (image u now)) (sym same) room)) (fits u)
+  where
+    low : (a b c d e f : ℕ) → b ≤ c + d → a ≤ b + e → d + e ≤ f → a ≤ c + f
+    low a b c d e f h k l = omega (arith, h, k, l)
+
+-- of the same unit, and where the second fetches nothing
+pub same-fits : (unit m k : ℕ) (both : ℕ → ℕ) → m + k ≤ both unit → (u : ℕ) → of_unit unit m u + of_unit unit k u ≤ both u
+same-fits unit m k both less u = go (same-or-not unit u)
+  where
+    low : (a b c d e : ℕ) → a ≡ c → b ≡ d → c + d ≤ e → a + b ≤ e
+    low a b c d e h k l = omega (arith, h, k, l)
+
+    none : (a b c : ℕ) → a ≡ 0 → b ≡ 0 → a + b ≤ c
+    none a b c h k = omega (arith, h, k)
+
+    go : (unit ≡ u) ⊎ (unit ≡ u → ⊥) → of_unit unit m u + of_unit unit k u ≤ both u
+    go (inl is) = subst (λ j. of_unit unit m j + of_unit unit k j ≤ both j) is
+        (low (of_unit unit m unit) (of_unit unit k unit) m k (both unit) (ap (λ b. cond b m 0) (eq-eqb unit unit refl)) (ap (λ b. cond b k 0) (eq-eqb unit unit refl)) less)
+    go (inr other) = none (of_unit unit m u) (of_unit unit k u) (both u) (ap (λ b. cond b m 0) (ne_eqb unit u other)) (ap (λ b. cond b k 0) (ne_eqb unit u other))
+
+pub none-fits : (unit m other : ℕ) (both : ℕ → ℕ) → m ≤ both unit → (u : ℕ) → of_unit unit m u + of_unit other 0 u ≤ both u
+none-fits unit m other both less u = low (of_unit unit m u) (of_unit other 0 u) (both u) (of-unit-most unit m both less u) (nothing (other == u))
+  where
+    low : (a b c : ℕ) → a ≤ c → b ≡ 0 → a + b ≤ c
+    low a b c h k = omega (arith, h, k)
+
+    nothing : (b : Bool) → ◌≡◌ {A = ℕ} (cond b 0 0) 0
+    nothing true = refl
+    nothing false = refl
+
+-- two calls on two units that fetch nothing
+pub both-few : (most : ℕ → ℕ) {v u n m : ℕ} {o p q : Outside} → FetchesOn v n 0 o p → FetchesOn u m 0 p q → changes u p.now ≡ changes u o.now → v ≢ u → n ≤ most v → m ≤ most u
+    → (j : ℕ) → IsOpenFor (most j) (image j o.now) → q.fetched j ≤ o.fetched j + 0
+both-few most {v} {u} {n} {m} {o} {p} {q} a b still apart less_v less_u j room = go (same-or-not j v) (same-or-not j u)
+  where
+    low : (x y z : ℕ) → x ≤ y + 0 → y ≤ z → x ≤ z + 0
+    low x y z h k = omega (arith, h, k)
+
+    high : (x y z : ℕ) → x ≤ y → y ≤ z + 0 → x ≤ z + 0
+    high x y z h k = omega (arith, h, k)
+
+    apart-low : (x y z : ℕ) → x ≤ y → y ≤ z → x ≤ z + 0
+    apart-low x y z h k = omega (arith, h, k)
+
+    go : (j ≡ v) ⊎ (j ≡ v → ⊥) → (j ≡ u) ⊎ (j ≡ u → ⊥) → q.fetched j ≤ o.fetched j + 0
+    go (inl is) x = subst (λ k. q.fetched k ≤ o.fetched k + 0) (sym is)
+        (high (q.fetched v) (p.fetched v) (o.fetched v) (b.unread v apart) (a.fetched (room-for-less less_v (subst (λ k. IsOpenFor (most k) (image k o.now)) is room))))
+    go (inr not) (inl is) = subst (λ k. q.fetched k ≤ o.fetched k + 0) (sym is)
+        (low (q.fetched u) (p.fetched u) (o.fetched u) (b.fetched (room-for-less less_u (still-open u (most u) p.now o.now still (subst (λ k. IsOpenFor (most k) (image k o.now)) is room))))
+        (a.unread u (λ e. apart (sym e))))
+    go (inr not) (inr other) = apart-low (q.fetched j) (p.fetched j) (o.fetched j) (b.unread j other) (a.unread j not)
+
+-- ---- calls
+
 -- nothing is programmed by none
-pub idle-costs : {T : Type 0} (most : ℕ → ℕ) (result : Result T StoreFault) (o : Outside) → Costs most result o o
-idle-costs most result o = record {
+pub idle-costs : {T : Type 0} (most : ℕ → ℕ) (said : Bool) (fetches : ℕ → ℕ) (result : Result T StoreFault) (o : Outside) → Costs most said fetches result o o
+idle-costs most said fetches result o = record {
   bound = λ u. alone-bound (most u) (alone-refl u o);
+  fetched = λ is. idle-fetches most fetches o;
   open_after = λ goes u. inr refl;
 }
 
 -- a call that reads costs nothing
-pub read-costs : {T : Type 0} (most : ℕ → ℕ) (result : Result T StoreFault) {o p : Outside} → ((u : ℕ) → LeftAlone u o p) → Costs most result o p
-read-costs most result {o} {p} alone = record {
+pub read-costs : {T : Type 0} (most : ℕ → ℕ) (said : Bool) (fetches : ℕ → ℕ) (result : Result T StoreFault) {o p : Outside} → ((u : ℕ) → LeftAlone u o p)
+    → (said ≡ true → FetchesAtMost fetches o p) → Costs most said fetches result o p
+read-costs most said fetches result {o} {p} alone few = record {
   bound = λ u. alone-bound (most u) (alone u);
+  fetched = λ is u room. few is u;
   open_after = λ goes u. inr (alone u).changes;
 }
 
 -- a call on one unit is a call
-pub on-costs : {T : Type 0} {most : ℕ → ℕ} {u n : ℕ} {result : Result T StoreFault} {o p : Outside} → CostsOn u n result o p → n ≤ most u → Costs most result o p
-on-costs {most} {u} {n} {result} {o} {p} c less = record {
+pub on-costs : {T : Type 0} {most : ℕ → ℕ} {said : Bool} {fetches : ℕ → ℕ} {u n : ℕ} {result : Result T StoreFault} {o p : Outside} → CostsOn u n result o p → n ≤ most u
+    → (said ≡ true → FetchesWithin most fetches o p) → Costs most said fetches result o p
+on-costs {most = most} {u = u} {n} {result} {o} {p} c less few = record {
   bound = λ j. bound j (same-or-not j u);
+  fetched = few;
   open_after = λ goes j. opened goes j (same-or-not j u);
 }
   where
@@ -104,24 +221,26 @@ on-costs {most} {u} {n} {result} {o} {p} c less = record {
     opened goes j (inr not) = inr (c.others j not).changes
 
 -- another result of the same call
-pub costs-of : {T S : Type 0} {most : ℕ → ℕ} {first : Result T StoreFault} {second : Result S StoreFault} {o p : Outside} → Costs most first o p → (GoesOn second → GoesOn first) → Costs most second o p
-costs-of c goes = record { bound = c.bound; open_after = λ on. c.open_after (goes on) }
+pub costs-of : {T S : Type 0} {most : ℕ → ℕ} {said : Bool} {fetches : ℕ → ℕ} {first : Result T StoreFault} {second : Result S StoreFault} {o p : Outside} → Costs most said fetches first o p
+    → (GoesOn second → GoesOn first) → Costs most said fetches second o p
+costs-of c goes = record { bound = c.bound; fetched = c.fetched; open_after = λ on. c.open_after (goes on) }
 
 -- ---- two calls
 
 -- after a call that reads
 pub after-read : {T : Type 0} {u n : ℕ} {result : Result T StoreFault} {o p q : Outside} → ((j : ℕ) → LeftAlone j o p) → CostsOn u n result p q → CostsOn u n result o q
-after-read {u} {n} {result} {o} {p} {q} alone c = record {
+after-read {u = u} {n} {result} {o} {p} {q} alone c = record {
   bound = bound-after (alone u) c.bound;
   open_after = λ goes. same-before u o.now p.now q.now (alone u).changes (c.open_after goes);
   others = λ j not. alone-append (alone j) (c.others j not);
 }
 
 -- two calls on two units
-pub both-costs : {T S : Type 0} {most : ℕ → ℕ} {v u n m : ℕ} {first : Result T StoreFault} {second : Result S StoreFault} {o p q : Outside}
-    → CostsOn v n first o p → CostsOn u m second p q → v ≢ u → n ≤ most v → m ≤ most u → GoesOn first → Costs most second o q
-both-costs {most} {v} {u} {n} {m} {first} {second} {o} {p} {q} a b apart less_v less_u goes_a = record {
+pub both-costs : {T S : Type 0} {most : ℕ → ℕ} {said : Bool} {fetches : ℕ → ℕ} {v u n m : ℕ} {first : Result T StoreFault} {second : Result S StoreFault} {o p q : Outside}
+    → CostsOn v n first o p → CostsOn u m second p q → v ≢ u → n ≤ most v → m ≤ most u → GoesOn first → (said ≡ true → FetchesWithin most fetches o q) → Costs most said fetches second o q
+both-costs {most = most} {v = v} {u} {n} {m} {first} {second} {o} {p} {q} a b apart less_v less_u goes_a few = record {
   bound = λ j. bound j (same-or-not j v) (same-or-not j u);
+  fetched = few;
   open_after = λ goes j. opened goes j (same-or-not j v) (same-or-not j u);
 }
   where

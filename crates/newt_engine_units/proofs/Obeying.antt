@@ -1,5 +1,5 @@
 -- What a command promises where nothing has changed, and behind a call that read.
-use Rattle.std.proofs.Common.{◌≡◌, refl, sym, subst, ℕ, ◌≤◌, List, Bool, IsTrue, Option, arith}
+use Rattle.std.proofs.Common.{◌≡◌, refl, sym, subst, ℕ, ◌≤◌, List, Bool, true, IsTrue, Option, arith}
 use Rattle.std.specs.Prelude.{Result, Ok, Err, IfErr}
 use Rattle.newt_base.specs.Refusals.{Checks}
 use Rattle.newt_host.specs.Outside.{Outside, OnDevices, Rose}
@@ -11,10 +11,12 @@ use Rattle.newt_spec_store.specs.Store.{Store}
 use Rattle.newt_spec_world.specs.declared.command.Command.{Command}
 use Rattle.newt_spec_world.specs.Reply.{Reply}
 use Rattle.newt_spec_world.specs.World.{World}
+use Rattle.newt_laws_answers.specs.Fetched.{means_entries, most_fetched}
 use Rattle.newt_store_change.specs.declared.change.Change.{Change}
 use Rattle.newt_store_change.specs.Faults.{GoesOn, HasFaultCause, IsEnd, IsRefusal, NoDevice, RefusesBy, set_fault}
 use Rattle.newt_store_change.specs.declared.fault.StoreFault.{StoreFault}
 use Rattle.newt_store_change.specs.declared.fault.StoreFault.TheVariants.{Refused, Stop}
+use Rattle.newt_engine_card.specs.Bounds.{FetchesAtMost}
 use Rattle.newt_engine_units.specs.Answers.{Answers}
 use Rattle.newt_engine_units.specs.Calls.{AreRead, Changes, Ended, Obeys}
 use Rattle.newt_engine_units.specs.Stands.{world_of}
@@ -114,7 +116,7 @@ module _ {C : Type 0} {reads : List ℕ → Option Store} {place : C → ℕ} {s
     stands = λ goes. at.stand;
     answered = answered;
     moments = λ t. still at t _ _ refl;
-    costs = λ t. idle-costs _ _ _;
+    costs = λ t. idle-costs _ _ _ _ _;
     alone = OnDevices-refl o;
     cause = none-cause result o o none;
     no_fault = λ goes. NoFault-refl o;
@@ -126,13 +128,13 @@ module _ {C : Type 0} {reads : List ℕ → Option Store} {place : C → ℕ} {s
   refused-obeys fault none result p = still-obeys result (handed (λ f. NoDevice f) result fault p none)
 
   -- an entry was read, and nothing done
-  pub read-obeys : {later : Units C} {p : Outside} → AreRead reads place stands told units later o p → (result : Result T StoreFault) → Ended result o p
-      → (IsTrue told → Answers (world_of reads units o) (world_of reads later p) c reply result) → Obeys reads place stands told c reply units later o p result
-  read-obeys looks result ends answered = record {
+  pub read-obeys : {later : Units C} {p : Outside} → AreRead reads place stands told units later o p → (IsTrue told → means_entries c ≡ true → FetchesAtMost (most_fetched (world_of reads units o) c) o p)
+      → (result : Result T StoreFault) → Ended result o p → (IsTrue told → Answers (world_of reads units o) (world_of reads later p) c reply result) → Obeys reads place stands told c reply units later o p result
+  read-obeys looks few result ends answered = record {
     stands = λ goes. looks.stand;
     answered = answered;
     moments = λ t. still at t _ _ looks.moment;
-    costs = λ t. read-costs _ _ looks.untouched;
+    costs = λ t. read-costs _ _ _ _ looks.untouched (few t);
     alone = looks.alone;
     cause = ends.cause;
     no_fault = ends.no_fault;

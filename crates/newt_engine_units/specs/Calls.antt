@@ -1,7 +1,7 @@
 -- What calls on the units promise. All of it is this project's own.
 use Rattle.std.specs.Prelude.{◌≡◌, ◌*◌, ℕ, Bool, IsTrue, List, Option, Some, None, Result, IfOk, IfErr, OnOk}
 use Rattle.newt_host.specs.Moments.{Always}
-use Rattle.newt_host.specs.Outside.{Outside, NoFault, OnDevices, Spends}
+use Rattle.newt_host.specs.Outside.{Outside, NoFault, OnDevices}
 use Rattle.newt_pagebook.specs.Stops.{HasStopCause}
 use Rattle.newt_pagebook.specs.declared.book.Stop.{Stop}
 use Rattle.newt_spec_store.specs.Keys.{Path}
@@ -12,16 +12,17 @@ use Rattle.newt_spec_world.specs.Reply.{Reply}
 use Rattle.newt_spec_world.specs.World.{World, store_on_unit, change_store}
 use Rattle.newt_laws_world.specs.Answering.{Answering}
 use Rattle.newt_laws_answers.specs.Bounds.{most_programmed}
+use Rattle.newt_laws_answers.specs.Fetched.{means_entries, most_fetched}
 use Rattle.newt_spec_world.specs.Answer.{answer}
 use Rattle.newt_laws_answers.specs.Tests.{formatted}
 use Rattle.newt_laws_answers.specs.There.{OnUnit}
-use Rattle.newt_store_change.specs.Change.{changed_by, answer_of, refusals, refusal_of, most_bytes}
+use Rattle.newt_store_change.specs.Change.{changed_by, answer_of, refusals, refusal_of, most_bytes, bytes_fetched, pages_of_entry}
 use Rattle.newt_store_change.specs.Entries.{ReadsLarge, entry_said, large_fetches}
 use Rattle.newt_store_change.specs.Faults.{Does, GoesOn, HasFaultCause, IsEnd}
 use Rattle.newt_store_change.specs.declared.change.Change.{Change}
 use Rattle.newt_store_change.specs.declared.entry.Entry.{Entry}
 use Rattle.newt_store_change.specs.declared.fault.StoreFault.{StoreFault}
-use Rattle.newt_engine_card.specs.Bounds.{Costs, CostsOn, IsOpenOrSame, LeftAlone}
+use Rattle.newt_engine_card.specs.Bounds.{Costs, CostsOn, FetchesAtMost, FetchesOn, IsOpenOrSame, LeftAlone, of_unit}
 use Rattle.newt_engine_units.specs.Answers.{Answers}
 use Rattle.newt_engine_units.specs.Stands.{Stands, mounted_in, world_of}
 use Rattle.newt_engine_units.specs.declared.units.Units.{Units}
@@ -32,6 +33,12 @@ pub record Ended {T : Type 0} (result : Result T StoreFault) (before after : Out
   pub alone : OnDevices before after
   pub cause : IfErr result (λ fault. HasFaultCause fault before after)
   pub no_fault : GoesOn result → NoFault before after
+
+-- What a command costs by a world: each unit is programmed by no more than the command may; and where
+-- it is one of entries, for each page of the entries that it means 1024 bytes are fetched at most.
+abbrev pub CostsOf : {T : Type 0} → World → Command → Result T StoreFault → Outside → Outside → Type 0
+CostsOf w c result before after =
+    Costs (most_programmed w c) (means_entries c) (most_fetched w c) result before after
 
 module _ {C : Type 0} (reads : List ℕ → Option Store) (place : C → ℕ) (standing : Bool → C → Outside → Type 0) where
   -- What every call promises that only reads: the units stand for the world that they stood for,
@@ -48,16 +55,21 @@ module _ {C : Type 0} (reads : List ℕ → Option Store) (place : C → ℕ) (s
   pub record Fetches (told : Bool) (unit soup uid : ℕ) (old new : Units C) (before after : Outside) (result : Result (Option Entry) Stop) : Type 0 where
     pub looks : AreRead told old new before after
     pub read : IsTrue told → (blocks : ℕ) (s : Store) → OnUnit (world_of reads old before) unit blocks s → IfOk result (λ found. entry_said found ≡ entry_at soup uid s)
+    pub fetches : IsTrue told → (blocks : ℕ) (s : Store) → OnUnit (world_of reads old before) unit blocks s
+        → FetchesAtMost (of_unit unit (512 * pages_of_entry (entry_at soup uid s))) before after
     pub cause : IfErr result (λ stop. HasStopCause stop before after)
     pub no_fault : OnOk result (NoFault before after)
 
   -- Bytes of a large binary of such an entry are read, or the first test that holds is answered; but
-  -- for the pages of the entry's record and of the range nothing is fetched.
+  -- for the pages of the entry's record and of the range nothing is fetched, and no more than the
+  -- pages of the entry.
   pub record FetchesLarge (told : Bool) (unit soup uid : ℕ) (path : Path) (at many : ℕ) (old new : Units C) (before after : Outside) (result : Result (List ℕ) StoreFault) : Type 0 where
     pub looks : AreRead told old new before after
     pub read : IsTrue told → (blocks : ℕ) (s : Store) → OnUnit (world_of reads old before) unit blocks s → ReadsLarge path at many (entry_at soup uid s) result
     pub fetches : IsTrue told → (blocks : ℕ) (s : Store) → OnUnit (world_of reads old before) unit blocks s
-        → Spends unit 0 (512 * large_fetches many (entry_at soup uid s)) before after
+        → FetchesAtMost (of_unit unit (512 * large_fetches many (entry_at soup uid s))) before after
+    pub whole : IsTrue told → (blocks : ℕ) (s : Store) → OnUnit (world_of reads old before) unit blocks s
+        → FetchesAtMost (of_unit unit (512 * pages_of_entry (entry_at soup uid s))) before after
     pub ends : Ended result before after
 
   -- A change of the store that is mounted on a unit, at the present minute: the world has it changed, or is as it was where the first of its refusals is
@@ -72,17 +84,19 @@ module _ {C : Type 0} (reads : List ℕ → Option Store) (place : C → ℕ) (s
     pub marks : (u : ℕ) → mounted_in new.slots.items u ≡ mounted_in old.slots.items u
     pub costs : IsTrue told → let w = world_of reads old before in (blocks : ℕ) (s : Store) → OnUnit w unit blocks s →
         CostsOn unit (most_bytes change blocks w.minute s) result before after
+    pub fetches : IsTrue told → let w = world_of reads old before in (blocks : ℕ) (s : Store) → OnUnit w unit blocks s →
+        FetchesOn unit (most_bytes change blocks w.minute s) (bytes_fetched change s) before after
     pub alone : OnDevices before after
     pub cause : IfErr result (λ fault. HasFaultCause fault before after)
     pub no_fault : GoesOn result → NoFault before after
 
   -- A command: it is answered as the world answers it that the units and the devices stand for, whose units they then have; at each moment a crash leaves each
-  -- store of that world as it was or as it is then; it programs no more than the command may; the units stand for the host, unless the run ends.
+  -- store of that world as it was or as it is then; it programs no more than the command may, and fetches no more for the entries that it means; the units stand for the host, unless the run ends.
   pub record Obeys {T : Type 0} (told : Bool) (command : Command) (reply : T → Reply) (old new : Units C) (before after : Outside) (result : Result T StoreFault) : Type 0 where
     pub stands : GoesOn result → Stands place standing told new after
     pub answered : IsTrue told → Answers (world_of reads old before) (world_of reads new after) command reply result
     pub moments : IsTrue told → let w = world_of reads old before in Always (Answering reads w (answer w command).0 before.now) before.now after.now
-    pub costs : IsTrue told → Costs (most_programmed (world_of reads old before) command) result before after
+    pub costs : IsTrue told → CostsOf (world_of reads old before) command result before after
     pub alone : OnDevices before after
     pub cause : IfErr result (λ fault. HasFaultCause fault before after)
     pub no_fault : GoesOn result → NoFault before after

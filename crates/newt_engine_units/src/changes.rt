@@ -1,8 +1,10 @@
 //! A change of one store that is mounted, and what is read of one.
-ghost use Rattle.std.specs.Prelude.{◌≡◌, ℕ, true, IsTrue};
+ghost use Rattle.std.specs.Prelude.{◌≡◌, ◌*◌, ℕ, true, IsTrue};
 ghost use Rattle.newt_spec_store.specs.Store.{Store as Plain, entry_at};
 ghost use Rattle.newt_laws_answers.specs.There.{OnUnit};
+ghost use Rattle.newt_store_change.specs.Change.{pages_of_entry};
 ghost use Rattle.newt_store_change.specs.Entries.{ReadsEntry};
+ghost use Rattle.newt_engine_card.specs.Bounds.{FetchesAtMost, of_unit};
 ghost use Rattle.newt_engine_units.specs.Calls.{AreRead, Changes, Ended, Fetches, FetchesLarge};
 ghost use Rattle.newt_engine_units.specs.Stands.{Stands, world_of, is_mounted};
 
@@ -70,6 +72,10 @@ impl<C: Card> Units<C> {
         ensures read { IsTrue H.told → (blocks : ℕ) (s : Plain)
             → OnUnit (world_of C.reads self.old (H.outside host.old)) unit blocks s
             → ReadsEntry (entry_at soup uid s) result }
+        ensures fetches { IsTrue H.told → (blocks : ℕ) (s : Plain)
+            → OnUnit (world_of C.reads self.old (H.outside host.old)) unit blocks s → FetchesAtMost
+            (of_unit unit (512 * pages_of_entry (entry_at soup uid s)))
+            (H.outside host.old) (H.outside host.new) }
         ensures ends { Ended result (H.outside host.old) (H.outside host.new) }
     {
         match self.entry_on(host, unit, soup, uid) {

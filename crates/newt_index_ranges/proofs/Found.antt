@@ -1,4 +1,4 @@
--- A range that stands for a soup's entries, and is sorted, is the sorted list of those that have a key; and so is what is found among the ranges of a store.
+-- A range that stands for a soup's entries, and is sorted, is the sorted list of those that have a key; and so is what is found among the ranges of a store; and so are masks.
 use Rattle.std.proofs.Common.{◌≡◌, ℕ, ◌<◌, ◌==◌, Bool, true, false, cond, List, [], ◌∷◌, map, find, Option, Some, None, option_map, option_and_then, refl, sym, ◌∙◌, ap, subst, arith}
 use Rattle.std.specs.Prelude.{All, IfSome}
 use Rattle.std.specs.Borrow.{Bor}
@@ -7,16 +7,18 @@ use Rattle.std.proofs.lemmas.List.Elements.{All-head, All-tail}
 use Rattle.newt_spec_graph.specs.Lists.{Each, Among}
 use Rattle.newt_spec_graph.proofs.Lists.{some-same, none-some, among-filter_map, filter_map-among, pairs-filter_map, pairs-map, pairs-more, rises-pairs}
 use Rattle.newt_spec_store.specs.Keys.{Key, IndexSpec, same_spec}
-use Rattle.newt_spec_store.specs.Store.{Entry, Soup, Store, entry_of}
+use Rattle.newt_spec_store.specs.Store.{Entry, Soup, Store, TagTable, entry_of}
 use Rattle.newt_spec_store.specs.Valid.{well_formed}
 use Rattle.newt_laws_images.proofs.Stores.{IsSoup}
 use Rattle.newt_laws_images.proofs.Chosen.{find-passes, find-one, one-uid, soup-good}
 use Rattle.newt_index.specs.Pairs.{Pair, Sorted, parts_of, IsPair, IsSorted}
 use Rattle.newt_index.specs.Range.{entry_pair, entry_pairs, range_of}
-use Rattle.newt_index_ranges.specs.Range.{key_by, range_of_soup, range_in}
+use Rattle.newt_tags.specs.Masks.{mask_of, mask_by}
+use Rattle.newt_index_ranges.specs.Masks.{Masks}
+use Rattle.newt_index_ranges.specs.Range.{key_by, range_of_soup, range_in, mask_at}
 use Rattle.newt_index_ranges.specs.declared.rows.SoupRanges.{SoupRanges}
-use Rattle.newt_index_ranges.specs.Rows.{carries, find_range, ranges_of, range_found}
-use Rattle.newt_index_ranges.specs.Stands.{graphs_of, IsRange, AreIndexes, IsRangesOf, AreRangesOf}
+use Rattle.newt_index_ranges.specs.Rows.{carries, find_range, find_mask, mask_by_id, ranges_of, range_found, mask_found}
+use Rattle.newt_index_ranges.specs.Stands.{graphs_of, IsRange, AreIndexes, AreMasks, IsRangesOf, AreRangesOf}
 use Rattle.newt_index_ranges.proofs.Ordered.{is_sorted}
 use Rattle.newt_index_ranges.proofs.Lookups.{Once, key-among, among-key}
 use Rattle.newt_index_ranges.proofs.Standing.{AreFound, found_both}
@@ -110,3 +112,35 @@ lent_sorted r o e h = let P : Option Sorted → Type 0 = λ o. IfSome o IsSorted
     go : (r : Option (Bor Sorted)) → IfSome r (λ v. IsSorted v.now) → IfSome (option_map (λ v. v.now) r) IsSorted
     go None h = tt
     go (Some v) h = h
+
+-- ---- masks
+
+-- without a tags declaration the mask of each entry is 0
+untagged_mask : (o : Option Entry) → option_map (λ k. 0) (option_and_then (key_by None) (option_map (λ e. e.graph) o)) ≡ option_map (λ (e : Entry). mask_by None e.graph) o
+untagged_mask None = refl
+untagged_mask (Some e) = refl
+
+tagged_mask : (t : TagTable) (o : Option Entry) → option_map (mask_of t) (option_map (λ e. e.graph) o) ≡ option_map (λ (e : Entry). mask_by (Some t) e.graph) o
+tagged_mask t None = refl
+tagged_mask t (Some e) = refl
+
+mask_in : (uid : ℕ) (p : Soup) (r : SoupRanges) → IsRangesOf p (graphs_of p) r → find_mask uid r ≡ option_map (λ (e : Entry). mask_by p.tags e.graph) (entry_of uid p)
+mask_in uid p r is = go p.tags r.masks is.masks
+  where
+    go : (tags : Option TagTable) (o : Option Masks) → AreMasks (graphs_of p) tags o
+        → mask_by_id o r.all uid ≡ option_map (λ (e : Entry). mask_by tags e.graph) (entry_of uid p)
+    go None None are = ap (option_map (λ k. 0)) (is.all.keys uid) ∙ untagged_mask (entry_of uid p)
+    go (Some t) (Some m) are = are.masks uid ∙ tagged_mask t (entry_of uid p)
+    go None (Some m) are = absurd are
+    go (Some t) None are = absurd are
+
+-- what is found among the masks of a store is the mask of the entry
+pub mask_is_found : (s : Store) (rows : List SoupRanges) (sig uid : ℕ) → AreRangesOf s rows → mask_found sig uid rows ≡ mask_at sig uid s
+mask_is_found s rows sig uid are = go (find (λ (p : Soup). p.sig == sig) s.soups) (ranges_of sig rows) (found_both graphs_of sig s.soups rows are)
+  where
+    go : (o : Option Soup) (r : Option SoupRanges) → AreFound graphs_of s.soups o r
+        → option_and_then (find_mask uid) r ≡ option_map (λ (e : Entry). mask_by (option_and_then (λ p. p.tags) o) e.graph) (option_and_then (entry_of uid) o)
+    go None None found = refl
+    go (Some p) (Some r) found = mask_in uid p r found.0
+    go None (Some r) found = absurd found
+    go (Some p) None found = absurd found

@@ -6,16 +6,17 @@ use Rattle.newt_graph.specs.Graph.{RawGraph}
 use Rattle.newt_spec_graph.specs.Lists.{Among}
 use Rattle.newt_spec_graph.proofs.Lists.{some-same, both-ways}
 use Rattle.newt_spec_store.specs.Keys.{IndexSpec, Path, paths_of, same_paths}
-use Rattle.newt_spec_store.specs.Store.{Entry, Soup, Store, entry_of, change_first, change_soup, change_entry, make_soup, drop_soup, add_entry, remove_entry}
+use Rattle.newt_spec_store.specs.Store.{Entry, Soup, Store, TagTable, with_tags, entry_of, change_first, change_soup, change_entry, make_soup, drop_soup, add_entry, remove_entry}
 use Rattle.newt_spec_store.specs.Valid.{well_formed}
 use Rattle.newt_spec_store.specs.Laid.{bare, bare_soup}
 use Rattle.newt_laws_images.proofs.Chosen.{OnePasses, find-passes, soup-there, found_by_name, only-one, one-name, one-sig, same-text}
 use Rattle.newt_index.specs.Pairs.{Sorted}
 use Rattle.newt_index_ranges.specs.declared.rows.SoupRanges.{SoupRanges}
-use Rattle.newt_index_ranges.specs.Rows.{no_pairs, no_ranges, with_entry, without_entry, each_range, with_range, without_range, change_ranges, drop_ranges}
+use Rattle.newt_index_ranges.specs.Masks.{Masks, IsMasks}
+use Rattle.newt_index_ranges.specs.Rows.{no_pairs, no_ranges, entry_kept, entry_forgotten, entry_renewed, with_range, without_range, with_masks, change_ranges, drop_ranges}
 use Rattle.newt_index_ranges.specs.Stands.{Graphs, graphs_of, IsRange, AreIndexes, IsRangesOf, AreRanges, AreRangesOf}
 use Rattle.newt_index_ranges.proofs.Lookups.{found_added, found_filtered, found_changed}
-use Rattle.newt_index_ranges.proofs.Standing.{same_graphs, ranges_filled, AreGraphsWith, range_none, range_added, range_removed, range_replaced, each_changed, none_changed, range_more, range_fewer, of_sig, ranges_changed, ranges_more, ranges_fewer}
+use Rattle.newt_index_ranges.proofs.Standing.{ranges_filled, AreGraphsWith, range_none, masks_none, graphs_told, soup_added, soup_removed, soup_renewed, masks_set, range_more, range_fewer, of_sig, ranges_changed, ranges_more, ranges_fewer}
 
 -- ---- the graphs of a soup's entries after a change
 
@@ -92,10 +93,10 @@ soup_changed s rows sig p change changed formed found h are =
     subst (λ (q : Soup). IsRangesOf q (graphs_of q) r → IsRangesOf (change q) (graphs_of (change q)) (changed r)) same (h r) is) are)
 
 -- a new soup
-pub made : (s : Store) (rows : List SoupRanges) (name : List ℕ) → AreRangesOf s rows → AreRangesOf (make_soup name s) (rows ++ no_ranges s.next_soup [] ∷ [])
+pub made : (s : Store) (rows : List SoupRanges) (name : List ℕ) → AreRangesOf s rows → AreRangesOf (make_soup name s) (rows ++ no_ranges s.next_soup [] None ∷ [])
 made s rows name are =
     let p : Soup = record { name = name; sig = s.next_soup; next_uid = 0; specs = []; tags = None; entries = [] } in
-    ranges_more graphs_of s.soups rows p (no_ranges s.next_soup []) (record { of_sig = refl; all = range_none None (graphs_of p) (λ w. refl); indexes = tt }) are
+    ranges_more graphs_of s.soups rows p (no_ranges s.next_soup [] None) (record { of_sig = refl; all = range_none None (graphs_of p) (λ w. refl); indexes = tt; masks = tt }) are
 
 -- a soup gone
 pub dropped : (s : Store) (rows : List SoupRanges) (sig : ℕ) (p : Soup) → well_formed s ≡ true → find (of_sig sig) s.soups ≡ Some p → AreRangesOf s rows
@@ -104,40 +105,44 @@ dropped s rows sig p formed found are = ranges_fewer graphs_of sig (named p.name
 
 module _ (s : Store) (rows : List SoupRanges) (sig : ℕ) (p : Soup) (formed : well_formed s ≡ true) (found : find (of_sig sig) s.soups ≡ Some p) (are : AreRangesOf s rows) where
   -- an entry more
-  pub entry_added : (now : ℕ) (g : RawGraph) → entry_of p.next_uid p ≡ None → AreRangesOf (change_soup p.name (add_entry now g) s) (change_ranges sig (each_range (with_entry p.next_uid g)) rows)
+  pub entry_added : (now : ℕ) (g : RawGraph) → entry_of p.next_uid p ≡ None → AreRangesOf (change_soup p.name (add_entry now g) s) (change_ranges sig (entry_kept p.next_uid g) rows)
   entry_added now g none =
-      soup_changed s rows sig p (add_entry now g) (each_range (with_entry p.next_uid g)) formed found
-      (λ r is. each_changed p (add_entry now g p) (graphs_of p) (graphs_of (add_entry now g p)) (with_entry p.next_uid g) r refl refl
-      (λ spec v. range_added spec (graphs_of p) (graphs_of (add_entry now g p)) v p.next_uid g (ap (option_map (λ (e : Entry). e.graph)) none) (graphs_added p now g none)) is) are
+      soup_changed s rows sig p (add_entry now g) (entry_kept p.next_uid g) formed found
+      (λ r is. soup_added p (add_entry now g p) (graphs_of p) (graphs_of (add_entry now g p)) r p.next_uid g refl refl refl
+      (ap (option_map (λ (e : Entry). e.graph)) none) (graphs_added p now g none) is) are
 
   -- an entry gone
-  pub entry_removed : (u : ℕ) → AreRangesOf (change_soup p.name (remove_entry u) s) (change_ranges sig (each_range (without_entry u)) rows)
+  pub entry_removed : (u : ℕ) → AreRangesOf (change_soup p.name (remove_entry u) s) (change_ranges sig (entry_forgotten u) rows)
   entry_removed u =
-      soup_changed s rows sig p (remove_entry u) (each_range (without_entry u)) formed found
-      (λ r is. each_changed p (remove_entry u p) (graphs_of p) (graphs_of (remove_entry u p)) (without_entry u) r refl refl
-      (λ spec v. range_removed spec (graphs_of p) (graphs_of (remove_entry u p)) v u (graphs_removed p u)) is) are
+      soup_changed s rows sig p (remove_entry u) (entry_forgotten u) formed found
+      (λ r is. soup_removed p (remove_entry u p) (graphs_of p) (graphs_of (remove_entry u p)) r u refl refl refl (graphs_removed p u) is) are
 
   -- an entry with another graph
   pub entry_replaced : (u : ℕ) (change : Entry → Entry) (g : RawGraph) (e : Entry) → ((d : Entry) → (change d).uid ≡ d.uid) → entry_of u p ≡ Some e → (change e).graph ≡ g
-      → AreRangesOf (change_soup p.name (change_entry u change) s) (change_ranges sig (each_range (λ v. with_entry u g (without_entry u v))) rows)
+      → AreRangesOf (change_soup p.name (change_entry u change) s) (change_ranges sig (entry_renewed u g) rows)
   entry_replaced u change g e keeps at same =
-      soup_changed s rows sig p (change_entry u change) (each_range (λ v. with_entry u g (without_entry u v))) formed found
-      (λ r is. each_changed p (change_entry u change p) (graphs_of p) (graphs_of (change_entry u change p)) (λ v. with_entry u g (without_entry u v)) r refl refl
-      (λ spec v. range_replaced spec (graphs_of p) (graphs_of (change_entry u change p)) v u g (graphs_changed p u change g e keeps at same)) is) are
+      soup_changed s rows sig p (change_entry u change) (entry_renewed u g) formed found
+      (λ r is. soup_renewed p (change_entry u change p) (graphs_of p) (graphs_of (change_entry u change p)) r u g refl refl refl (graphs_changed p u change g e keeps at same) is) are
 
   -- a declaration more
   pub declared : (spec : IndexSpec) (v : Sorted) → IsRange (Some spec) (graphs_of p) v
       → AreRangesOf (change_soup p.name (λ q. record q { specs = q.specs ++ spec ∷ [] }) s) (change_ranges sig (with_range v) rows)
   declared spec v is =
       soup_changed s rows sig p (λ q. record q { specs = q.specs ++ spec ∷ [] }) (with_range v) formed found
-      (λ r of. range_more p (record p { specs = p.specs ++ spec ∷ [] }) (graphs_of p) r spec v refl refl is of) are
+      (λ r of. range_more p (record p { specs = p.specs ++ spec ∷ [] }) (graphs_of p) r spec v refl refl refl is of) are
 
   -- a declaration gone
   pub undeclared : (paths : List Path)
       → AreRangesOf (change_soup p.name (λ q. record q { specs = filter (λ d. not (same_paths (paths_of d) paths)) q.specs }) s) (change_ranges sig (without_range paths) rows)
   undeclared paths =
       soup_changed s rows sig p (λ q. record q { specs = filter (λ d. not (same_paths (paths_of d) paths)) q.specs }) (without_range paths) formed found
-      (λ r of. range_fewer p (record p { specs = filter (λ d. not (same_paths (paths_of d) paths)) p.specs }) (graphs_of p) r paths refl refl of) are
+      (λ r of. range_fewer p (record p { specs = filter (λ d. not (same_paths (paths_of d) paths)) p.specs }) (graphs_of p) r paths refl refl refl of) are
+
+  -- another tags declaration
+  pub tagged : (t : TagTable) (m : Masks) → IsMasks t (graphs_of p) m → AreRangesOf (change_soup p.name (with_tags (Some t)) s) (change_ranges sig (with_masks m) rows)
+  tagged t m is =
+      soup_changed s rows sig p (with_tags (Some t)) (with_masks m) formed found
+      (λ r of. masks_set p (with_tags (Some t) p) (graphs_of p) r t m refl refl refl is of) are
 
 -- ---- a store that is opened: the soups are known, and entries are added in any order
 
@@ -149,20 +154,20 @@ indexes_none [] = tt
 indexes_none (d ∷ ds) = (range_none (Some d) (λ uid. None) (λ w. refl), indexes_none ds)
 
 -- one soup more, whose entries are not known yet
-pub soup_listed : (ps : List Soup) (rows : List SoupRanges) (p : Soup) → AreRanges NoGraphs ps rows → AreRanges NoGraphs (ps ++ p ∷ []) (rows ++ no_ranges p.sig p.specs ∷ [])
+pub soup_listed : (ps : List Soup) (rows : List SoupRanges) (p : Soup) → AreRanges NoGraphs ps rows → AreRanges NoGraphs (ps ++ p ∷ []) (rows ++ no_ranges p.sig p.specs p.tags ∷ [])
 soup_listed ps rows p are =
-    ranges_more NoGraphs ps rows p (no_ranges p.sig p.specs) (record { of_sig = refl; all = range_none None (λ uid. None) (λ w. refl); indexes = indexes_none p.specs }) are
+    ranges_more NoGraphs ps rows p (no_ranges p.sig p.specs p.tags)
+    (record { of_sig = refl; all = range_none None (λ uid. None) (λ w. refl); indexes = indexes_none p.specs; masks = masks_none (λ uid. None) p.tags (λ w. refl) }) are
 
 -- one entry more
 pub entry_listed : (old new : Soup → Graphs) (ps : List Soup) (rows : List SoupRanges) (sig u : ℕ) (g : RawGraph) → OnePasses (of_sig sig) ps
     → ((p : Soup) → Among ps p → p.sig ≡ sig → (old p u ≡ None) × AreGraphsWith u (Some g) (old p) (new p))
     → ((p : Soup) → Among ps p → (p.sig ≡ sig → ⊥) → (w : ℕ) → old p w ≡ new p w)
-    → AreRanges old ps rows → AreRanges new ps (change_ranges sig (each_range (with_entry u g)) rows)
+    → AreRanges old ps rows → AreRanges new ps (change_ranges sig (entry_kept u g) rows)
 entry_listed old new ps rows sig u g one here others are =
-    ranges_filled old new sig (each_range (with_entry u g)) ps rows one
-    (λ p r m e is. let h = here p m (eqb-true p.sig sig e) in
-    each_changed p p (old p) (new p) (with_entry u g) r refl refl (λ spec v. range_added spec (old p) (new p) v u g h.0 h.1) is)
-    (λ p r m e is. none_changed p p (old p) (new p) r refl refl (λ spec v. same_graphs spec (old p) (new p) v (others p m (λ same. both-ways (sym e ∙ eq-eqb p.sig sig same)))) is)
+    ranges_filled old new sig (entry_kept u g) ps rows one
+    (λ p r m e is. let h = here p m (eqb-true p.sig sig e) in soup_added p p (old p) (new p) r u g refl refl refl h.0 h.1 is)
+    (λ p r m e is. graphs_told p p (old p) (new p) r refl refl refl (others p m (λ same. both-ways (sym e ∙ eq-eqb p.sig sig same))) is)
     are
 
 -- what the graphs of the directory's soups were told to be are those of the store
@@ -174,7 +179,7 @@ opened s rows told same are = go s.soups rows same are
         → AreRanges (λ p. told p.sig) (map bare_soup ps) rows → AreRanges graphs_of ps rows
     go [] [] h are = tt
     go (p ∷ ps) (r ∷ rows) h are = (
-      none_changed (bare_soup p) p (told p.sig) (graphs_of p) r refl refl (λ spec v. same_graphs spec (told p.sig) (graphs_of p) v (h p (inl refl))) are.0,
+      graphs_told (bare_soup p) p (told p.sig) (graphs_of p) r refl refl refl (h p (inl refl)) are.0,
       go ps rows (λ q m. h q (inr m)) are.1,
     )
     go [] (r ∷ rows) h are = absurd are

@@ -1,5 +1,6 @@
 pub mod Ordered
 pub mod Lookups
+pub mod Kept
 pub mod Standing
 pub mod Found
 pub mod Laws

@@ -29,13 +29,13 @@ another m n w h k = ap (λ m. m == w) (agree m n h) ∙ k
 differ : (m n : ℕ) → (m == n) ≡ false → m ≡ n → ⊥
 differ m n h e = both-ways (sym h ∙ eq-eqb m n e)
 
-unchanged : {X : Type 0} (c : Bool) (o : Option X) → o ≡ None → o ≡ cond c None o
+pub unchanged : {X : Type 0} (c : Bool) (o : Option X) → o ≡ None → o ≡ cond c None o
 unchanged true o h = h
 unchanged false o h = refl
 
 -- ---- keys
 
-none_here : {X : Type 0} (b : Bool) (x : X) (rest : Option X) → cond b (Some x) rest ≡ None → (b ≡ false) × (rest ≡ None)
+pub none_here : {X : Type 0} (b : Bool) (x : X) (rest : Option X) → cond b (Some x) rest ≡ None → (b ≡ false) × (rest ≡ None)
 none_here true x rest h = absurd (none-some x (sym h))
 none_here false x rest h = (refl, h)
 

@@ -2,13 +2,14 @@
 use Rattle.std.proofs.Common.{◌≡◌, ℕ, ◌==◌, Bool, true, false, cond, List, [], ◌∷◌, find, Option, Some, option_map, option_and_then, refl, sym, ◌∙◌, ap}
 use Rattle.newt_base.specs.Names.{equal_text}
 use Rattle.newt_spec_store.specs.Keys.{IndexSpec}
-use Rattle.newt_spec_store.specs.Store.{Entry, Soup, Store, change_first, change_soup, change_entry}
+use Rattle.newt_spec_store.specs.Store.{Entry, Soup, Store, TagTable, change_first, change_soup, change_entry}
 use Rattle.newt_index.specs.Pairs.{parts_of}
+use Rattle.newt_tags.specs.Masks.{mask_of}
 use Rattle.newt_index_ranges.specs.Range.{key_by}
 use Rattle.newt_index_ranges.specs.declared.rows.SoupRanges.{SoupRanges}
 use Rattle.newt_index_ranges.specs.Stands.{graphs_of, IsRangesOf, AreRanges, AreRangesOf}
-use Rattle.newt_index_ranges.proofs.Seen.{AreLike, like-key}
-use Rattle.newt_index_ranges.proofs.Standing.{same_keys, none_changed}
+use Rattle.newt_index_ranges.proofs.Seen.{AreLike, like-key, like-mask}
+use Rattle.newt_index_ranges.proofs.Standing.{same_keys, same_masks, none_changed}
 
 -- a change of an entry that leaves its id, and of its graph all but the bytes of large binaries
 pub record IsPatch (change : Entry → Entry) : Type 0 where
@@ -39,10 +40,16 @@ module _ (change : Entry → Entry) (is : IsPatch change) where
       found-seen (λ o. option_and_then (key_by spec) (option_map (λ (e : Entry). e.graph) o)) (λ e. e.uid == w) (λ e. e.uid == u) change p.entries
       (λ e. ap (λ n. n == w) (is.same_id e)) (same-key spec)
 
+  same-marks : (t : TagTable) (p : Soup) (u w : ℕ) → option_map (mask_of t) (graphs_of p w) ≡ option_map (mask_of t) (graphs_of (change_entry u change p) w)
+  same-marks t p u w =
+      found-seen (λ o. option_map (mask_of t) (option_map (λ (e : Entry). e.graph) o)) (λ e. e.uid == w) (λ e. e.uid == u) change p.entries
+      (λ e. ap (λ n. n == w) (is.same_id e)) (λ e. ap Some (like-mask e.graph (change e).graph (is.like e) t))
+
   patched-soup : (p : Soup) (u : ℕ) (r : SoupRanges) → IsRangesOf p (graphs_of p) r → IsRangesOf (change_entry u change p) (graphs_of (change_entry u change p)) r
   patched-soup p u r is-of =
-      none_changed p (change_entry u change p) (graphs_of p) (graphs_of (change_entry u change p)) r refl refl
-      (λ spec v. same_keys spec (graphs_of p) (graphs_of (change_entry u change p)) v (same-keys spec p u)) is-of
+      none_changed p (change_entry u change p) (graphs_of p) (graphs_of (change_entry u change p)) r refl refl refl
+      (λ spec v. same_keys spec (graphs_of p) (graphs_of (change_entry u change p)) v (same-keys spec p u))
+      (λ t m. same_masks t (graphs_of p) (graphs_of (change_entry u change p)) m (same-marks t p u)) is-of
 
   patched-soups : (which : Soup → Bool) (u : ℕ) (ps : List Soup) (rows : List SoupRanges) → AreRanges graphs_of ps rows → AreRanges graphs_of (change_first which (change_entry u change) ps) rows
   patched-soups which u [] [] are = tt

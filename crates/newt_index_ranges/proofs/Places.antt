@@ -1,5 +1,5 @@
 -- The first element that passes a test, changed at its place.
-use Rattle.std.proofs.Common.{◌≡◌, ℕ, ◌+◌, Bool, true, false, cond, suc, List, [], ◌∷◌, map, get_or, Some, None, refl, sym, ◌∙◌, ap, subst, arith}
+use Rattle.std.proofs.Common.{◌≡◌, ℕ, ◌+◌, Bool, true, false, cond, suc, List, [], ◌∷◌, get_or, Some, None, refl, sym, ◌∙◌, ap, subst, arith}
 use Rattle.std.specs.Prelude.{slice_set}
 use Rattle.std.specs.List.{position_from}
 use Rattle.newt_spec_graph.proofs.Lists.{some-same, none-some}
@@ -38,8 +38,3 @@ none_changed test f (x ∷ xs) k h = go (none_changed test f xs (k + 1)) (test x
         → cond (test x) (f x ∷ xs) (x ∷ change_first test f xs) ≡ x ∷ xs
     go later true e h = absurd (none-some k (sym h))
     go later false e h = ap (λ b. cond b (f x ∷ xs) (x ∷ change_first test f xs)) e ∙ ap (λ ys. x ∷ ys) (later h)
-
--- two changes one after the other are both
-pub both_changed : {X : Type 0} (f g : X → X) (xs : List X) → map g (map f xs) ≡ map (λ x. g (f x)) xs
-both_changed f g [] = refl
-both_changed f g (x ∷ xs) = ap (λ ys. g (f x) ∷ ys) (both_changed f g xs)

@@ -1,5 +1,5 @@
--- What is seen of an entry's graph without the bytes of its large binaries: the values at its paths, and its keys.
-use Rattle.std.proofs.Common.{◌≡◌, ℕ, zero, suc, List, [], ◌∷◌, map, Option, Some, None, option_and_then, refl, sym, ◌∙◌, ap}
+-- What is seen of an entry's graph without the bytes of its large binaries: the values at its paths, its keys, and its masks.
+use Rattle.std.proofs.Common.{◌≡◌, ℕ, zero, suc, List, [], ◌∷◌, map, filter_map, Option, Some, None, option_and_then, refl, sym, ◌∙◌, ap}
 use Rattle.std.specs.Prelude.{slice_get}
 use Rattle.std.specs.List.{position}
 use Rattle.newt_graph.specs.declared.node.Ref.{Ref}
@@ -12,9 +12,12 @@ use Rattle.newt_spec_graph.specs.Slots.{is_named, slot_number, slot_value, value
 use Rattle.newt_spec_store.specs.declared.Kind.{Kind}
 use Rattle.newt_spec_store.specs.declared.Kind.TheVariants as kind
 use Rattle.newt_spec_store.specs.Keys.{IndexSpec, object_part, part_of, if_first_is_there, key}
+use Rattle.newt_spec_store.specs.Store.{TagTable}
 use Rattle.newt_spec_store.specs.StoreOf.{with_bytes, fill}
+use Rattle.newt_spec_query.specs.Tags.{symbol_name, symbols_at, is_among}
 use Rattle.newt_laws_images.proofs.Both.{Both}
 use Rattle.newt_laws_images.proofs.Skeletons.{Like}
+use Rattle.newt_tags.specs.Masks.{symbols_of, number, mask_of}
 
 -- two graphs are one but for the bytes of their large binaries
 pub record AreLike (g h : RawGraph) : Type 0 where
@@ -125,3 +128,33 @@ module _ (g h : RawGraph) (like : AreLike g h) where
   -- it has the same key
   pub like-key : (spec : IndexSpec) → key g spec ≡ key h spec
   like-key spec = ap if_first_is_there (same-parts spec)
+
+  -- ---- symbols
+
+  abbrev name_in : Option Node → Option (List ℕ)
+  name_in o = elim o [ Some (Symbol name) ↦ Some name | _ ↦ None ]
+
+  same-name : (r : Ref) → symbol_name g.nodes r ≡ symbol_name h.nodes r
+  same-name r = seen-at name_in (λ c a b. refl) r
+
+  same-names : (o : Option Node) → symbols_of g.nodes o ≡ symbols_of h.nodes o
+  same-names None = refl
+  same-names (Some (Symbol s)) = refl
+  same-names (Some (Str s)) = refl
+  same-names (Some (Binary c b)) = refl
+  same-names (Some (Large c b)) = refl
+  same-names (Some (Array c values)) = λ i. filter_map (λ v. same-name v i) values
+  same-names (Some (Frame t v)) = refl
+
+  same-symbols : (o : Option Ref) → symbols_at g o ≡ symbols_at h o
+  same-symbols None = refl
+  same-symbols (Some r) = same-names (object g.nodes r) ∙ seen-at (symbols_of h.nodes) (λ c a b. refl) r
+
+  -- it has the same symbols at a path
+  pub like-symbols : (path : List (List ℕ)) → symbols_at g (value_at g path) ≡ symbols_at h (value_at h path)
+  like-symbols path = same-symbols (value_at g path) ∙ ap (symbols_at h) (like-value path)
+
+-- it has the same mask
+pub like-mask : (g h : RawGraph) → AreLike g h → (t : TagTable) → mask_of t g ≡ mask_of t h
+unfolding mask_of
+like-mask g h like t = ap (λ (names : List (List ℕ)). number (map (is_among names) t.symbols)) (like-symbols g h like t.path)

@@ -1,16 +1,19 @@
 -- Changes of ranges are the changes of what they stand for.
-use Rattle.std.proofs.Common.{◌≡◌, ℕ, ◌==◌, Bool, true, false, not, cond, List, [], ◌∷◌, ◌++◌, map, filter, find, Option, Some, None, option_and_then, refl, sym, ◌∙◌, ap, subst, inl, inr}
+use Rattle.std.proofs.Common.{◌≡◌, ℕ, ◌==◌, Bool, true, false, not, cond, List, [], ◌∷◌, ◌++◌, map, filter, find, Option, Some, None, option_map, option_and_then, refl, sym, ◌∙◌, ap, subst, inl, inr}
 use Rattle.newt_graph.specs.Graph.{RawGraph}
 use Rattle.newt_spec_graph.specs.Lists.{Pairs, Among}
 use Rattle.std.proofs.lemmas.Bool.{eq-eqb}
 use Rattle.newt_spec_graph.proofs.Lists.{each-at, both-ways}
 use Rattle.newt_spec_store.specs.Keys.{Key, IndexSpec, Path, paths_of, same_paths}
-use Rattle.newt_spec_store.specs.Store.{Soup, change_first}
+use Rattle.newt_spec_store.specs.Store.{Soup, TagTable, change_first}
 use Rattle.newt_index.specs.Pairs.{key_at, Sorted, parts_of, with_pair}
+use Rattle.newt_tags.specs.Masks.{mask_of}
+use Rattle.newt_index_ranges.specs.Masks.{Masks, IsMasks, no_masks, with_mask, without_mask}
 use Rattle.newt_index_ranges.specs.Range.{key_by}
 use Rattle.newt_index_ranges.specs.declared.rows.SoupRanges.{SoupRanges}
-use Rattle.newt_index_ranges.specs.Rows.{no_pairs, with_entry, without_entry, has_paths, each_range, with_range, without_range, ranges_of, change_ranges, drop_ranges}
-use Rattle.newt_index_ranges.specs.Stands.{Graphs, IsRange, AreIndexes, IsRangesOf, AreRanges}
+use Rattle.newt_index_ranges.specs.Rows.{no_pairs, with_entry, without_entry, has_paths, change_kept, entry_kept, entry_forgotten, entry_renewed, with_range, without_range, with_masks, ranges_of, change_ranges, drop_ranges}
+use Rattle.newt_index_ranges.specs.Stands.{Graphs, IsRange, AreIndexes, AreMasks, IsRangesOf, AreRanges}
+use Rattle.newt_index_ranges.proofs.Kept.{mark-added, mark-removed}
 use Rattle.newt_index_ranges.proofs.Lookups.{agree, key_added, key_filtered, once_added, once_filtered}
 
 -- ---- graphs that change
@@ -81,20 +84,58 @@ range_removed spec old new v u h is = record {
   keys = λ w. key_filtered v.pairs u w ∙ ap (λ (o : Option Key). cond (u == w) None o) (is.keys w) ∙ then_keys spec old new u None w h;
 }
 
--- the graph of an id changed
-pub range_replaced : (spec : Option IndexSpec) (old new : Graphs) (v : Sorted) (u : ℕ) (g : RawGraph) → AreGraphsWith u (Some g) old new → IsRange spec old v
-    → IsRange spec new (with_entry u g (without_entry u v))
-range_replaced spec old new v u g h is =
-    let between : Graphs = λ w. cond (u == w) None (old w) in
-    range_added spec between new (without_entry u v) u g (gone (u == u) refl) (λ w. h w ∙ again (u == w) w) (range_removed spec old between v u (λ w. refl) is)
-  where
-    gone : (c : Bool) → (u == u) ≡ c → cond c None (old u) ≡ None
-    gone true e = refl
-    gone false e = absurd (both-ways (sym e ∙ eq-eqb u u refl))
+-- ---- masks
 
-    again : (c : Bool) (w : ℕ) → cond c (Some g) (old w) ≡ cond c (Some g) (cond c None (old w))
-    again true w = refl
-    again false w = refl
+-- the mask of an id's graph
+abbrev mask_if : TagTable → Option RawGraph → Option ℕ
+mask_if t graph = option_map (mask_of t) graph
+
+chosen_mask : (t : TagTable) (c : Bool) (one other : Option RawGraph) → cond c (mask_if t one) (mask_if t other) ≡ mask_if t (cond c one other)
+chosen_mask t true one other = refl
+chosen_mask t false one other = refl
+
+-- masks stand for all graphs that have the same masks
+pub same_masks : (t : TagTable) (old new : Graphs) (m : Masks) → ((w : ℕ) → mask_if t (old w) ≡ mask_if t (new w)) → IsMasks t old m → IsMasks t new m
+same_masks t old new m h is = record { declared = is.declared; masks = λ w. is.masks w ∙ h w }
+
+pub masks_of_same : (t : TagTable) (old new : Graphs) (m : Masks) → ((w : ℕ) → old w ≡ new w) → IsMasks t old m → IsMasks t new m
+masks_of_same t old new m h is = same_masks t old new m (λ w. ap (mask_if t) (h w)) is
+
+pub is_no_masks : (t : TagTable) (graphs : Graphs) → ((w : ℕ) → graphs w ≡ None) → IsMasks t graphs (no_masks t)
+is_no_masks t graphs h = record { declared = refl; masks = λ w. ap (mask_if t) (sym (h w)) }
+
+-- the mask of an id more, and gone
+pub mask_added : (t : TagTable) (old new : Graphs) (m : Masks) (u : ℕ) (g : RawGraph) → AreGraphsWith u (Some g) old new → IsMasks t old m → IsMasks t new (with_mask u g m)
+mask_added t old new m u g h is = record {
+  declared = is.declared;
+  masks = λ w. mark-added m.masks u (mask_of m.table g) w ∙ ap (λ (o : Option ℕ). cond (u == w) (Some (mask_of m.table g)) o) (is.masks w)
+      ∙ ap (λ (x : TagTable). cond (u == w) (Some (mask_of x g)) (mask_if t (old w))) is.declared
+      ∙ chosen_mask t (u == w) (Some g) (old w) ∙ ap (mask_if t) (sym (h w));
+}
+
+pub mask_removed : (t : TagTable) (old new : Graphs) (m : Masks) (u : ℕ) → AreGraphsWith u None old new → IsMasks t old m → IsMasks t new (without_mask u m)
+mask_removed t old new m u h is = record {
+  declared = is.declared;
+  masks = λ w. mark-removed m.masks u w ∙ ap (λ (o : Option ℕ). cond (u == w) None o) (is.masks w) ∙ chosen_mask t (u == w) None (old w) ∙ ap (mask_if t) (sym (h w));
+}
+
+-- masks changed, and not changed, where there are some
+masks_changed : (old new : Graphs) (mark : Masks → Masks) (tags : Option TagTable) (o : Option Masks) → ((t : TagTable) (m : Masks) → IsMasks t old m → IsMasks t new (mark m))
+    → AreMasks old tags o → AreMasks new tags (option_map mark o)
+masks_changed old new mark None None h are = tt
+masks_changed old new mark (Some t) (Some m) h are = h t m are
+masks_changed old new mark None (Some m) h are = absurd are
+masks_changed old new mark (Some t) None h are = absurd are
+
+masks_kept : (old new : Graphs) (tags : Option TagTable) (o : Option Masks) → ((t : TagTable) (m : Masks) → IsMasks t old m → IsMasks t new m) → AreMasks old tags o → AreMasks new tags o
+masks_kept old new None None h are = tt
+masks_kept old new (Some t) (Some m) h are = h t m are
+masks_kept old new None (Some m) h are = absurd are
+masks_kept old new (Some t) None h are = absurd are
+
+pub masks_none : (graphs : Graphs) (tags : Option TagTable) → ((w : ℕ) → graphs w ≡ None) → AreMasks graphs tags (option_map no_masks tags)
+masks_none graphs None h = tt
+masks_none graphs (Some t) h = is_no_masks t graphs h
 
 -- ---- the ranges of one soup
 
@@ -115,20 +156,64 @@ indexes_kept old new [] (v ∷ vs) h are = absurd are
 indexes_kept old new (d ∷ ds) [] h are = absurd are
 
 -- the ranges of a soup stand for another that has its signature and declarations
-pub each_changed : (p q : Soup) (old new : Graphs) (change : Sorted → Sorted) (r : SoupRanges) → q.sig ≡ p.sig → q.specs ≡ p.specs
-    → ((spec : Option IndexSpec) (v : Sorted) → IsRange spec old v → IsRange spec new (change v)) → IsRangesOf p old r → IsRangesOf q new (each_range change r)
-each_changed p q old new change r sig specs h is = record {
+pub each_changed : (p q : Soup) (old new : Graphs) (change : Sorted → Sorted) (mark : Masks → Masks) (r : SoupRanges) → q.sig ≡ p.sig → q.specs ≡ p.specs → q.tags ≡ p.tags
+    → ((spec : Option IndexSpec) (v : Sorted) → IsRange spec old v → IsRange spec new (change v)) → ((t : TagTable) (m : Masks) → IsMasks t old m → IsMasks t new (mark m))
+    → IsRangesOf p old r → IsRangesOf q new (change_kept change mark r)
+each_changed p q old new change mark r sig specs tags h k is = record {
   of_sig = is.of_sig ∙ sym sig;
   all = h None r.all is.all;
   indexes = subst (λ (ds : List IndexSpec). AreIndexes new ds (map change r.indexes)) (sym specs) (indexes_changed old new change p.specs r.indexes h is.indexes);
+  masks = subst (λ (ts : Option TagTable). AreMasks new ts (option_map mark r.masks)) (sym tags) (masks_changed old new mark p.tags r.masks k is.masks);
 }
 
-pub none_changed : (p q : Soup) (old new : Graphs) (r : SoupRanges) → q.sig ≡ p.sig → q.specs ≡ p.specs
-    → ((spec : Option IndexSpec) (v : Sorted) → IsRange spec old v → IsRange spec new v) → IsRangesOf p old r → IsRangesOf q new r
-none_changed p q old new r sig specs h is = record {
+pub none_changed : (p q : Soup) (old new : Graphs) (r : SoupRanges) → q.sig ≡ p.sig → q.specs ≡ p.specs → q.tags ≡ p.tags
+    → ((spec : Option IndexSpec) (v : Sorted) → IsRange spec old v → IsRange spec new v) → ((t : TagTable) (m : Masks) → IsMasks t old m → IsMasks t new m)
+    → IsRangesOf p old r → IsRangesOf q new r
+none_changed p q old new r sig specs tags h k is = record {
   of_sig = is.of_sig ∙ sym sig;
   all = h None r.all is.all;
   indexes = subst (λ (ds : List IndexSpec). AreIndexes new ds r.indexes) (sym specs) (indexes_kept old new p.specs r.indexes h is.indexes);
+  masks = subst (λ (ts : Option TagTable). AreMasks new ts r.masks) (sym tags) (masks_kept old new p.tags r.masks k is.masks);
+}
+
+-- the ranges of a soup stand for another that has the same graphs
+pub graphs_told : (p q : Soup) (old new : Graphs) (r : SoupRanges) → q.sig ≡ p.sig → q.specs ≡ p.specs → q.tags ≡ p.tags → ((w : ℕ) → old w ≡ new w) → IsRangesOf p old r → IsRangesOf q new r
+graphs_told p q old new r sig specs tags h is =
+    none_changed p q old new r sig specs tags (λ spec v. same_graphs spec old new v h) (λ t m. masks_of_same t old new m h) is
+
+-- what is kept of an entry more, of one gone, and of one with another graph
+pub soup_added : (p q : Soup) (old new : Graphs) (r : SoupRanges) (u : ℕ) (g : RawGraph) → q.sig ≡ p.sig → q.specs ≡ p.specs → q.tags ≡ p.tags → old u ≡ None → AreGraphsWith u (Some g) old new
+    → IsRangesOf p old r → IsRangesOf q new (entry_kept u g r)
+soup_added p q old new r u g sig specs tags none h is =
+    each_changed p q old new (with_entry u g) (with_mask u g) r sig specs tags (λ spec v. range_added spec old new v u g none h) (λ t m. mask_added t old new m u g h) is
+
+pub soup_removed : (p q : Soup) (old new : Graphs) (r : SoupRanges) (u : ℕ) → q.sig ≡ p.sig → q.specs ≡ p.specs → q.tags ≡ p.tags → AreGraphsWith u None old new
+    → IsRangesOf p old r → IsRangesOf q new (entry_forgotten u r)
+soup_removed p q old new r u sig specs tags h is =
+    each_changed p q old new (without_entry u) (without_mask u) r sig specs tags (λ spec v. range_removed spec old new v u h) (λ t m. mask_removed t old new m u h) is
+
+pub soup_renewed : (p q : Soup) (old new : Graphs) (r : SoupRanges) (u : ℕ) (g : RawGraph) → q.sig ≡ p.sig → q.specs ≡ p.specs → q.tags ≡ p.tags → AreGraphsWith u (Some g) old new
+    → IsRangesOf p old r → IsRangesOf q new (entry_renewed u g r)
+soup_renewed p q old new r u g sig specs tags h is =
+    let between : Graphs = λ w. cond (u == w) None (old w) in
+    soup_added p q between new (entry_forgotten u r) u g sig specs tags (gone (u == u) refl) (λ w. h w ∙ again (u == w) w) (soup_removed p p old between r u refl refl refl (λ w. refl) is)
+  where
+    gone : (c : Bool) → (u == u) ≡ c → cond c None (old u) ≡ None
+    gone true e = refl
+    gone false e = absurd (both-ways (sym e ∙ eq-eqb u u refl))
+
+    again : (c : Bool) (w : ℕ) → cond c (Some g) (old w) ≡ cond c (Some g) (cond c None (old w))
+    again true w = refl
+    again false w = refl
+
+-- the masks of another declaration
+pub masks_set : (p q : Soup) (graphs : Graphs) (r : SoupRanges) (t : TagTable) (m : Masks) → q.sig ≡ p.sig → q.specs ≡ p.specs → q.tags ≡ Some t → IsMasks t graphs m
+    → IsRangesOf p graphs r → IsRangesOf q graphs (with_masks m r)
+masks_set p q graphs r t m sig specs tags is of = record {
+  of_sig = of.of_sig ∙ sym sig;
+  all = of.all;
+  indexes = subst (λ (ds : List IndexSpec). AreIndexes graphs ds r.indexes) (sym specs) of.indexes;
+  masks = subst (λ (ts : Option TagTable). AreMasks graphs ts (Some m)) (sym tags) is;
 }
 
 -- a range more
@@ -139,12 +224,13 @@ indexes_more graphs (e ∷ ds) (w ∷ vs) d v is are = (are.0, indexes_more grap
 indexes_more graphs [] (w ∷ vs) d v is are = absurd are
 indexes_more graphs (e ∷ ds) [] d v is are = absurd are
 
-pub range_more : (p q : Soup) (graphs : Graphs) (r : SoupRanges) (d : IndexSpec) (v : Sorted) → q.sig ≡ p.sig → q.specs ≡ p.specs ++ d ∷ [] → IsRange (Some d) graphs v
+pub range_more : (p q : Soup) (graphs : Graphs) (r : SoupRanges) (d : IndexSpec) (v : Sorted) → q.sig ≡ p.sig → q.specs ≡ p.specs ++ d ∷ [] → q.tags ≡ p.tags → IsRange (Some d) graphs v
     → IsRangesOf p graphs r → IsRangesOf q graphs (with_range v r)
-range_more p q graphs r d v sig specs is of = record {
+range_more p q graphs r d v sig specs tags is of = record {
   of_sig = of.of_sig ∙ sym sig;
   all = of.all;
   indexes = subst (λ (ds : List IndexSpec). AreIndexes graphs ds (r.indexes ++ v ∷ [])) (sym specs) (indexes_more graphs p.specs r.indexes d v is of.indexes);
+  masks = subst (λ (ts : Option TagTable). AreMasks graphs ts r.masks) (sym tags) of.masks;
 }
 
 -- the ranges by some declarations gone
@@ -164,12 +250,13 @@ indexes_fewer graphs paths (d ∷ ds) (v ∷ vs) are =
 indexes_fewer graphs paths [] (v ∷ vs) are = absurd are
 indexes_fewer graphs paths (d ∷ ds) [] are = absurd are
 
-pub range_fewer : (p q : Soup) (graphs : Graphs) (r : SoupRanges) (paths : List Path) → q.sig ≡ p.sig → q.specs ≡ filter (λ d. not (same_paths (paths_of d) paths)) p.specs
+pub range_fewer : (p q : Soup) (graphs : Graphs) (r : SoupRanges) (paths : List Path) → q.sig ≡ p.sig → q.specs ≡ filter (λ d. not (same_paths (paths_of d) paths)) p.specs → q.tags ≡ p.tags
     → IsRangesOf p graphs r → IsRangesOf q graphs (without_range paths r)
-range_fewer p q graphs r paths sig specs of = record {
+range_fewer p q graphs r paths sig specs tags of = record {
   of_sig = of.of_sig ∙ sym sig;
   all = of.all;
   indexes = subst (λ (ds : List IndexSpec). AreIndexes graphs ds (filter (λ v. not (has_paths paths v)) r.indexes)) (sym specs) (indexes_fewer graphs paths p.specs r.indexes of.indexes);
+  masks = subst (λ (ts : Option TagTable). AreMasks graphs ts r.masks) (sym tags) of.masks;
 }
 
 -- ---- the ranges of all soups

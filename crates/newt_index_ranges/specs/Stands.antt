@@ -3,8 +3,9 @@ use Rattle.std.specs.Prelude.{◌≡◌, ℕ, List, [], ◌∷◌, Option, Some,
 use Rattle.newt_graph.specs.Graph.{RawGraph}
 use Rattle.newt_spec_graph.specs.Lists.{Pairs}
 use Rattle.newt_spec_store.specs.Keys.{IndexSpec}
-use Rattle.newt_spec_store.specs.Store.{Soup, Store, entry_of}
+use Rattle.newt_spec_store.specs.Store.{Soup, Store, TagTable, entry_of}
 use Rattle.newt_index.specs.Pairs.{Sorted, key_at}
+use Rattle.newt_index_ranges.specs.Masks.{Masks, IsMasks}
 use Rattle.newt_index_ranges.specs.Range.{key_by}
 use Rattle.newt_index_ranges.specs.declared.rows.SoupRanges.{SoupRanges}
 
@@ -28,11 +29,19 @@ AreIndexes graphs [] [] = Unit {0}
 AreIndexes graphs (d ∷ ds) (v ∷ vs) = IsRange (Some d) graphs v × AreIndexes graphs ds vs
 AreIndexes graphs _ _ = ⊥
 
--- The ranges are of a soup with these graphs: that of all entries, and one for each of its declarations. (this project's own)
+-- there are masks where there is a tags declaration (a word of these definitions)
+abbrev pub AreMasks : Graphs → Option TagTable → Option Masks → Type 0
+AreMasks graphs None None = Unit {0}
+AreMasks graphs (Some table) (Some m) = IsMasks table graphs m
+AreMasks graphs _ _ = ⊥
+
+-- The ranges are of a soup with these graphs: that of all entries, and one for each of its declarations; with the masks by its tags declaration.
+-- (this project's own)
 pub record IsRangesOf (p : Soup) (graphs : Graphs) (r : SoupRanges) : Type 0 where
   pub of_sig : r.sig ≡ p.sig
   pub all : IsRange None graphs r.all
   pub indexes : AreIndexes graphs p.specs r.indexes
+  pub masks : AreMasks graphs p.tags r.masks
 
 -- the ranges are of these soups, in order, whose graphs are told (a word of these definitions)
 abbrev pub AreRanges : (Soup → Graphs) → List Soup → List SoupRanges → Type 0

@@ -5,18 +5,20 @@ ghost use Rattle.std.specs.List.{position_from};
 ghost use Rattle.newt_index.specs.Pairs.{IsSorted};
 ghost use Rattle.newt_spec_store.specs.Store.{Store};
 ghost use Rattle.newt_spec_store.specs.Valid.{well_formed};
-ghost use Rattle.newt_index_ranges.specs.Range.{range_in};
-ghost use Rattle.newt_index_ranges.specs.Rows.{no_ranges, with_entry, without_entry, each_range};
-ghost use Rattle.newt_index_ranges.specs.Rows.{with_range, without_range, change_ranges};
-ghost use Rattle.newt_index_ranges.specs.Rows.{drop_ranges, range_found};
+ghost use Rattle.newt_index_ranges.specs.Range.{range_in, mask_at};
+ghost use Rattle.newt_index_ranges.specs.Rows.{no_ranges, entry_kept, entry_forgotten};
+ghost use Rattle.newt_index_ranges.specs.Rows.{entry_renewed, with_range, without_range, with_masks};
+ghost use Rattle.newt_index_ranges.specs.Rows.{change_ranges, drop_ranges, range_found, mask_found};
 ghost use Rattle.newt_index_ranges.specs.Stands.{AreRangesOf};
 
+use crate::masks::Masks;
 use crate::rows::SoupRanges;
 use newt_base::{Sig, Uid};
 use newt_graph::Graph;
 use newt_index::Index;
 use newt_keys::IndexSpec;
 use newt_path::Path;
+use newt_tags::TagTable;
 use std::alloc::{AllocError, Global};
 use std::marker::Model;
 
@@ -61,13 +63,28 @@ impl Ranges {
         find_in(&self.soups, soup, spec)
     }
 
+    /// The mask of an entry by the tags declaration of its soup, 0 where the soup has none. None
+    /// exactly where the entry is not there. It takes no memory.
+    pub fn mask(&self, soup: Sig, uid: Uid) -> Option<u64>
+        ensures found { result ≡ mask_found soup uid self.now }
+        ensures stands { (s : Store) → AreRangesOf s self.now → result ≡ mask_at soup uid s }
+    {
+        find_mask_in(&self.soups, soup, uid)
+    }
+
     /// A soup more at the end, of these declarations and without entries; a new soup has none.
     /// After an error nothing has changed.
-    pub fn make_soup(&mut self, soup: Sig, specs: &[IndexSpec]) -> Result<(), AllocError>
-        ensures ok { OnOk result (self.new ≡ self.old ++ no_ranges soup specs.now ∷ []) }
+    pub fn make_soup(
+        &mut self,
+        soup: Sig,
+        specs: &[IndexSpec],
+        tags: Option<&TagTable>,
+    ) -> Result<(), AllocError>
+        ensures ok { OnOk result (self.new ≡ self.old ++ no_ranges soup specs.now
+            (option_map (λ t. t.now) tags.entry) ∷ []) }
         ensures err { OnErr result (self.new ≡ self.old) }
     {
-        let row = SoupRanges::new(*self.soups.allocator(), soup, specs)?;
+        let row = SoupRanges::new(*self.soups.allocator(), soup, specs, tags)?;
         self.soups.push(row)?;
         Ok(())
     }
@@ -82,23 +99,21 @@ impl Ranges {
     /// An entry more in a soup, of an id that none of its entries has. Entries may be added in any
     /// order.
     pub fn add(&mut self, soup: Sig, uid: Uid, graph: &Graph) -> Result<(), AllocError>
-        ensures { OnOk result (self.new ≡ change_ranges soup (each_range (with_entry uid graph.now))
-            self.old) }
+        ensures { OnOk result (self.new ≡ change_ranges soup (entry_kept uid graph.now) self.old) }
     {
         add_in(self.soups.as_mut_slice(), soup, uid, graph)
     }
 
     /// An entry of a soup gone. It takes no memory.
     pub fn remove(&mut self, soup: Sig, uid: Uid)
-        ensures { self.new ≡ change_ranges soup (each_range (without_entry uid)) self.old }
+        ensures { self.new ≡ change_ranges soup (entry_forgotten uid) self.old }
     {
         remove_in(self.soups.as_mut_slice(), soup, uid);
     }
 
     /// An entry of a soup with another graph.
     pub fn replace(&mut self, soup: Sig, uid: Uid, graph: &Graph) -> Result<(), AllocError>
-        ensures { OnOk result (self.new ≡ change_ranges soup (each_range
-            (λ v. with_entry uid graph.now (without_entry uid v))) self.old) }
+        ensures { OnOk result (self.new ≡ change_ranges soup (entry_renewed uid graph.now) self.old) }
     {
         replace_in(self.soups.as_mut_slice(), soup, uid, graph)
     }
@@ -118,6 +133,27 @@ impl Ranges {
     {
         undeclare_in(self.soups.as_mut_slice(), soup, paths);
     }
+
+    /// The masks of a soup's entries by its tags declaration, in place of those that were kept.
+    /// It takes no memory.
+    pub fn set_masks(&mut self, soup: Sig, masks: Masks)
+        ensures { self.new ≡ change_ranges soup (with_masks masks) self.old }
+    {
+        set_masks_in(self.soups.as_mut_slice(), soup, masks);
+    }
+}
+
+fn find_mask_in(rows: &[SoupRanges], sig: Sig, uid: Uid) -> Option<u64>
+    ensures { result ≡ mask_found sig uid rows.now }
+{
+    let mut left = rows;
+    while let [row, rest @ ..] = left {
+        if row.sig == sig {
+            return row.mask(uid);
+        }
+        left = rest;
+    }
+    None
 }
 
 fn find_in<'a>(rows: &'a [SoupRanges], sig: Sig, spec: Option<&IndexSpec>) -> Option<&'a Index>
@@ -170,8 +206,7 @@ fn declare_in(rows: &mut [SoupRanges], sig: Sig, range: Index) -> Result<(), All
 }
 
 fn add_in(rows: &mut [SoupRanges], sig: Sig, uid: Uid, graph: &Graph) -> Result<(), AllocError>
-    ensures { OnOk result (rows.new ≡ change_ranges sig (each_range (with_entry uid graph.now))
-        rows.old) }
+    ensures { OnOk result (rows.new ≡ change_ranges sig (entry_kept uid graph.now) rows.old) }
 {
     let Some(at) = place_of(rows, sig) else {
         return Ok(());
@@ -181,7 +216,7 @@ fn add_in(rows: &mut [SoupRanges], sig: Sig, uid: Uid, graph: &Graph) -> Result<
 }
 
 fn remove_in(rows: &mut [SoupRanges], sig: Sig, uid: Uid)
-    ensures { rows.new ≡ change_ranges sig (each_range (without_entry uid)) rows.old }
+    ensures { rows.new ≡ change_ranges sig (entry_forgotten uid) rows.old }
 {
     let Some(at) = place_of(rows, sig) else {
         return;
@@ -190,8 +225,7 @@ fn remove_in(rows: &mut [SoupRanges], sig: Sig, uid: Uid)
 }
 
 fn replace_in(rows: &mut [SoupRanges], sig: Sig, uid: Uid, graph: &Graph) -> Result<(), AllocError>
-    ensures { OnOk result (rows.new ≡ change_ranges sig (each_range
-        (λ v. with_entry uid graph.now (without_entry uid v))) rows.old) }
+    ensures { OnOk result (rows.new ≡ change_ranges sig (entry_renewed uid graph.now) rows.old) }
 {
     let Some(at) = place_of(rows, sig) else {
         return Ok(());
@@ -207,4 +241,13 @@ fn undeclare_in(rows: &mut [SoupRanges], sig: Sig, paths: &[Path])
         return;
     };
     rows[at].undeclare(paths);
+}
+
+fn set_masks_in(rows: &mut [SoupRanges], sig: Sig, masks: Masks)
+    ensures { rows.new ≡ change_ranges sig (with_masks masks) rows.old }
+{
+    let Some(at) = place_of(rows, sig) else {
+        return;
+    };
+    rows[at].set_masks(masks);
 }

@@ -1,25 +1,29 @@
 //! The ranges of one soup.
 ghost use Rattle.std.specs.Prelude.{◌≡◌, option_map, IfSome, IfOk, OnOk, OnErr};
 ghost use Rattle.newt_index.specs.Pairs.{IsSorted};
-ghost use Rattle.newt_index_ranges.specs.Rows.{no_ranges, with_entry, without_entry, each_range};
-ghost use Rattle.newt_index_ranges.specs.Rows.{with_range, without_range, find_range};
+ghost use Rattle.newt_index_ranges.specs.Rows.{no_ranges, entry_kept, entry_forgotten};
+ghost use Rattle.newt_index_ranges.specs.Rows.{entry_renewed, with_range, without_range, with_masks};
+ghost use Rattle.newt_index_ranges.specs.Rows.{find_range, find_mask};
 
 use crate::entry::add_entry;
 use crate::indexes::Indexes;
+use crate::masks::{Masks, add_mask, no_masks, remove_mask};
 use newt_base::{Sig, Uid};
 use newt_graph::Graph;
 use newt_index::Index;
 use newt_keys::IndexSpec;
 use newt_path::Path;
+use newt_tags::TagTable;
 use std::alloc::{AllocError, Global};
 
 /// The ranges of one soup: that of all its entries, by id, and one for each of its declarations, in
-/// order.
+/// order; and the masks of its entries, where it declares tags.
 #[derive(Drop)]
 pub(crate) struct SoupRanges {
     pub(crate) sig: Sig,
     all: Index,
     indexes: Indexes,
+    masks: Option<Masks>,
 }
 
 impl SoupRanges {
@@ -28,13 +32,16 @@ impl SoupRanges {
         alloc: Global,
         sig: Sig,
         specs: &[IndexSpec],
+        tags: Option<&TagTable>,
     ) -> Result<SoupRanges, AllocError>
-        ensures { IfOk result (λ ranges. ranges ≡ no_ranges sig specs.now) }
+        ensures { IfOk result (λ ranges. ranges ≡ no_ranges sig specs.now
+            (option_map (λ t. t.now) tags.entry)) }
     {
         Ok(SoupRanges {
             sig,
             all: Index::new(alloc, None),
             indexes: Indexes::new(alloc, specs)?,
+            masks: no_masks(alloc, tags)?,
         })
     }
 
@@ -55,26 +62,38 @@ impl SoupRanges {
         }
     }
 
+    /// The mask of an entry, 0 where no tags are declared. None exactly where the entry is not
+    /// there. It takes no memory.
+    pub(crate) fn mask(&self, uid: Uid) -> Option<u64>
+        ensures { result ≡ find_mask uid self.now }
+    {
+        match &self.masks {
+            Some(masks) => masks.get(uid),
+            None => self.all.key_of(uid).map(|_key| 0),
+        }
+    }
+
     /// An entry more. After an error some ranges have it.
     pub(crate) fn add(&mut self, uid: Uid, graph: &Graph) -> Result<(), AllocError>
-        ensures { OnOk result (self.new ≡ each_range (with_entry uid graph.now) self.old) }
+        ensures { OnOk result (self.new ≡ entry_kept uid graph.now self.old) }
     {
         add_entry(&mut self.all, uid, graph)?;
-        self.indexes.add(uid, graph)
+        self.indexes.add(uid, graph)?;
+        add_mask(&mut self.masks, uid, graph)
     }
 
     /// An entry gone. It takes no memory.
     pub(crate) fn remove(&mut self, uid: Uid)
-        ensures { self.new ≡ each_range (without_entry uid) self.old }
+        ensures { self.new ≡ entry_forgotten uid self.old }
     {
         self.all.forget(uid);
         self.indexes.remove(uid);
+        remove_mask(&mut self.masks, uid);
     }
 
     /// An entry with another graph. After an error some ranges do not have it.
     pub(crate) fn replace(&mut self, uid: Uid, graph: &Graph) -> Result<(), AllocError>
-        ensures { OnOk result (self.new ≡ each_range (λ v. with_entry uid graph.now
-            (without_entry uid v)) self.old) }
+        ensures { OnOk result (self.new ≡ entry_renewed uid graph.now self.old) }
     {
         self.remove(uid);
         self.add(uid, graph)?;
@@ -94,5 +113,12 @@ impl SoupRanges {
         ensures { self.new ≡ without_range paths.now self.old }
     {
         self.indexes.drop_paths(paths);
+    }
+
+    /// These masks in place of those that were kept. It takes no memory.
+    pub(crate) fn set_masks(&mut self, masks: Masks)
+        ensures { self.new ≡ with_masks masks self.old }
+    {
+        self.masks = Some(masks);
     }
 }

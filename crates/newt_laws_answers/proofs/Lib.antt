@@ -19,3 +19,4 @@ pub mod Most
 pub mod Refusals
 pub mod Programs
 pub mod Changes
+pub mod Fetched

@@ -3,3 +3,4 @@ pub mod Faces
 pub mod Tests
 pub mod There
 pub mod Bounds
+pub mod Fetched

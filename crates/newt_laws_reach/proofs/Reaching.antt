@@ -70,7 +70,7 @@ reached-settles r v w same sub all apart h = ap {A = List (Option Cursor)} {B = 
     maps (None ∷ cs) h = ap (λ xs. None ∷ xs) (maps cs h.1)
     maps (Some k ∷ cs) h = λ i. Some (single k h.0 i) ∷ maps cs h.1 i
 
-nowhere-stays : (v : World) → settle_reached nowhere v ≡ v
+pub nowhere-stays : (v : World) → settle_reached nowhere v ≡ v
 nowhere-stays v = ap {A = List (Option Cursor)} {B = World} (λ cs. record v { cursors = cs }) (maps v.cursors)
   where
     single : (k : Cursor) → settle_where nowhere v k ≡ k

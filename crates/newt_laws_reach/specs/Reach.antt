@@ -1,7 +1,7 @@
 -- Which cursors a command can give another key.
-use Rattle.std.specs.Prelude.{ℕ, Bool, false, ◌&&◌, ◌==◌, List, map, cond}
+use Rattle.std.specs.Prelude.{ℕ, Bool, false, ◌&&◌, ◌==◌, List, map, cond, true, if◌then◌else◌}
 use Rattle.std.specs.Prelude.{Option, Some, None, option_map}
-use Rattle.newt_spec_store.specs.Store.{Store, Soup, soup_named}
+use Rattle.newt_spec_store.specs.Store.{Store, Soup, Entry, soup_named, entry_at}
 use Rattle.newt_spec_query.specs.Hits.{Hit}
 use Rattle.newt_spec_query.specs.Cursor.{Cursor, Place, on}
 use Rattle.newt_spec_world.specs.declared.command.Command.{Command}
@@ -36,6 +36,17 @@ settle_where r w k = cond (is_reached r k.place) (settle_cursor w k) k
 -- the same of all cursors (this project's own)
 abbrev pub settle_reached : Reach → World → World
 settle_reached r w = record w { cursors = map (option_map (settle_where r w)) w.cursors }
+
+-- one entry at most is reached (this project's own)
+abbrev pub is_of_one : Reach → Bool
+is_of_one (on_store store) = false
+is_of_one (on_soup store soup) = false
+is_of_one r = true
+
+-- the entry of a mounted store that is reached alone, if it is there (this project's own)
+abbrev pub entry_reached : Reach → Option Store → Option Entry
+entry_reached (on_entry store soup uid) (Some s) = if s.sig == store then entry_at soup uid s else None
+entry_reached r s = None
 
 -- ---- what is reached
 

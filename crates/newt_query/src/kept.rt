@@ -1,11 +1,10 @@
 //! What a query keeps of an entry.
-ghost use Rattle.std.specs.Prelude.{◌≡◌, ◌&&◌, None, false, option_map, IfOk, IfSome, MatchOption};
-ghost use Rattle.std.specs.Prelude.{Some};
+ghost use Rattle.std.specs.Prelude.{◌≡◌, ◌&&◌, false, option_map, IfOk, IfSome, MatchOption, Some};
 ghost use Rattle.newt_graph.specs.Graph.{RawGraph};
 ghost use Rattle.newt_keys.specs.KeyForm.{IsKeyOf};
 ghost use Rattle.newt_spec_store.specs.Keys as keys;
 ghost use Rattle.newt_spec_query.specs.Hits.{passes};
-ghost use Rattle.newt_tags.specs.Masks.{mask_of};
+ghost use Rattle.newt_tags.specs.Masks.{mask_by, mask_of};
 ghost use Rattle.newt_query.specs.Filter.{asks_texts, in_range};
 ghost use Rattle.newt_query.specs.Kept.{kept_key};
 
@@ -53,14 +52,15 @@ pub fn is_kept(
     spec.passes(alloc, key, table, mask, Some(graph))
 }
 
-/// Whether a query keeps an entry that has this key, whatever its graph: no words or texts are
-/// asked for, and its soup declares no tags.
-pub fn is_kept_unread(alloc: Global, spec: &Spec, key: &Key) -> Result<bool, AllocError>
+/// Whether a query keeps an entry that has this key and this mask, whatever its graph: no words or
+/// texts are asked for. It takes no memory.
+pub fn is_kept_unread(spec: &Spec, key: &Key, table: Option<&TagTable>, mask: u64) -> bool
     requires { asks_texts spec.now ≡ false }
-    ensures { IfOk result (λ kept. (graph : RawGraph) → kept ≡
-        (in_range spec.now key.now && passes spec.now None graph)) }
+    ensures { (graph : RawGraph) → mask ≡ mask_by (option_map (λ t. t.now) table.entry) graph →
+        result ≡ (in_range spec.now key.now && passes spec.now
+        (option_map (λ t. t.now) table.entry) graph) }
 {
-    spec.passes(alloc, key, None, 0, None)
+    spec.takes(key, table, mask)
 }
 
 /// The mask of a graph by a tags declaration, if there is one.

@@ -119,7 +119,7 @@ impl Spec {
     }
 
     /// Whether the key is in the range and the tags pass.
-    fn takes(&self, key: &Key, table: Option<&TagTable>, mask: u64) -> bool
+    pub(crate) fn takes(&self, key: &Key, table: Option<&TagTable>, mask: u64) -> bool
         ensures { result ≡ (in_range self.now key.now && tags_pass self.now.tags
             (tags_by (option_map (λ t. t.now) table.entry) mask)) }
     {

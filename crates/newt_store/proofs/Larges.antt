@@ -286,3 +286,11 @@ module _ (told : Bool) (objects : Held) (numbers : Numbers) (unit : ℕ) (outsid
 pub never : {T E : Type 0} (fault : E) (x : T) (o : Option Extent) (n : ℕ) → IfSome o (λ y. y.length < n → IsErrOf (Ok x) fault) → IfSome o (λ y. y.length < n → ⊥)
 never fault x None n h = tt
 never fault x (Some y) n h = λ less. absurd (let isnt = h less in cc)
+
+-- and where a fault is another one
+pub other : {T E : Type 0} {r : Result T E} {fault range : E} → r ≡ Err fault → (fault ≡ range → ⊥) → (o : Option Extent) (n : ℕ) → IfSome o (λ y. y.length < n → IsErrOf r range) → IfSome o (λ y. y.length < n → ⊥)
+other is differ None n h = tt
+other {T} {E} {r} {fault} {range} is differ (Some y) n h = λ less. differ (same fault range (sym is ∙ h less))
+  where
+    same : (a b : E) → ◌≡◌ {A = Result T E} (Err a) (Err b) → a ≡ b
+    same a b k = cc

@@ -462,6 +462,30 @@ spends-record most unit e old new spends = Spends-widen 0 (512 * record_pages e)
   more : (a b : ℕ) → a ≤ b → 512 * a ≤ 512 * b
   more a b low = omega (arith, low)
 
+-- a range of a large binary lies in some of its pages
+pub range-few : (at many len unit : ℕ) (old new : Outside) → Spends unit 0 (512 * parts_met at many) old new → at + many ≤ len → Spends unit 0 (512 * pages_for len) old new
+range-few at many len unit old new one low = Spends-widen 0 (512 * parts_met at many) 0 (512 * pages_for len) (omega arith) (more (parts_met at many) (pages_for len) (parts-few at many len low)) one where
+  more : (a b : ℕ) → a ≤ b → 512 * a ≤ 512 * b
+  more a b low = omega (arith, low)
+
+-- the pages of an entry's record and of one of its large binaries are some of the entry's
+whole-pages : (catalog : Catalog) (s : Store) (sig uid node o : ℕ) (l : IsLargeOf catalog s sig uid node o) → record_pages (entry_at sig uid s) + pages_for (length l.bytes) ≤ pages_of_entry (entry_at sig uid s)
+whole-pages catalog s sig uid node o l = subst (λ (e : Option Entry). record_pages e + pages_for (length l.bytes) ≤ pages_of_entry e)
+    (sym (ap (λ (p : Option Soup). option_and_then (entry_of uid) p) l.is_soup ∙ l.is_entry))
+    (both (record_pages (Some l.entry)) (pages_for (length l.bytes)) _ _
+    (some-pages (larges l.entry.graph) l.at (node, l.bytes) l.is_large) (ap (λ (ns : List ℕ). sum (map_list pages_for ns)) (lengths-from 0 l.entry.graph.nodes))) where
+      both : (a b c d : ℕ) → b ≤ c → c ≡ d → a + b ≤ a + d
+      both a b c d low same = omega (arith, low, same)
+
+pub whole-spent : (catalog : Catalog) (s : Store) (sig uid node o : ℕ) (l : IsLargeOf catalog s sig uid node o) (unit unit' : ℕ) (old mid new : Outside) → unit' ≡ unit
+    → Spends unit 0 (512 * record_pages (entry_at sig uid s)) old mid → Spends unit' 0 (512 * pages_for (length l.bytes)) mid new → Spends unit 0 (512 * pages_of_entry (entry_at sig uid s)) old new
+whole-spent catalog s sig uid node o l unit unit' old mid new same one two =
+    Spends-widen (0 + 0) (512 * record_pages (entry_at sig uid s) + 512 * pages_for (length l.bytes)) 0 (512 * pages_of_entry (entry_at sig uid s)) (omega arith)
+    (few (record_pages (entry_at sig uid s)) (pages_for (length l.bytes)) (pages_of_entry (entry_at sig uid s)) (whole-pages catalog s sig uid node o l))
+    (Spends-append 0 (512 * record_pages (entry_at sig uid s)) 0 (512 * pages_for (length l.bytes)) one (subst (λ (u : ℕ). Spends u 0 (512 * pages_for (length l.bytes)) mid new) same two)) where
+      few : (a b c : ℕ) → a + b ≤ c → 512 * a + 512 * b ≤ 512 * c
+      few a b c low = omega (arith, low)
+
 pub spends-no-more : (unit fetches : ℕ) (old mid new : Outside) → Spends unit 0 fetches old mid → Spends unit 0 0 mid new → Spends unit 0 fetches old new
 spends-no-more unit fetches old mid new first second = Spends-widen (0 + 0) (fetches + 0) 0 fetches (omega arith) (omega arith) (Spends-append 0 fetches 0 0 first second)
 

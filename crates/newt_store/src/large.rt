@@ -1,5 +1,5 @@
 // Bytes of an entry's large binary are read.
-ghost use Rattle.std.specs.Prelude.{◌≡◌, ◌==◌, ◌*◌, ℕ, Some, IsSome, IfOk};
+ghost use Rattle.std.specs.Prelude.{◌≡◌, ◌==◌, ◌*◌, ℕ, Some, IsSome, IfOk, length};
 ghost use Rattle.std.specs.List.{find};
 ghost use Rattle.std.specs.Option.{option_and_then, option_map};
 ghost use Rattle.newt_base.specs.Refusals.{first_of};
@@ -7,8 +7,10 @@ ghost use Rattle.newt_host.specs.Moments.{image};
 ghost use Rattle.newt_host.specs.Outside.{Spends};
 ghost use Rattle.newt_spec_graph.specs.Larges.{large_at as reached_at};
 ghost use Rattle.newt_objects.specs.Held.{held};
+ghost use Rattle.newt_spec_image.specs.Objects.{pages_for};
 ghost use Rattle.newt_spec_store.specs.Cost.{range_pages};
 ghost use Rattle.newt_spec_store.specs.Store.{entry_at};
+ghost use Rattle.newt_store_change.specs.Change.{pages_of_entry};
 ghost use Rattle.newt_store_change.specs.Entries.{ReadsLarge, large_checks, large_fetches};
 ghost use Rattle.newt_store_catalog.specs.Calls.{CanRead, ForObject};
 ghost use Rattle.newt_store.specs.Calls.{AreOpen, FindsObject, ForStore, ReadsObjects};
@@ -88,6 +90,9 @@ fn read_part<P: PageBook, H: Host>(
         (λ text. ReadsPart at len text result) }
     ensures costs { Spends (P.place book.old) 0 (512 * range_pages len)
         (H.outside host.old) (H.outside host.new) }
+    ensures few { ForObject H.told (image (P.place book.old) (H.outside host.old).now) id
+        (λ text. Spends (P.place book.old) 0 (512 * pages_for (length text))
+        (H.outside host.old) (H.outside host.new)) }
     ensures reads { ReadsObjects P.place P.numbers P.stands H.told objects.now
         book.old book.new (H.outside host.old) (H.outside host.new) result }
 {
@@ -119,6 +124,9 @@ pub(crate) fn read_large<P: PageBook, H: Host>(
         (λ s. ReadsLarge path.now at len (entry_at sig uid s) result) }
     ensures costs { ForStore H.told catalog.now (image (P.place book.old) (H.outside host.old).now)
         (λ s. Spends (P.place book.old) 0 (512 * large_fetches len (entry_at sig uid s))
+        (H.outside host.old) (H.outside host.new)) }
+    ensures whole { ForStore H.told catalog.now (image (P.place book.old) (H.outside host.old).now)
+        (λ s. Spends (P.place book.old) 0 (512 * pages_of_entry (entry_at sig uid s))
         (H.outside host.old) (H.outside host.new)) }
     ensures reads { ReadsObjects P.place P.numbers P.stands H.told catalog.now.objects
         book.old book.new (H.outside host.old) (H.outside host.new) result }

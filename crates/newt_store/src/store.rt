@@ -169,6 +169,9 @@ impl<P: PageBook> Store<P> {
         ensures costs { ForShown P.place H.told self.old (H.outside host.old) (λ s.
             Spends (unit_of P.place self.old) 0 (512 * large_fetches len (entry_at soup uid s))
             (H.outside host.old) (H.outside host.new)) }
+        ensures whole { ForShown P.place H.told self.old (H.outside host.old) (λ s.
+            Spends (unit_of P.place self.old) 0 (512 * pages_of_entry (entry_at soup uid s))
+            (H.outside host.old) (H.outside host.new)) }
         ensures reads { Reads P.place P.numbers P.stands H.told self.old self.new
             (H.outside host.old) (H.outside host.new) }
         ensures ends { CallEnds (unit_of P.place self.old) (H.outside host.old) (H.outside host.new)

@@ -169,10 +169,12 @@ abbrev pub pages_listed : ℕ → Store → List ℕ → ℕ
 pages_listed sig s [] = 0
 pages_listed sig s (uid ∷ uids) = pages_of_entry (entry_at sig uid s) + pages_listed sig s uids
 
--- the pages that are read for the sake of sorted lists of the entries: those of the entry that is moved, and of the entries of a soup that gets an index
+-- The pages that are read for the sake of what is kept of the entries in memory: those of the entry
+-- that is moved, and of the entries of a soup that gets an index or tags.
 abbrev pub pages_read : Change → Store → ℕ
 pages_read (Move source uid target) s = pages_of_entry (entry_at source uid s)
 pages_read (AddIndex sig spec) s = pages_listed sig s (uids_in (soup_of sig s))
+pages_read (SetTags sig table) s = pages_listed sig s (uids_in (soup_of sig s))
 pages_read change s = 0
 
 -- the bytes that a change fetches where such lists are kept

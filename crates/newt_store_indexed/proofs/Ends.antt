@@ -3,14 +3,14 @@ use Rattle.std.proofs.Common.{◌≡◌, ℕ, ◌+◌, ◌-◌, ◌<◌, ◌≤�
 use Rattle.std.proofs.lemmas.Grind.{common_steps}
 use Rattle.newt_store_change.specs.Change.{pages_of_entry, uids_in}
 use Rattle.newt_spec_store.specs.Store.{Store, entry_at, soup_of}
-use Rattle.newt_index.specs.Pairs.{Sorted}
+use Rattle.newt_graph.specs.Graph.{RawGraph}
 use Rattle.newt_index_ranges.specs.declared.rows.SoupRanges.{SoupRanges}
 use Rattle.newt_store_indexed.specs.Filling.{with_read, with_all, rows_with, rows_with_all, rows_of_soups}
 use Rattle.newt_store_change.specs.Change.{pages_listed}
 
-pub with-none : (sig : ℕ) (s : Store) (us : List ℕ) (v : Sorted) → length us < 1 → with_all sig s us v ≡ v
-with-none sig s [] v low = refl
-with-none sig s (u ∷ us) v low = absurd (omega (arith, low))
+pub with-none : {T : Type 0} (add : ℕ → RawGraph → T → T) (sig : ℕ) (s : Store) (us : List ℕ) (v : T) → length us < 1 → with_all add sig s us v ≡ v
+with-none add sig s [] v low = refl
+with-none add sig s (u ∷ us) v low = absurd (omega (arith, low))
 
 pub rows-none : (sig : ℕ) (s : Store) (us : List ℕ) (rows : List SoupRanges) → length us < 1 → rows_with_all sig s us rows ≡ rows
 rows-none sig s [] rows low = refl
@@ -35,9 +35,11 @@ pub pages-first : (sig : ℕ) (s : Store) (us : List ℕ) (u : ℕ) → 1 ≤ le
 pages-first sig s [] u some is = absurd (omega (arith, some))
 pages-first sig s (v ∷ us) u some is = ap (λ (w : ℕ). pages_of_entry (entry_at sig w s) + pages_listed sig s us) (sym is) ∙ ap (λ (ws : List ℕ). pages_of_entry (entry_at sig u s) + pages_listed sig s ws) (sym (behind-is v us))
 
-pub with-first : (sig : ℕ) (s : Store) (us : List ℕ) (u : ℕ) (v : Sorted) → 1 ≤ length us → u ≡ get_or us 0 u → with_all sig s us v ≡ with_all sig s (behind us) (with_read u (entry_at sig u s) v)
-with-first sig s [] u v some is = absurd (omega (arith, some))
-with-first sig s (x ∷ us) u v some is = ap (λ (w : ℕ). with_all sig s us (with_read w (entry_at sig w s) v)) (sym is) ∙ ap (λ (ws : List ℕ). with_all sig s ws (with_read u (entry_at sig u s) v)) (sym (behind-is x us))
+pub with-first : {T : Type 0} (add : ℕ → RawGraph → T → T) (sig : ℕ) (s : Store) (us : List ℕ) (u : ℕ) (v : T) → 1 ≤ length us → u ≡ get_or us 0 u
+    → with_all add sig s us v ≡ with_all add sig s (behind us) (with_read add u (entry_at sig u s) v)
+with-first add sig s [] u v some is = absurd (omega (arith, some))
+with-first add sig s (x ∷ us) u v some is =
+    ap (λ (w : ℕ). with_all add sig s us (with_read add w (entry_at sig w s) v)) (sym is) ∙ ap (λ (ws : List ℕ). with_all add sig s ws (with_read add u (entry_at sig u s) v)) (sym (behind-is x us))
 
 pub rows-first : (sig : ℕ) (s : Store) (us : List ℕ) (u : ℕ) (rows : List SoupRanges) → 1 ≤ length us → u ≡ get_or us 0 u → rows_with_all sig s us rows ≡ rows_with_all sig s (behind us) (rows_with sig u (entry_at sig u s) rows)
 rows-first sig s [] u rows some is = absurd (omega (arith, some))

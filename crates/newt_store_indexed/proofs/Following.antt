@@ -1,5 +1,5 @@
 -- The step of a change that is not refused is the change of the ranges.
-use Rattle.std.proofs.Common.{◌≡◌, ℕ, ◌==◌, ◌||◌, ◌+◌, ◌<◌, cond, Bool, true, false, [], ◌∷◌, List, Option, Some, None, refl, sym, ◌∙◌, ap, subst, arith}
+use Rattle.std.proofs.Common.{◌≡◌, ℕ, ◌==◌, ◌||◌, ◌+◌, ◌<◌, true, false, [], ◌∷◌, List, Option, Some, None, refl, sym, ◌∙◌, ap, subst, arith}
 use Rattle.std.specs.Option.{is_none, option_and_then, unwrap_or}
 use Rattle.std.proofs.lemmas.Bool.{eqb-true, eqb-false}
 use Rattle.newt_base.specs.Refusals.{Checks}
@@ -16,16 +16,15 @@ use Rattle.newt_laws_changes.proofs.Formed.{added_formed}
 use Rattle.newt_laws_changes.proofs.Members.{entry_is_in}
 use Rattle.newt_laws_changes.proofs.Moved.{soup_after_add}
 use Rattle.newt_index_ranges.specs.declared.rows.SoupRanges.{SoupRanges}
-use Rattle.newt_index_ranges.specs.Rows.{with_entry, without_entry, each_range, with_range, change_ranges}
-use Rattle.newt_index_ranges.specs.Stands.{AreRangesOf, graphs_of}
+use Rattle.newt_index_ranges.specs.Rows.{entry_kept, entry_forgotten, with_range, with_masks, change_ranges}
+use Rattle.newt_index_ranges.specs.Stands.{AreRangesOf}
 use Rattle.newt_index_ranges.proofs.Laws as laws
 use Rattle.newt_index_ranges.proofs.Patched.{IsPatch, patched_ranges}
 use Rattle.newt_index_ranges.proofs.Seen.{filled-like}
-use Rattle.newt_index_ranges.proofs.Standing.{none_changed}
 use Rattle.newt_store_change.specs.Change.{changed_by, answer_of, refusals, refusal_of, full_check, changed_soup, dropped_soup, moved_entry, large_of, patched_entry, has_no_ids}
 use Rattle.newt_store_change.specs.declared.change.Change.{Change}
 use Rattle.newt_store_change.specs.declared.change.Change.TheVariants as change
-use Rattle.newt_store_indexed.specs.Steps.{IsStepOf, IsDeclaring, rows_after}
+use Rattle.newt_store_indexed.specs.Steps.{IsStepOf, IsDeclaring, IsTagging, rows_after}
 use Rattle.newt_store_indexed.specs.declared.step.Step.{Step}
 use Rattle.newt_store_indexed.specs.declared.step.Step.TheVariants as step
 use Rattle.newt_store_indexed.proofs.Checks.{none-first, none-two, is-there, neither, later-checks}
@@ -109,22 +108,12 @@ module _ (s : Store) (rows : List SoupRanges) (formed : well_formed s ≡ true) 
       let there = is-there (soup_of sig s) (none-first NoSoup (is_none (soup_of sig s)) [] none).0 in
       changed-as sig there.0 (without_index paths) (rows_after (step.Undeclared sig paths) 0 rows) there.1 (laws.undeclared s rows sig there.0 formed there.1 are paths)
 
-  -- a tags declaration is in no range
-  follows-tagged : (sig blocks now : ℕ) (table : TagTable) → refusal_of (change.SetTags sig table) blocks now s ≡ None → AreRangesOf (changed_by (change.SetTags sig table) now s) rows
-  follows-tagged sig blocks now table none =
+  follows-tagged : (sig blocks now : ℕ) (table : TagTable) (st : Step) → refusal_of (change.SetTags sig table) blocks now s ≡ None → IsTagging sig table s st
+      → AreRangesOf (changed_by (change.SetTags sig table) now s) (rows_after st 0 rows)
+  follows-tagged sig blocks now table st none is =
       let there = is-there (soup_of sig s) (none-first NoSoup (is_none (soup_of sig s)) (later-checks (refusals (change.SetTags sig table) blocks now s)) none).0 in
-      changed-as sig there.0 (with_tags (Some table)) rows there.1
-      (subst (λ (after : List SoupRanges). AreRangesOf (change_soup there.0.name (with_tags (Some table)) s) after) (unchanged rows)
-      (laws.soup_changed s rows sig there.0 (with_tags (Some table)) (λ r. r) formed there.1
-      (λ r of. none_changed there.0 (with_tags (Some table) there.0) (graphs_of there.0) (graphs_of (with_tags (Some table) there.0)) r refl refl (λ spec v is. is) of) are))
-    where
-      unchanged : (rows : List SoupRanges) → change_ranges sig (λ r. r) rows ≡ rows
-      unchanged [] = refl
-      unchanged (r ∷ rows) = go (r.sig == sig) (unchanged rows)
-        where
-          go : (b : Bool) → change_ranges sig (λ r. r) rows ≡ rows → cond b (r ∷ rows) (r ∷ change_ranges sig (λ r. r) rows) ≡ r ∷ rows
-          go true more = refl
-          go false more = ap (λ rs. r ∷ rs) more
+      subst (λ (x : Step). AreRangesOf (changed_by (change.SetTags sig table) now s) (rows_after x 0 rows)) (sym is.is)
+      (changed-as sig there.0 (with_tags (Some table)) (change_ranges sig (with_masks is.masks) rows) there.1 (laws.tagged s rows sig there.0 formed there.1 are table is.masks (is.of_soup there.0 there.1)))
 
   -- an entry is added to the one soup, and then goes from the other
   module _ (source uid target blocks now : ℕ) (p q : Soup) (e : Entry) (from : soup_of source s ≡ Some p) (into : soup_of target s ≡ Some q) (entry : entry_at source uid s ≡ Some e)
@@ -133,7 +122,7 @@ module _ (s : Store) (rows : List SoupRanges) (formed : well_formed s ≡ true) 
     between = change_soup q.name (add_entry now e.graph) s
 
     abbrev rows-between : List SoupRanges
-    rows-between = change_ranges target (each_range (with_entry q.next_uid e.graph)) rows
+    rows-between = change_ranges target (entry_kept q.next_uid e.graph) rows
 
     at : entry_of uid p ≡ Some e
     at = sym (ap (option_and_then (entry_of uid)) from) ∙ entry
@@ -147,10 +136,10 @@ module _ (s : Store) (rows : List SoupRanges) (formed : well_formed s ≡ true) 
     added : AreRangesOf between rows-between
     added = laws.entry_added s rows target q formed into are now e.graph (no-next s target q formed into)
 
-    removed : AreRangesOf (change_soup p.name (remove_entry uid) between) (change_ranges source (each_range (without_entry uid)) rows-between)
+    removed : AreRangesOf (change_soup p.name (remove_entry uid) between) (change_ranges source (entry_forgotten uid) rows-between)
     removed =
         let later = soup_after_add source target s p q now e.graph formed from into in
-        subst (λ (name : List ℕ). AreRangesOf (change_soup name (remove_entry uid) between) (change_ranges source (each_range (without_entry uid)) rows-between)) later.2
+        subst (λ (name : List ℕ). AreRangesOf (change_soup name (remove_entry uid) between) (change_ranges source (entry_forgotten uid) rows-between)) later.2
         (laws.entry_removed between rows-between source later.0 good later.1 added uid)
 
     is-moved : change_soup p.name (remove_entry uid) between ≡ changed_by (change.Move source uid target) now s
@@ -164,7 +153,7 @@ module _ (s : Store) (rows : List SoupRanges) (formed : well_formed s ≡ true) 
     moved-so st is =
         subst (λ (x : Step). AreRangesOf (changed_by (change.Move source uid target) now s) (rows_after x (answer_of (change.Move source uid target) s) rows)) (sym is)
         (subst (λ (n : ℕ). AreRangesOf (changed_by (change.Move source uid target) now s) (rows_after (step.Moved source uid target e.graph) n rows)) (sym (ap next_uid_of into))
-        (subst (λ (t : Store). AreRangesOf t (change_ranges source (each_range (without_entry uid)) rows-between)) is-moved removed))
+        (subst (λ (t : Store). AreRangesOf t (change_ranges source (entry_forgotten uid) rows-between)) is-moved removed))
 
   follows-moved : (source uid target blocks now : ℕ) (st : Step) → refusal_of (change.Move source uid target) blocks now s ≡ None → IsStepOf (change.Move source uid target) s st
       → AreRangesOf (changed_by (change.Move source uid target) now s) (rows_after st (answer_of (change.Move source uid target) s) rows)
@@ -196,5 +185,4 @@ module _ (s : Store) (rows : List SoupRanges) (formed : well_formed s ≡ true) 
   follows (change.AddIndex sig spec) blocks now st none is = follows-declared sig blocks now spec st none is
   follows (change.DropIndex sig paths) blocks now st none is =
       subst (λ (x : Step). AreRangesOf (changed_by (change.DropIndex sig paths) now s) (rows_after x 0 rows)) (sym is) (follows-undeclared sig blocks now paths none)
-  follows (change.SetTags sig table) blocks now st none is =
-      subst (λ (x : Step). AreRangesOf (changed_by (change.SetTags sig table) now s) (rows_after x 0 rows)) (sym is) (follows-tagged sig blocks now table none)
+  follows (change.SetTags sig table) blocks now st none is = follows-tagged sig blocks now table st none is

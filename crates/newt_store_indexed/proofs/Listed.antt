@@ -83,15 +83,15 @@ soups-told s (sig ∷ sigs) told t w rise none (inr m) =
     keep (t ∷ ts) above none = (λ w. other_soup sig s (uids_in (soup_of sig s)) told t w (λ is. let low = above.0 in omega (arith, low, is)) ∙ none.0 w, keep ts above.1 none.1)
 
 -- ranges without entries
-none-listed : (rows : List SoupRow) → AreRanges (λ p. nothing p.sig) (map bare_soup rows) (map (λ row. no_ranges row.sig row.specs) rows)
+none-listed : (rows : List SoupRow) → AreRanges (λ p. nothing p.sig) (map bare_soup rows) (map (λ row. no_ranges row.sig row.specs row.tags) rows)
 none-listed rows = go rows
   where
     front : (a : Soup) (ps : List Soup) (r : SoupRanges) (rs : List SoupRanges) → IsRangesOf a (nothing a.sig) r → AreRanges (λ p. nothing p.sig) ps rs → AreRanges (λ p. nothing p.sig) (a ∷ ps) (r ∷ rs)
     front a ps r rs is are = (is, are)
 
-    go : (rows : List SoupRow) → AreRanges (λ p. nothing p.sig) (map bare_soup rows) (map (λ row. no_ranges row.sig row.specs) rows)
+    go : (rows : List SoupRow) → AreRanges (λ p. nothing p.sig) (map bare_soup rows) (map (λ row. no_ranges row.sig row.specs row.tags) rows)
     go [] = tt
-    go (row ∷ rows) = front (bare_soup row) (map bare_soup rows) (no_ranges row.sig row.specs) (map (λ row. no_ranges row.sig row.specs) rows)
+    go (row ∷ rows) = front (bare_soup row) (map bare_soup rows) (no_ranges row.sig row.specs row.tags) (map (λ row. no_ranges row.sig row.specs row.tags) rows)
         (soup_listed [] [] (bare_soup row) tt).0 (go rows)
 
 -- the signatures of the soups of a store
@@ -111,7 +111,7 @@ abbrev pub sigs-of : Directory → List ℕ
 sigs-of d = map (λ (row : SoupRow). row.sig) d.soups
 
 abbrev pub empty-rows : Directory → List SoupRanges
-empty-rows d = map (λ (row : SoupRow). no_ranges row.sig row.specs) d.soups
+empty-rows d = map (λ (row : SoupRow). no_ranges row.sig row.specs row.tags) d.soups
 
 -- the ranges of a store, its soups listed from its directory and its entries read
 pub all-listed : (s : Store) (d : Directory) → well_formed s ≡ true → bare s ≡ bare_store d

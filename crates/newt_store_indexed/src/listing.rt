@@ -122,11 +122,12 @@ fn signatures(alloc: Global, soups: &[SoupRow]) -> Result<Vec<Sig>, AllocError>
 
 /// Ranges of these soups, without entries.
 fn without_entries(alloc: Global, soups: &[SoupRow]) -> Result<Ranges, AllocError>
-    ensures { IfOk result (λ ranges. ranges ≡ map (λ row. no_ranges row.sig row.specs) soups.now) }
+    ensures { IfOk result (λ ranges. ranges ≡ map (λ row. no_ranges row.sig row.specs row.tags)
+        soups.now) }
 {
     let mut ranges = Ranges::new(alloc);
     for row in soups {
-        ranges.make_soup(row.sig, row.specs.list())?;
+        ranges.make_soup(row.sig, row.specs.list(), row.tags.as_ref())?;
     }
     Ok(ranges)
 }

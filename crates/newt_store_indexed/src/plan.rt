@@ -8,11 +8,11 @@ ghost use Rattle.newt_spec_store.specs.Store.{entry_at};
 ghost use Rattle.newt_store_change.specs.Change.{uids_in, pages_of_entry};
 ghost use Rattle.newt_store.specs.Calls.{IsOpen, Reads, Shows, unit_of};
 ghost use Rattle.newt_store_change.specs.Change.{pages_listed};
-ghost use Rattle.newt_store_indexed.specs.Steps.{IsStepOf, IsDeclaring};
+ghost use Rattle.newt_store_indexed.specs.Steps.{IsStepOf, IsDeclaring, IsTagging};
 ghost use Rattle.newt_store_change.specs.Change.{pages_read};
 ghost use Rattle.newt_store_indexed.specs.declared.step.Step.TheVariants as step;
 
-use crate::fill::filled;
+use crate::fill::{filled_masks, filled_range};
 use crate::step::Step;
 use newt_base::{Sig, Uid};
 use newt_host::Host;
@@ -20,6 +20,7 @@ use newt_keys::IndexSpec;
 use newt_pagebook::{PageBook, Stop};
 use newt_store::Store;
 use newt_store_change::Change;
+use newt_tags::TagTable;
 
 /// The step of an entry that is moved. Where it is not there the change is refused, and nothing is
 /// to be done.
@@ -68,8 +69,33 @@ fn declaring<P: PageBook, H: Host>(
     ensures ends { ReadEnds (unit_of P.place store.old)
         (H.outside host.old) (H.outside host.new) result }
 {
-    match filled(store, host, soup, spec) {
+    match filled_range(store, host, soup, spec) {
         Ok(range) => Ok(Step::Declared(soup, range)),
+        Err(stop) => Err(stop),
+    }
+}
+
+/// The step of another tags declaration, with its masks.
+fn tagging<P: PageBook, H: Host>(
+    store: &mut Store<P>,
+    host: &mut H,
+    soup: Sig,
+    table: &TagTable,
+) -> Result<Step, Stop>
+    requires { IsOpen P.place P.numbers P.stands H.told store.old (H.outside host.old) }
+    ensures tagged { IsTrue H.told → (s : PlainStore) →
+        Shows P.place store.old (H.outside host.old) s → IfOk result (IsTagging soup table.now s) }
+    ensures reads { Reads P.place P.numbers P.stands H.told store.old store.new
+        (H.outside host.old) (H.outside host.new) }
+    ensures costs { IsTrue H.told → (s : PlainStore) →
+        Shows P.place store.old (H.outside host.old) s → Spends (unit_of P.place store.old) 0
+        (512 * pages_listed soup s (uids_in (soup_of soup s))) (H.outside host.old)
+        (H.outside host.new) }
+    ensures ends { ReadEnds (unit_of P.place store.old)
+        (H.outside host.old) (H.outside host.new) result }
+{
+    match filled_masks(store, host, soup, table) {
+        Ok(masks) => Ok(Step::Tagged(soup, masks)),
         Err(stop) => Err(stop),
     }
 }
@@ -101,6 +127,6 @@ pub(crate) fn step_of<P: PageBook, H: Host>(
         Change::Patch(..) => Ok(Step::Untouched),
         Change::AddIndex(soup, spec) => declaring(store, host, *soup, spec),
         Change::DropIndex(soup, paths) => Ok(Step::Undeclared(*soup, paths.copy()?)),
-        Change::SetTags(..) => Ok(Step::Untouched),
+        Change::SetTags(soup, table) => tagging(store, host, *soup, table),
     }
 }

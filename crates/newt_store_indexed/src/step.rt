@@ -7,7 +7,7 @@ ghost use Rattle.newt_store_indexed.specs.Steps.{rows_after};
 use newt_base::{Sig, Uid};
 use newt_graph::Graph;
 use newt_index::Index;
-use newt_index_ranges::Ranges;
+use newt_index_ranges::{Masks, Ranges};
 use newt_pagebook::Stop;
 use newt_path::Paths;
 use newt_store_change::StoreFault;
@@ -35,6 +35,8 @@ pub(crate) enum Step {
     Declared(Sig, Index),
     /// The range by the declaration of these paths gone.
     Undeclared(Sig, Paths),
+    /// Other masks.
+    Tagged(Sig, Masks),
 }
 
 /// Makes the step. After an error the ranges are spent.
@@ -43,7 +45,7 @@ fn take_step(ranges: &mut Ranges, step: Step, answer: u32) -> Result<(), AllocEr
 {
     match step {
         Step::Untouched => Ok(()),
-        Step::Made => ranges.make_soup(Sig(answer), &[]),
+        Step::Made => ranges.make_soup(Sig(answer), &[], None),
         Step::Dropped(soup) => {
             ranges.drop_soup(soup);
             Ok(())
@@ -62,6 +64,10 @@ fn take_step(ranges: &mut Ranges, step: Step, answer: u32) -> Result<(), AllocEr
         Step::Declared(soup, range) => ranges.declare(soup, range),
         Step::Undeclared(soup, paths) => {
             ranges.undeclare(soup, paths.list());
+            Ok(())
+        }
+        Step::Tagged(soup, masks) => {
+            ranges.set_masks(soup, masks);
             Ok(())
         }
     }

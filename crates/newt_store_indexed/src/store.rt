@@ -29,8 +29,8 @@ use newt_store_change::{Change, Entry, StoreFault};
 use newt_tags::TagTable;
 use std::alloc::Global;
 
-/// A store on one unit, with the sorted lists of its soups' entries. It stands for one plain store,
-/// which its unit's image is read as, until a call stops.
+/// A store on one unit, with the sorted lists of its soups' entries and the masks of their tags. It
+/// stands for one plain store, which its unit's image is read as, until a call stops.
 #[derive(Drop)]
 pub struct IndexedStore<P: PageBook> {
     store: Store<P>,
@@ -162,6 +162,10 @@ impl<P: PageBook> Card for IndexedStore<P> {
 
     fn has(&self, soup: Sig, uid: Uid) -> bool {
         self.store.has(soup, uid)
+    }
+
+    fn mask(&self, soup: Sig, uid: Uid) -> Option<u64> {
+        self.ranges.mask(soup, uid)
     }
 }
 

@@ -28,6 +28,11 @@ bits_of t g = map (is_among (symbols_at g (value_at g t.path))) t.symbols
 unfoldable pub mask_of : TagTable → RawGraph → ℕ
 mask_of t g = number (bits_of t g)
 
+-- the mask of an entry by the declaration of its soup, 0 without one (this project's own)
+abbrev pub mask_by : Option TagTable → RawGraph → ℕ
+mask_by None g = 0
+mask_by (Some t) g = mask_of t g
+
 -- the symbols whose bits are set (this project's own)
 abbrev pub selected : ℕ → List (List ℕ) → List (List ℕ)
 selected mask [] = []

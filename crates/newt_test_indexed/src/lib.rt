@@ -10,6 +10,8 @@ mod card;
 #[cfg(test)]
 mod entries;
 #[cfg(test)]
+mod masks;
+#[cfg(test)]
 mod tables;
 #[cfg(test)]
 mod tests;

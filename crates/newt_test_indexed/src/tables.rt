@@ -1,13 +1,15 @@
 //! Tables of what is done with the store. A row is a change of `newt_test_card`; `each WORD UID
 //! COUNT STEP` for changes of so many entries, from this id on in such steps; or `range BY STATE`,
 //! behind which ` => ` and the ids of a range stand, by `id` or the number of an index, `before` or
-//! `after` each third was changed.
+//! `after` each third was changed; or `masks SOUP COUNT`, behind which ` => ` and the masks of so
+//! many ids stand.
 ghost use Rattle.std.specs.Prelude.{true, OnOk};
 ghost use Rattle.newt_memhost.specs.Outside.{outside_of};
 ghost use Rattle.newt_store_indexed.specs.Stands.{StandsOn};
 
 use crate::card::{accept, opened};
 use crate::entries::change_by;
+use crate::masks::masks_text;
 use crate::walks::range_text;
 use newt_memhost::MemHost;
 use newt_pagebook::PageBook;
@@ -65,6 +67,22 @@ fn expect_range<P: PageBook>(
     Ok(())
 }
 
+/// The masks of a row are those behind it.
+fn expect_masks<P: PageBook>(
+    alloc: Global,
+    store: &IndexedStore<P>,
+    text: &str,
+) -> Result<(), Fail> {
+    let (line, wanted) = text.split_once(" => ").ok_or("no masks")?;
+    let (soup, rest) = number(line)?;
+    let (count, _) = number(rest)?;
+    let found = masks_text(alloc, store, soup, count)?;
+    if found.as_str() != wanted {
+        return Err(Fail::new(format_args!("other masks {line}: {found}")));
+    }
+    Ok(())
+}
+
 /// Plays a row.
 fn play_row<P: PageBook>(
     alloc: Global,
@@ -78,6 +96,7 @@ fn play_row<P: PageBook>(
 {
     match row.split_once(' ') {
         Some(("range", rest)) => expect_range(alloc, store, rest),
+        Some(("masks", rest)) => expect_masks(alloc, store, rest),
         Some(("each", rest)) => change_each(alloc, host, store, rest),
         _ => {
             let (change, _) = change_of(alloc, row)?;

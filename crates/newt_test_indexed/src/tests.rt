@@ -80,3 +80,45 @@ fn ranges_follow_the_store(rt: HostRuntime) -> Result<(), Fail> {
     let table = format!(in alloc; "{MADE}{BEFORE}{CHANGED}{AFTER}reopen\n{AFTER}")?;
     play::<PlainBook>(alloc, 200, table.as_str())
 }
+
+/// Tags at `b` that are declared before the entries, and then others when half of them are there.
+const TAGGED: &str = "
+make S
+make T
+tags 0 00 01 01 01 62 02 01 78 01 79
+each add 0 6 1
+masks 0 7 => [Some(1), Some(2), Some(1), Some(0), Some(0), Some(2), None]
+tags 0 00 01 01 01 62 02 01 79 01 7A
+masks 0 6 => [Some(0), Some(1), Some(0), Some(0), Some(0), Some(1)]
+each add 6 6 1
+masks 0 12 => [Some(0), Some(1), Some(0), Some(0), Some(0), Some(1), Some(0), Some(0), Some(0), \
+    Some(0), Some(2), Some(0)]
+";
+
+/// Two entries are changed, one is removed, and two are moved into another soup, one before that
+/// has tags and one after.
+const TAGS_CHANGED: &str = "
+each replace 0 2 3
+remove 0 1
+move 0 2 1
+masks 1 2 => [Some(0), None]
+tags 1 00 01 01 01 62 01 01 78
+move 0 11 1
+";
+
+/// The masks then.
+const TAGS_AFTER: &str = "
+masks 0 12 => [Some(2), None, None, Some(0), Some(0), Some(1), Some(0), Some(0), Some(0), Some(0), \
+    Some(2), None]
+masks 1 3 => [Some(1), Some(1), None]
+masks 2 1 => [None]
+";
+
+#[test]
+fn masks_follow_the_store(rt: HostRuntime) -> Result<(), Fail> {
+    let alloc = rt.alloc();
+    let table = format!(in alloc;
+        "{TAGGED}{TAGS_CHANGED}{TAGS_AFTER}reopen\n{TAGS_AFTER}drop 0\nmasks 0 1 => [None]\n"
+    )?;
+    play::<PlainBook>(alloc, 200, table.as_str())
+}

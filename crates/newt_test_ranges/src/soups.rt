@@ -47,7 +47,7 @@ fn filled(alloc: Global, spec: IndexSpec, count: u32) -> Result<Index, Fail> {
 
 /// A soup of 200 entries: its declarations are made when half of them are there.
 fn two_hundred(alloc: Global, ranges: &mut Ranges, soup: u32) -> Result<(), Fail> {
-    ranges.make_soup(Sig(soup), &[])?;
+    ranges.make_soup(Sig(soup), &[], None)?;
     for uid in 0..100 {
         add_new(alloc, ranges, soup, uid)?;
     }
@@ -64,7 +64,7 @@ fn two_hundred(alloc: Global, ranges: &mut Ranges, soup: u32) -> Result<(), Fail
 fn opened(alloc: Global, ranges: &mut Ranges, soup: u32) -> Result<(), Fail> {
     let name = by_name(alloc)?;
     let number = by_number(alloc)?;
-    ranges.make_soup(Sig(soup), &vec![in alloc; name, number]?)?;
+    ranges.make_soup(Sig(soup), &vec![in alloc; name, number]?, None)?;
     for i in 0..200 {
         add_new(alloc, ranges, soup, (i % 200 * 77 + 13) % 200)?;
     }
@@ -162,7 +162,7 @@ fn drop_and_make(rt: &impl Abort, alloc: Global, ranges: &mut Ranges) -> Result<
     make_both(alloc, ranges)?;
     ranges.drop_soup(Sig(3));
     assert!(rt; !is_there(ranges, 3, None));
-    ranges.make_soup(Sig(6), &[])?;
+    ranges.make_soup(Sig(6), &[], None)?;
     assert!(rt; count_of(ranges, 6) == Some(0));
     assert!(rt; !has_numbers(alloc, ranges, 6)?);
     expect_lists(alloc, ranges, 5, ALL)

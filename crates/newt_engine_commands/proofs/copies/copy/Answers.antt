@@ -23,7 +23,7 @@ use Rattle.newt_laws_answers.proofs.Changes.{add-said}
 use Rattle.newt_laws_answers.proofs.Copies.{copy-not-found}
 use Rattle.newt_laws_answers.proofs.Refusals.{added-uid}
 use Rattle.newt_engine_commands.proofs.Commands.{copy-missing, copy-answers, copy-makes, read-found, entry-fits}
-use Rattle.newt_engine_commands.proofs.Costing.{copy-costs}
+use Rattle.newt_engine_commands.proofs.Costing.{copy-costs, copy-few}
 use Rattle.newt_engine_units.proofs.Obeying.{cause-after, handed-ends, none-refused, read-obeys, refused-obeys}
 use Rattle.newt_engine_commands.proofs.Said.{said-made, said-moments, said-costs}
 use Rattle.newt_engine_units.proofs.Settings.{Setting, is-err, both-refused, has-soup}
@@ -51,7 +51,7 @@ returns-in_err-graph g c =
     let at = begins g c.requires in
     let w = world_of g.C.Card.reads c.args.units.now (g.H.Host.outside c.args.host.now) in
     let e = c.in_err-graph.ensures in
-    read-obeys at (command.Copy c.args.unit c.args.name.now c.args.uid c.args.to c.args.target.now) (λ n. Reply.number n) e.looks _ (handed-ends _ (err_from_is_err_and c.from_residual-in_err-graph.result c.from_residual-in_err-graph.ensures.1) e.ends)
+    read-obeys at (command.Copy c.args.unit c.args.name.now c.args.uid c.args.to c.args.target.now) (λ n. Reply.number n) e.looks (λ t means. let h = has-soup at t c.args.unit c.args.name.now c.in_ok-soup.soup c.in_ok-soup.ensures.0 in copy-few h c.args.uid c.args.to c.args.target.now (g.H.Host.outside c.args.host.now) (g.H.Host.outside c.read_entry.new.host) (e.fetches t h.blocks h.store h.on)) _ (handed-ends _ (err_from_is_err_and c.from_residual-in_err-graph.result c.from_residual-in_err-graph.ensures.1) e.ends)
     (λ t.
     let h = has-soup at t c.args.unit c.args.name.now c.in_ok-soup.soup c.in_ok-soup.ensures.0 in
     let k = has-soup at t c.args.to c.args.target.now c.in_ok-soup.into c.in_ok-soup.ensures.1 in
@@ -100,7 +100,7 @@ returns g c =
           let found : entry_of c.args.uid h.soup ≡ Some x = read-found c.in_ok-soup.soup c.args.uid h.store h.soup c.in_ok-graph.field-0 c.in_ok-graph.field-0.graph refl h.by_sig (c.in_ok-graph.ensures.read t h.blocks h.store h.on) in
           let same = read.looks.world t in
           let there = subst (λ y. OnUnit y c.args.to k.blocks k.store) (sym same) k.on in
-          copy-costs h c.args.uid x found _ same read.looks.untouched k (said-costs e t there (add-said k.blocks c.read_entry.new.self.minute c.in_ok-soup.into k.store k.soup k.by_sig c.in_ok-graph.field-0.graph));
+          copy-costs h c.args.uid x found _ same (record { alone = read.looks.untouched; moment = read.looks.moment; reads = read.fetches t h.blocks h.store h.on }) k (said-costs e t there (add-said k.blocks c.read_entry.new.self.minute c.in_ok-soup.into k.store k.soup k.by_sig c.in_ok-graph.field-0.graph));
       alone = OnDevices-append read.looks.alone e.alone;
       cause = cause-after _ _ read.looks.alone e.cause;
       no_fault = λ goes. NoFault-append (read.ends.no_fault tt) (e.no_fault goes);

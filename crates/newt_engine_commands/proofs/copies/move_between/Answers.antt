@@ -11,7 +11,7 @@ use Rattle.newt_engine_units.specs.Answers.{Answers}
 use Rattle.newt_engine_units.specs.Stands.{Stands, world_of}
 use Rattle.newt_engine_commands.proofs.Commands.{read-found}
 use Rattle.newt_engine_commands.proofs.Moves.{move-missing, never-refused, between-fails, was-added, between-answers, on-then, added-makes, removed-makes, first-moments, both-moments}
-use Rattle.newt_engine_commands.proofs.Costing.{handed-costs, first-costs, whole-costs}
+use Rattle.newt_engine_commands.proofs.Costing.{handed-costs, first-costs, whole-costs, copy-few}
 use Rattle.newt_engine_units.proofs.Costs.{read-costs, costs-of}
 use Rattle.newt_engine_units.proofs.Obeying.{ends-after, ends-change, ends-ok, fault-goes, handed-ends}
 use Rattle.newt_engine_units.proofs.Settings.{Setting, is-err, still}
@@ -44,7 +44,7 @@ returns-in_err-graph g c =
         answered = subst (λ r. Answers w (world_of g.C.Card.reads c.read_entry.new.self (o c.read_entry.new.host)) (command.Move c.args.unit name c.args.uid c.args.to target) (λ n. Reply.number n) r) (sym (is-err _ _ p))
             (move-missing w _ c.args.unit c.args.to name target c.args.soup c.args.into c.args.uid h k (read.looks.world t) _ (read.read t h.blocks h.store h.on));
         moments = still at t _ _ read.looks.moment;
-        costs = read-costs _ _ read.looks.untouched;
+        costs = read-costs _ _ _ _ read.looks.untouched (λ means. copy-few h c.args.uid c.args.to target (g.H.Host.outside c.args.host.now) (g.H.Host.outside c.read_entry.new.host) (read.fetches t h.blocks h.store h.on));
       };
       ends = handed-ends _ p read.ends;
     }
@@ -73,7 +73,7 @@ returns-in_err-added g c =
                 (said-moments first t there added (answer w (command.Move c.args.unit name c.args.uid c.args.to target)).0
                 (added-makes w c.args.unit c.args.to name target c.args.soup c.args.into c.args.uid h k refl entry found c.requires.apart _ same));
             costs = handed-costs (is-err _ _ p)
-                (first-costs w c.args.unit c.args.to name target c.args.soup c.args.into c.args.uid h k entry found c.requires.apart _ same read.looks.untouched (said-costs first t there added));
+                (first-costs w c.args.unit c.args.to name target c.args.soup c.args.into c.args.uid h k entry found c.requires.apart _ same (record { alone = read.looks.untouched; moment = read.looks.moment; reads = read.fetches t h.blocks h.store h.on }) (said-costs first t there added));
           };
       ends = ends-after read.ends tt (handed-ends _ p (ends-change first));
     }
@@ -112,7 +112,7 @@ returns-in_err-change g c =
                 (said-moments second t then removed (answer w (command.Move c.args.unit name c.args.uid c.args.to target)).0
                 (λ _. removed-makes w c.args.unit c.args.to name target c.args.soup c.args.into c.args.uid h k refl entry found c.requires.apart _ _ was));
             costs = handed-costs (is-err _ _ p)
-                (whole-costs w c.args.unit c.args.to name target c.args.soup c.args.into c.args.uid h k entry found c.requires.apart _ same read.looks.untouched
+                (whole-costs w c.args.unit c.args.to name target c.args.soup c.args.into c.args.uid h k entry found c.requires.apart _ same (record { alone = read.looks.untouched; moment = read.looks.moment; reads = read.fetches t h.blocks h.store h.on })
                 (said-costs first t there added) tt was.passed (said-costs second t then removed));
           };
       ends = ends-after read.ends tt (ends-after (ends-change first) tt (handed-ends _ p (ends-change second)));
@@ -149,7 +149,7 @@ returns g c =
                 (said-moments second t then removed (answer w (command.Move c.args.unit name c.args.uid c.args.to target)).0
                 (λ _. removed-makes w c.args.unit c.args.to name target c.args.soup c.args.into c.args.uid h k refl entry found c.requires.apart _ _ was));
             costs = costs-of
-                (whole-costs w c.args.unit c.args.to name target c.args.soup c.args.into c.args.uid h k entry found c.requires.apart _ same read.looks.untouched
+                (whole-costs w c.args.unit c.args.to name target c.args.soup c.args.into c.args.uid h k entry found c.requires.apart _ same (record { alone = read.looks.untouched; moment = read.looks.moment; reads = read.fetches t h.blocks h.store h.on })
                 (said-costs first t there added) tt was.passed (said-costs second t then removed))
                 (λ _. tt);
           };

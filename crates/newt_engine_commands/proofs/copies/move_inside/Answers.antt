@@ -51,7 +51,7 @@ returns-else-has_entry g c =
           record {
             answered = inside-missing w c.args.unit name target c.args.soup c.args.into c.args.uid h k (sym (c.if-has_entry.ensures (g.H.Host.outside c.args.host.now) at.eight (stand-told at t) h.blocks h.store h.on));
             moments = still at t _ _ refl;
-            costs = idle-costs _ _ _;
+            costs = idle-costs _ _ _ _ _;
           };
       ends = none-ends {T = ℕ} _ tt;
     }

@@ -10,6 +10,7 @@ use Rattle.newt_spec_store.specs.Store.{entry_of}
 use Rattle.newt_store_change.specs.Entries.{ReadsEntry}
 use Rattle.newt_laws_answers.proofs.Entries.{no-soup, get-refused, getx-refused}
 use Rattle.newt_engine_commands.proofs.Commands.{get-answers, getx-answers}
+use Rattle.newt_engine_commands.proofs.Costing.{get-few}
 use Rattle.newt_engine_units.proofs.Obeying.{none-refused, read-obeys, refused-obeys}
 use Rattle.newt_engine_units.proofs.Settings.{Setting, soup-refused, has-soup}
 use Rattle.newt_engine_commands.proofs.entries.get.Given.{Over}
@@ -36,7 +37,7 @@ returns-clause-obeyed g c =
     let at = begins g c.requires in
     let w = world_of g.C.Card.reads c.args.units.now (g.H.Host.outside c.args.host.now) in
     let e = c.read_entry.ensures in
-    read-obeys at (command.Get c.args.unit c.args.name.now c.args.uid) (λ e. Reply.timed e.time e.graph) e.looks _ e.ends (λ t.
+    read-obeys at (command.Get c.args.unit c.args.name.now c.args.uid) (λ e. Reply.timed e.time e.graph) e.looks (λ t means. let h = has-soup at t c.args.unit c.args.name.now c.in_ok-soup.soup c.in_ok-soup.ensures in get-few h c.args.uid (g.H.Host.outside c.args.host.now) (g.H.Host.outside c.read_entry.new.host) (e.fetches t h.blocks h.store h.on)) _ e.ends (λ t.
     let h = has-soup at t c.args.unit c.args.name.now c.in_ok-soup.soup c.in_ok-soup.ensures in
     get-answers w _ c.args.unit h.blocks h.store c.args.name.now h.soup c.args.uid h.on h.named refl (e.looks.world t) _
     (subst (λ p. ReadsEntry (option_and_then (entry_of c.args.uid) p) c.read_entry.result) h.by_sig (e.read t h.blocks h.store h.on)))
@@ -53,7 +54,7 @@ returns-clause-as_stream g c =
     let at = begins g c.requires in
     let w = world_of g.C.Card.reads c.args.units.now (g.H.Host.outside c.args.host.now) in
     let e = c.read_entry.ensures in
-    read-obeys at (command.Getx c.args.unit c.args.name.now c.args.uid) (λ e. Reply.timed_nsof e.time e.graph) e.looks _ e.ends (λ t.
+    read-obeys at (command.Getx c.args.unit c.args.name.now c.args.uid) (λ e. Reply.timed_nsof e.time e.graph) e.looks (λ t means. let h = has-soup at t c.args.unit c.args.name.now c.in_ok-soup.soup c.in_ok-soup.ensures in get-few h c.args.uid (g.H.Host.outside c.args.host.now) (g.H.Host.outside c.read_entry.new.host) (e.fetches t h.blocks h.store h.on)) _ e.ends (λ t.
     let h = has-soup at t c.args.unit c.args.name.now c.in_ok-soup.soup c.in_ok-soup.ensures in
     getx-answers w _ c.args.unit h.blocks h.store c.args.name.now h.soup c.args.uid h.on h.named refl (e.looks.world t) _
     (subst (λ p. ReadsEntry (option_and_then (entry_of c.args.uid) p) c.read_entry.result) h.by_sig (e.read t h.blocks h.store h.on)))

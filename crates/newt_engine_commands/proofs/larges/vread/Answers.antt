@@ -11,6 +11,7 @@ use Rattle.newt_store_change.specs.Entries.{ReadsLarge}
 use Rattle.newt_laws_answers.proofs.Entries.{no-soup}
 use Rattle.newt_laws_answers.proofs.Larges.{vread-not-found}
 use Rattle.newt_engine_commands.proofs.Binaries.{vread-answers}
+use Rattle.newt_engine_commands.proofs.Costing.{get-few}
 use Rattle.newt_engine_units.proofs.Obeying.{none-refused, read-obeys, refused-obeys}
 use Rattle.newt_engine_units.proofs.Settings.{Setting, soup-refused, has-soup}
 use Rattle.newt_engine_commands.proofs.larges.vread.Given.{Over}
@@ -37,7 +38,7 @@ returns g c =
     let at = begins g c.requires in
     let w = world_of g.C.Card.reads c.args.units.now (g.H.Host.outside c.args.host.now) in
     let e = c.large_on.ensures in
-    read-obeys at (command.Vread c.args.unit c.args.name.now c.args.uid c.args.path.now c.args.at c.args.len) (λ bytes. Reply.hex bytes) e.looks _ e.ends (λ t.
+    read-obeys at (command.Vread c.args.unit c.args.name.now c.args.uid c.args.path.now c.args.at c.args.len) (λ bytes. Reply.hex bytes) e.looks (λ t means. let h = has-soup at t c.args.unit c.args.name.now c.in_ok-soup.soup c.in_ok-soup.ensures in get-few h c.args.uid (g.H.Host.outside c.args.host.now) (g.H.Host.outside c.large_on.new.host) (e.whole t h.blocks h.store h.on)) _ e.ends (λ t.
     let h = has-soup at t c.args.unit c.args.name.now c.in_ok-soup.soup c.in_ok-soup.ensures in
     vread-answers w _ c.args.unit h.blocks h.store c.args.name.now h.soup c.args.uid h.on h.named refl (e.looks.world t) c.args.path.now c.args.at c.args.len _
     (subst (λ p. ReadsLarge c.args.path.now c.args.at c.args.len (option_and_then (entry_of c.args.uid) p) c.large_on.result) h.by_sig (e.read t h.blocks h.store h.on)))

@@ -23,7 +23,7 @@ use Rattle.newt_laws_answers.proofs.Entries.{no-soup}
 use Rattle.newt_laws_answers.proofs.Larges.{vwrite-not-found}
 use Rattle.newt_engine_commands.proofs.Binaries.{missing, reached, vwrite-answers, vwrite-makes, vwrite-nowhere}
 use Rattle.newt_engine_commands.proofs.Commands.{read-found}
-use Rattle.newt_engine_commands.proofs.Costing.{vwrite-costs}
+use Rattle.newt_engine_commands.proofs.Costing.{vwrite-costs, get-few}
 use Rattle.newt_engine_units.proofs.Obeying.{cause-after, ends-after, handed-ends, none-ends, none-refused, read-obeys, refused-obeys}
 use Rattle.newt_engine_commands.proofs.Said.{said-done, said-moments, said-costs, done-goes, done-cause, done-costs}
 use Rattle.newt_engine_units.proofs.Settings.{Setting, is-err, soup-refused, has-soup}
@@ -51,7 +51,7 @@ returns-in_err-graph g c =
     let at = begins g c.requires in
     let w = world_of g.C.Card.reads c.args.units.now (g.H.Host.outside c.args.host.now) in
     let e = c.in_err-graph.ensures in
-    read-obeys at (command.Vwrite c.args.unit c.args.name.now c.args.uid c.args.path.now c.args.at c.args.bytes) (λ _. Reply.done) e.looks _ (handed-ends _ (err_from_is_err_and c.from_residual-in_err-graph.result c.from_residual-in_err-graph.ensures.1) e.ends)
+    read-obeys at (command.Vwrite c.args.unit c.args.name.now c.args.uid c.args.path.now c.args.at c.args.bytes) (λ _. Reply.done) e.looks (λ t means. let h = has-soup at t c.args.unit c.args.name.now c.in_ok-soup.soup c.in_ok-soup.ensures in get-few h c.args.uid (g.H.Host.outside c.args.host.now) (g.H.Host.outside c.read_entry.new.host) (e.fetches t h.blocks h.store h.on)) _ (handed-ends _ (err_from_is_err_and c.from_residual-in_err-graph.result c.from_residual-in_err-graph.ensures.1) e.ends)
     (λ t.
     let h = has-soup at t c.args.unit c.args.name.now c.in_ok-soup.soup c.in_ok-soup.ensures in
     missing w _ c.args.unit h.blocks h.store c.args.name.now h.soup c.args.uid h.on h.named (command.Vwrite c.args.unit c.args.name.now c.args.uid c.args.path.now c.args.at c.args.bytes) (λ _. Reply.done)
@@ -93,7 +93,7 @@ returns-in-Some g c =
           let x : Entry = record { uid = c.in_ok-graph.field-0.uid; time = c.in_ok-graph.field-0.time; graph = c.in_ok-graph.field-0.graph } in
           let found : entry_of c.args.uid h.soup ≡ Some x = read-found c.in_ok-soup.soup c.args.uid h.store h.soup c.in_ok-graph.field-0 c.in_ok-graph.field-0.graph refl h.by_sig (c.in_ok-graph.ensures.read t h.blocks h.store h.on) in
           let same = read.looks.world t in
-          vwrite-costs h c.args.uid x found _ same read.looks.untouched c.args.path.now c.args.at c.in-Some.node reach c.args.bytes
+          vwrite-costs h c.args.uid x found _ same (record { alone = read.looks.untouched; moment = read.looks.moment; reads = read.fetches t h.blocks h.store h.on }) c.args.path.now c.args.at c.in-Some.node reach c.args.bytes
           (done-costs c.change.result is (said-costs e t (subst (λ y. OnUnit y c.args.unit h.blocks h.store) (sym same) h.on) (patch-said h.blocks c.read_entry.new.self.minute c.in_ok-soup.soup h.store h.soup h.by_sig c.args.uid x found c.in-Some.node c.args.at c.args.bytes binary.0 binary.1 binary.2)));
       alone = OnDevices-append read.looks.alone e.alone;
       cause = cause-after _ _ read.looks.alone (done-cause c.change.result is _ e.cause);
@@ -105,7 +105,7 @@ returns-in-None g c =
     let at = begins g c.requires in
     let w = world_of g.C.Card.reads c.args.units.now (g.H.Host.outside c.args.host.now) in
     let read = c.in_ok-graph.ensures in
-    read-obeys at (command.Vwrite c.args.unit c.args.name.now c.args.uid c.args.path.now c.args.at c.args.bytes) (λ _. Reply.done) read.looks _ (ends-after read.ends tt (none-ends {T = Unit {0}} _ tt)) (λ t.
+    read-obeys at (command.Vwrite c.args.unit c.args.name.now c.args.uid c.args.path.now c.args.at c.args.bytes) (λ _. Reply.done) read.looks (λ t means. let h = has-soup at t c.args.unit c.args.name.now c.in_ok-soup.soup c.in_ok-soup.ensures in get-few h c.args.uid (g.H.Host.outside c.args.host.now) (g.H.Host.outside c.read_entry.new.host) (read.fetches t h.blocks h.store h.on)) _ (ends-after read.ends tt (none-ends {T = Unit {0}} _ tt)) (λ t.
     let h = has-soup at t c.args.unit c.args.name.now c.in_ok-soup.soup c.in_ok-soup.ensures in
     let x : Entry = record { uid = c.in_ok-graph.field-0.uid; time = c.in_ok-graph.field-0.time; graph = c.in_ok-graph.field-0.graph } in
     let found : entry_of c.args.uid h.soup ≡ Some x = read-found c.in_ok-soup.soup c.args.uid h.store h.soup c.in_ok-graph.field-0 c.in_ok-graph.field-0.graph refl h.by_sig (c.in_ok-graph.ensures.read t h.blocks h.store h.on) in

@@ -26,7 +26,7 @@ use Rattle.newt_laws_answers.proofs.Entries.{no-soup}
 use Rattle.newt_laws_answers.proofs.Replaces.{set-not-found}
 use Rattle.newt_engine_commands.proofs.Replacing.{set-answers, set-makes, set-missing, set-fails}
 use Rattle.newt_engine_commands.proofs.Commands.{read-found, entry-fits}
-use Rattle.newt_engine_commands.proofs.Costing.{set-costs}
+use Rattle.newt_engine_commands.proofs.Costing.{set-costs, get-few}
 use Rattle.newt_engine_units.proofs.Obeying.{cause-after, ends-after, handed-ends, none-ends, none-put, none-refused, read-obeys, refused-obeys}
 use Rattle.newt_engine_commands.proofs.Said.{said-done, said-moments, said-costs, done-goes, done-cause, done-costs}
 use Rattle.newt_engine_units.proofs.Settings.{Setting, is-err, soup-refused, has-soup}
@@ -54,7 +54,7 @@ returns-in_err-graph g c =
     let at = begins g c.requires in
     let w = world_of g.C.Card.reads c.args.units.now (g.H.Host.outside c.args.host.now) in
     let e = c.in_err-graph.ensures in
-    read-obeys at (command.Set c.args.unit c.args.name.now c.args.uid c.args.path.now c.args.value.now) (λ _. Reply.done) e.looks _ (handed-ends _ (err_from_is_err_and c.from_residual-in_err-graph.result c.from_residual-in_err-graph.ensures.1) e.ends)
+    read-obeys at (command.Set c.args.unit c.args.name.now c.args.uid c.args.path.now c.args.value.now) (λ _. Reply.done) e.looks (λ t means. let h = has-soup at t c.args.unit c.args.name.now c.in_ok-soup.soup c.in_ok-soup.ensures in get-few h c.args.uid (g.H.Host.outside c.args.host.now) (g.H.Host.outside c.read_entry.new.host) (e.fetches t h.blocks h.store h.on)) _ (handed-ends _ (err_from_is_err_and c.from_residual-in_err-graph.result c.from_residual-in_err-graph.ensures.1) e.ends)
     (λ t.
     let h = has-soup at t c.args.unit c.args.name.now c.in_ok-soup.soup c.in_ok-soup.ensures in
     set-missing w _ c.args.unit h.blocks h.store c.args.name.now h.soup c.args.uid h.on h.named c.args.path.now c.args.value.now (e.looks.world t) c.in_err-graph.field-0.0
@@ -65,7 +65,7 @@ returns-in_err-made g c =
     let at = begins g c.requires in
     let w = world_of g.C.Card.reads c.args.units.now (g.H.Host.outside c.args.host.now) in
     let read = c.in_ok-graph.ensures in
-    read-obeys at (command.Set c.args.unit c.args.name.now c.args.uid c.args.path.now c.args.value.now) (λ _. Reply.done) read.looks _
+    read-obeys at (command.Set c.args.unit c.args.name.now c.args.uid c.args.path.now c.args.value.now) (λ _. Reply.done) read.looks (λ t means. let h = has-soup at t c.args.unit c.args.name.now c.in_ok-soup.soup c.in_ok-soup.ensures in get-few h c.args.uid (g.H.Host.outside c.args.host.now) (g.H.Host.outside c.read_entry.new.host) (read.fetches t h.blocks h.store h.on)) _
     (ends-after read.ends tt (handed-ends _ (err_from_is_err_and c.from_residual-in_err-made.result c.from_residual-in_err-made.ensures.1) (none-ends {T = Unit {0}} _ (none-put c.in_err-made.field-0.0)))) (λ t.
     let h = has-soup at t c.args.unit c.args.name.now c.in_ok-soup.soup c.in_ok-soup.ensures in
     let x : Entry = record { uid = c.in_ok-graph.field-0.uid; time = c.in_ok-graph.field-0.time; graph = c.in_ok-graph.field-0.graph } in
@@ -111,7 +111,7 @@ returns g c =
           let x : Entry = record { uid = c.in_ok-graph.field-0.uid; time = c.in_ok-graph.field-0.time; graph = c.in_ok-graph.field-0.graph } in
           let found : entry_of c.args.uid h.soup ≡ Some x = read-found c.in_ok-soup.soup c.args.uid h.store h.soup c.in_ok-graph.field-0 c.in_ok-graph.field-0.graph refl h.by_sig (c.in_ok-graph.ensures.read t h.blocks h.store h.on) in
           let same = read.looks.world t in
-          set-costs h c.args.uid x found _ same read.looks.untouched c.args.path.now c.args.value.now c.in_ok-made.made c.in_ok-made.ensures.form
+          set-costs h c.args.uid x found _ same (record { alone = read.looks.untouched; moment = read.looks.moment; reads = read.fetches t h.blocks h.store h.on }) c.args.path.now c.args.value.now c.in_ok-made.made c.in_ok-made.ensures.form
           (done-costs c.change.result is (said-costs e t (subst (λ y. OnUnit y c.args.unit h.blocks h.store) (sym same) h.on) (replace-said h.blocks c.read_entry.new.self.minute c.in_ok-soup.soup h.store h.soup h.by_sig c.args.uid x found c.in_ok-made.made)));
       alone = OnDevices-append read.looks.alone e.alone;
       cause = cause-after _ _ read.looks.alone (done-cause c.change.result is _ e.cause);

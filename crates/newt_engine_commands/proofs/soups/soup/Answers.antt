@@ -9,6 +9,7 @@ use Rattle.newt_laws_answers.proofs.Changes.{make-said}
 use Rattle.newt_laws_answers.proofs.Soups.{soup-not-mounted}
 use Rattle.newt_engine_commands.proofs.Commands.{soup-answers, soup-makes}
 use Rattle.newt_laws_answers.proofs.Most.{soup-most}
+use Rattle.newt_spec_graph.proofs.Lists.{both-ways}
 use Rattle.newt_engine_units.proofs.Obeying.{none-refused, refused-obeys}
 use Rattle.newt_engine_commands.proofs.Said.{said-made, said-moments, said-costs}
 use Rattle.newt_engine_units.proofs.Costs.{on-costs}
@@ -46,7 +47,7 @@ returns g c =
           said-moments e t p.on (make-said _ w.minute c.args.name p.store) _ (soup-makes w w c.args.unit _ p.store p.on refl c.args.name);
       costs = λ t.
           let p = (unit-there at t c.args.unit c.in_ok-find_unit.ensures).1 in
-          on-costs (said-costs e t p.on (make-said _ w.minute c.args.name p.store)) (soup-most w c.args.unit _ p.store c.args.name p.on);
+          on-costs (said-costs e t p.on (make-said _ w.minute c.args.name p.store)).programs (soup-most w c.args.unit _ p.store c.args.name p.on) (λ means. absurd (both-ways means));
       alone = e.alone;
       cause = e.cause;
       no_fault = e.no_fault;

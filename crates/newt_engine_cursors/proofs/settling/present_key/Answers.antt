@@ -1,11 +1,13 @@
 -- The key of the hit.
-use Rattle.std.proofs.Common.{◌∙◌, ap, sym, subst, option_map, true}
+use Rattle.std.proofs.Common.{◌∙◌, ap, refl, sym, subst, option_map, true}
 use Rattle.newt_cursor.specs.Seen.{query_of}
 use Rattle.newt_engine_units.specs.Stands.{Stands, Eight, world_of}
 use Rattle.newt_engine_units.proofs.Known.{Laws}
 use Rattle.newt_index.specs.Spots.{spot_hit}
-use Rattle.newt_engine_hits.specs.Present.{present_of}
-use Rattle.newt_engine_cursors.proofs.Standing.{key-present}
+use Rattle.newt_engine_hits.specs.declared.present.Present.{Present}
+use Rattle.newt_engine_cursors.proofs.Standing.{key-present, present-keys}
+use Rattle.std.proofs.lemmas.Result.{err_from_is_err_and}
+use Rattle.newt_engine_hits.proofs.Reading.{any-reading, asked-read, end-read, is-read, not-read}
 use Rattle.newt_engine_hits.proofs.Stores.{stores-formed}
 use Rattle.newt_engine_cursors.proofs.settling.present_key.Goals as goal
 
@@ -16,8 +18,8 @@ returns-in-Some-2-clause-found g c t apart =
     let eight : Eight (g.H.Host.outside c.args.host.now) = record { eight = g.met.H.Host.eight c.args.host.now; none = g.met.H.Host.none c.args.host.now } in
     let stand : Stands g.C.Card.place g.C.Card.stands true c.args.units.now o = subst (λ b. Stands g.C.Card.place g.C.Card.stands b c.args.units.now o) t c.requires in
     let w = world_of g.C.Card.reads c.args.units.now o in
-    let r = ap (option_map present_of) (sym c.in-Some-2.is) ∙ c.in_ok-present.ensures.found t apart in
-    key-present w apart (stores-formed laws c.args.units.now o eight stand) _ (query_of c.in-Some.query.now) (spot_hit c.in-Some.spot.now) c.in-Some.ensures _ r
+    ap (option_map (λ (p : Present). p.key)) (sym c.in-Some-2.is) ∙ present-keys _ _ (c.in_ok-hit.ensures.found t apart)
+    ∙ key-present w apart (stores-formed laws c.args.units.now o eight stand) _ (query_of c.in-Some.query.now) (spot_hit c.in-Some.spot.now) c.in-Some.ensures _ refl
 
 pub returns-in-None-clause-found : goal.returns-in-None-clause-found
 returns-in-None-clause-found g c t apart =
@@ -26,5 +28,16 @@ returns-in-None-clause-found g c t apart =
     let eight : Eight (g.H.Host.outside c.args.host.now) = record { eight = g.met.H.Host.eight c.args.host.now; none = g.met.H.Host.none c.args.host.now } in
     let stand : Stands g.C.Card.place g.C.Card.stands true c.args.units.now o = subst (λ b. Stands g.C.Card.place g.C.Card.stands b c.args.units.now o) t c.requires in
     let w = world_of g.C.Card.reads c.args.units.now o in
-    let r = ap (option_map present_of) (sym c.in-None.is) ∙ c.in_ok-present.ensures.found t apart in
-    key-present w apart (stores-formed laws c.args.units.now o eight stand) _ (query_of c.in-Some.query.now) (spot_hit c.in-Some.spot.now) c.in-Some.ensures _ r
+    ap (option_map (λ (p : Present). p.key)) (sym c.in-None.is) ∙ present-keys _ _ (c.in_ok-hit.ensures.found t apart)
+    ∙ key-present w apart (stores-formed laws c.args.units.now o eight stand) _ (query_of c.in-Some.query.now) (spot_hit c.in-Some.spot.now) c.in-Some.ensures _ refl
+
+pub returns-in_err-hit-clause-reading : goal.returns-in_err-hit-clause-reading
+returns-in_err-hit-clause-reading g c =
+    let r = c.from_residual.result in
+    end-read (not-read c.requires) (asked-read refl) (any-reading c.in_err-hit.ensures.reading) r (err_from_is_err_and r c.from_residual.ensures.1)
+
+pub returns-in-Some-2-clause-reading : goal.returns-in-Some-2-clause-reading
+returns-in-Some-2-clause-reading g c = is-read c.in_ok-hit.ensures.reading.read c.in_ok-hit.ensures.reading.no_fault (asked-read refl)
+
+pub returns-in-None-clause-reading : goal.returns-in-None-clause-reading
+returns-in-None-clause-reading g c = is-read c.in_ok-hit.ensures.reading.read c.in_ok-hit.ensures.reading.no_fault (asked-read refl)

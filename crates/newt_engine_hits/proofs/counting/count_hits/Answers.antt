@@ -12,7 +12,7 @@ use Rattle.newt_engine_units.proofs.Known.{Laws}
 use Rattle.newt_index.specs.Spots.{spot_hit}
 use Rattle.newt_engine_hits.specs.Ways.{beyond}
 use Rattle.newt_engine_hits.specs.declared.ways.Way.TheVariants.{On}
-use Rattle.newt_engine_hits.proofs.Reading.{not-read, read-then}
+use Rattle.newt_engine_hits.proofs.Reading.{not-read, read-then, then-unread}
 use Rattle.newt_engine_hits.proofs.Stores.{stores-formed, stores-few}
 use Rattle.newt_engine_hits.proofs.Walking.{ahead, ahead-start, ahead-fewer}
 use Rattle.newt_engine_hits.proofs.Counted.{counts, all-counted, kept-counted, all-few, counted-first, counted-on}
@@ -22,6 +22,7 @@ pub hits-init : goal.hits-init
 hits-init g c = record {
   read = not-read c.requires;
   no_fault = NoFault-refl _;
+  unread = λ e u. omega arith;
   key = c.in_ok-found.ensures.key;
   counted = λ t apart.
       let laws : Laws g.C.Card.reads g.C.Card.place g.C.Card.soups g.C.Card.stands = record { formed = g.met.C.Card.formed; plain = g.met.C.Card.plain; durable = g.met.C.Card.durable; banks = g.met.C.Card.banks; kept = g.met.C.Card.kept } in
@@ -48,6 +49,7 @@ pub hits-preserved : goal.hits-preserved
 hits-preserved g c = record {
   read = read-then c.hits.invariant.read c.keeps.ensures.reading.read;
   no_fault = NoFault-append c.hits.invariant.no_fault c.in_ok-kept.ensures.reading.no_fault;
+  unread = then-unread c.hits.invariant.read c.keeps.ensures.reading.read c.hits.invariant.unread c.keeps.ensures.reading.unread;
   key = c.in_ok-found-2.ensures.key;
   counted = λ t apart.
       let laws : Laws g.C.Card.reads g.C.Card.place g.C.Card.soups g.C.Card.stands = record { formed = g.met.C.Card.formed; plain = g.met.C.Card.plain; durable = g.met.C.Card.durable; banks = g.met.C.Card.banks; kept = g.met.C.Card.kept } in

@@ -1,8 +1,10 @@
 -- What was counted and what is still to be counted are all hits.
-use Rattle.std.proofs.Common.{◌≡◌, IsTrue, option_map, ◌+◌, ◌≤◌, ◌^◌, length}
+use Rattle.std.proofs.Common.{◌≡◌, IsTrue, option_map, ◌+◌, ◌≤◌, ◌^◌, length, false}
 use Rattle.std.specs.Prelude.{IfSome}
 use Rattle.newt_host.specs.Outside.{NoFault}
 use Rattle.newt_keys.specs.KeyForm.{IsKeyOf}
+use Rattle.newt_engine_card.specs.Bounds.{FetchesAtMost}
+use Rattle.newt_query.specs.Filter.{asks_texts}
 use Rattle.newt_cursor.specs.Seen.{query_of}
 use Rattle.newt_spec_world.specs.World.{hits_of, mounted_stores}
 use Rattle.newt_laws_world.specs.Settled.{MountedApart}
@@ -20,6 +22,7 @@ abbrev pub invariant-hits : goal.invariant-hits
 invariant-hits g l = record {
   read : AreRead g.C.Card.reads g.C.Card.place g.C.Card.stands g.H.Host.told l.fn.units l.units (g.H.Host.outside l.fn.host) (g.H.Host.outside l.host);
   no_fault : NoFault (g.H.Host.outside l.fn.host) (g.H.Host.outside l.host);
+  unread : asks_texts l.query.spec ≡ false → FetchesAtMost (λ u. 0) (g.H.Host.outside l.fn.host) (g.H.Host.outside l.host);
   key : IfSome l.found (λ spot. IsKeyOf l.query.spec.index spot.key);
   counted : IsTrue g.H.Host.told → let w = world_of g.C.Card.reads l.fn.units (g.H.Host.outside l.fn.host) in let q = query_of l.query in MountedApart w
       → length (hits_of w q) ≡ l.count + counts w q (option_map spot_hit l.found);

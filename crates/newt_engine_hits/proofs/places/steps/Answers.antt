@@ -8,7 +8,7 @@ use Rattle.newt_spec_world.specs.World.{World, hits_of}
 use Rattle.newt_laws_world.specs.Settled.{MountedApart}
 use Rattle.newt_engine_units.specs.Stands.{world_of}
 use Rattle.newt_engine_hits.specs.Ways.{stepping}
-use Rattle.newt_engine_hits.proofs.Reading.{not-read, read-then, is-read, end-read}
+use Rattle.newt_engine_hits.proofs.Reading.{not-read, read-then, is-read, end-read, then-unread}
 use Rattle.newt_engine_hits.proofs.Walking.{repeated-edge, at-edge}
 use Rattle.newt_engine_hits.proofs.places.steps.Goals as goal
 
@@ -16,6 +16,7 @@ pub steps-init : goal.steps-init
 steps-init g c = record {
   read = not-read c.requires.stands;
   no_fault = NoFault-refl _;
+  unread = λ e u. omega arith;
   fits = c.requires.fits;
   left = λ t apart.
       let w = world_of g.C.Card.reads c.args.units.now (g.H.Host.outside c.args.host.now) in
@@ -25,7 +26,7 @@ steps-init g c = record {
 }
 
 pub returns-then-is_at_edge-clause-reading : goal.returns-then-is_at_edge-clause-reading
-returns-then-is_at_edge-clause-reading g c = is-read c.steps.invariant.read c.steps.invariant.no_fault
+returns-then-is_at_edge-clause-reading g c = is-read c.steps.invariant.read c.steps.invariant.no_fault c.steps.invariant.unread
 
 pub returns-then-is_at_edge-clause-place : goal.returns-then-is_at_edge-clause-place
 returns-then-is_at_edge-clause-place g c t apart =
@@ -42,12 +43,13 @@ pub step-requires-clause-fits : goal.step-requires-clause-fits
 step-requires-clause-fits g c = c.steps.invariant.fits
 
 pub returns-in_err-place-clause-reading : goal.returns-in_err-place-clause-reading
-returns-in_err-place-clause-reading g c = end-read c.steps.invariant.read c.in_err-place.ensures.reading c.from_residual.result (err_from_is_err_and c.from_residual.result c.from_residual.ensures.1)
+returns-in_err-place-clause-reading g c = end-read c.steps.invariant.read c.steps.invariant.unread c.in_err-place.ensures.reading c.from_residual.result (err_from_is_err_and c.from_residual.result c.from_residual.ensures.1)
 
 pub steps-preserved : goal.steps-preserved
 steps-preserved g c = record {
   read = read-then c.steps.invariant.read c.step.ensures.reading.read;
   no_fault = NoFault-append c.steps.invariant.no_fault c.in_ok-place.ensures.reading.no_fault;
+  unread = then-unread c.steps.invariant.read c.step.ensures.reading.read c.steps.invariant.unread c.step.ensures.reading.unread;
   fits = c.in_ok-place.ensures.fits;
   left = λ t apart.
       let w = world_of g.C.Card.reads c.args.units.now (g.H.Host.outside c.args.host.now) in
@@ -63,7 +65,7 @@ steps-preserved g c = record {
 }
 
 pub returns-clause-reading : goal.returns-clause-reading
-returns-clause-reading g c = is-read c.steps.invariant.read c.steps.invariant.no_fault
+returns-clause-reading g c = is-read c.steps.invariant.read c.steps.invariant.no_fault c.steps.invariant.unread
 
 pub returns-clause-fits : goal.returns-clause-fits
 returns-clause-fits g c = c.steps.invariant.fits

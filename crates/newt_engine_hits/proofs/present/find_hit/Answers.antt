@@ -1,65 +1,47 @@
--- The store, the soup and the entry are looked up.
-use Rattle.std.proofs.Common.{◌∙◌, ap, sym, subst, true}
-use Rattle.std.specs.Prelude.{is_some}
+-- The entry is read if need be, and its key is looked up.
+use Rattle.std.proofs.Common.{◌≡◌, ◌∙◌, ap, sym, subst, true, false}
+use Rattle.std.proofs.lemmas.Result.{err_from_is_err_and}
+use Rattle.newt_query.specs.Filter.{asks_texts}
 use Rattle.newt_cursor.specs.Seen.{query_of}
 use Rattle.newt_spec_world.specs.World.{World}
-use Rattle.newt_laws_answers.specs.There.{OnUnit}
-use Rattle.newt_store_change.specs.Entries.{entry_said, plain_entry}
+use Rattle.newt_laws_world.specs.Settled.{MountedApart}
 use Rattle.newt_engine_units.specs.Stands.{Stands, Eight, world_of}
-use Rattle.newt_engine_units.proofs.Known.{Laws}
-use Rattle.newt_engine_units.proofs.Resolving.{showing-card}
-use Rattle.newt_engine_hits.proofs.Presence.{no-store-present, no-entry-present, other-soup-present, there-present}
-use Rattle.newt_engine_hits.proofs.Stores.{stores-formed, shows-some, shows-none}
+use Rattle.newt_engine_hits.specs.Present.{entry_there, identity, keyed_in, present_in}
+use Rattle.newt_engine_hits.proofs.Presence.{is-present, is-absent}
+use Rattle.newt_engine_hits.proofs.Reading.{is-read, end-memory}
 use Rattle.newt_engine_hits.proofs.present.find_hit.Goals as goal
 
-pub returns-in_default-clause-found : goal.returns-in_default-clause-found
-returns-in_default-clause-found g c t apart =
-    let laws : Laws g.C.Card.reads g.C.Card.place g.C.Card.soups g.C.Card.stands = record { formed = g.met.C.Card.formed; plain = g.met.C.Card.plain; durable = g.met.C.Card.durable; banks = g.met.C.Card.banks; kept = g.met.C.Card.kept } in
-    let o = g.H.Host.outside c.args.host.now in
-    let eight : Eight (g.H.Host.outside c.args.host.now) = record { eight = g.met.H.Host.eight c.args.host.now; none = g.met.H.Host.none c.args.host.now } in
-    let stand : Stands g.C.Card.place g.C.Card.stands true c.args.units.now o = subst (λ b. Stands g.C.Card.place g.C.Card.stands b c.args.units.now o) t c.requires in
-    let w = world_of g.C.Card.reads c.args.units.now o in
-    no-store-present w (query_of c.args.query.now) c.args.store c.args.soup c.args.uid apart (stores-formed laws c.args.units.now o eight stand)
-    (shows-none laws c.args.units.now o eight stand c.args.store (sym c.in_default.ensures)).0
+pub returns-in_err-hit-clause-reading : goal.returns-in_err-hit-clause-reading
+returns-in_err-hit-clause-reading g c =
+    let r = c.from_residual-in_err-hit.result in
+    end-memory c.in_ok-entry.ensures.reading.read c.in_ok-entry.ensures.reading.unread r (err_from_is_err_and r c.from_residual-in_err-hit.ensures.1)
 
-pub returns-then-not-takes_part-clause-found : goal.returns-then-not-takes_part-clause-found
-returns-then-not-takes_part-clause-found g c t apart =
-    let laws : Laws g.C.Card.reads g.C.Card.place g.C.Card.soups g.C.Card.stands = record { formed = g.met.C.Card.formed; plain = g.met.C.Card.plain; durable = g.met.C.Card.durable; banks = g.met.C.Card.banks; kept = g.met.C.Card.kept } in
-    let o = g.H.Host.outside c.args.host.now in
-    let eight : Eight (g.H.Host.outside c.args.host.now) = record { eight = g.met.H.Host.eight c.args.host.now; none = g.met.H.Host.none c.args.host.now } in
-    let stand : Stands g.C.Card.place g.C.Card.stands true c.args.units.now o = subst (λ b. Stands g.C.Card.place g.C.Card.stands b c.args.units.now o) t c.requires in
-    let w = world_of g.C.Card.reads c.args.units.now o in
-    let k = shows-some laws c.args.units.now o eight stand c.args.store c.in-Some.unit (sym c.in-Some.ensures) in
-    other-soup-present w (query_of c.args.query.now) c.args.store c.args.soup c.args.uid apart (stores-formed laws c.args.units.now o eight stand) c.in-Some.unit k.store k.found k.found_with k.sig_is
-    (λ p at. sym (c.if-not-takes_part.ensures o eight stand k.blocks k.store p k.on at))
+pub returns-in-Some-clause-reading : goal.returns-in-Some-clause-reading
+returns-in-Some-clause-reading g c = is-read c.in_ok-entry.ensures.reading.read c.in_ok-entry.ensures.reading.no_fault c.in_ok-entry.ensures.reading.unread
 
-pub entry_on-requires-clause-mounted : goal.entry_on-requires-clause-mounted
-entry_on-requires-clause-mounted g c = ap is_some (showing-card g.C.Card.soups c.args.units.now.slots.items c.args.store c.in-Some.unit (sym c.in-Some.ensures)).1
+pub returns-in-Some-clause-found : goal.returns-in-Some-clause-found
+returns-in-Some-clause-found g c t apart =
+    let p = g.H.Host.outside c.entry_if_asked.new.host in
+    let eight2 : Eight (g.H.Host.outside c.entry_if_asked.new.host) = record { eight = g.met.H.Host.eight c.entry_if_asked.new.host; none = g.met.H.Host.none c.entry_if_asked.new.host } in
+    let stand2 : Stands g.C.Card.place g.C.Card.stands true c.entry_if_asked.new.units p = subst (λ b. Stands g.C.Card.place g.C.Card.stands b c.entry_if_asked.new.units p) t c.in_ok-entry.ensures.reading.read.stand in
+    let w = world_of g.C.Card.reads c.args.units.now (g.H.Host.outside c.args.host.now) in
+    let same = c.in_ok-entry.ensures.reading.read.world t in
+    is-present w (query_of c.args.query.now) c.args.store c.args.soup c.args.uid _ _ _ (asks_texts c.args.query.now.spec) (c.in_ok-entry.ensures.entry t) c.in_ok-entry.ensures.none
+    (sym c.in-Some.is ∙ c.in_ok-hit.ensures.found p eight2 stand2 (subst MountedApart (sym same) apart)
+    (λ asks. c.in_ok-entry.ensures.entry t asks ∙ ap (λ (v : World). entry_there v c.args.store c.args.soup c.args.uid) (sym same))
+    ∙ ap (λ (v : World). keyed_in (present_in v (query_of c.args.query.now) (identity c.args.store c.args.soup c.args.uid))) same)
 
-pub returns-in_ok-kept-in-Some-2-clause-found : goal.returns-in_ok-kept-in-Some-2-clause-found
-returns-in_ok-kept-in-Some-2-clause-found g c t apart =
-    let laws : Laws g.C.Card.reads g.C.Card.place g.C.Card.soups g.C.Card.stands = record { formed = g.met.C.Card.formed; plain = g.met.C.Card.plain; durable = g.met.C.Card.durable; banks = g.met.C.Card.banks; kept = g.met.C.Card.kept } in
-    let o = g.H.Host.outside c.args.host.now in
-    let eight : Eight (g.H.Host.outside c.args.host.now) = record { eight = g.met.H.Host.eight c.args.host.now; none = g.met.H.Host.none c.args.host.now } in
-    let stand : Stands g.C.Card.place g.C.Card.stands true c.args.units.now o = subst (λ b. Stands g.C.Card.place g.C.Card.stands b c.args.units.now o) t c.requires in
-    let w = world_of g.C.Card.reads c.args.units.now o in
-    let k = shows-some laws c.args.units.now o eight stand c.args.store c.in-Some.unit (sym c.in-Some.ensures) in
-    let p = g.H.Host.outside c.entry_on.new.host in
-    let eight2 : Eight (g.H.Host.outside c.entry_on.new.host) = record { eight = g.met.H.Host.eight c.entry_on.new.host; none = g.met.H.Host.none c.entry_on.new.host } in
-    let stand2 : Stands g.C.Card.place g.C.Card.stands true c.entry_on.new.self p = subst (λ b. Stands g.C.Card.place g.C.Card.stands b c.entry_on.new.self p) t c.in_ok-entry.ensures.looks.stand in
-    let on2 = subst (λ (v : World). OnUnit v c.in-Some.unit k.blocks k.store) (sym (c.in_ok-entry.ensures.looks.world t)) k.on in
-    c.in_ok-kept-in-Some-2.ensures.found p eight2 stand2 k.blocks k.store on2
-    ∙ there-present w (query_of c.args.query.now) c.args.store c.args.soup c.args.uid apart (stores-formed laws c.args.units.now o eight stand) c.in-Some.unit k.store k.found k.found_with k.sig_is
-    (λ p at. sym (c.if-not-takes_part.ensures o eight stand k.blocks k.store p k.on at)) (plain_entry c.in-Some-2.entry)
-    (sym (ap entry_said c.in-Some-2.is) ∙ c.in_ok-entry.ensures.read t k.blocks k.store k.on)
+pub returns-in-None-clause-reading : goal.returns-in-None-clause-reading
+returns-in-None-clause-reading g c = is-read c.in_ok-entry.ensures.reading.read c.in_ok-entry.ensures.reading.no_fault c.in_ok-entry.ensures.reading.unread
 
 pub returns-in-None-clause-found : goal.returns-in-None-clause-found
 returns-in-None-clause-found g c t apart =
-    let laws : Laws g.C.Card.reads g.C.Card.place g.C.Card.soups g.C.Card.stands = record { formed = g.met.C.Card.formed; plain = g.met.C.Card.plain; durable = g.met.C.Card.durable; banks = g.met.C.Card.banks; kept = g.met.C.Card.kept } in
-    let o = g.H.Host.outside c.args.host.now in
-    let eight : Eight (g.H.Host.outside c.args.host.now) = record { eight = g.met.H.Host.eight c.args.host.now; none = g.met.H.Host.none c.args.host.now } in
-    let stand : Stands g.C.Card.place g.C.Card.stands true c.args.units.now o = subst (λ b. Stands g.C.Card.place g.C.Card.stands b c.args.units.now o) t c.requires in
-    let w = world_of g.C.Card.reads c.args.units.now o in
-    let k = shows-some laws c.args.units.now o eight stand c.args.store c.in-Some.unit (sym c.in-Some.ensures) in
-    no-entry-present w (query_of c.args.query.now) c.args.store c.args.soup c.args.uid apart (stores-formed laws c.args.units.now o eight stand) c.in-Some.unit k.store k.found k.found_with k.sig_is
-    (sym (ap entry_said c.in-None.is) ∙ c.in_ok-entry.ensures.read t k.blocks k.store k.on)
+    let p = g.H.Host.outside c.entry_if_asked.new.host in
+    let eight2 : Eight (g.H.Host.outside c.entry_if_asked.new.host) = record { eight = g.met.H.Host.eight c.entry_if_asked.new.host; none = g.met.H.Host.none c.entry_if_asked.new.host } in
+    let stand2 : Stands g.C.Card.place g.C.Card.stands true c.entry_if_asked.new.units p = subst (λ b. Stands g.C.Card.place g.C.Card.stands b c.entry_if_asked.new.units p) t c.in_ok-entry.ensures.reading.read.stand in
+    let w = world_of g.C.Card.reads c.args.units.now (g.H.Host.outside c.args.host.now) in
+    let same = c.in_ok-entry.ensures.reading.read.world t in
+    is-absent w (query_of c.args.query.now) c.args.store c.args.soup c.args.uid
+    (sym c.in-None.is ∙ c.in_ok-hit.ensures.found p eight2 stand2 (subst MountedApart (sym same) apart)
+    (λ asks. c.in_ok-entry.ensures.entry t asks ∙ ap (λ (v : World). entry_there v c.args.store c.args.soup c.args.uid) (sym same))
+    ∙ ap (λ (v : World). keyed_in (present_in v (query_of c.args.query.now) (identity c.args.store c.args.soup c.args.uid))) same)

@@ -14,7 +14,7 @@ use Rattle.newt_engine_units.specs.Stands.{Stands, Eight, world_of}
 use Rattle.newt_engine_units.proofs.Known.{Laws}
 use Rattle.newt_index.specs.Spots.{spot_hit}
 use Rattle.newt_engine_hits.specs.Ways.{beyond}
-use Rattle.newt_engine_hits.proofs.Reading.{not-read, read-then, is-read, end-read, end-memory}
+use Rattle.newt_engine_hits.proofs.Reading.{not-read, read-then, is-read, end-read, end-memory, then-unread}
 use Rattle.newt_engine_hits.proofs.Stores.{stores-formed, stores-few}
 use Rattle.newt_engine_hits.proofs.Walking.{ahead, comes_to, ahead-start, ahead-fewer, passed-goal, over-goal}
 use Rattle.newt_engine_hits.proofs.walk.walk.Goals as goal
@@ -23,6 +23,7 @@ pub steps-init : goal.steps-init
 steps-init g c = record {
   read = not-read c.requires.stands;
   no_fault = NoFault-refl _;
+  unread = λ e u. omega arith;
   key = c.requires.key;
   walked = λ t apart. refl;
   ahead = λ t apart.
@@ -37,7 +38,7 @@ steps-init g c = record {
 }
 
 pub returns-in_default-clause-reading : goal.returns-in_default-clause-reading
-returns-in_default-clause-reading g c = is-read c.steps.invariant.read c.steps.invariant.no_fault
+returns-in_default-clause-reading g c = is-read c.steps.invariant.read c.steps.invariant.no_fault c.steps.invariant.unread
 
 pub returns-in_default-clause-walked : goal.returns-in_default-clause-walked
 returns-in_default-clause-walked g c t apart =
@@ -48,10 +49,11 @@ pub keeps-requires : goal.keeps-requires
 keeps-requires g c = c.steps.invariant.read.stand
 
 pub returns-in_err-keeps-clause-reading : goal.returns-in_err-keeps-clause-reading
-returns-in_err-keeps-clause-reading g c = end-read c.steps.invariant.read c.in_err-keeps.ensures.reading c.from_residual.result (err_from_is_err_and c.from_residual.result c.from_residual.ensures.1)
+returns-in_err-keeps-clause-reading g c = end-read c.steps.invariant.read c.steps.invariant.unread c.in_err-keeps.ensures.reading c.from_residual.result (err_from_is_err_and c.from_residual.result c.from_residual.ensures.1)
 
 pub returns-then-branch-clause-reading : goal.returns-then-branch-clause-reading
 returns-then-branch-clause-reading g c = is-read (read-then c.steps.invariant.read c.in_ok-keeps.ensures.reading.read) (NoFault-append c.steps.invariant.no_fault c.in_ok-keeps.ensures.reading.no_fault)
+    (then-unread c.steps.invariant.read c.in_ok-keeps.ensures.reading.read c.steps.invariant.unread c.in_ok-keeps.ensures.reading.unread)
 
 pub returns-then-branch-clause-fits : goal.returns-then-branch-clause-fits
 returns-then-branch-clause-fits g c = subst (λ (o : Option Spot). IfSome o (λ spot. IsKeyOf c.args.query.now.spec.index spot.key)) c.in-Some.is c.steps.invariant.key
@@ -74,12 +76,13 @@ beyond-requires-clause-key g c = subst (λ (o : Option Spot). IfSome o (λ spot.
 pub returns-in_err-found-clause-reading : goal.returns-in_err-found-clause-reading
 returns-in_err-found-clause-reading g c =
     let r = c.from_residual-in_err-found.result in
-    end-memory (read-then c.steps.invariant.read c.keeps.ensures.reading.read) r (err_from_is_err_and r c.from_residual-in_err-found.ensures.1)
+    end-memory (read-then c.steps.invariant.read c.keeps.ensures.reading.read) (then-unread c.steps.invariant.read c.keeps.ensures.reading.read c.steps.invariant.unread c.keeps.ensures.reading.unread) r (err_from_is_err_and r c.from_residual-in_err-found.ensures.1)
 
 pub steps-preserved : goal.steps-preserved
 steps-preserved g c = record {
   read = read-then c.steps.invariant.read c.keeps.ensures.reading.read;
   no_fault = NoFault-append c.steps.invariant.no_fault c.in_ok-keeps.ensures.reading.no_fault;
+  unread = then-unread c.steps.invariant.read c.keeps.ensures.reading.read c.steps.invariant.unread c.keeps.ensures.reading.unread;
   key = c.in_ok-found.ensures.key;
   walked = λ t apart.
       let laws : Laws g.C.Card.reads g.C.Card.place g.C.Card.soups g.C.Card.stands = record { formed = g.met.C.Card.formed; plain = g.met.C.Card.plain; durable = g.met.C.Card.durable; banks = g.met.C.Card.banks; kept = g.met.C.Card.kept } in
@@ -119,7 +122,7 @@ steps-preserved g c = record {
         (c.keeps.ensures.reading.read.world t ∙ c.steps.invariant.read.world t)
 
 pub returns-clause-reading : goal.returns-clause-reading
-returns-clause-reading g c = is-read c.steps.invariant.read c.steps.invariant.no_fault
+returns-clause-reading g c = is-read c.steps.invariant.read c.steps.invariant.no_fault c.steps.invariant.unread
 
 pub returns-clause-walked : goal.returns-clause-walked
 returns-clause-walked g c t apart =

@@ -13,7 +13,7 @@ use Rattle.newt_store_catalog.proofs.Exits.{can-on, reads-on}
 use Rattle.newt_store_catalog.proofs.Opening.{same-image}
 use Rattle.newt_store.proofs.Ends.{ends-fails, ends-after}
 use Rattle.newt_store.proofs.Larges.{large-spent, reads-large, record-spent}
-use Rattle.newt_store.proofs.Patching.{text-there}
+use Rattle.newt_store.proofs.Patching.{spends-record, text-there, whole-spent}
 use Rattle.newt_store.proofs.large.read_large.Goals as goal
 
 -- a refusal that was due is one of the whole
@@ -34,6 +34,7 @@ returns-in_err-object g c =
       read = λ tells s stands. refused-as c.args.path.now c.args.at c.args.len (entry_at c.args.sig c.args.uid s) c.from_residual.result c.in_err-object.field-0.0 c.from_residual.ensures.1
           (c.in_err-object.ensures.finds tells s stands (c.args.at + c.args.len)).refused;
       costs = λ tells s stands. record-spent c.args.len (g.P.PageBook.place c.args.book.now) (entry_at c.args.sig c.args.uid s) (o c.args.host.now) (o c.find_by_path.new.host) (c.find_by_path.ensures.finds tells s stands (c.args.at + c.args.len)).costs;
+      whole = λ tells s stands. spends-record 0 (g.P.PageBook.place c.args.book.now) (entry_at c.args.sig c.args.uid s) (o c.args.host.now) (o c.find_by_path.new.host) (c.find_by_path.ensures.finds tells s stands (c.args.at + c.args.len)).costs;
       reads = record {
         book = c.find_by_path.ensures.reads.book;
         ends = ends-fails c.from_residual.result c.in_err-object.field-0.0 c.from_residual.ensures.1 c.in_err-object.ensures.reads.ends;
@@ -61,6 +62,11 @@ returns-in-Ok g c =
           let finds = one.finds tells s stands (c.args.at + c.args.len) in
           let f = finds.found in
           large-spent cat s c.args.sig c.args.uid f.0 x c.args.path.now f.2 f.1 c.args.len u u' (o c.args.host.now) (o c.find_by_path.new.host) (o c.read_part.new.host) one.reads.book.same_place finds.costs c.read_part.ensures.costs;
+      whole = λ tells s stands.
+          let finds = one.finds tells s stands (c.args.at + c.args.len) in
+          let f = finds.found in
+          whole-spent cat s c.args.sig c.args.uid f.0 x f.2 u u' (o c.args.host.now) (o c.find_by_path.new.host) (o c.read_part.new.host) one.reads.book.same_place finds.costs
+          (c.read_part.ensures.few tells stands.texts f.2.bytes (subst (λ (b : List ℕ). HoldsObjects b stands.texts) (sym e) stands.holds) (text-there cat s (image u m) stands c.args.sig c.args.uid f.0 x f.2));
       reads = record {
         book = reads-on one.reads.book c.read_part.ensures.reads.book;
         ends = ends-after _ one.reads.book.same_place one.reads.book.looks (one.reads.ends.no_fault tt) c.in-Ok.ensures.reads.ends;
@@ -88,6 +94,11 @@ returns-in-Err g c =
           let finds = one.finds tells s stands (c.args.at + c.args.len) in
           let f = finds.found in
           large-spent cat s c.args.sig c.args.uid f.0 x c.args.path.now f.2 f.1 c.args.len u u' (o c.args.host.now) (o c.find_by_path.new.host) (o c.read_part.new.host) one.reads.book.same_place finds.costs c.read_part.ensures.costs;
+      whole = λ tells s stands.
+          let finds = one.finds tells s stands (c.args.at + c.args.len) in
+          let f = finds.found in
+          whole-spent cat s c.args.sig c.args.uid f.0 x f.2 u u' (o c.args.host.now) (o c.find_by_path.new.host) (o c.read_part.new.host) one.reads.book.same_place finds.costs
+          (c.read_part.ensures.few tells stands.texts f.2.bytes (subst (λ (b : List ℕ). HoldsObjects b stands.texts) (sym e) stands.holds) (text-there cat s (image u m) stands c.args.sig c.args.uid f.0 x f.2));
       reads = record {
         book = reads-on one.reads.book c.read_part.ensures.reads.book;
         ends = ends-after _ one.reads.book.same_place one.reads.book.looks (one.reads.ends.no_fault tt) c.in-Err.ensures.reads.ends;

@@ -2,7 +2,6 @@ use Rattle.std.proofs.Common.{ℕ, ◌+◌, ◌*◌, List, sym, ◌∙◌, ap, s
 use Rattle.newt_host.specs.Outside.{Spends}
 use Rattle.newt_host.proofs.Outside.{NoFault-append}
 use Rattle.newt_store_catalog.proofs.Exits.{read-after, read-fails}
-use Rattle.newt_index.specs.Pairs.{Sorted}
 use Rattle.newt_spec_store.specs.Store.{entry_at}
 use Rattle.newt_store_change.specs.Change.{pages_of_entry}
 use Rattle.newt_store_indexed.specs.Filling.{with_all}
@@ -12,7 +11,7 @@ use Rattle.newt_store_indexed.proofs.Reading.{shows-on, reads-more, spends-on, f
 use Rattle.newt_store_indexed.proofs.fill.fill_all.Goals as goal
 
 pub returns-clause-filled : goal.returns-clause-filled
-returns-clause-filled g c = λ tells s shows. sym (with-none c.args.soup s c.loop-left.left.now c.loop-left.range c.in_default.len_below) ∙ c.loop-left.invariant.filled tells s shows
+returns-clause-filled g c = λ tells s shows. sym (with-none g.T.Filled.with c.args.soup s c.loop-left.left.now c.loop-left.kept c.in_default.len_below) ∙ c.loop-left.invariant.filled tells s shows
 
 pub returns-clause-costs : goal.returns-clause-costs
 returns-clause-costs g c = λ tells s shows.
@@ -46,8 +45,8 @@ loop-left-preserved g c =
           reads c.in_ok-fill_entry.ensures.reads;
       no_fault = NoFault-append c.loop-left.invariant.no_fault c.in_ok-fill_entry.ensures.ends.no_fault;
       filled = λ tells s shows.
-          ap (λ (v : Sorted). with_all c.args.soup s (behind left) v) (c.in_ok-fill_entry.ensures.filled tells s (on s reads shows))
-          ∙ sym (with-first c.args.soup s left c.uid-item.result c.loop-left.range c.in-len1-up.len_at_least c.uid-item.is)
+          ap (with_all g.T.Filled.with c.args.soup s (behind left)) (c.in_ok-fill_entry.ensures.filled tells s (on s reads shows))
+          ∙ sym (with-first g.T.Filled.with c.args.soup s left c.uid-item.result c.loop-left.kept c.in-len1-up.len_at_least c.uid-item.is)
           ∙ c.loop-left.invariant.filled tells s shows;
       costs = λ tells s shows.
           let i = c.loop-left.invariant.costs tells s shows in

@@ -12,7 +12,7 @@ invariant-loop-left g l =
     record {
       reads : Reads place g.P.PageBook.numbers g.P.PageBook.stands g.H.Host.told l.fn.store l.store (outside l.fn.host) (outside l.host);
       no_fault : NoFault (outside l.fn.host) (outside l.host);
-      filled : IsTrue g.H.Host.told → (s : PlainStore) → Shows place l.fn.store (outside l.fn.host) s → with_all l.soup s l.left l.range ≡ with_all l.soup s l.uids l.fn.range;
+      filled : IsTrue g.H.Host.told → (s : PlainStore) → Shows place l.fn.store (outside l.fn.host) s → with_all g.T.Filled.with l.soup s l.left l.kept ≡ with_all g.T.Filled.with l.soup s l.uids l.fn.kept;
       costs : IsTrue g.H.Host.told → (s : PlainStore) → Shows place l.fn.store (outside l.fn.host) s
           → (n : ℕ) × (n + pages_listed l.soup s l.left ≡ pages_listed l.soup s l.uids) × Spends (place l.fn.store.book) 0 (512 * n) (outside l.fn.host) (outside l.host);
     }

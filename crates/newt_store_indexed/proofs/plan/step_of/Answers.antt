@@ -23,3 +23,11 @@ pub returns-in-AddIndex-clause-costs : goal.returns-in-AddIndex-clause-costs
 returns-in-AddIndex-clause-costs g c = λ tells s shows.
     let o = g.H.Host.outside in
     subst (λ (change : Change). Spends (g.P.PageBook.place c.args.store.now.book) 0 (512 * pages_read change s) (o c.args.host.now) (o c.declaring.new.host)) (sym c.in-AddIndex.is) (c.declaring.ensures.costs tells s shows)
+
+pub returns-in-SetTags-clause-step : goal.returns-in-SetTags-clause-step
+returns-in-SetTags-clause-step g c = λ tells s shows. subst (λ (change : Change). IfOk c.tagging.result (IsStepOf change s)) (sym c.in-SetTags.is) (c.tagging.ensures.tagged tells s shows)
+
+pub returns-in-SetTags-clause-costs : goal.returns-in-SetTags-clause-costs
+returns-in-SetTags-clause-costs g c = λ tells s shows.
+    let o = g.H.Host.outside in
+    subst (λ (change : Change). Spends (g.P.PageBook.place c.args.store.now.book) 0 (512 * pages_read change s) (o c.args.host.now) (o c.tagging.new.host)) (sym c.in-SetTags.is) (c.tagging.ensures.costs tells s shows)

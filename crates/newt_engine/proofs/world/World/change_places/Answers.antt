@@ -11,17 +11,17 @@ use Rattle.newt_engine.proofs.world.World.change_places.Goals as goal
 pub returns-in-Query : goal.returns-in-Query
 returns-in-Query g c =
     let call = c.query.ensures in
-    handed_walked c.opened.ensures c.in-Query.is refl refl call.read call.desk call.answered call.cause call.no_fault
+    handed_walked c.opened.ensures c.in-Query.is refl refl call
 
 pub returns-in-QueryAll : goal.returns-in-QueryAll
 returns-in-QueryAll g c =
     let call = c.query_all.ensures in
-    handed_walked c.opened-in-QueryAll.ensures c.in-QueryAll.is refl refl call.read call.desk call.answered call.cause call.no_fault
+    handed_walked c.opened-in-QueryAll.ensures c.in-QueryAll.is refl refl call
 
 pub returns-in-Count : goal.returns-in-Count
 returns-in-Count g c =
     let call = c.count.ensures in
-    handed_walked c.numbered.ensures c.in-Count.is refl refl call.read call.desk call.answered call.cause call.no_fault
+    handed_walked c.numbered.ensures c.in-Count.is refl refl call
 
 pub returns-in-Which : goal.returns-in-Which
 returns-in-Which g c =

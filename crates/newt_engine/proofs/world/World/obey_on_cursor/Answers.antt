@@ -4,7 +4,7 @@ use Rattle.newt_reply.specs.Said.{said}
 use Rattle.newt_engine_units.specs.Answers.{Answers}
 use Rattle.newt_engine_cursors.specs.World.{world_with}
 use Rattle.newt_engine.specs.Laws.{laws_of}
-use Rattle.newt_engine.proofs.Costing.{still_costs}
+use Rattle.newt_engine.proofs.Costing.{means_no_cursor, still_costs}
 use Rattle.newt_engine.proofs.Settling.{quiet_with, stands_after}
 use Rattle.newt_engine.proofs.world.World.obey_on_cursor.Goals as goal
 
@@ -22,7 +22,8 @@ returns g c =
       answered = answers;
       moments = λ t. quiet_with (laws_of g.met.C.Card.formed g.met.C.Card.plain g.met.C.Card.durable g.met.C.Card.banks g.met.C.Card.kept) g.H.Host.told a.units a.desk (o c.args.host.now) (o c.walk.new.host)
           c.requires.stands t e.read.moment _;
-      costs = λ t. still_costs e.read.untouched;
+      costs = λ t. still_costs e.read.untouched (λ means. absurd (means_no_cursor c.args.command.now c.requires.on_cursor means));
+      step = λ t. e.fetches t (c.requires.stands.apart t) (c.requires.stands.settled t);
       alone = e.read.alone;
       cause = e.cause;
       no_fault = e.no_fault;

@@ -1,7 +1,7 @@
 -- A change of the store of the card that is mounted on the unit changes the unit's store alone.
 use Rattle.std.proofs.Common.{◌≡◌, ℕ, sym, refl}
 use Rattle.newt_store_change.specs.Change.{changed_by, answer_of, refusals, most_bytes}
-use Rattle.newt_engine_units.proofs.Calls.{Called, later, replaced, mounted-bound, not-there, cause-of, on-devices, call-stands, call-does, call-moments, call-costs}
+use Rattle.newt_engine_units.proofs.Calls.{Called, later, replaced, mounted-bound, not-there, cause-of, on-devices, call-stands, call-does, call-moments, call-costs, call-fetches-on}
 use Rattle.newt_engine_units.proofs.Known.{Laws}
 use Rattle.newt_engine_units.proofs.Slots.{marks}
 use Rattle.newt_engine_units.specs.Stands.{Eight}
@@ -35,6 +35,8 @@ returns-in-Some g c =
       costs = λ t blocks s on. call-costs laws t eight call c.requires.stands (c.apply.ensures.others t) blocks s
           (λ blocks. most_bytes c.args.change blocks minute s) _
           (λ reads. record { programmed = λ room. (c.apply.ensures.costs t s reads room).programmed; wears = λ room. c.apply.ensures.wears t s reads room }) (c.apply.ensures.open_after t) c.apply.ensures.nothing_done on;
+      fetches = λ t blocks s on. call-fetches-on laws t eight call c.requires.stands blocks s
+          (λ blocks. most_bytes c.args.change blocks minute s) (λ reads room. (c.apply.ensures.costs t s reads room).fetched) on;
       alone = on-devices c.apply.ensures.alone;
       cause = cause-of _ _ _ _ c.apply.ensures.cause;
       no_fault = c.apply.ensures.no_fault;

@@ -1,7 +1,7 @@
 -- A call on the card of the unit after which nothing has happened.
 use Rattle.std.proofs.Common.{sym}
 use Rattle.newt_engine_units.specs.Stands.{Eight}
-use Rattle.newt_engine_units.proofs.Calls.{Called, mounted-bound, not-there, stop-cause, call-looks, call-reads}
+use Rattle.newt_engine_units.proofs.Calls.{Called, mounted-bound, not-there, stop-cause, call-fetches, call-looks, call-reads}
 use Rattle.newt_engine_units.proofs.Known.{Laws}
 use Rattle.newt_engine_units.proofs.units.Units.entry_on.Goals as goal
 
@@ -25,6 +25,7 @@ returns-in-Some g c =
     } in record {
       looks = call-looks laws call c.requires.stands c.entry.ensures.stands c.entry.ensures.looks;
       read = λ t blocks s on. c.entry.ensures.found t s (call-reads laws t eight call c.requires.stands blocks s on);
+      fetches = λ t blocks s on. call-fetches laws call c.requires.stands (c.entry.ensures.costs t s (call-reads laws t eight call c.requires.stands blocks s on));
       cause = stop-cause _ _ _ _ c.entry.ensures.cause;
       no_fault = c.entry.ensures.no_fault;
     }

@@ -1,6 +1,7 @@
 -- The unit is looked at, its store is opened, may be mounted, and is.
 use Rattle.std.proofs.Common.{◌≡◌, sym, subst, ℕ, List}
 use Rattle.std.proofs.lemmas.Result.{err_from_is_err_and}
+use Rattle.newt_spec_graph.proofs.Lists.{both-ways}
 use Rattle.newt_spec_world.specs.Reply.{Reply}
 use Rattle.newt_spec_world.specs.declared.command.Command.TheVariants as command
 use Rattle.newt_laws_answers.proofs.Stores.{mount-not-ready}
@@ -38,7 +39,7 @@ returns-in_err-card g c =
     let w = world_of g.C.Card.reads c.args.self.now (g.H.Host.outside c.args.host.now) in
     let e = c.in_err-card.ensures in
     let p = err_from_is_err_and c.from_residual-in_err-card.result c.from_residual-in_err-card.ensures.1 in
-    read-obeys at (command.Mount c.args.unit) (λ x. Reply.store x.0 x.1) e.looks _ (handed-ends _ p e.ends) (λ t.
+    read-obeys at (command.Mount c.args.unit) (λ x. Reply.store x.0 x.1) e.looks (λ t means. absurd (both-ways means)) _ (handed-ends _ p e.ends) (λ t.
     subst (λ r. Answers w (world_of g.C.Card.reads c.args.self.now (g.H.Host.outside c.open_store.new.host)) (command.Mount c.args.unit) (λ x. Reply.store x.0 x.1) r)
     (sym (is-err _ _ p))
     (mount-unopened at.laws c.args.self.now c.args.unit (g.H.Host.outside c.args.host.now) (g.H.Host.outside c.open_store.new.host) at.eight (stand-told at t) c.in_ok-find_ready.ensures
@@ -52,7 +53,7 @@ returns-in_err-face g c =
     let e = c.in_ok-card.ensures in
     let there = e.opened in
     let p = err_from_is_err_and c.from_residual-in_err-face.result c.from_residual-in_err-face.ensures.1 in
-    read-obeys at (command.Mount c.args.unit) (λ x. Reply.store x.0 x.1) e.looks _ (ends-after e.ends tt (handed-ends _ p (none-ends {T = ℕ × List ℕ} _ (admits-none (card_faces g.C.Card.soups c.args.self.now.slots.items) (g.C.Card.soups c.in_ok-card.card) _ c.in_err-face.ensures)))) (λ t.
+    read-obeys at (command.Mount c.args.unit) (λ x. Reply.store x.0 x.1) e.looks (λ t means. absurd (both-ways means)) _ (ends-after e.ends tt (handed-ends _ p (none-ends {T = ℕ × List ℕ} _ (admits-none (card_faces g.C.Card.soups c.args.self.now.slots.items) (g.C.Card.soups c.in_ok-card.card) _ c.in_err-face.ensures)))) (λ t.
     subst (λ r. Answers w (world_of g.C.Card.reads c.args.self.now (g.H.Host.outside c.open_store.new.host)) (command.Mount c.args.unit) (λ x. Reply.store x.0 x.1) r)
     (sym (is-err _ _ p))
     (mount-refuses at.laws c.args.self.now c.args.unit c.in_ok-card.card (g.H.Host.outside c.args.host.now) (g.H.Host.outside c.open_store.new.host) at.eight (stand-told at t) c.in_ok-find_ready.ensures
@@ -70,7 +71,7 @@ returns g c =
           e.looks.moment e.looks.alone.cards (subst (λ b. g.C.Card.stands b c.in_ok-card.card (g.H.Host.outside c.open_store.new.host)) t there.0) there.1
           c.put.new.self c.in_ok-face.face c.put.ensures.slots c.put.ensures.default c.put.ensures.minute c.in_ok-face.ensures;
       moments = λ t. still at t _ _ e.looks.moment;
-      costs = λ t. read-costs _ _ e.looks.untouched;
+      costs = λ t. read-costs _ _ _ _ e.looks.untouched (λ means. absurd (both-ways means));
       alone = e.looks.alone;
       cause = tt;
       no_fault = λ goes. e.ends.no_fault tt;
