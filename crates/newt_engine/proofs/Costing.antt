@@ -18,7 +18,7 @@ use Rattle.newt_laws_answers.proofs.Fetched.{meant-beside}
 use Rattle.newt_laws_answers.proofs.Most.{cursors-cost-nothing}
 use Rattle.newt_laws_world.specs.Cursors.{with_cursors, uses_cursors}
 use Rattle.newt_store_change.specs.declared.fault.StoreFault.{StoreFault}
-use Rattle.newt_engine_card.specs.Bounds.{FetchesAtMost, FetchesWithin, IsOpenOrSame, LeftAlone, ProgramsAtMost}
+use Rattle.newt_engine_card.specs.Bounds.{Costs, FetchesAtMost, FetchesWithin, IsOpenOrSame, LeftAlone, ProgramsAtMost}
 use Rattle.newt_store_change.specs.Faults.{GoesOn}
 use Rattle.newt_engine_cursors.specs.Unread.{steps_unread}
 use Rattle.newt_engine_units.specs.Calls.{CostsOf}
@@ -106,3 +106,16 @@ settled_few ks w c o m p reached whole few then within u room = low (p.fetched u
   where
     low : (a b d r x y z : ℕ) → a ≤ b + 512 * r → b ≤ d + 1024 * x → r ≤ y → z ≡ x + y → a ≤ d + 1024 * z
     low a b d r x y z h k l e = omega (arith, h, k, l, e)
+
+-- and where the entry was read meanwhile
+pub settled_whole : (ks : List (Option Cursor)) (w : World) (c : Command) (o p : Outside) (reached : ℕ → ℕ) → answer (with_cursors ks w) c ≡ (settle (with_cursors ks (answer w c).0), (answer w c).1)
+    → FetchesWithin (most_programmed w c) (λ u. most_fetched w c u + 512 * reached u) o p → ((u : ℕ) → reached u ≤ pages_there (answer w c).0 u (meant w c u))
+    → FetchesWithin (most_programmed w c) (most_settled (with_cursors ks w) c) o p
+settled_whole ks w c o p reached whole few within u room = low (p.fetched u) (o.fetched u) (reached u) _ _ _ (few u room) (within u) (meant_with ks w c u whole)
+  where
+    low : (a d r x y z : ℕ) → a ≤ d + (1024 * x + 512 * r) → r ≤ y → z ≡ x + y → a ≤ d + 1024 * z
+    low a d r x y z h l e = omega (arith, h, l, e)
+
+-- what a command costs that is no format
+pub of_costs : {T : Type 0} {w : World} {c : Command} {few : ℕ → ℕ} {result : Result T StoreFault} {o p : Outside} → Costs (most_programmed w c) (means_entries c) few result o p → CommandCosts w c few result o p
+of_costs k = record { bound = λ _ u. k.bound u; fetched = k.fetched; open_after = k.open_after }

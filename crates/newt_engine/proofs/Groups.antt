@@ -1,6 +1,6 @@
 -- The commands, told apart by the arms that took others.
-use Rattle.std.proofs.Common.{◌≡◌, refl, ap, sym, ◌∙◌, ℕ, List, true, false}
-use Rattle.std.proofs.lemmas.Bool.{and_parts}
+use Rattle.std.proofs.Common.{◌≡◌, refl, ap, sym, ◌∙◌, ℕ, List, Bool, true, false, not, ◌==◌}
+use Rattle.std.proofs.lemmas.Bool.{and_parts, eqb-true}
 use Rattle.newt_base.specs.Names.{is_name}
 use Rattle.newt_spec_store.specs.Keys.{Path}
 use Rattle.newt_spec_world.specs.declared.command.PartWord.{PartWord}
@@ -9,7 +9,7 @@ use Rattle.newt_spec_world.specs.declared.command.Command.{Command}
 use Rattle.newt_spec_world.specs.declared.command.Command.TheVariants as command
 use Rattle.newt_laws_world.specs.Cursors.{uses_cursors}
 use Rattle.newt_engine.specs.Ends.{uses_device}
-use Rattle.newt_engine.specs.Groups.{is_shown, on_place}
+use Rattle.newt_engine.specs.Groups.{is_between, is_shown, on_place}
 
 -- there are no others
 pub no_other : (c : Command) → is_shown c ≡ false → uses_device c ≡ false → uses_cursors c ≡ false → ((t : _) → c ≡ command.Time t → ⊥) → (c ≡ command.Quit → ⊥) → ((u : _) → c ≡ command.Unmount u → ⊥) → (c ≡ command.Stores → ⊥)
@@ -96,3 +96,16 @@ index_form c u name parts is h = ap has_form (sym is) ∙ h
 pub tags_form : (c : Command) (u : ℕ) (name : List ℕ) (path : Path) (symbols : List (List ℕ)) → c ≡ command.SetTags u name path symbols → has_form c ≡ true → tags_fit path symbols ≡ true
 unfolding has_form
 tags_form c u name path symbols is h = ap has_form (sym is) ∙ h
+
+-- a move that is not to another unit is one within its own
+pub within_own : (c : Command) (u : ℕ) (name : List ℕ) (uid to : ℕ) (target : List ℕ) → c ≡ command.Move u name uid to target → is_between c ≡ false → c ≡ command.Move u name uid u target
+within_own c u name uid to target is within = is ∙ ap (λ n. command.Move u name uid n target) (sym (eqb-true u to (kept (u == to) (sym (ap is_between is) ∙ within))))
+  where
+    kept : (b : Bool) → not b ≡ false → b ≡ true
+    kept true h = refl
+    kept false h = sym h
+
+-- and a command that is no move is none to another unit
+pub others_within : (k : Command) → ((a b c d e : _) → k ≡ command.Move a b c d e → ⊥) → is_between k ≡ false
+others_within (command.Move a b c d e) move = absurd (move a b c d e refl)
+others_within _ move = cc

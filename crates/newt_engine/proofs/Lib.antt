@@ -1,8 +1,10 @@
 pub mod Costing
 pub mod Groups
 pub mod Handed
+pub mod Moving
 pub mod Refusing
 pub mod Reaching
 pub mod Settling
 pub mod Starting
 pub mod Obeying
+pub mod Serving

@@ -1,5 +1,5 @@
 -- The commands, by what they work on. This project's own.
-use Rattle.std.specs.Prelude.{Bool, true, false}
+use Rattle.std.specs.Prelude.{Bool, true, false, ◌==◌, not}
 use Rattle.newt_spec_world.specs.declared.command.Command.{Command}
 use Rattle.newt_spec_world.specs.declared.command.Command.TheVariants as command
 
@@ -18,3 +18,8 @@ on_place (command.Which _) = true
 on_place (command.Clone _) = true
 on_place (command.Close _) = true
 on_place _ = false
+
+-- an entry is moved to another unit
+abbrev pub is_between : Command → Bool
+is_between (command.Move unit soup uid to target) = not (unit == to)
+is_between _ = false

@@ -11,6 +11,7 @@
 
 mod cursors;
 mod memory;
+mod moves;
 mod obey;
 mod replies;
 mod serve;

@@ -1,8 +1,9 @@
-//! Commands that use no cursor.
+//! Commands that use no cursor, but for a move to another store.
 ghost use Rattle.std.specs.Prelude.{◌≡◌, false, true};
 ghost use Rattle.newt_laws_world.specs.Worlds.{has_form};
 ghost use Rattle.newt_laws_world.specs.Cursors.{uses_cursors};
 ghost use Rattle.newt_engine.specs.Calls.{Obeyed};
+ghost use Rattle.newt_engine.specs.Groups.{is_between};
 ghost use Rattle.newt_engine.specs.Standing.{UnitsStand};
 
 use crate::replies::{added, done, hex, mounted, numbered, timed, timed_nsof};
@@ -15,7 +16,8 @@ use newt_script::Command;
 use newt_store_change::StoreFault;
 
 impl<C: Card> World<C> {
-    /// Obeys a command that uses no cursor. A fault is its refusal, or the end of the run.
+    /// Obeys a command that uses no cursor and moves nothing to another store. A fault is its
+    /// refusal, or the end of the run.
     pub(crate) fn obey<H: Host>(
         &mut self,
         host: &mut H,
@@ -23,6 +25,7 @@ impl<C: Card> World<C> {
     ) -> Result<Reply, StoreFault>
         requires stands { UnitsStand C.place C.stands H.told self.old (H.outside host.old) }
         requires no_cursor { uses_cursors command ≡ false }
+        requires within { is_between command ≡ false }
         requires form { has_form command ≡ true }
         ensures { Obeyed C.reads C.place C.stands H.told command self.old self.new
             (H.outside host.old) (H.outside host.new) result }
@@ -69,8 +72,8 @@ impl<C: Card> World<C> {
             Command::Copy(unit, name, uid, to, target) => {
                 numbered(commands::copy(units, host, unit, &name, uid, to, &target))
             }
-            Command::Move(unit, name, uid, to, target) => {
-                numbered(commands::move_entry(units, host, unit, &name, uid, to, &target))
+            Command::Move(unit, name, uid, _to, target) => {
+                numbered(commands::move_within(units, host, unit, &name, uid, &target))
             }
             Command::Vread(unit, name, uid, path, at, len) => {
                 hex(commands::vread(units, host, unit, &name, uid, &path, at, len))

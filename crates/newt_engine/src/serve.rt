@@ -7,6 +7,7 @@ ghost use Rattle.newt_reply.specs.Said.{said};
 ghost use Rattle.newt_engine_units.specs.Stands.{world_of};
 ghost use Rattle.newt_engine_cursors.specs.Reached.{reached_by};
 ghost use Rattle.newt_engine.specs.Calls.{Served, Settles};
+ghost use Rattle.newt_engine.specs.Groups.{is_between};
 ghost use Rattle.newt_engine.specs.Standing.{CursorsFit, IsStanding, UnitsStand};
 
 use crate::world::World;
@@ -36,11 +37,37 @@ impl<C: Card> World<C> {
             drop(command);
             served
         } else {
-            self.obey_and_settle(host, command)
+            self.obey_with_cursors(host, command)
         }
     }
 
     /// Obeys a command that uses no cursor, and settles the cursors where keys may have changed.
+    fn obey_with_cursors<H: Host>(
+        &mut self,
+        host: &mut H,
+        command: Command,
+    ) -> Result<Reply, StoreFault>
+        requires stands { IsStanding C.reads C.place C.stands H.told self.old
+            (H.outside host.old) }
+        requires no_cursor { uses_cursors command ≡ false }
+        requires form { has_form command ≡ true }
+        ensures { Served C.reads C.place C.stands H.told command self.old self.new
+            (H.outside host.old) (H.outside host.new) result }
+    {
+        match command {
+            Command::Move(unit, name, uid, to, target) => {
+                if unit == to {
+                    self.obey_and_settle(host, Command::Move(unit, name, uid, to, target))
+                } else {
+                    self.move_between(host, unit, &name, uid, to, &target)
+                }
+            }
+            other => self.obey_and_settle(host, other),
+        }
+    }
+
+    /// Obeys a command that uses no cursor and moves nothing to another store, and then settles the
+    /// cursors where keys may have changed.
     fn obey_and_settle<H: Host>(
         &mut self,
         host: &mut H,
@@ -49,6 +76,7 @@ impl<C: Card> World<C> {
         requires stands { IsStanding C.reads C.place C.stands H.told self.old
             (H.outside host.old) }
         requires no_cursor { uses_cursors command ≡ false }
+        requires within { is_between command ≡ false }
         requires form { has_form command ≡ true }
         ensures { Served C.reads C.place C.stands H.told command self.old self.new
             (H.outside host.old) (H.outside host.new) result }
@@ -68,7 +96,7 @@ impl<C: Card> World<C> {
     }
 
     /// Settles the cursors that a command with this reply has reached, and hands the reply on.
-    fn settled<H: Host>(
+    pub(crate) fn settled<H: Host>(
         &mut self,
         host: &mut H,
         aim: &Aim,

@@ -1,9 +1,11 @@
 -- What the commands cost, by what the calls on one store cost that they are done by.
-use Rattle.std.proofs.Common.{arith, ◌≡◌, ap, sym, ◌∙◌, subst, ℕ, ◌+◌, ◌*◌, ◌≤◌, List, [], ◌∷◌, ◌++◌, Bool, true, false, None, Some, length, nat_lt, option_and_then}
+use Rattle.std.proofs.Common.{arith, ◌≡◌, refl, ap, sym, ◌∙◌, subst, ◌⊎◌, inl, inr, ℕ, ◌+◌, ◌*◌, ◌≤◌, ◌==◌, List, [], ◌∷◌, ◌++◌, Bool, true, false, cond, None, Some, length, nat_lt, option_and_then}
 use Rattle.std.specs.Prelude.{Result, Err}
 use Rattle.newt_base.specs.Refusals.{first_of}
 use Rattle.newt_graph.specs.Graph.{RawGraph}
+use Rattle.newt_host.specs.Moments.{bytes_after, changes, image}
 use Rattle.newt_host.specs.Outside.{Outside}
+use Rattle.newt_pagebook.specs.Book.{IsOpenFor}
 use Rattle.newt_laws_images.proofs.Within.{graph-within}
 use Rattle.newt_path.specs.Put.{IsFormOf}
 use Rattle.newt_spec_graph.specs.Slots.{put}
@@ -18,6 +20,7 @@ use Rattle.newt_spec_world.specs.Changed.{spec_of_words}
 use Rattle.newt_spec_graph.proofs.Lists.{both-ways}
 use Rattle.newt_spec_world.specs.World.{World, default_unit, entry_in}
 use Rattle.newt_spec_store.specs.Cost.{patch_bytes}
+use Rattle.newt_laws_world.proofs.Units.{same-or-not}
 use Rattle.newt_laws_answers.specs.Bounds.{change_bytes, unless, most_programmed}
 use Rattle.newt_laws_answers.specs.Fetched.{if_on, means_entries, most_fetched, next_if_on, pages_there}
 use Rattle.newt_laws_answers.proofs.Answers.{entry-named}
@@ -31,7 +34,7 @@ use Rattle.newt_store_change.specs.Change.{pages_of_entry}
 use Rattle.newt_store_change.specs.Faults.{GoesOn}
 use Rattle.newt_engine_units.specs.Calls.{CostsOf}
 use Rattle.newt_engine_units.specs.Found.{HasSoup, HasEntry}
-use Rattle.newt_engine_units.proofs.Costs.{after-read, behind-read, both-costs, both-few, costs-of, none-fits, of-unit-most, on-costs, on-few, on-within, read-few, same-fits}
+use Rattle.newt_engine_units.proofs.Costs.{after-read, behind-read, both-costs, costs-of, none-fits, of-unit-most, on-costs, on-few, on-within, read-few, same-fits}
 use Rattle.newt_engine_commands.specs.Declares.{has_parts, has_real}
 use Rattle.newt_engine_commands.proofs.Commands.{entry-fits}
 use Rattle.newt_engine_commands.proofs.Replacing.{raw-of}
@@ -230,6 +233,25 @@ module _ {w : World} {u : ℕ} {name : List ℕ} {sig : ℕ} (h : HasSoup w u na
         low : added_bytes k.blocks e.graph k.store k.soup w ≤ most_programmed w (command.Copy u name uid to k.soup.name) to
         low = copy-most w u h.blocks h.store name h.soup uid h.on h.named to k.blocks k.store k.soup.name k.soup k.on k.self_named e found (fits h uid e found)
 
+-- a call on one unit that fetches nothing, behind others that left the unit alone
+removed_few : (most : ℕ → ℕ) {u n : ℕ} {o m r : Outside} → FetchesOn u n 0 m r → n ≤ most u → changes u m.now ≡ changes u o.now → (j : ℕ) → IsOpenFor (most j) (image j o.now) → r.fetched j ≤ m.fetched j
+removed_few most {u} {n} {o} {m} {r} f less still j room = go (same-or-not j u)
+  where
+    low : (a b c : ℕ) → a ≤ b + c → c ≡ 0 → a ≤ b
+    low a b c h k = omega (arith, h, k)
+
+    nothing : (b : Bool) → ◌≡◌ {A = ℕ} (cond b 0 0) 0
+    nothing true = refl
+    nothing false = refl
+
+    open_then : IsOpenFor (most u) (image u o.now) → IsOpenFor (most u) (image u m.now)
+    open_then h = subst (λ c. IsOpenFor (most u) (bytes_after c)) (sym still) h
+
+    go : (j ≡ u) ⊎ (j ≡ u → ⊥) → r.fetched j ≤ m.fetched j
+    go (inl is) = subst (λ k. r.fetched k ≤ m.fetched k) (sym is)
+        (low (r.fetched u) (m.fetched u) (of_unit u 0 u) (on-few most f less u (open_then (subst (λ k. IsOpenFor (most k) (image k o.now)) is room))) (nothing (u == u)))
+    go (inr other) = f.unread j other
+
 -- ---- between two stores
 
 module _ (w : World) (u to : ℕ) (name target : List ℕ) (sig into uid : ℕ) (h : HasSoup w u name sig) (k : HasSoup w to target into) (e : Entry) (found : entry_of uid h.soup ≡ Some e)
@@ -259,23 +281,24 @@ module _ (w : World) (u to : ℕ) (name target : List ℕ) (sig into uid : ℕ) 
         (λ means. after-seen h uid x same seen (added_bytes k.blocks e.graph k.store k.soup) (command.Move u name uid to target) spent.reads to-most
         (none-fits u (512 * its_pages h uid) to fetches few))
 
-    -- and removed
-    pub whole-costs : {S : Type 0} {second : Result S StoreFault} {r : Outside} → Spent to (added_bytes k.blocks e.graph k.store k.soup x) 0 first p q → GoesOn first
-        → first_of (add_tests k.blocks w.minute k.soup.name e.graph k.store k.soup) ≡ None → Spent u (removed_bytes h.store h.soup e uid) 0 second q r
-        → CostsOf w (command.Move u name uid to target) second o r
-    whole-costs {S} {second} {r} added goes passed removed =
-        both-costs (before h uid e found x same seen (added_bytes k.blocks e.graph k.store k.soup) added.programs) removed.programs differ to-most (from-most passed) goes (λ means. read)
+    -- and removed, where others have read meanwhile
+    pub whole-costs : {S : Type 0} {second : Result S StoreFault} {m r : Outside} (more : ℕ → ℕ) → Spent to (added_bytes k.blocks e.graph k.store k.soup x) 0 first p q → GoesOn first
+        → first_of (add_tests k.blocks w.minute k.soup.name e.graph k.store k.soup) ≡ None → ((j : ℕ) → LeftAlone j q m) → FetchesAtMost more q m
+        → Spent u (removed_bytes h.store h.soup e uid) 0 second m r → Costs most true (λ j. fetches j + more j) second o r
+    whole-costs {S} {second} {m} {r} more added goes passed alone reads removed =
+        both-costs (before h uid e found x same seen (added_bytes k.blocks e.graph k.store k.soup) added.programs) (after-read alone removed.programs) differ to-most (from-most passed) goes (λ means. read)
       where
-        adds : FetchesOn to (added_bytes k.blocks e.graph k.store k.soup w) 0 p q
-        adds = subst (λ (y : World). FetchesOn to (added_bytes k.blocks e.graph k.store k.soup y) 0 p q) same added.reads
+        added_few : FetchesWithin most fetches o q
+        added_few = (first-costs added).fetched refl
 
-        low : (a b : ℕ) → a ≤ b → a + 0 ≤ b
-        low a b h = omega (arith, h)
+        still : changes u m.now ≡ changes u o.now
+        still = (alone u).changes ∙ (added.programs.others u (λ e. differ (sym e))).changes ∙ (seen.alone u).changes
 
-        read : FetchesWithin most fetches o r
-        read = behind-read most (of_unit u (512 * its_pages h uid)) (λ _. 0) fetches o p r seen.reads seen.moment
-            (both-few most adds removed.reads (added.programs.others u (λ e. differ (sym e))).changes differ to-most (from-most passed))
-            (λ j. low _ _ (of-unit-most u (512 * its_pages h uid) fetches few j))
+        low : (a b c d e f : ℕ) → a ≤ b → b ≤ c + d → c ≤ e + f → a ≤ e + (f + d)
+        low a b c d e f h k l = omega (arith, h, k, l)
+
+        read : FetchesWithin most (λ j. fetches j + more j) o r
+        read j room = low (r.fetched j) (m.fetched j) (q.fetched j) (more j) (o.fetched j) (fetches j) (removed_few most removed.reads (from-most passed) still j room) (reads j) (added_few j room)
 
 -- the fault of a call is handed on
 pub handed-costs : {S T : Type 0} {most : ℕ → ℕ} {said : Bool} {fetches : ℕ → ℕ} {fault : StoreFault} {result : Result T StoreFault} {o p : Outside} → result ≡ Err fault

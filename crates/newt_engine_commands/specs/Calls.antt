@@ -19,16 +19,16 @@ module _ {C : Type 0} (reads : List ℕ → Option Store) where
   -- An entry is moved as the command by these names of soups moves it: the call answers what the
   -- world answers; at each moment a crash leaves each store as it was or as it is then; and the call
   -- programs and fetches no more than the command may.
-  pub record MovesNamed (unit : ℕ) (name : List ℕ) (uid to : ℕ) (target : List ℕ) (old new : Units C) (before after : Outside) (result : Result ℕ StoreFault) : Type 0 where
-    pub answered : Answers (world_of reads old before) (world_of reads new after) (command.Move unit name uid to target) (λ n. Reply.number n) result
-    pub moments : let w = world_of reads old before in Always (Answering reads w (answer w (command.Move unit name uid to target)).0 before.now) before.now after.now
-    pub costs : CostsOf (world_of reads old before) (command.Move unit name uid to target) result before after
+  pub record MovesNamed (unit : ℕ) (name : List ℕ) (uid : ℕ) (target : List ℕ) (old new : Units C) (before after : Outside) (result : Result ℕ StoreFault) : Type 0 where
+    pub answered : Answers (world_of reads old before) (world_of reads new after) (command.Move unit name uid unit target) (λ n. Reply.number n) result
+    pub moments : let w = world_of reads old before in Always (Answering reads w (answer w (command.Move unit name uid unit target)).0 before.now) before.now after.now
+    pub costs : CostsOf (world_of reads old before) (command.Move unit name uid unit target) result before after
 
 module _ {C : Type 0} (reads : List ℕ → Option Store) (place : C → ℕ) (standing : Bool → C → Outside → Type 0) where
-  -- An entry is moved from one soup to another, each of a mounted store and given by its signature:
-  -- as the command by any names of these two.
-  pub record MovesEntry (told : Bool) (unit soup uid to into : ℕ) (old new : Units C) (before after : Outside) (result : Result ℕ StoreFault) : Type 0 where
+  -- An entry is moved from one soup of a mounted store to another, each given by its signature: as
+  -- the command by any names of these two.
+  pub record MovesWithin (told : Bool) (unit soup uid into : ℕ) (old new : Units C) (before after : Outside) (result : Result ℕ StoreFault) : Type 0 where
     pub stands : GoesOn result → Stands place standing told new after
-    pub moved : IsTrue told → let w = world_of reads old before in (name target : List ℕ) → HasSoup w unit name soup → HasSoup w to target into
-        → MovesNamed reads unit name uid to target old new before after result
+    pub moved : IsTrue told → let w = world_of reads old before in (name target : List ℕ) → HasSoup w unit name soup → HasSoup w unit target into
+        → MovesNamed reads unit name uid target old new before after result
     pub ends : Ended result before after

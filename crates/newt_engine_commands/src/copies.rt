@@ -1,10 +1,10 @@
-//! Entries: copied and moved.
-ghost use Rattle.std.specs.Prelude.{◌≡◌, ◌≢◌, true};
+//! Entries: copied, and moved within one store.
+ghost use Rattle.std.specs.Prelude.{◌≡◌, true};
 ghost use Rattle.newt_spec_world.specs.Reply.{Reply};
 ghost use Rattle.newt_spec_world.specs.declared.command.Command.{Command};
 ghost use Rattle.newt_engine_units.specs.Calls.{Obeys};
 ghost use Rattle.newt_engine_units.specs.Stands.{Stands, is_mounted};
-ghost use Rattle.newt_engine_commands.specs.Calls.{MovesEntry};
+ghost use Rattle.newt_engine_commands.specs.Calls.{MovesWithin};
 
 use newt_base::{Name, Refusal, Sig, Uid};
 use newt_engine_card::Card;
@@ -32,32 +32,26 @@ pub fn copy<C: Card, H: Host>(
     units.change(host, to, Change::Add(into, graph))
 }
 
-/// Adds the graph of an entry to another soup, at the present minute, removes it from its own, and
-/// answers the new id.
-pub fn move_entry<C: Card, H: Host>(
+/// Moves an entry to another soup of its store, with the present minute, and answers the new id.
+pub fn move_within<C: Card, H: Host>(
     units: &mut Units<C>,
     host: &mut H,
     unit: Unit,
     name: &Name,
     uid: Uid,
-    to: Unit,
     target: &Name,
 ) -> Result<u32, StoreFault>
     requires { Stands C.place C.stands H.told units.old (H.outside host.old) }
-    ensures { Obeys C.reads C.place C.stands H.told (Command.Move unit name.now uid to target.now)
-        (λ n. Reply.number n)
+    ensures { Obeys C.reads C.place C.stands H.told
+        (Command.Move unit name.now uid unit target.now) (λ n. Reply.number n)
         units.old units.new (H.outside host.old) (H.outside host.new) result }
 {
-    let (soup, into) = units.find_both(unit, name, to, target)?;
-    if unit == to {
-        move_inside(units, host, unit, soup, uid, into)
-    } else {
-        move_between(units, host, unit, soup, uid, to, into)
-    }
+    let (soup, into) = units.find_both(unit, name, unit, target)?;
+    move_found(units, host, unit, soup, uid, into)
 }
 
-/// Moves an entry to another soup of its store, as one change.
-fn move_inside<C: Card, H: Host>(
+/// The same of two soups that were found, as one change.
+fn move_found<C: Card, H: Host>(
     units: &mut Units<C>,
     host: &mut H,
     unit: Unit,
@@ -67,7 +61,7 @@ fn move_inside<C: Card, H: Host>(
 ) -> Result<u32, StoreFault>
     requires stands { Stands C.place C.stands H.told units.old (H.outside host.old) }
     requires mounted { is_mounted units.old unit ≡ true }
-    ensures { MovesEntry C.reads C.place C.stands H.told unit soup uid unit into
+    ensures { MovesWithin C.reads C.place C.stands H.told unit soup uid into
         units.old units.new (H.outside host.old) (H.outside host.new) result }
 {
     if units.has_entry(unit, soup, uid) {
@@ -75,27 +69,4 @@ fn move_inside<C: Card, H: Host>(
     } else {
         Err(StoreFault::Refused(Refusal::Entry))
     }
-}
-
-/// Adds the graph of an entry to a soup of another store, and then removes it from its own.
-fn move_between<C: Card, H: Host>(
-    units: &mut Units<C>,
-    host: &mut H,
-    unit: Unit,
-    soup: Sig,
-    uid: Uid,
-    to: Unit,
-    into: Sig,
-) -> Result<u32, StoreFault>
-    requires stands { Stands C.place C.stands H.told units.old (H.outside host.old) }
-    requires mounted { is_mounted units.old unit ≡ true }
-    requires target { is_mounted units.old to ≡ true }
-    requires apart { to ≢ unit }
-    ensures { MovesEntry C.reads C.place C.stands H.told unit soup uid to into
-        units.old units.new (H.outside host.old) (H.outside host.new) result }
-{
-    let Entry { graph, .. } = units.read_entry(host, unit, soup, uid)?;
-    let added = units.change(host, to, Change::Add(into, graph))?;
-    units.change(host, unit, Change::Remove(soup, uid))?;
-    Ok(added)
 }

@@ -5,7 +5,7 @@
 //! world answers it that units and devices stand for, leaves units that stand for the world after
 //! it, programs no more than the command may, and at every moment a crash leaves each store as it
 //! was or as it is then: soup, drop, index, unindex, indexes, tags, add, addx, addu, get, getx,
-//! set, change, remove, copy, move, alias, vread, vwrite.
+//! set, change, remove, copy, move within one store, alias, vread, vwrite.
 #![tactic(auto)]
 
 mod copies;
@@ -19,7 +19,7 @@ mod replaces;
 mod soups;
 mod tagging;
 
-pub use copies::{copy, move_entry};
+pub use copies::{copy, move_within};
 pub use entries::{add, add_to_default, alias, get, remove};
 pub use indexing::{index, indexes, unindex};
 pub use larges::{vread, vwrite};

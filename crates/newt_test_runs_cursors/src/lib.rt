@@ -6,6 +6,8 @@
 #[cfg(test)]
 mod four;
 #[cfg(test)]
+mod many;
+#[cfg(test)]
 mod more;
 #[cfg(test)]
 mod walks;

@@ -11,7 +11,7 @@ use Rattle.newt_engine_units.specs.Stands.{Eight, world_of}
 use Rattle.newt_engine.specs.Ends.{takes_memory, uses_device}
 use Rattle.newt_engine.specs.Laws.{laws_of}
 use Rattle.newt_engine.proofs.Costing.{format_costs, still_costs}
-use Rattle.newt_engine.proofs.Groups.{format_form, in_memory, index_form, tags_form}
+use Rattle.newt_engine.proofs.Groups.{format_form, in_memory, index_form, tags_form, within_own}
 use Rattle.newt_engine.proofs.Handed.{answered_on, err_on, goes_back, has_cause, moments_same, quiet, told_stands}
 use Rattle.newt_laws_world.specs.Settled.{moves_keys}
 use Rattle.newt_engine.proofs.Obeying.{handed_obeyed}
@@ -124,7 +124,7 @@ pub returns-in-Copy : goal.returns-in-Copy
 returns-in-Copy g c = handed_obeyed c.numbered-in-Copy.ensures c.in-Copy.is refl refl (λ x r k. cc) c.copy.ensures refl
 
 pub returns-in-Move : goal.returns-in-Move
-returns-in-Move g c = handed_obeyed c.numbered-in-Move.ensures c.in-Move.is refl refl (λ x r k. cc) c.move_entry.ensures refl
+returns-in-Move g c = handed_obeyed c.numbered-in-Move.ensures (within_own c.args.command _ _ _ _ _ c.in-Move.is c.requires.within) refl refl (λ x r k. cc) c.move_within.ensures refl
 
 pub returns-in-Vread : goal.returns-in-Vread
 returns-in-Vread g c = handed_obeyed c.hex.ensures c.in-Vread.is refl refl (λ x r k. cc) c.vread.ensures refl

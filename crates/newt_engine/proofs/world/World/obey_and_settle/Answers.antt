@@ -21,7 +21,8 @@ use Rattle.newt_engine.specs.Laws.{laws_of}
 use Rattle.newt_engine.proofs.Costing.{alone_few, settled_costs, settled_few, unread_uses_cursor}
 use Rattle.newt_engine.proofs.Handed.{told_stands}
 use Rattle.newt_engine.proofs.Reaching.{reaches-one}
-use Rattle.newt_engine.proofs.Settling.{apart_after, done_answers, fault_answers, moments_with, moves_in_memory, moves_on_devices, reached_within, settled_answers, settled_reached, stands_after, whole}
+use Rattle.newt_engine.proofs.Serving.{served_fault}
+use Rattle.newt_engine.proofs.Settling.{apart_after, done_answers, moments_with, moves_in_memory, moves_on_devices, reached_within, settled_answers, settled_reached, stands_after, whole}
 use Rattle.newt_engine.proofs.world.World.obey_and_settle.Goals as goal
 
 pub returns-then-settles : goal.returns-then-settles
@@ -91,26 +92,6 @@ returns-else-settles g c =
 
 pub returns-in-Err : goal.returns-in-Err
 returns-in-Err g c =
-    let o = g.H.Host.outside in
-    let a = c.args.self.now in
     let laws = laws_of g.met.C.Card.formed g.met.C.Card.plain g.met.C.Card.durable g.met.C.Card.banks g.met.C.Card.kept in
-    let v = world_of g.C.Card.reads c.obey.new.self.units (o c.obey.new.host) in
-    let e = c.obey.ensures in
-    let w = world_with g.C.Card.reads a.units a.desk (o c.args.host.now) in
-    let answers : IsTrue g.H.Host.told → Answers w (world_with g.C.Card.reads c.obey.new.self.units c.obey.new.self.desk (o c.obey.new.host)) c.args.command said (Err c.in-Err.fault) = λ t.
-    fault_answers laws g.H.Host.told a.units a.desk (o c.args.host.now) c.requires.stands t c.args.command c.requires.no_cursor v c.in-Err.fault (c.in-Err.ensures.answered t) c.obey.new.self.desk e.desk in
-    record {
-      stands = λ goes. stands_after g.H.Host.told a.units c.obey.new.self.units a.desk c.obey.new.self.desk (o c.args.host.now) (o c.obey.new.host) c.requires.stands (c.in-Err.ensures.stands goes)
-          (record { eight = g.met.H.Host.eight c.obey.new.host; none = g.met.H.Host.none c.obey.new.host }) (subst DeskFits (sym e.desk) c.requires.stands.desk) c.args.command said (Err c.in-Err.fault) answers goes;
-      answered = answers;
-      moments = λ t. moments_with laws g.H.Host.told a.units a.desk (o c.args.host.now) c.requires.stands t c.args.command c.requires.no_cursor (o c.obey.new.host).now (e.moments t);
-      costs = λ t. settled_costs a.desk c.requires.no_cursor (c.in-Err.ensures.costs t) (λ goes. goes) refl (λ u. alone-refl u _)
-          (λ means. alone_few a.desk (world_of g.C.Card.reads a.units (o c.args.host.now)) c.args.command (o c.args.host.now) (o c.obey.new.host) (whole laws g.H.Host.told a.units a.desk (o c.args.host.now) c.requires.stands t c.args.command c.requires.no_cursor)
-          ((c.in-Err.ensures.costs t).fetched means));
-      step = λ t unread. absurd (unread_uses_cursor _ c.args.command c.requires.no_cursor unread);
-      alone = e.alone;
-      cause = c.in-Err.ensures.cause;
-      no_fault = c.in-Err.ensures.no_fault;
-      ends = c.in-Err.ensures.ends;
-      device = c.in-Err.ensures.device;
-    }
+    served_fault laws g.H.Host.told c.args.self.now c.obey.new.self (g.H.Host.outside c.args.host.now) (g.H.Host.outside c.obey.new.host) c.requires.stands
+    (record { eight = g.met.H.Host.eight c.obey.new.host; none = g.met.H.Host.none c.obey.new.host }) c.args.command c.requires.no_cursor c.in-Err.fault c.in-Err.ensures

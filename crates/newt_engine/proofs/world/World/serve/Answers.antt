@@ -5,4 +5,4 @@ pub returns-then-is_on_cursor : goal.returns-then-is_on_cursor
 returns-then-is_on_cursor g c = c.obey_on_cursor-served.ensures
 
 pub returns-else-is_on_cursor : goal.returns-else-is_on_cursor
-returns-else-is_on_cursor g c = c.obey_and_settle.ensures
+returns-else-is_on_cursor g c = c.obey_with_cursors.ensures

@@ -9,8 +9,8 @@ use Rattle.newt_engine_units.proofs.Settings.{Setting, still, stand-told, has-en
 use Rattle.newt_laws_answers.proofs.Changes.{move-said}
 use Rattle.newt_laws_answers.proofs.Refusals.{moved-uid}
 use Rattle.newt_engine_commands.proofs.Said.{said-made, said-moments, said-costs}
-use Rattle.newt_engine_commands.proofs.copies.move_inside.Given.{Over}
-use Rattle.newt_engine_commands.proofs.copies.move_inside.Goals as goal
+use Rattle.newt_engine_commands.proofs.copies.move_found.Given.{Over}
+use Rattle.newt_engine_commands.proofs.copies.move_found.Goals as goal
 
 -- where it begins
 begins : (g : Over) {units : _} {host : _} → Stands g.C.Card.place g.C.Card.stands g.H.Host.told units (g.H.Host.outside host)
