@@ -234,8 +234,8 @@ module _ {w : World} {u : ℕ} {name : List ℕ} {sig : ℕ} (h : HasSoup w u na
         low = copy-most w u h.blocks h.store name h.soup uid h.on h.named to k.blocks k.store k.soup.name k.soup k.on k.self_named e found (fits h uid e found)
 
 -- a call on one unit that fetches nothing, behind others that left the unit alone
-removed_few : (most : ℕ → ℕ) {u n : ℕ} {o m r : Outside} → FetchesOn u n 0 m r → n ≤ most u → changes u m.now ≡ changes u o.now → (j : ℕ) → IsOpenFor (most j) (image j o.now) → r.fetched j ≤ m.fetched j
-removed_few most {u} {n} {o} {m} {r} f less still j room = go (same-or-not j u)
+removed_few : (most : ℕ → ℕ) {u n : ℕ} (o m r : Outside) → FetchesOn u n 0 m r → n ≤ most u → changes u m.now ≡ changes u o.now → (j : ℕ) → IsOpenFor (most j) (image j o.now) → r.fetched j ≤ m.fetched j
+removed_few most {u} {n} o m r f less still j room = go (same-or-not j u)
   where
     low : (a b c : ℕ) → a ≤ b + c → c ≡ 0 → a ≤ b
     low a b c h k = omega (arith, h, k)
@@ -298,7 +298,7 @@ module _ (w : World) (u to : ℕ) (name target : List ℕ) (sig into uid : ℕ) 
         low a b c d e f h k l = omega (arith, h, k, l)
 
         read : FetchesWithin most (λ j. fetches j + more j) o r
-        read j room = low (r.fetched j) (m.fetched j) (q.fetched j) (more j) (o.fetched j) (fetches j) (removed_few most removed.reads (from-most passed) still j room) (reads j) (added_few j room)
+        read j room = low (r.fetched j) (m.fetched j) (q.fetched j) (more j) (o.fetched j) (fetches j) (removed_few most o m r removed.reads (from-most passed) still j room) (reads j) (added_few j room)
 
 -- the fault of a call is handed on
 pub handed-costs : {S T : Type 0} {most : ℕ → ℕ} {said : Bool} {fetches : ℕ → ℕ} {fault : StoreFault} {result : Result T StoreFault} {o p : Outside} → result ≡ Err fault
