@@ -81,7 +81,7 @@ mount-aims w u pass =
     ap (λ (a : World × Reply). plain.store_reach (mounted_store a.0 u)) (answered-by w (command.Mount u) pass)
     ∙ ap plain.store_reach (ap (option_and_then store_if_mounted) (device-same w u (λ d. record d { mounted = true })) ∙ go (device w u))
   where
-    go : (o : Option Device) → option_and_then store_if_mounted (option_map (λ d. record d { mounted = true }) o) ≡ option_and_then (λ d. store_of d.media) o
+    go : (o : Option Device) → option_and_then store_if_mounted (option_map {T = Device} (λ d. record d { mounted = true }) o) ≡ option_and_then (λ d. store_of d.media) o
     go None = refl
     go (Some d) = refl
 

@@ -117,8 +117,9 @@ module _ {C : Type 0} {reads : List ℕ → Option Store} {place : C → ℕ} {s
   pub settles-after : {T : Type 0} {becomes : World → World → Type 0} {mid later : Units C} {is : List (Option Cursor)} {p q : Outside} {result : Result T Stop}
       → AreRead reads place stands told units mid o p → NoFault o p → Settles reads place stands told becomes mid later was is p q result
       → Settles reads place stands told becomes units later was is o q result
-  settles-after {becomes = becomes} {later = later} {is} {q = q} a f s =
-      let all = read-more {asks = true} a f (asked-read refl) (settles-reads s) in
+  settles-after {T = T} {becomes = becomes} {mid = mid} {later = later} {is} {p} {q} {result} a f s =
+      let last : IsReading reads place stands {T = T} true told mid later p q result = record { read = s.read; cause = s.cause; no_fault = s.no_fault; unread = asked-read refl } in
+      let all = read-more {asks = true} a f (asked-read refl) last in
       record {
         read = all.read;
         desk = s.desk;

@@ -1,5 +1,6 @@
 -- The cursors that are reached are settled, and no other.
 use Rattle.std.proofs.Common.{arith, ◌≡◌, ◌+◌, ◌*◌, refl, ap, sym, ◌∙◌, ℕ, Bool, true, false, ◌&&◌, ◌==◌, if◌then◌else◌, cond, find, List, [], ◌∷◌, map, Option, Some, None, option_map, option_and_then, slice_get, IsTrue}
+use Rattle.std.specs.Prelude.{not}
 use Rattle.std.proofs.lemmas.Bool.{and_parts, eqb-true}
 use Rattle.newt_spec_graph.specs.Lists.{Each}
 use Rattle.newt_spec_graph.proofs.Lists.{none-some, some-same}
@@ -20,7 +21,8 @@ use Rattle.newt_store_change.specs.Change.{pages_of_entry}
 use Rattle.newt_engine_hits.specs.Present.{Present, entry_in_store, identity, keyed_in, present_in}
 use Rattle.newt_engine_cursors.specs.Keyed.{key_now, key_where, stands_on as standing}
 use Rattle.newt_query.specs.Filter.{asks_texts}
-use Rattle.newt_engine_cursors.specs.Reached.{asks_on, cursor_reached}
+use Rattle.newt_engine_cursors.specs.Reached.{asks_on, asks_reached, cursor_reached}
+use Rattle.newt_engine_cursors.specs.Unread.{is_unread}
 use Rattle.newt_engine_cursors.proofs.Cursors.{change-none, change-one, no-key, one-key}
 use Rattle.newt_engine_cursors.proofs.Standing.{key-present}
 
@@ -144,6 +146,11 @@ module _ (store soup uid : ℕ) where
 
   pub at-asks : (o : Option Cursor) (q : Query) (at : Hit) → Some (q, at) ≡ option_and_then standing o → reaches (on_entry store soup uid) at ≡ true → asks_texts q.spec ≡ true → asks_on store soup uid o ≡ true
   at-asks o q at e here asks = sym (asks-standing o q at e) ∙ (λ i. here i && asks i)
+
+-- a cursor that is reached and does not ask is one whose query asks for none
+pub asks-unread : (r : Reach) (o : Option Cursor) → cursor_reached r o ≡ true → asks_reached r o ≡ false → is_unread o ≡ true
+asks-unread r None h e = refl
+asks-unread r (Some k) h e = ap not (sym (ap (λ b. b && asks_texts k.query.spec) h) ∙ e)
 
 -- ---- where no cursor stands on the entry, nothing is left to settle
 

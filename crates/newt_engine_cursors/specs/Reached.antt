@@ -1,11 +1,11 @@
 -- What a command reaches, as far as it is known before it, and after it.
-use Rattle.std.specs.Prelude.{◌≡◌, ℕ, Bool, true, false, ◌&&◌, Option, Some, None}
+use Rattle.std.specs.Prelude.{◌≡◌, ℕ, Bool, true, false, ◌&&◌, List, Option, Some, None, slice_get}
 use Rattle.newt_base.specs.Refusals.{first_of}
 use Rattle.newt_spec_query.specs.Cursor.{Cursor}
 use Rattle.newt_spec_world.specs.Answer.{answer}
 use Rattle.newt_spec_world.specs.Refused.{checks}
 use Rattle.newt_spec_world.specs.Reply.{Reply}
-use Rattle.newt_spec_world.specs.World.{World, mounted_store}
+use Rattle.newt_spec_world.specs.World.{World, flat, mounted_store}
 use Rattle.newt_spec_world.specs.declared.command.Command.{Command}
 use Rattle.newt_query.specs.Filter.{asks_texts}
 use Rattle.newt_store_change.specs.Entries.{entry_said}
@@ -48,10 +48,18 @@ reached_by (aim.Next store soup) v reply = reached_new store soup reply
 abbrev pub Aims : World → Command → Aim → Type 0
 Aims w c aim = first_of (checks w c) ≡ None → reached_by aim (answer w c).0 (answer w c).1 ≡ plain.reach w c
 
--- a cursor is open, stands on this entry, and its query asks for words or texts (this project's own)
+-- a cursor is open, stands on an entry that is reached, and its query asks for words or texts (this project's own)
+abbrev pub asks_reached : plain.Reach → Option Cursor → Bool
+asks_reached r None = false
+asks_reached r (Some k) = plain.is_reached r k.place && asks_texts k.query.spec
+
+-- no cursor does (a word of these definitions)
+abbrev pub NoneAsks : plain.Reach → List (Option Cursor) → Type 0
+NoneAsks r cursors = (c : ℕ) → asks_reached r (flat (slice_get cursors c)) ≡ false
+
+-- the same of one entry (a word of these definitions)
 abbrev pub asks_on : ℕ → ℕ → ℕ → Option Cursor → Bool
-asks_on store soup uid None = false
-asks_on store soup uid (Some k) = plain.is_reached (plain.on_entry store soup uid) k.place && asks_texts k.query.spec
+asks_on store soup uid k = asks_reached (plain.on_entry store soup uid) k
 
 -- an entry is at hand, where a cursor asks for its words or texts (this project's own)
 abbrev pub IsAtHand : World → ℕ → ℕ → ℕ → Option Entry → Option Cursor → Type 0

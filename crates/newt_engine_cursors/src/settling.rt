@@ -21,7 +21,9 @@ ghost use Rattle.newt_engine_hits.specs.Present.{entry_in_store};
 ghost use Rattle.newt_engine_cursors.specs.Calls.{Settles};
 ghost use Rattle.newt_engine_cursors.specs.Fits.{DeskFits};
 ghost use Rattle.newt_engine_cursors.specs.Keyed.{key_now, key_where};
-ghost use Rattle.newt_engine_cursors.specs.Reached.{IsAtHand, asks_on, cursor_reached, seen_reach};
+ghost use Rattle.newt_engine_cursors.specs.Reached.{IsAtHand, NoneAsks, asks_on, asks_reached};
+ghost use Rattle.newt_engine_cursors.specs.Reached.{cursor_reached, seen_reach};
+ghost use Rattle.newt_engine_cursors.specs.Unread.{is_unread};
 
 use crate::desks::standing;
 use crate::reach::Reach;
@@ -41,8 +43,8 @@ use std::alloc::AllocError;
 const PLACES: u8 = 32;
 
 /// Each cursor that is on an entry that is reached takes the present key of that entry, where it is
-/// a hit. Where one entry is reached, it is read once at most, and only where the query of a cursor
-/// on it asks for words or texts.
+/// a hit. Where one entry is reached, it is read once at most; and nothing is read unless the query
+/// of such a cursor asks for words or texts.
 pub fn settle_reached<C: Card, H: Host>(
     units: &mut Units<C>,
     desk: &mut Desk,
@@ -58,6 +60,9 @@ pub fn settle_reached<C: Card, H: Host>(
         is_of_one (seen_reach reach.now) ≡ true → FetchesAtMost (λ u. 512 * pages_of_entry
         (entry_reached (seen_reach reach.now) (mounted_store w u)))
         (H.outside host.old) (H.outside host.new) }
+    ensures unread { IsTrue H.told → let w = world_of C.reads units.old (H.outside host.old) in
+        MountedApart w → NoneAsks (seen_reach reach.now) desk.old
+        → FetchesAtMost (λ u. 0) (H.outside host.old) (H.outside host.new) }
 {
     match reach {
         Reach::Nowhere => Ok(()),
@@ -86,6 +91,8 @@ fn settle_entry<C: Card, H: Host>(
         FetchesAtMost (λ u. 512 * pages_of_entry
         (entry_in_store store soup uid (mounted_store w u)))
         (H.outside host.old) (H.outside host.new) }
+    ensures unread { NoneAsks (on_entry store soup uid) desk.old
+        → FetchesAtMost (λ u. 0) (H.outside host.old) (H.outside host.new) }
 {
     if !is_watched(desk, store, soup, uid) {
         return Ok(());
@@ -123,6 +130,8 @@ fn entry_if_asked<C: Card, H: Host>(
         FetchesAtMost (λ u. 512 * pages_of_entry
         (entry_in_store store soup uid (mounted_store w u)))
         (H.outside host.old) (H.outside host.new) }
+    ensures unread { NoneAsks (on_entry store soup uid) desk.now
+        → FetchesAtMost (λ u. 0) (H.outside host.old) (H.outside host.new) }
 {
     if asks_any(desk, store, soup, uid) {
         read_entry(units, host, store, soup, uid)
@@ -134,8 +143,8 @@ fn entry_if_asked<C: Card, H: Host>(
 /// Whether a cursor stands on an entry whose query asks for words or texts.
 fn asks_any(desk: &Desk, store: Sig, soup: Sig, uid: Uid) -> bool
     requires { DeskFits desk.now }
-    ensures { result ≡ false → (c : ℕ)
-        → asks_on store soup uid (flat (slice_get desk.now c)) ≡ false }
+    ensures none { result ≡ false → NoneAsks (on_entry store soup uid) desk.now }
+    ensures some { NoneAsks (on_entry store soup uid) desk.now → result ≡ false }
 {
     for cursor in 0..PLACES {
         if asks(desk, cursor, store, soup, uid) {
@@ -258,9 +267,12 @@ fn settle_all<C: Card, H: Host>(
 ) -> Result<(), Stop>
     requires stands { Stands C.place C.stands H.told units.old (H.outside host.old) }
     requires desk { DeskFits desk.old }
-    ensures { Settles C.reads C.place C.stands H.told
+    ensures settles { Settles C.reads C.place C.stands H.told
         (λ w v. OnOk result (v ≡ settle_reached (seen_reach reach.now) w)) units.old units.new
         desk.old desk.new (H.outside host.old) (H.outside host.new) result }
+    ensures unread { IsTrue H.told → let w = world_of C.reads units.old (H.outside host.old) in
+        MountedApart w → NoneAsks (seen_reach reach.now) desk.old
+        → FetchesAtMost (λ u. 0) (H.outside host.old) (H.outside host.new) }
 {
     for cursor in 0..PLACES {
         settle_if(units, desk, host, cursor, reach)?;
@@ -284,6 +296,8 @@ fn settle_if<C: Card, H: Host>(
     ensures settled { IsTrue H.told → let w = world_of C.reads units.old (H.outside host.old) in
         MountedApart w → OnOk result
         (desk.new ≡ change_at cursor (settle_where (seen_reach reach.now) w) desk.old) }
+    ensures unread { asks_reached (seen_reach reach.now) (flat (slice_get desk.old cursor)) ≡ false
+        → FetchesAtMost (λ u. 0) (H.outside host.old) (H.outside host.new) }
 {
     if is_reached(desk, cursor, reach) {
         settle_one(units, desk, host, cursor)
@@ -326,6 +340,8 @@ fn settle_one<C: Card, H: Host>(
     ensures desk { DeskFits desk.new }
     ensures settled { IsTrue H.told → let w = world_of C.reads units.old (H.outside host.old) in
         MountedApart w → OnOk result (desk.new ≡ change_at cursor (settle_cursor w) desk.old) }
+    ensures unread { is_unread (flat (slice_get desk.old cursor)) ≡ true
+        → FetchesAtMost (λ u. 0) (H.outside host.old) (H.outside host.new) }
 {
     if let Some(key) = present_key(units, desk, host, cursor)? {
         desk.changed(cursor, key);
@@ -349,6 +365,8 @@ fn present_key<C: Card, H: Host>(
     ensures found { IsTrue H.told → let w = world_of C.reads units.old (H.outside host.old) in
         MountedApart w → IfOk result (λ found. found
         ≡ option_and_then (key_now w) (flat (slice_get desk.now cursor))) }
+    ensures unread { is_unread (flat (slice_get desk.now cursor)) ≡ true
+        → FetchesAtMost (λ u. 0) (H.outside host.old) (H.outside host.new) }
 {
     let Some((query, spot)) = standing(desk, cursor) else {
         return Ok(None);

@@ -7,7 +7,7 @@ use Rattle.newt_engine_cursors.proofs.reach.entry_aim.Goals as goal
 
 pub returns-in-Some : goal.returns-in-Some
 returns-in-Some g c outside eight stands v reply =
-    some-aimed (world_of g.C.Card.reads c.args.units.now outside) c.args.unit c.args.name.now (λ s p. on_entry s.sig p.sig c.args.uid) (λ a b. on_entry a b c.args.uid) (λ s p. refl) c.in-Some.store c.in-Some.soup (c.in-Some.ensures outside eight stands)
+    some-aimed (world_of g.C.Card.reads c.args.units.now outside) c.args.unit c.args.name.now (λ s p. on_entry s.sig p.sig c.args.uid) (λ a b. on_entry a b c.args.uid) (λ s p. refl) _ _ (c.in-Some.ensures outside eight stands)
 
 pub returns-in-None : goal.returns-in-None
 returns-in-None g c outside eight stands v reply =

@@ -9,8 +9,8 @@ use Rattle.newt_engine_cursors.proofs.reach.next_aim.Goals as goal
 pub returns-in-Some : goal.returns-in-Some
 returns-in-Some g c outside eight stands v reply new =
     let w = world_of g.C.Card.reads c.args.units.now outside in
-    new-aimed c.in-Some.store c.in-Some.soup (new_uid w c.args.unit c.args.name.now) reply new
-    ∙ next-aimed w c.args.unit c.args.name.now c.in-Some.store c.in-Some.soup (c.in-Some.ensures outside eight stands)
+    new-aimed _ _ (new_uid w c.args.unit c.args.name.now) reply new
+    ∙ next-aimed w c.args.unit c.args.name.now _ _ (c.in-Some.ensures outside eight stands)
 
 pub returns-in-None : goal.returns-in-None
 returns-in-None g c outside eight stands v reply new =

@@ -18,8 +18,11 @@ loop-cursor-preserved c = record {
   ];
 }
 
-pub returns : goal.returns
-returns c no n =
+pub returns-then-asks-clause-some : goal.returns-then-asks-clause-some
+returns-then-asks-clause-some c none = c.if-asks.ensures ∙ none c.loop-cursor.cursor
+
+pub returns-clause-none : goal.returns-clause-none
+returns-clause-none c says n =
     let test = c.loop-cursor-test.false in
     let places = c.requires.places in
     elim (one-or-behind n (length c.args.desk.now)) [

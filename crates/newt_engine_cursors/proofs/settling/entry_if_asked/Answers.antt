@@ -23,10 +23,16 @@ returns-then-asks_any-clause-entry g c t =
     (λ found e n asks. e) (c.read_entry.ensures.entry t)
 
 pub returns-else-asks_any-clause-entry : goal.returns-else-asks_any-clause-entry
-returns-else-asks_any-clause-entry g c t n asks = absurd (both-ways asks (c.if-asks_any.ensures refl n))
+returns-else-asks_any-clause-entry g c t n asks = absurd (both-ways asks (c.if-asks_any.ensures.none refl n))
 
 pub returns-else-asks_any-clause-reading : goal.returns-else-asks_any-clause-reading
 returns-else-asks_any-clause-reading g c = is-read (not-read c.requires.stands) (NoFault-refl _) (asked-read refl)
 
 pub returns-else-asks_any-clause-fetches : goal.returns-else-asks_any-clause-fetches
 returns-else-asks_any-clause-fetches g c t u = omega arith
+
+pub returns-then-asks_any-clause-unread : goal.returns-then-asks_any-clause-unread
+returns-then-asks_any-clause-unread g c none = absurd (both-ways refl (c.if-asks_any.ensures.some none))
+
+pub returns-else-asks_any-clause-unread : goal.returns-else-asks_any-clause-unread
+returns-else-asks_any-clause-unread g c none u = omega arith

@@ -11,22 +11,21 @@ use Rattle.newt_engine_cursors.specs.Keyed.{key_where}
 use Rattle.newt_engine_cursors.proofs.Cursors.{change-one, change-none, change-fits, keyed-fits}
 use Rattle.newt_engine_cursors.proofs.Reaches.{where-none, where-one}
 use Rattle.newt_engine_cursors.proofs.settling.give_key.Goals as goal
-use Rattle.newt_engine_cursors.proofs.settling.give_key.Goals.{in-Some, in_default}
 
-pub returns-clause-desk : goal.returns-clause-desk
-returns-clause-desk g c = elim c.match-branch-2.branch [
-  | in-Some w ↦ subst DeskFits (sym (w.desk-is ∙ w.changed.ensures)) (change-fits (keyed w.in-Some.key) c.args.desk.now c.args.cursor c.requires
-      (λ k e. keyed-fits k w.in-Some.key (subst (λ (o : Option Key). IfSome o (IsKeyOf k.query.spec.index)) w.in-Some.is (c.in_ok-key.ensures.key k e))))
-  | in_default w ↦ subst DeskFits (sym w.desk-is) c.requires
-]
+pub returns-in-Some-clause-desk : goal.returns-in-Some-clause-desk
+returns-in-Some-clause-desk g c = subst DeskFits (sym c.changed.ensures) (change-fits (keyed c.in-Some.key) c.args.desk.now c.args.cursor c.requires
+    (λ k e. keyed-fits k c.in-Some.key (subst (λ (o : Option Key). IfSome o (IsKeyOf k.query.spec.index)) c.in-Some.is (c.in_ok-key.ensures.key k e))))
 
-pub returns-clause-keys : goal.returns-clause-keys
-returns-clause-keys g c o eight stand apart read =
-    let w0 = world_of g.C.Card.reads c.args.units.now o in
+pub returns-in-Some-clause-keys : goal.returns-in-Some-clause-keys
+returns-in-Some-clause-keys g c o eight stand apart read =
+    let w = world_of g.C.Card.reads c.args.units.now o in
     let r = on_entry c.args.store c.args.soup c.args.uid in
-    elim c.match-branch-2.branch [
-      | in-Some w ↦ w.desk-is ∙ w.changed.ensures ∙ sym (change-one (settle_where r w0) (keyed w.in-Some.key) c.args.desk.now c.args.cursor
-          (λ k e. where-one r w0 k w.in-Some.key (sym (sym w.in-Some.is ∙ c.in_ok-key.ensures.found o eight stand apart read ∙ ap (option_and_then (key_where r w0)) e))))
-      | in_default w ↦ w.desk-is ∙ sym (change-none (settle_where r w0) c.args.desk.now c.args.cursor
-          (λ k e. where-none r w0 k (sym (sym w.in_default.is ∙ c.in_ok-key.ensures.found o eight stand apart read ∙ ap (option_and_then (key_where r w0)) e))))
-    ]
+    c.changed.ensures ∙ sym (change-one (settle_where r w) (keyed c.in-Some.key) c.args.desk.now c.args.cursor
+    (λ k e. where-one r w k c.in-Some.key (sym (sym c.in-Some.is ∙ c.in_ok-key.ensures.found o eight stand apart read ∙ ap (option_and_then (key_where r w)) e))))
+
+pub returns-in_default-clause-keys : goal.returns-in_default-clause-keys
+returns-in_default-clause-keys g c o eight stand apart read =
+    let w = world_of g.C.Card.reads c.args.units.now o in
+    let r = on_entry c.args.store c.args.soup c.args.uid in
+    sym (change-none (settle_where r w) c.args.desk.now c.args.cursor
+    (λ k e. where-none r w k (sym (sym c.in_default.is ∙ c.in_ok-key.ensures.found o eight stand apart read ∙ ap (option_and_then (key_where r w)) e))))

@@ -1,11 +1,11 @@
 -- The key of the hit.
-use Rattle.std.proofs.Common.{◌∙◌, ap, refl, sym, subst, option_map, true}
+use Rattle.std.proofs.Common.{arith, ◌∙◌, ap, refl, sym, subst, option_map, true}
 use Rattle.newt_cursor.specs.Seen.{query_of}
 use Rattle.newt_engine_units.specs.Stands.{Stands, Eight, world_of}
 use Rattle.newt_engine_units.proofs.Known.{Laws}
 use Rattle.newt_index.specs.Spots.{spot_hit}
 use Rattle.newt_engine_hits.specs.declared.present.Present.{Present}
-use Rattle.newt_engine_cursors.proofs.Standing.{key-present, present-keys}
+use Rattle.newt_engine_cursors.proofs.Standing.{key-present, present-keys, stands-query}
 use Rattle.std.proofs.lemmas.Result.{err_from_is_err_and}
 use Rattle.newt_engine_hits.proofs.Reading.{any-reading, asked-read, end-read, is-read, not-read}
 use Rattle.newt_engine_hits.proofs.Stores.{stores-formed}
@@ -41,3 +41,15 @@ returns-in-Some-2-clause-reading g c = is-read c.in_ok-hit.ensures.reading.read 
 
 pub returns-in-None-clause-reading : goal.returns-in-None-clause-reading
 returns-in-None-clause-reading g c = is-read c.in_ok-hit.ensures.reading.read c.in_ok-hit.ensures.reading.no_fault (asked-read refl)
+
+pub returns-in_default-clause-unread : goal.returns-in_default-clause-unread
+returns-in_default-clause-unread g c un u = omega arith
+
+pub returns-in_err-hit-clause-unread : goal.returns-in_err-hit-clause-unread
+returns-in_err-hit-clause-unread g c un = c.in_err-hit.ensures.reading.unread (stands-query _ (query_of c.in-Some.query.now) (spot_hit c.in-Some.spot.now) c.in-Some.ensures un)
+
+pub returns-in-Some-2-clause-unread : goal.returns-in-Some-2-clause-unread
+returns-in-Some-2-clause-unread g c un = c.in_ok-hit.ensures.reading.unread (stands-query _ (query_of c.in-Some.query.now) (spot_hit c.in-Some.spot.now) c.in-Some.ensures un)
+
+pub returns-in-None-clause-unread : goal.returns-in-None-clause-unread
+returns-in-None-clause-unread g c un = c.in_ok-hit.ensures.reading.unread (stands-query _ (query_of c.in-Some.query.now) (spot_hit c.in-Some.spot.now) c.in-Some.ensures un)

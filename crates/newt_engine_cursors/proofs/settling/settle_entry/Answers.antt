@@ -31,6 +31,9 @@ returns-then-not-is_watched-clause-settles g c = record {
 pub returns-then-not-is_watched-clause-fetches : goal.returns-then-not-is_watched-clause-fetches
 returns-then-not-is_watched-clause-fetches g c t u = omega arith
 
+pub returns-then-not-is_watched-clause-unread : goal.returns-then-not-is_watched-clause-unread
+returns-then-not-is_watched-clause-unread g c none u = omega arith
+
 pub returns-in_err-entry-clause-settles : goal.returns-in_err-entry-clause-settles
 returns-in_err-entry-clause-settles g c =
     settles-end (λ (r : Result (Unit {0}) Stop) (w v : World). OnOk r (v ≡ settle_reached (on_entry c.args.store c.args.soup c.args.uid) w)) (not-read c.requires.stands) c.in_err-entry.ensures.reading c.requires.desk

@@ -8,7 +8,7 @@ use Rattle.newt_laws_reach.proofs.Reaching.{nowhere-stays}
 use Rattle.newt_store_change.specs.Change.{pages_of_entry}
 use Rattle.newt_engine_units.specs.Stands.{world_of}
 use Rattle.newt_engine_hits.proofs.Reading.{not-read}
-use Rattle.newt_engine_cursors.specs.Reached.{seen_reach}
+use Rattle.newt_engine_cursors.specs.Reached.{NoneAsks, seen_reach}
 use Rattle.newt_engine_cursors.specs.World.{world_with}
 use Rattle.newt_engine_cursors.proofs.Calls.{settles-as}
 use Rattle.newt_engine_cursors.proofs.Reaches.{within-reached}
@@ -46,3 +46,9 @@ returns-in-Store-clause-fetches g c t one = absurd (no-true (ap is_of_one (ap se
 
 pub returns-in-Soup-clause-fetches : goal.returns-in-Soup-clause-fetches
 returns-in-Soup-clause-fetches g c t one = absurd (no-true (ap is_of_one (ap seen_reach (sym c.in-Soup.is)) ∙ one))
+
+pub returns-in-Nowhere-clause-unread : goal.returns-in-Nowhere-clause-unread
+returns-in-Nowhere-clause-unread g c t apart none u = omega arith
+
+pub returns-in-Entry-clause-unread : goal.returns-in-Entry-clause-unread
+returns-in-Entry-clause-unread g c t apart none = c.settle_entry.ensures.unread (subst (λ (r : Reach). NoneAsks r c.args.desk.now) (ap seen_reach c.in-Entry.is) none)

@@ -16,8 +16,8 @@ returns-in-Some-clause-shown g c t x is there =
     (λ i. entry_reply (is.0 i) (plain_entry c.in-Some.entry))
     ∙ ap (λ (e : Entry). entry_reply x.unit e) (subst (λ (o : Option code.Entry). IfSome o (λ e. plain_entry e ≡ x.entry)) c.in-Some.is is.2)
 
-pub returns-in-None-clause-shown : goal.returns-in-None-clause-shown
-returns-in-None-clause-shown g c t x is there =
+pub returns-clause-shown : goal.returns-clause-shown
+returns-clause-shown g c t x is there =
     IfOk-weaker c.read_and_show.result (λ (shown : Shown). shown_reply shown ≡ entry_reply c.args.hit.unit x.entry) (λ (shown : Shown). shown_reply shown ≡ hit_reply x)
     (λ shown e. e ∙ ap (λ (u : ℕ). entry_reply u x.entry) is.0) (c.read_and_show.ensures.shown t x.entry there)
 

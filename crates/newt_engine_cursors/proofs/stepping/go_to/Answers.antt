@@ -1,6 +1,8 @@
 -- The unit is looked up, the cursor is open, and the hit is there.
 use Rattle.std.proofs.Common.{arith, ◌≡◌, ◌∙◌, ◌*◌, refl, ap, sym, subst, ℕ, true, option_map}
-use Rattle.std.specs.Prelude.{Result, is_none, slice_get}
+use Rattle.std.specs.Prelude.{Result, Err, is_none, slice_get}
+use Rattle.newt_base.specs.declared.Refusal.TheVariants.{Entry as NoEntry}
+use Rattle.newt_store_change.specs.declared.fault.StoreFault.TheVariants.{Refused}
 use Rattle.std.proofs.lemmas.Result.{err_from_is_err_and}
 use Rattle.newt_spec_query.specs.Cursor.{on}
 use Rattle.newt_spec_world.specs.World.{World, flat, set_place}
@@ -67,7 +69,7 @@ returns-in_default-2 g c =
     let eight : Eight (g.H.Host.outside c.args.host.now) = record { eight = g.met.H.Host.eight c.args.host.now; none = g.met.H.Host.none c.args.host.now } in
     let w = world_with g.C.Card.reads c.args.units.now c.args.desk.now o in
     let k = seen_cursor (c.in-Some.query, c.in-Some.field-0-1) in
-    walks-of (turns-read {becomes = λ w v. Answers w v (command.Goto c.args.cursor c.args.unit c.args.uid) shown_reply _} c.in_ok-spot.ensures.reading.read c.in_ok-spot.ensures.reading.no_fault c.requires.desk tt (λ t apart.
+    walks-of (turns-read {becomes = λ w v. Answers w v (command.Goto c.args.cursor c.args.unit c.args.uid) shown_reply (Err (Refused NoEntry))} c.in_ok-spot.ensures.reading.read c.in_ok-spot.ensures.reading.no_fault c.requires.desk tt (λ t apart.
     let stand : Stands g.C.Card.place g.C.Card.stands true c.args.units.now o = subst (λ b. Stands g.C.Card.place g.C.Card.stands b c.args.units.now o) t c.requires.stands in
     let m = mounted-known laws c.args.units.now o eight stand c.args.unit c.in_ok-find_unit.ensures in
     let p = card-known laws c.args.units.now o eight stand c.args.unit m.0 m.1 in
