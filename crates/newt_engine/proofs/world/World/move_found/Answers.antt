@@ -1,5 +1,5 @@
 -- The entry is read, its graph is added to the target, the cursors on it are settled, and then it is removed.
-use Rattle.std.proofs.Common.{refl, sym, subst, ap, ℕ, ◌≡◌, ◌∙◌, ◌≤◌, true, false, IsTrue, Ok, Err, List}
+use Rattle.std.proofs.Common.{refl, sym, subst, ap, ℕ, ◌≡◌, ◌∙◌, ◌≤◌, ◌+◌, ◌*◌, true, false, IsTrue, Ok, Err, List}
 use Rattle.std.specs.Bool.{⊤}
 use Rattle.std.proofs.lemmas.Result.{err_from_is_err_and}
 use Rattle.newt_host.specs.Moments.{Moment, Always}
@@ -15,6 +15,7 @@ use Rattle.newt_spec_world.specs.declared.command.Command.TheVariants as command
 use Rattle.newt_spec_world.specs.Answer.{answer}
 use Rattle.newt_laws_world.specs.Answering.{Answering}
 use Rattle.newt_laws_world.specs.Cursors.{with_cursors}
+use Rattle.newt_laws_answers.specs.Fetched.{meant, pages_there}
 use Rattle.newt_laws_answers.specs.There.{OnUnit}
 use Rattle.newt_laws_answers.proofs.Changes.{add-said, remove-said}
 use Rattle.newt_laws_answers.proofs.Refusals.{added-uid}
@@ -31,7 +32,7 @@ use Rattle.newt_engine_units.proofs.Obeying.{end-answers, ends-after, ends-chang
 use Rattle.newt_engine_units.proofs.Settings.{Setting, is-err, still}
 use Rattle.newt_engine_hits.proofs.Stores.{stores-formed}
 use Rattle.newt_engine_commands.proofs.Commands.{read-found}
-use Rattle.newt_engine_commands.proofs.Costing.{copy-few, first-costs, whole-costs}
+use Rattle.newt_engine_commands.proofs.Costing.{Seen, copy-few, first-costs, its_pages, whole-costs}
 use Rattle.newt_engine_commands.proofs.Moves.{WasAdded, added-makes, between-answers, between-fails, both-moments, first-moments, move-missing, on-then, removed-makes, was-added}
 use Rattle.newt_engine_commands.proofs.Said.{said-costs, said-made, said-moments}
 use Rattle.newt_engine_cursors.specs.Reached.{reached_by}
@@ -43,7 +44,7 @@ use Rattle.newt_engine.specs.Laws.{laws_of}
 use Rattle.newt_engine.proofs.Costing.{of_costs, settled_costs, settled_few, settled_whole, unread_uses_cursor}
 use Rattle.newt_engine.proofs.Handed.{told_stands, unrefused_on}
 use Rattle.newt_engine.proofs.Moving.{AreFormed, added-apart, added-reached, move_form, move_no_cursor, pages-alike, removal_ends, settled-still}
-use Rattle.newt_engine.proofs.Serving.{served_handed}
+use Rattle.newt_engine.proofs.Serving.{served_ended, served_handed}
 use Rattle.newt_engine.proofs.Settling.{moments_with, reached_after, reached_within, settled_after, stands_after, whole}
 use Rattle.newt_engine.proofs.world.World.move_found.Given.{Over}
 use Rattle.newt_engine.proofs.world.World.move_found.Goals as goal
@@ -141,14 +142,9 @@ returns-in_err-reply g c name target both =
     let x2 = world_of g.C.Card.reads c.change.new.self (o c.change.new.host) in
     let s = c.in_err-reply.ensures in
     let ends = ends-after read.ends tt (ends-after (ends-change first) tt s.ends) in
-    let v = world_with g.C.Card.reads c.settled.new.self.units c.settled.new.self.desk (o c.settled.new.host) in
-    let p = err_from_is_err_and c.from_residual-in_err-reply.result c.from_residual-in_err-reply.ensures.1 in
-    let answers : IsTrue g.H.Host.told → Answers (with_cursors start.desk w) v cmd said (Err _) = λ t. end-answers _ _ cmd said (Err _) _ (_, refl, refl) s.only in
-    subst (λ r. Served g.C.Card.reads g.C.Card.place g.C.Card.stands g.H.Host.told cmd start c.settled.new.self (o c.args.host.now) (o c.settled.new.host) r) (sym (is-err _ _ p)) (record {
-      stands = λ goes. stands_after g.H.Host.told start.units c.settled.new.self.units start.desk c.settled.new.self.desk (o c.args.host.now) (o c.settled.new.host) c.requires.stands s.read.stand
-          (units_are g c.settled.new.host) s.desk cmd said _ answers goes;
-      answered = answers;
-      moments = λ t.
+    served_ended (laws g) g.H.Host.told start _ (o c.args.host.now) (o c.settled.new.host) c.requires.stands (units_are g c.settled.new.host) cmd none refl refl Shown _ _
+    (err_from_is_err_and c.from_residual-in_err-reply.result c.from_residual-in_err-reply.ensures.1) (λ t. s.only) (λ goes. s.read.stand) s.desk
+    (λ t.
             let h = (both t).0 in
             let k = (both t).1 in
             let found = read-found c.args.soup c.args.uid h.store h.soup c.in_ok-graph.field-0 c.in_ok-graph.field-0.graph refl h.by_sig (read.read t h.blocks h.store h.on) in
@@ -159,15 +155,15 @@ returns-in_err-reply g c name target both =
             let uid_is = added-uid k.blocks c.read_entry.new.self.minute c.args.into k.store k.soup k.by_sig entry.graph in
             let was = was-added w c.args.unit c.args.to name target c.args.soup c.args.into c.args.uid h k refl entry found c.requires.apart _ x2 _ same (said-made first t there added (λ n. n ≡ k.soup.next_uid) (λ n is. is ∙ uid_is)) in
             let apart = c.requires.stands.apart t in
-            let few = record { alone = read.looks.untouched; moment = read.looks.moment; reads = read.fetches t h.blocks h.store h.on } in
+            let few : Seen c.args.unit (512 * its_pages h c.args.uid) (o c.args.host.now) (o c.read_entry.new.host) = record { alone = read.looks.untouched; moment = read.looks.moment; reads = read.fetches t h.blocks h.store h.on } in
             let aimed = ap (λ (a : Aim). reached_by a x2 (Reply.number n)) (c.aim_into-aim.ensures (o c.args.host.now) (units_are g c.args.host.now)
             (told_stands g.H.Host.told start.units (o c.args.host.now) c.requires.stands.stand t) k.store (is-mounted w c.args.to k.blocks k.store k.on)) in
             let done = between-answers w c.args.unit c.args.to name target c.args.soup c.args.into c.args.uid h k refl entry found c.requires.apart x2
             (change_store x2 c.args.unit (change_soup h.soup.name (remove_entry c.args.uid))) n was refl in
-            let passed = unrefused_on {T = ℕ} {made = λ n. Reply.number n} w _ cmd (Ok n) (λ x r k. cc) done in
+            let passed = unrefused_on {T = ℕ} {made = λ n. Reply.number n} w (change_store x2 c.args.unit (change_soup h.soup.name (remove_entry c.args.uid))) cmd (Ok n) (λ x r k. cc) done in
             let reached = on_entry k.store.sig c.args.into n in
             let settling = subst (λ (r : Reach). is_of_one r ≡ true → FetchesAtMost (λ u. 512 * pages_of_entry (entry_reached r (mounted_store x2 u))) (o c.change.new.host) (o c.settled.new.host)) aimed (s.fetches t) refl in
-            let within : (u : ℕ) → pages_of_entry (entry_reached reached (mounted_store x2 u)) ≤ _ = λ u. subst (λ e. pages_of_entry e ≤ _)
+            let within : (u : ℕ) → pages_of_entry (entry_reached reached (mounted_store x2 u)) ≤ pages_there (answer w cmd).0 u (meant w cmd u) = λ u. subst (λ e. pages_of_entry e ≤ pages_there (answer w cmd).0 u (meant w cmd u))
             (sym (pages-alike w c.args.unit c.args.to name target c.args.soup c.args.into c.args.uid h k refl entry found c.requires.apart apart x2 n was u))
             (reached_within (laws g) g.H.Host.told start.units start.desk (o c.args.host.now) c.requires.stands t cmd none _ _ reached passed done
             (added-reached w c.args.unit c.args.to name target c.args.soup c.args.into c.args.uid h k refl entry found c.requires.apart apart x2 n was) form refl u) in
@@ -175,8 +171,8 @@ returns-in_err-reply g c name target both =
             let way = first-moments w c.args.unit c.args.to name target c.args.soup c.args.into c.args.uid h k refl entry found c.requires.apart g.C.Card.reads _
             (o c.args.host.now).now (o c.read_entry.new.host).now (o c.change.new.host).now same read.looks.moment
             (said-moments first t there added (answer w cmd).0 (added-makes w c.args.unit c.args.to name target c.args.soup c.args.into c.args.uid h k refl entry found c.requires.apart _ same)) in
-            subst (λ (m : Moment). Always (Answering g.C.Card.reads (with_cursors start.desk w) (answer (with_cursors start.desk w) cmd).0 (o c.args.host.now).now) (o c.args.host.now).now m) (sym s.read.moment) (moments_with (laws g) g.H.Host.told start.units start.desk (o c.args.host.now) c.requires.stands t cmd none (o c.change.new.host).now way);
-      costs = λ t.
+            subst (λ (m : Moment). Always (Answering g.C.Card.reads (with_cursors start.desk w) (answer (with_cursors start.desk w) cmd).0 (o c.args.host.now).now) (o c.args.host.now).now m) (sym s.read.moment) (moments_with (laws g) g.H.Host.told start.units start.desk (o c.args.host.now) c.requires.stands t cmd none (o c.change.new.host).now way))
+    (λ t.
             let h = (both t).0 in
             let k = (both t).1 in
             let found = read-found c.args.soup c.args.uid h.store h.soup c.in_ok-graph.field-0 c.in_ok-graph.field-0.graph refl h.by_sig (read.read t h.blocks h.store h.on) in
@@ -187,15 +183,15 @@ returns-in_err-reply g c name target both =
             let uid_is = added-uid k.blocks c.read_entry.new.self.minute c.args.into k.store k.soup k.by_sig entry.graph in
             let was = was-added w c.args.unit c.args.to name target c.args.soup c.args.into c.args.uid h k refl entry found c.requires.apart _ x2 _ same (said-made first t there added (λ n. n ≡ k.soup.next_uid) (λ n is. is ∙ uid_is)) in
             let apart = c.requires.stands.apart t in
-            let few = record { alone = read.looks.untouched; moment = read.looks.moment; reads = read.fetches t h.blocks h.store h.on } in
+            let few : Seen c.args.unit (512 * its_pages h c.args.uid) (o c.args.host.now) (o c.read_entry.new.host) = record { alone = read.looks.untouched; moment = read.looks.moment; reads = read.fetches t h.blocks h.store h.on } in
             let aimed = ap (λ (a : Aim). reached_by a x2 (Reply.number n)) (c.aim_into-aim.ensures (o c.args.host.now) (units_are g c.args.host.now)
             (told_stands g.H.Host.told start.units (o c.args.host.now) c.requires.stands.stand t) k.store (is-mounted w c.args.to k.blocks k.store k.on)) in
             let done = between-answers w c.args.unit c.args.to name target c.args.soup c.args.into c.args.uid h k refl entry found c.requires.apart x2
             (change_store x2 c.args.unit (change_soup h.soup.name (remove_entry c.args.uid))) n was refl in
-            let passed = unrefused_on {T = ℕ} {made = λ n. Reply.number n} w _ cmd (Ok n) (λ x r k. cc) done in
+            let passed = unrefused_on {T = ℕ} {made = λ n. Reply.number n} w (change_store x2 c.args.unit (change_soup h.soup.name (remove_entry c.args.uid))) cmd (Ok n) (λ x r k. cc) done in
             let reached = on_entry k.store.sig c.args.into n in
             let settling = subst (λ (r : Reach). is_of_one r ≡ true → FetchesAtMost (λ u. 512 * pages_of_entry (entry_reached r (mounted_store x2 u))) (o c.change.new.host) (o c.settled.new.host)) aimed (s.fetches t) refl in
-            let within : (u : ℕ) → pages_of_entry (entry_reached reached (mounted_store x2 u)) ≤ _ = λ u. subst (λ e. pages_of_entry e ≤ _)
+            let within : (u : ℕ) → pages_of_entry (entry_reached reached (mounted_store x2 u)) ≤ pages_there (answer w cmd).0 u (meant w cmd u) = λ u. subst (λ e. pages_of_entry e ≤ pages_there (answer w cmd).0 u (meant w cmd u))
             (sym (pages-alike w c.args.unit c.args.to name target c.args.soup c.args.into c.args.uid h k refl entry found c.requires.apart apart x2 n was u))
             (reached_within (laws g) g.H.Host.told start.units start.desk (o c.args.host.now) c.requires.stands t cmd none _ _ reached passed done
             (added-reached w c.args.unit c.args.to name target c.args.soup c.args.into c.args.uid h k refl entry found c.requires.apart apart x2 n was) form refl u) in
@@ -205,14 +201,8 @@ returns-in_err-reply g c name target both =
             (said-moments first t there added (answer w cmd).0 (added-makes w c.args.unit c.args.to name target c.args.soup c.args.into c.args.uid h k refl entry found c.requires.apart _ same)) in
             let adding = first-costs w c.args.unit c.args.to name target c.args.soup c.args.into c.args.uid h k entry found c.requires.apart _ same few (said-costs first t there added) in
             settled_costs start.desk none (of_costs adding) (λ goes. tt) s.read.moment s.read.untouched
-            (λ means. settled_few start.desk w cmd (o c.args.host.now) (o c.change.new.host) (o c.settled.new.host) (λ u. pages_of_entry (entry_reached reached (mounted_store x2 u))) all (adding.fetched refl) settling within);
-      step = λ t unread. absurd (unread_uses_cursor _ cmd none unread);
-      alone = ends.alone;
-      cause = ends.cause;
-      no_fault = ends.no_fault;
-      ends = λ no. absurd (both-ways (sym no));
-      device = λ no. absurd (both-ways (sym no));
-    })
+            (λ means. settled_few start.desk w cmd (o c.args.host.now) (o c.change.new.host) (o c.settled.new.host) (λ u. pages_of_entry (entry_reached reached (mounted_store x2 u))) all (adding.fetched refl) settling within))
+    ends
 
 pub returns-in_err-change : goal.returns-in_err-change
 returns-in_err-change g c name target both =
@@ -228,10 +218,10 @@ returns-in_err-change g c name target both =
     let x2 = world_of g.C.Card.reads c.change.new.self (o c.change.new.host) in
     let s = c.in_ok-reply.ensures in
     let second = c.in_err-change.ensures in
-    let p = err_from_is_err_and c.from_residual-in_err-change.result c.from_residual-in_err-change.ensures.1 in
-    let ends = handed-ends {T = Shown} (Err _) (_, refl, refl) (ends-after read.ends tt (ends-after (ends-change first) tt (ends-after s.ends tt (ends-change second)))) in
-    let v = world_with g.C.Card.reads c.change-2.new.self c.settled.new.self.desk (o c.change-2.new.host) in
-    let answers : IsTrue g.H.Host.told → Answers (with_cursors start.desk w) v cmd said (Err _) = λ t.
+    let ends = ends-after read.ends tt (ends-after (ends-change first) tt (ends-after s.ends tt (ends-change second))) in
+    served_ended (laws g) g.H.Host.told start _ (o c.args.host.now) (o c.change-2.new.host) c.requires.stands (units_are g c.change-2.new.host) cmd none refl refl ℕ _ _
+    (err_from_is_err_and c.from_residual-in_err-change.result c.from_residual-in_err-change.ensures.1)
+    (λ t.
             let h = (both t).0 in
             let k = (both t).1 in
             let found = read-found c.args.soup c.args.uid h.store h.soup c.in_ok-graph.field-0 c.in_ok-graph.field-0.graph refl h.by_sig (read.read t h.blocks h.store h.on) in
@@ -242,15 +232,15 @@ returns-in_err-change g c name target both =
             let uid_is = added-uid k.blocks c.read_entry.new.self.minute c.args.into k.store k.soup k.by_sig entry.graph in
             let was = was-added w c.args.unit c.args.to name target c.args.soup c.args.into c.args.uid h k refl entry found c.requires.apart _ x2 _ same (said-made first t there added (λ n. n ≡ k.soup.next_uid) (λ n is. is ∙ uid_is)) in
             let apart = c.requires.stands.apart t in
-            let few = record { alone = read.looks.untouched; moment = read.looks.moment; reads = read.fetches t h.blocks h.store h.on } in
+            let few : Seen c.args.unit (512 * its_pages h c.args.uid) (o c.args.host.now) (o c.read_entry.new.host) = record { alone = read.looks.untouched; moment = read.looks.moment; reads = read.fetches t h.blocks h.store h.on } in
             let aimed = ap (λ (a : Aim). reached_by a x2 (Reply.number n)) (c.aim_into-aim.ensures (o c.args.host.now) (units_are g c.args.host.now)
             (told_stands g.H.Host.told start.units (o c.args.host.now) c.requires.stands.stand t) k.store (is-mounted w c.args.to k.blocks k.store k.on)) in
             let done = between-answers w c.args.unit c.args.to name target c.args.soup c.args.into c.args.uid h k refl entry found c.requires.apart x2
             (change_store x2 c.args.unit (change_soup h.soup.name (remove_entry c.args.uid))) n was refl in
-            let passed = unrefused_on {T = ℕ} {made = λ n. Reply.number n} w _ cmd (Ok n) (λ x r k. cc) done in
+            let passed = unrefused_on {T = ℕ} {made = λ n. Reply.number n} w (change_store x2 c.args.unit (change_soup h.soup.name (remove_entry c.args.uid))) cmd (Ok n) (λ x r k. cc) done in
             let reached = on_entry k.store.sig c.args.into n in
             let settling = subst (λ (r : Reach). is_of_one r ≡ true → FetchesAtMost (λ u. 512 * pages_of_entry (entry_reached r (mounted_store x2 u))) (o c.change.new.host) (o c.settled.new.host)) aimed (s.fetches t) refl in
-            let within : (u : ℕ) → pages_of_entry (entry_reached reached (mounted_store x2 u)) ≤ _ = λ u. subst (λ e. pages_of_entry e ≤ _)
+            let within : (u : ℕ) → pages_of_entry (entry_reached reached (mounted_store x2 u)) ≤ pages_there (answer w cmd).0 u (meant w cmd u) = λ u. subst (λ e. pages_of_entry e ≤ pages_there (answer w cmd).0 u (meant w cmd u))
             (sym (pages-alike w c.args.unit c.args.to name target c.args.soup c.args.into c.args.uid h k refl entry found c.requires.apart apart x2 n was u))
             (reached_within (laws g) g.H.Host.told start.units start.desk (o c.args.host.now) c.requires.stands t cmd none _ _ reached passed done
             (added-reached w c.args.unit c.args.to name target c.args.soup c.args.into c.args.uid h k refl entry found c.requires.apart apart x2 n was) form refl u) in
@@ -262,12 +252,9 @@ returns-in_err-change g c name target both =
             let was3 : WasAdded w c.args.unit c.args.to name target c.args.soup c.args.into c.args.uid h k refl entry found c.requires.apart x3 n = record { passed = was.passed; number = was.number; world = s.read.world t ∙ was.world } in
             let then = on-then w c.args.unit c.args.to name target c.args.soup c.args.into c.args.uid h k refl entry found c.requires.apart x3 n was3 in
             let removed = remove-said h.blocks c.settled.new.self.units.minute c.args.soup h.store h.soup h.by_sig c.args.uid entry found in
-            end-answers _ _ cmd said (Err _) _ (_, refl, refl) (removal_ends _ _ _ _ (said-made second t then removed (λ _. ⊤) (λ n is. tt))) in
-    subst (λ r. Served g.C.Card.reads g.C.Card.place g.C.Card.stands g.H.Host.told cmd start _ (o c.args.host.now) (o c.change-2.new.host) r) (sym (is-err _ _ p)) (record {
-      stands = λ goes. stands_after g.H.Host.told start.units c.change-2.new.self start.desk c.settled.new.self.desk (o c.args.host.now) (o c.change-2.new.host) c.requires.stands
-          (second.stands (fault-goes ℕ (Err _) (_, refl, refl) goes)) (units_are g c.change-2.new.host) s.desk cmd said _ answers goes;
-      answered = answers;
-      moments = λ t.
+            (removal_ends _ _ _ _ (said-made second t then removed (λ _. ⊤) (λ n is. tt))))
+    second.stands s.desk
+    (λ t.
             let h = (both t).0 in
             let k = (both t).1 in
             let found = read-found c.args.soup c.args.uid h.store h.soup c.in_ok-graph.field-0 c.in_ok-graph.field-0.graph refl h.by_sig (read.read t h.blocks h.store h.on) in
@@ -278,15 +265,15 @@ returns-in_err-change g c name target both =
             let uid_is = added-uid k.blocks c.read_entry.new.self.minute c.args.into k.store k.soup k.by_sig entry.graph in
             let was = was-added w c.args.unit c.args.to name target c.args.soup c.args.into c.args.uid h k refl entry found c.requires.apart _ x2 _ same (said-made first t there added (λ n. n ≡ k.soup.next_uid) (λ n is. is ∙ uid_is)) in
             let apart = c.requires.stands.apart t in
-            let few = record { alone = read.looks.untouched; moment = read.looks.moment; reads = read.fetches t h.blocks h.store h.on } in
+            let few : Seen c.args.unit (512 * its_pages h c.args.uid) (o c.args.host.now) (o c.read_entry.new.host) = record { alone = read.looks.untouched; moment = read.looks.moment; reads = read.fetches t h.blocks h.store h.on } in
             let aimed = ap (λ (a : Aim). reached_by a x2 (Reply.number n)) (c.aim_into-aim.ensures (o c.args.host.now) (units_are g c.args.host.now)
             (told_stands g.H.Host.told start.units (o c.args.host.now) c.requires.stands.stand t) k.store (is-mounted w c.args.to k.blocks k.store k.on)) in
             let done = between-answers w c.args.unit c.args.to name target c.args.soup c.args.into c.args.uid h k refl entry found c.requires.apart x2
             (change_store x2 c.args.unit (change_soup h.soup.name (remove_entry c.args.uid))) n was refl in
-            let passed = unrefused_on {T = ℕ} {made = λ n. Reply.number n} w _ cmd (Ok n) (λ x r k. cc) done in
+            let passed = unrefused_on {T = ℕ} {made = λ n. Reply.number n} w (change_store x2 c.args.unit (change_soup h.soup.name (remove_entry c.args.uid))) cmd (Ok n) (λ x r k. cc) done in
             let reached = on_entry k.store.sig c.args.into n in
             let settling = subst (λ (r : Reach). is_of_one r ≡ true → FetchesAtMost (λ u. 512 * pages_of_entry (entry_reached r (mounted_store x2 u))) (o c.change.new.host) (o c.settled.new.host)) aimed (s.fetches t) refl in
-            let within : (u : ℕ) → pages_of_entry (entry_reached reached (mounted_store x2 u)) ≤ _ = λ u. subst (λ e. pages_of_entry e ≤ _)
+            let within : (u : ℕ) → pages_of_entry (entry_reached reached (mounted_store x2 u)) ≤ pages_there (answer w cmd).0 u (meant w cmd u) = λ u. subst (λ e. pages_of_entry e ≤ pages_there (answer w cmd).0 u (meant w cmd u))
             (sym (pages-alike w c.args.unit c.args.to name target c.args.soup c.args.into c.args.uid h k refl entry found c.requires.apart apart x2 n was u))
             (reached_within (laws g) g.H.Host.told start.units start.desk (o c.args.host.now) c.requires.stands t cmd none _ _ reached passed done
             (added-reached w c.args.unit c.args.to name target c.args.soup c.args.into c.args.uid h k refl entry found c.requires.apart apart x2 n was) form refl u) in
@@ -302,8 +289,8 @@ returns-in_err-change g c name target both =
             (both-moments w c.args.unit c.args.to name target c.args.soup c.args.into c.args.uid h k refl entry found c.requires.apart g.C.Card.reads x3 n
             (o c.args.host.now).now (o c.settled.new.host).now (o c.change-2.new.host).now was3
             (subst (λ (m : Moment). Always (Answering g.C.Card.reads w (answer w cmd).0 (o c.args.host.now).now) (o c.args.host.now).now m) (sym s.read.moment) way)
-            (said-moments second t then removed (answer w cmd).0 (λ _. removed-makes w c.args.unit c.args.to name target c.args.soup c.args.into c.args.uid h k refl entry found c.requires.apart x3 n was3)));
-      costs = λ t.
+            (said-moments second t then removed (answer w cmd).0 (λ _. removed-makes w c.args.unit c.args.to name target c.args.soup c.args.into c.args.uid h k refl entry found c.requires.apart x3 n was3))))
+    (λ t.
             let h = (both t).0 in
             let k = (both t).1 in
             let found = read-found c.args.soup c.args.uid h.store h.soup c.in_ok-graph.field-0 c.in_ok-graph.field-0.graph refl h.by_sig (read.read t h.blocks h.store h.on) in
@@ -314,15 +301,15 @@ returns-in_err-change g c name target both =
             let uid_is = added-uid k.blocks c.read_entry.new.self.minute c.args.into k.store k.soup k.by_sig entry.graph in
             let was = was-added w c.args.unit c.args.to name target c.args.soup c.args.into c.args.uid h k refl entry found c.requires.apart _ x2 _ same (said-made first t there added (λ n. n ≡ k.soup.next_uid) (λ n is. is ∙ uid_is)) in
             let apart = c.requires.stands.apart t in
-            let few = record { alone = read.looks.untouched; moment = read.looks.moment; reads = read.fetches t h.blocks h.store h.on } in
+            let few : Seen c.args.unit (512 * its_pages h c.args.uid) (o c.args.host.now) (o c.read_entry.new.host) = record { alone = read.looks.untouched; moment = read.looks.moment; reads = read.fetches t h.blocks h.store h.on } in
             let aimed = ap (λ (a : Aim). reached_by a x2 (Reply.number n)) (c.aim_into-aim.ensures (o c.args.host.now) (units_are g c.args.host.now)
             (told_stands g.H.Host.told start.units (o c.args.host.now) c.requires.stands.stand t) k.store (is-mounted w c.args.to k.blocks k.store k.on)) in
             let done = between-answers w c.args.unit c.args.to name target c.args.soup c.args.into c.args.uid h k refl entry found c.requires.apart x2
             (change_store x2 c.args.unit (change_soup h.soup.name (remove_entry c.args.uid))) n was refl in
-            let passed = unrefused_on {T = ℕ} {made = λ n. Reply.number n} w _ cmd (Ok n) (λ x r k. cc) done in
+            let passed = unrefused_on {T = ℕ} {made = λ n. Reply.number n} w (change_store x2 c.args.unit (change_soup h.soup.name (remove_entry c.args.uid))) cmd (Ok n) (λ x r k. cc) done in
             let reached = on_entry k.store.sig c.args.into n in
             let settling = subst (λ (r : Reach). is_of_one r ≡ true → FetchesAtMost (λ u. 512 * pages_of_entry (entry_reached r (mounted_store x2 u))) (o c.change.new.host) (o c.settled.new.host)) aimed (s.fetches t) refl in
-            let within : (u : ℕ) → pages_of_entry (entry_reached reached (mounted_store x2 u)) ≤ _ = λ u. subst (λ e. pages_of_entry e ≤ _)
+            let within : (u : ℕ) → pages_of_entry (entry_reached reached (mounted_store x2 u)) ≤ pages_there (answer w cmd).0 u (meant w cmd u) = λ u. subst (λ e. pages_of_entry e ≤ pages_there (answer w cmd).0 u (meant w cmd u))
             (sym (pages-alike w c.args.unit c.args.to name target c.args.soup c.args.into c.args.uid h k refl entry found c.requires.apart apart x2 n was u))
             (reached_within (laws g) g.H.Host.told start.units start.desk (o c.args.host.now) c.requires.stands t cmd none _ _ reached passed done
             (added-reached w c.args.unit c.args.to name target c.args.soup c.args.into c.args.uid h k refl entry found c.requires.apart apart x2 n was) form refl u) in
@@ -336,15 +323,9 @@ returns-in_err-change g c name target both =
             let removed = remove-said h.blocks c.settled.new.self.units.minute c.args.soup h.store h.soup h.by_sig c.args.uid entry found in
             let both_costs = whole-costs w c.args.unit c.args.to name target c.args.soup c.args.into c.args.uid h k entry found c.requires.apart _ same few
             (λ u. 512 * pages_of_entry (entry_reached reached (mounted_store x2 u))) (said-costs first t there added) tt was.passed s.read.untouched settling (said-costs second t then removed) in
-            settled_costs start.desk none (of_costs both_costs) (λ goes. fault-goes ℕ (Err _) (_, refl, refl) goes) refl (λ u. alone-refl u _)
-            (λ means. settled_whole start.desk w cmd (o c.args.host.now) (o c.change-2.new.host) (λ u. pages_of_entry (entry_reached reached (mounted_store x2 u))) all (both_costs.fetched refl) within);
-      step = λ t unread. absurd (unread_uses_cursor _ cmd none unread);
-      alone = ends.alone;
-      cause = ends.cause;
-      no_fault = ends.no_fault;
-      ends = λ no. absurd (both-ways (sym no));
-      device = λ no. absurd (both-ways (sym no));
-    })
+            settled_costs start.desk none (of_costs both_costs) (λ goes. goes) refl (λ u. alone-refl u _)
+            (λ means. settled_whole start.desk w cmd (o c.args.host.now) (o c.change-2.new.host) (λ u. pages_of_entry (entry_reached reached (mounted_store x2 u))) all (both_costs.fetched refl) within))
+    ends
 
 pub returns : goal.returns
 returns g c name target both =
@@ -360,7 +341,7 @@ returns g c name target both =
     let x2 = world_of g.C.Card.reads c.change.new.self (o c.change.new.host) in
     let s = c.in_ok-reply.ensures in
     let second = c.in_ok-change.ensures in
-    let ends = ends-ok (ends-after read.ends tt (ends-after (ends-change first) tt (ends-after s.ends tt (ends-change second)))) in
+    let ends = ends-ok {T = Shown} {y = c.in_ok-reply.reply} (ends-after read.ends tt (ends-after (ends-change first) tt (ends-after s.ends tt (ends-change second)))) in
     let v = world_with g.C.Card.reads c.change-2.new.self c.settled.new.self.desk (o c.change-2.new.host) in
     let x4 = world_of g.C.Card.reads c.change-2.new.self (o c.change-2.new.host) in
     let answers : IsTrue g.H.Host.told → Answers (with_cursors start.desk w) v cmd said (Ok c.in_ok-reply.reply) = λ t.
@@ -374,15 +355,15 @@ returns g c name target both =
             let uid_is = added-uid k.blocks c.read_entry.new.self.minute c.args.into k.store k.soup k.by_sig entry.graph in
             let was = was-added w c.args.unit c.args.to name target c.args.soup c.args.into c.args.uid h k refl entry found c.requires.apart _ x2 _ same (said-made first t there added (λ n. n ≡ k.soup.next_uid) (λ n is. is ∙ uid_is)) in
             let apart = c.requires.stands.apart t in
-            let few = record { alone = read.looks.untouched; moment = read.looks.moment; reads = read.fetches t h.blocks h.store h.on } in
+            let few : Seen c.args.unit (512 * its_pages h c.args.uid) (o c.args.host.now) (o c.read_entry.new.host) = record { alone = read.looks.untouched; moment = read.looks.moment; reads = read.fetches t h.blocks h.store h.on } in
             let aimed = ap (λ (a : Aim). reached_by a x2 (Reply.number n)) (c.aim_into-aim.ensures (o c.args.host.now) (units_are g c.args.host.now)
             (told_stands g.H.Host.told start.units (o c.args.host.now) c.requires.stands.stand t) k.store (is-mounted w c.args.to k.blocks k.store k.on)) in
             let done = between-answers w c.args.unit c.args.to name target c.args.soup c.args.into c.args.uid h k refl entry found c.requires.apart x2
             (change_store x2 c.args.unit (change_soup h.soup.name (remove_entry c.args.uid))) n was refl in
-            let passed = unrefused_on {T = ℕ} {made = λ n. Reply.number n} w _ cmd (Ok n) (λ x r k. cc) done in
+            let passed = unrefused_on {T = ℕ} {made = λ n. Reply.number n} w (change_store x2 c.args.unit (change_soup h.soup.name (remove_entry c.args.uid))) cmd (Ok n) (λ x r k. cc) done in
             let reached = on_entry k.store.sig c.args.into n in
             let settling = subst (λ (r : Reach). is_of_one r ≡ true → FetchesAtMost (λ u. 512 * pages_of_entry (entry_reached r (mounted_store x2 u))) (o c.change.new.host) (o c.settled.new.host)) aimed (s.fetches t) refl in
-            let within : (u : ℕ) → pages_of_entry (entry_reached reached (mounted_store x2 u)) ≤ _ = λ u. subst (λ e. pages_of_entry e ≤ _)
+            let within : (u : ℕ) → pages_of_entry (entry_reached reached (mounted_store x2 u)) ≤ pages_there (answer w cmd).0 u (meant w cmd u) = λ u. subst (λ e. pages_of_entry e ≤ pages_there (answer w cmd).0 u (meant w cmd u))
             (sym (pages-alike w c.args.unit c.args.to name target c.args.soup c.args.into c.args.uid h k refl entry found c.requires.apart apart x2 n was u))
             (reached_within (laws g) g.H.Host.told start.units start.desk (o c.args.host.now) c.requires.stands t cmd none _ _ reached passed done
             (added-reached w c.args.unit c.args.to name target c.args.soup c.args.into c.args.uid h k refl entry found c.requires.apart apart x2 n was) form refl u) in
@@ -410,7 +391,7 @@ returns g c name target both =
             ∙ ap {B = World × Reply} (λ r. (v, said r)) (sym s.same) in
     record {
       stands = λ goes. stands_after g.H.Host.told start.units c.change-2.new.self start.desk c.settled.new.self.desk (o c.args.host.now) (o c.change-2.new.host) c.requires.stands
-          (second.stands tt) (units_are g c.change-2.new.host) s.desk cmd said _ answers goes;
+          (second.stands tt) (units_are g c.change-2.new.host) s.desk cmd said (Ok c.in_ok-reply.reply) answers goes;
       answered = answers;
       moments = λ t.
             let h = (both t).0 in
@@ -423,15 +404,15 @@ returns g c name target both =
             let uid_is = added-uid k.blocks c.read_entry.new.self.minute c.args.into k.store k.soup k.by_sig entry.graph in
             let was = was-added w c.args.unit c.args.to name target c.args.soup c.args.into c.args.uid h k refl entry found c.requires.apart _ x2 _ same (said-made first t there added (λ n. n ≡ k.soup.next_uid) (λ n is. is ∙ uid_is)) in
             let apart = c.requires.stands.apart t in
-            let few = record { alone = read.looks.untouched; moment = read.looks.moment; reads = read.fetches t h.blocks h.store h.on } in
+            let few : Seen c.args.unit (512 * its_pages h c.args.uid) (o c.args.host.now) (o c.read_entry.new.host) = record { alone = read.looks.untouched; moment = read.looks.moment; reads = read.fetches t h.blocks h.store h.on } in
             let aimed = ap (λ (a : Aim). reached_by a x2 (Reply.number n)) (c.aim_into-aim.ensures (o c.args.host.now) (units_are g c.args.host.now)
             (told_stands g.H.Host.told start.units (o c.args.host.now) c.requires.stands.stand t) k.store (is-mounted w c.args.to k.blocks k.store k.on)) in
             let done = between-answers w c.args.unit c.args.to name target c.args.soup c.args.into c.args.uid h k refl entry found c.requires.apart x2
             (change_store x2 c.args.unit (change_soup h.soup.name (remove_entry c.args.uid))) n was refl in
-            let passed = unrefused_on {T = ℕ} {made = λ n. Reply.number n} w _ cmd (Ok n) (λ x r k. cc) done in
+            let passed = unrefused_on {T = ℕ} {made = λ n. Reply.number n} w (change_store x2 c.args.unit (change_soup h.soup.name (remove_entry c.args.uid))) cmd (Ok n) (λ x r k. cc) done in
             let reached = on_entry k.store.sig c.args.into n in
             let settling = subst (λ (r : Reach). is_of_one r ≡ true → FetchesAtMost (λ u. 512 * pages_of_entry (entry_reached r (mounted_store x2 u))) (o c.change.new.host) (o c.settled.new.host)) aimed (s.fetches t) refl in
-            let within : (u : ℕ) → pages_of_entry (entry_reached reached (mounted_store x2 u)) ≤ _ = λ u. subst (λ e. pages_of_entry e ≤ _)
+            let within : (u : ℕ) → pages_of_entry (entry_reached reached (mounted_store x2 u)) ≤ pages_there (answer w cmd).0 u (meant w cmd u) = λ u. subst (λ e. pages_of_entry e ≤ pages_there (answer w cmd).0 u (meant w cmd u))
             (sym (pages-alike w c.args.unit c.args.to name target c.args.soup c.args.into c.args.uid h k refl entry found c.requires.apart apart x2 n was u))
             (reached_within (laws g) g.H.Host.told start.units start.desk (o c.args.host.now) c.requires.stands t cmd none _ _ reached passed done
             (added-reached w c.args.unit c.args.to name target c.args.soup c.args.into c.args.uid h k refl entry found c.requires.apart apart x2 n was) form refl u) in
@@ -459,15 +440,15 @@ returns g c name target both =
             let uid_is = added-uid k.blocks c.read_entry.new.self.minute c.args.into k.store k.soup k.by_sig entry.graph in
             let was = was-added w c.args.unit c.args.to name target c.args.soup c.args.into c.args.uid h k refl entry found c.requires.apart _ x2 _ same (said-made first t there added (λ n. n ≡ k.soup.next_uid) (λ n is. is ∙ uid_is)) in
             let apart = c.requires.stands.apart t in
-            let few = record { alone = read.looks.untouched; moment = read.looks.moment; reads = read.fetches t h.blocks h.store h.on } in
+            let few : Seen c.args.unit (512 * its_pages h c.args.uid) (o c.args.host.now) (o c.read_entry.new.host) = record { alone = read.looks.untouched; moment = read.looks.moment; reads = read.fetches t h.blocks h.store h.on } in
             let aimed = ap (λ (a : Aim). reached_by a x2 (Reply.number n)) (c.aim_into-aim.ensures (o c.args.host.now) (units_are g c.args.host.now)
             (told_stands g.H.Host.told start.units (o c.args.host.now) c.requires.stands.stand t) k.store (is-mounted w c.args.to k.blocks k.store k.on)) in
             let done = between-answers w c.args.unit c.args.to name target c.args.soup c.args.into c.args.uid h k refl entry found c.requires.apart x2
             (change_store x2 c.args.unit (change_soup h.soup.name (remove_entry c.args.uid))) n was refl in
-            let passed = unrefused_on {T = ℕ} {made = λ n. Reply.number n} w _ cmd (Ok n) (λ x r k. cc) done in
+            let passed = unrefused_on {T = ℕ} {made = λ n. Reply.number n} w (change_store x2 c.args.unit (change_soup h.soup.name (remove_entry c.args.uid))) cmd (Ok n) (λ x r k. cc) done in
             let reached = on_entry k.store.sig c.args.into n in
             let settling = subst (λ (r : Reach). is_of_one r ≡ true → FetchesAtMost (λ u. 512 * pages_of_entry (entry_reached r (mounted_store x2 u))) (o c.change.new.host) (o c.settled.new.host)) aimed (s.fetches t) refl in
-            let within : (u : ℕ) → pages_of_entry (entry_reached reached (mounted_store x2 u)) ≤ _ = λ u. subst (λ e. pages_of_entry e ≤ _)
+            let within : (u : ℕ) → pages_of_entry (entry_reached reached (mounted_store x2 u)) ≤ pages_there (answer w cmd).0 u (meant w cmd u) = λ u. subst (λ e. pages_of_entry e ≤ pages_there (answer w cmd).0 u (meant w cmd u))
             (sym (pages-alike w c.args.unit c.args.to name target c.args.soup c.args.into c.args.uid h k refl entry found c.requires.apart apart x2 n was u))
             (reached_within (laws g) g.H.Host.told start.units start.desk (o c.args.host.now) c.requires.stands t cmd none _ _ reached passed done
             (added-reached w c.args.unit c.args.to name target c.args.soup c.args.into c.args.uid h k refl entry found c.requires.apart apart x2 n was) form refl u) in
@@ -483,7 +464,7 @@ returns g c name target both =
             (λ u. 512 * pages_of_entry (entry_reached reached (mounted_store x2 u))) (said-costs first t there added) tt was.passed s.read.untouched settling (said-costs second t then removed) in
             settled_costs start.desk none (of_costs both_costs) (λ goes. tt) refl (λ u. alone-refl u _)
             (λ means. settled_whole start.desk w cmd (o c.args.host.now) (o c.change-2.new.host) (λ u. pages_of_entry (entry_reached reached (mounted_store x2 u))) all (both_costs.fetched refl) within);
-      step = λ t unread. absurd (unread_uses_cursor _ cmd none unread);
+      step = λ t unread. absurd (unread_uses_cursor (with_cursors start.desk w) cmd none unread);
       alone = ends.alone;
       cause = ends.cause;
       no_fault = ends.no_fault;

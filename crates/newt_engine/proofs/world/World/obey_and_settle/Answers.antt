@@ -56,7 +56,7 @@ returns-then-settles g c =
           (λ means. settled_few a.desk start c.args.command (o c.args.host.now) (o c.obey.new.host) (o c.settled.new.host) (λ u. pages_of_entry (entry_reached reached (mounted_store v u))) (whole laws g.H.Host.told a.units a.desk (o c.args.host.now) c.requires.stands t c.args.command c.requires.no_cursor)
           ((c.in-Ok.ensures.costs t).fetched means) (s.fetches t (ap is_of_one (is t) ∙ reaches-one start c.args.command means))
           (reached_within laws g.H.Host.told a.units a.desk (o c.args.host.now) c.requires.stands t c.args.command c.requires.no_cursor v (said c.in-Ok.reply) reached (c.in-Ok.ensures.unrefused t moves) (c.in-Ok.ensures.answered t) (is t) c.requires.form means));
-      step = λ t unread. absurd (unread_uses_cursor _ c.args.command c.requires.no_cursor unread);
+      step = λ t unread. absurd (unread_uses_cursor w c.args.command c.requires.no_cursor unread);
       alone = OnDevices-append e.alone s.read.alone;
       cause = cause-after _ _ e.alone s.ends.cause;
       no_fault = λ goes. NoFault-append (c.in-Ok.ensures.no_fault tt) (s.ends.no_fault goes);
@@ -82,7 +82,7 @@ returns-else-settles g c =
       costs = λ t. settled_costs a.desk c.requires.no_cursor (c.in-Ok.ensures.costs t) (λ goes. tt) refl (λ u. alone-refl u _)
           (λ means. alone_few a.desk (world_of g.C.Card.reads a.units (o c.args.host.now)) c.args.command (o c.args.host.now) (o c.obey.new.host) (whole laws g.H.Host.told a.units a.desk (o c.args.host.now) c.requires.stands t c.args.command c.requires.no_cursor)
           ((c.in-Ok.ensures.costs t).fetched means));
-      step = λ t unread. absurd (unread_uses_cursor _ c.args.command c.requires.no_cursor unread);
+      step = λ t unread. absurd (unread_uses_cursor w c.args.command c.requires.no_cursor unread);
       alone = e.alone;
       cause = c.in-Ok.ensures.cause;
       no_fault = c.in-Ok.ensures.no_fault;
