@@ -252,7 +252,7 @@ returns-in_err-change g c name target both =
             let was3 : WasAdded w c.args.unit c.args.to name target c.args.soup c.args.into c.args.uid h k refl entry found c.requires.apart x3 n = record { passed = was.passed; number = was.number; world = s.read.world t ∙ was.world } in
             let then = on-then w c.args.unit c.args.to name target c.args.soup c.args.into c.args.uid h k refl entry found c.requires.apart x3 n was3 in
             let removed = remove-said h.blocks c.settled.new.self.units.minute c.args.soup h.store h.soup h.by_sig c.args.uid entry found in
-            (removal_ends _ _ _ _ (said-made second t then removed (λ _. ⊤) (λ n is. tt))))
+            (removal_ends _ x2 _ _ (said-made second t then removed (λ _. ⊤) (λ n is. tt))))
     second.stands s.desk
     (λ t.
             let h = (both t).0 in
