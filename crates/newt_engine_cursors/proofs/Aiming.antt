@@ -1,5 +1,5 @@
 -- What a command aims at is what it reaches.
-use Rattle.std.proofs.Common.{◌≡◌, refl, ap, sym, ◌∙◌, ℕ, Bool, true, false, cond, Option, Some, None, option_map, option_and_then}
+use Rattle.std.proofs.Common.{◌≡◌, refl, ap, sym, ◌∙◌, ℕ, true, Option, Some, None, option_map, option_and_then}
 use Rattle.newt_base.specs.Refusals.{first_of}
 use Rattle.newt_graph.specs.Graph.{RawGraph}
 use Rattle.std.proofs.Common.{List}
@@ -10,10 +10,10 @@ use Rattle.newt_spec_world.specs.declared.command.Command.{Command}
 use Rattle.newt_spec_world.specs.declared.command.Command.TheVariants as command
 use Rattle.newt_spec_world.specs.declared.command.PartWord.{PartWord}
 use Rattle.newt_spec_world.specs.Answer.{answer, fields, new_uid}
-use Rattle.newt_spec_world.specs.Changed.{changed, mark, sig_of}
+use Rattle.newt_spec_world.specs.Changed.{changed, sig_of}
 use Rattle.newt_spec_world.specs.Refused.{checks}
 use Rattle.newt_spec_world.specs.Reply.{Reply}
-use Rattle.newt_spec_world.specs.World.{World, Device, default_unit, device, mounted_store, settle, soup_in, store_if_mounted, store_of, store_on_unit}
+use Rattle.newt_spec_world.specs.World.{World, Device, default_unit, device, mounted_store, settle, soup_in, store_if_mounted, store_of}
 use Rattle.newt_laws_world.proofs.Units.{device-same}
 use Rattle.newt_laws_reach.specs.Reach as plain
 use Rattle.newt_engine_cursors.specs.Reached.{Aims, IsNew, reached_by, reached_new}

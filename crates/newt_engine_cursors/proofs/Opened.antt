@@ -19,6 +19,7 @@ use Rattle.newt_spec_world.specs.Answer.{answer, fields, or_nil}
 use Rattle.newt_laws_world.specs.Settled.{IsSettled, moves_keys}
 use Rattle.newt_laws_answers.specs.Tests.{soup_checks}
 use Rattle.newt_laws_answers.proofs.Firsts.{first-found}
+use Rattle.newt_query.specs.Filter.{asks_texts}
 use Rattle.newt_cursor.specs.declared.query.Query as code
 use Rattle.newt_cursor.specs.Seen.{query_of as seen}
 use Rattle.newt_store_change.specs.declared.fault.StoreFault.{StoreFault}
@@ -36,6 +37,15 @@ pub first-on : (xs ys : Checks) → first_of xs ≡ None → first_of (xs ++ ys)
 first-on [] ys e = refl
 first-on ((r, true) ∷ xs) ys e = absurd (none-some r (sym e))
 first-on ((r, false) ∷ xs) ys e = first-on xs ys e
+
+-- ---- a query that asks for no words or texts
+
+pub unread-asked : (q r : Query) → q ≡ r → not (asks_texts r.spec) ≡ true → asks_texts q.spec ≡ false
+unread-asked q r e un = ap (λ (q : Query). asks_texts q.spec) e ∙ not-true (asks_texts r.spec) un
+  where
+    not-true : (b : Bool) → not b ≡ true → b ≡ false
+    not-true true h = cc
+    not-true false h = refl
 
 -- ---- a cursor that is opened
 

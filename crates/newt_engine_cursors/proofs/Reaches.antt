@@ -1,5 +1,5 @@
 -- The cursors that are reached are settled, and no other.
-use Rattle.std.proofs.Common.{arith, ◌≡◌, ◌+◌, ◌*◌, refl, ap, sym, ◌∙◌, ℕ, Bool, true, false, ◌&&◌, ◌==◌, if◌then◌else◌, cond, find, List, [], ◌∷◌, map, Option, Some, None, option_map, option_and_then, slice_get, IsTrue}
+use Rattle.std.proofs.Common.{arith, ◌≡◌, ◌+◌, ◌*◌, refl, ap, sym, ◌∙◌, ℕ, Bool, true, false, ◌&&◌, ◌==◌, if◌then◌else◌, cond, List, [], ◌∷◌, map, Option, Some, None, option_map, option_and_then, slice_get, IsTrue}
 use Rattle.std.specs.Prelude.{not}
 use Rattle.std.proofs.lemmas.Bool.{and_parts, eqb-true}
 use Rattle.newt_spec_graph.specs.Lists.{Each}
@@ -7,7 +7,7 @@ use Rattle.newt_spec_graph.proofs.Lists.{none-some, some-same}
 use Rattle.newt_spec_query.specs.Hits.{Hit, Query}
 use Rattle.newt_spec_query.specs.Cursor.{Cursor, Place, start, finish, on}
 use Rattle.newt_spec_store.specs.Keys.{Key}
-use Rattle.newt_spec_store.specs.Store.{Store, entry_at}
+use Rattle.newt_spec_store.specs.Store.{Store}
 use Rattle.newt_spec_store.specs.Valid.{well_formed}
 use Rattle.newt_spec_world.specs.World.{World, change_at, flat, mounted_stores, settle_cursor}
 use Rattle.newt_spec_world.specs.declared.command.Command.{Command}

@@ -49,8 +49,8 @@ module _ {C : Type 0} (reads : List ℕ → Option Store) (place : C → ℕ) (s
     pub cause : IfErr result (λ fault. HasFaultCause fault before after)
     pub no_fault : GoesOn result → NoFault before after
 
-  -- A command of cursors, in a world whose cursors are settled. It is answered as that world answers it, and the units are read alone; a step of a cursor whose
-  -- query asks for no words or texts fetches the entry that is shown and nothing else, whatever its result is.
+  -- A command of cursors, in a world whose cursors are settled. It is answered as that world answers it, and the units are read alone; one that opens, shows,
+  -- moves or counts a cursor whose query asks for no words or texts fetches the entry that is shown and nothing else, whatever its result is.
   pub record Walks {T : Type 0} (told : Bool) (command : Command) (reply : T → Reply) (old new : Units C) (was is : List (Option Cursor)) (before after : Outside)
       (result : Result T StoreFault) : Type 0 where
     pub read : AreRead reads place standing told old new before after

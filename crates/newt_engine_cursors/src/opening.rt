@@ -1,5 +1,5 @@
 //! The commands that open a cursor.
-ghost use Rattle.std.specs.Prelude.{◌≡◌, true, IfErr, Some, ◌++◌, is_some};
+ghost use Rattle.std.specs.Prelude.{◌≡◌, false, true, IfErr, Some, ◌++◌, is_some};
 ghost use Rattle.std.specs.List.{list_any};
 ghost use Rattle.newt_host.specs.Outside.{Outside};
 ghost use Rattle.newt_cursor.specs.Seen.{query_of};
@@ -8,7 +8,9 @@ ghost use Rattle.newt_spec_world.specs.Reply.{Reply};
 ghost use Rattle.newt_spec_world.specs.World.{mounted, soup_in};
 ghost use Rattle.newt_spec_world.specs.declared.command.Command.{Command};
 ghost use Rattle.newt_laws_answers.specs.Tests.{soup_checks};
+ghost use Rattle.newt_query.specs.Filter.{asks_texts};
 ghost use Rattle.newt_store_change.specs.Faults.{NoDevice};
+ghost use Rattle.newt_engine_card.specs.Bounds.{FetchesAtMost};
 ghost use Rattle.newt_engine_units.specs.Stands.{Eight, Stands, world_of};
 ghost use Rattle.newt_engine_cursors.specs.Fits.{DeskFits};
 ghost use Rattle.newt_engine_cursors.specs.Opening.{Binds, Opens, bind_tests};
@@ -26,8 +28,8 @@ use newt_pagebook::Stop;
 use newt_store_change::StoreFault;
 
 /// Opens a cursor on the first hit of a query in the soup of a name in one store, or behind all
-/// where it has no hits, and answers its number, from 0 to
-/// 31. Where all 32 places are taken it is refused as `Limit`.
+/// where it has no hits, and answers its number, from 0 to 31. Where all 32 places are taken it is
+/// refused as `Limit`.
 pub fn query<C: Card, H: Host>(
     units: &mut Units<C>,
     desk: &mut Desk,
@@ -120,9 +122,11 @@ fn open<C: Card, H: Host>(
 ) -> Result<u8, StoreFault>
     requires stands { Stands C.place C.stands H.told units.old (H.outside host.old) }
     requires desk { DeskFits desk.old }
-    ensures { Turns C.reads C.place C.stands H.told
+    ensures turns { Turns C.reads C.place C.stands H.told
         (λ w v. Opens w v (query_of query) result) units.old units.new
         desk.old desk.new (H.outside host.old) (H.outside host.new) result }
+    ensures unread { asks_texts query.spec ≡ false
+        → FetchesAtMost (λ u. 0) (H.outside host.old) (H.outside host.new) }
 {
     let first = outermost(units, host, &query, Way::On)?;
     match desk.open(query, first) {

@@ -1,5 +1,5 @@
 -- All hits of the query of the cursor are counted.
-use Rattle.std.proofs.Common.{arith, ◌≡◌, ◌∙◌, ap, refl, sym, true, false, option_map, ℕ, Option}
+use Rattle.std.proofs.Common.{arith, ◌≡◌, ◌∙◌, ap, refl, sym, true, false, option_map, ℕ}
 use Rattle.std.specs.Prelude.{Result, slice_get, is_some}
 use Rattle.std.proofs.lemmas.Result.{err_from_is_err_and}
 use Rattle.newt_cursor.specs.Seen.{query_of}

@@ -16,13 +16,13 @@ use Rattle.newt_engine_cursors.proofs.Calls.{turns-end}
 use Rattle.newt_engine_cursors.proofs.Cursors.{opens-at, set-fits}
 use Rattle.newt_engine_cursors.proofs.opening.open.Goals as goal
 
-pub returns-in_err-first : goal.returns-in_err-first
-returns-in_err-first g c =
+pub returns-in_err-first-clause-turns : goal.returns-in_err-first-clause-turns
+returns-in_err-first-clause-turns g c =
     turns-end (λ (r : Result ℕ StoreFault) (w v : World). Opens w v (query_of c.args.query) r) c.in_err-first.ensures.reading c.requires.desk
     c.from_residual.result (err_from_is_err_and c.from_residual.result c.from_residual.ensures.1) (λ w v. tt)
 
-pub returns-in-Ok : goal.returns-in-Ok
-returns-in-Ok g c =
+pub returns-in-Ok-clause-turns : goal.returns-in-Ok-clause-turns
+returns-in-Ok-clause-turns g c =
     let read = c.in_ok-first.ensures.reading in
     let made = c.in-Ok.ensures.ok in
     let k : Cursor = record { query = query_of c.args.query; place = place_of c.in_ok-first.first } in
@@ -41,8 +41,8 @@ returns-in-Ok g c =
       no_fault = λ goes. read.no_fault;
     }
 
-pub returns-in-Err-Limit : goal.returns-in-Err-Limit
-returns-in-Err-Limit g c =
+pub returns-in-Err-Limit-clause-turns : goal.returns-in-Err-Limit-clause-turns
+returns-in-Err-Limit-clause-turns g c =
     let read = c.in_ok-first.ensures.reading in
     let same = c.in-Err-Limit.ensures.err in
     record {
@@ -58,7 +58,7 @@ returns-in-Err-Limit g c =
       no_fault = λ goes. read.no_fault;
     }
 
-pub returns-in-Err-Memory : goal.returns-in-Err-Memory
-returns-in-Err-Memory g c =
+pub returns-in-Err-Memory-clause-turns : goal.returns-in-Err-Memory-clause-turns
+returns-in-Err-Memory-clause-turns g c =
     let read = c.in_ok-first.ensures.reading in
     record { read = read.read; desk = subst DeskFits (sym c.in-Err-Memory.ensures.err) c.requires.desk; turned = λ t apart. tt; cause = tt; no_fault = λ goes. absurd goes }

@@ -1,12 +1,13 @@
 -- A soup is there, the query is made, and its cursor opened.
-use Rattle.std.proofs.Common.{subst, refl, true, false}
+use Rattle.std.proofs.Common.{arith, subst, refl, true, false}
+use Rattle.newt_cursor.specs.Seen.{query_of as seen}
 use Rattle.newt_engine_units.specs.Stands.{Stands, Eight}
 use Rattle.newt_engine_cursors.specs.World.{world_with}
 use Rattle.newt_engine_cursors.proofs.Calls.{stays, walks-of}
 use Rattle.newt_engine_cursors.proofs.Stepped.{still-settled}
 use Rattle.newt_engine_units.proofs.Known.{Laws}
 use Rattle.newt_spec_world.specs.declared.command.Command.TheVariants as command
-use Rattle.newt_engine_cursors.proofs.Opened.{nowhere, all-few, all-opens, all-refused}
+use Rattle.newt_engine_cursors.proofs.Opened.{nowhere, all-few, all-opens, all-refused, unread-asked}
 use Rattle.newt_engine_cursors.proofs.opening.query_all.Goals as goal
 
 pub returns-then-not-has_soup : goal.returns-then-not-has_soup
@@ -18,7 +19,7 @@ returns-then-not-has_soup g c = stays c.requires.stands c.requires.desk tt (λ t
     nowhere w c.args.name.now c.args.graph.now false (c.if-not-has_soup.ensures o eight stand) refl)
 
 pub returns-in-Ok : goal.returns-in-Ok
-returns-in-Ok g c = walks-of c.open.ensures (λ t apart settled d.
+returns-in-Ok g c = walks-of c.open.ensures.turns (λ t apart settled d.
     let laws : Laws g.C.Card.reads g.C.Card.place g.C.Card.soups g.C.Card.stands = record { formed = g.met.C.Card.formed; plain = g.met.C.Card.plain; durable = g.met.C.Card.durable; banks = g.met.C.Card.banks; kept = g.met.C.Card.kept } in
     let o = g.H.Host.outside c.args.host.now in
     let eight : Eight (g.H.Host.outside c.args.host.now) = record { eight = g.met.H.Host.eight c.args.host.now; none = g.met.H.Host.none c.args.host.now } in
@@ -27,7 +28,11 @@ returns-in-Ok g c = walks-of c.open.ensures (λ t apart settled d.
     all-opens w c.args.name.now c.args.graph.now true (c.if-not-has_soup.ensures o eight stand) refl
     (still-settled laws g.H.Host.told c.args.units.now c.args.desk.now o eight c.requires.stands (command.QueryAll c.args.name.now c.args.graph.now) t apart settled (all-few w c.args.name.now c.args.graph.now)) (world_with g.C.Card.reads c.open.new.units c.open.new.desk (g.H.Host.outside c.open.new.host)) c.in-Ok.query (c.in-Ok.ensures.bound o eight stand)
     c.open.result d)
-    (λ t apart settled un. absurd cc)
+    (λ t apart settled un u.
+    let o = g.H.Host.outside c.args.host.now in
+    let eight : Eight (g.H.Host.outside c.args.host.now) = record { eight = g.met.H.Host.eight c.args.host.now; none = g.met.H.Host.none c.args.host.now } in
+    let stand : Stands g.C.Card.place g.C.Card.stands true c.args.units.now o = subst (λ b. Stands g.C.Card.place g.C.Card.stands b c.args.units.now o) t c.requires.stands in
+    let z = (c.open.ensures.unread (unread-asked (seen c.in-Ok.query) _ (c.in-Ok.ensures.bound o eight stand).1 un)) u in omega (arith, z))
 
 pub returns-in-Err : goal.returns-in-Err
 returns-in-Err g c = stays c.requires.stands c.requires.desk c.in-Err.ensures.cause (λ t apart.

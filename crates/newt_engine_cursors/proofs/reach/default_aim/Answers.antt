@@ -1,7 +1,7 @@
 -- The default unit is looked up.
-use Rattle.std.proofs.Common.{◌≡◌, ap, sym, subst, ℕ, Option, Some, None}
+use Rattle.std.proofs.Common.{◌≡◌, ap, subst, ℕ, Option}
 use Rattle.std.specs.Prelude.{unwrap_or}
-use Rattle.newt_laws_reach.specs.Reach.{next_reach, nowhere}
+use Rattle.newt_laws_reach.specs.Reach.{next_reach}
 use Rattle.newt_spec_world.specs.Answer.{new_uid}
 use Rattle.newt_engine_units.specs.Stands.{world_of}
 use Rattle.newt_engine_cursors.specs.Reached.{IsNew, reached_by}

@@ -1,5 +1,5 @@
 -- One cursor after another.
-use Rattle.std.proofs.Common.{arith, ◌≡◌, ◌<◌, ◌≤◌, ◌⊎◌, ◌∙◌, ap, sym, subst, inl, inr, ℕ, Option, length}
+use Rattle.std.proofs.Common.{arith, ◌∙◌, ap, sym, inl, inr, ℕ, Option, length}
 use Rattle.std.specs.Prelude.{slice_get}
 use Rattle.newt_spec_query.specs.Cursor.{Cursor}
 use Rattle.newt_spec_world.specs.World.{flat}

@@ -1,5 +1,5 @@
 -- One place after another.
-use Rattle.std.proofs.Common.{arith, ◌≡◌, ◌∙◌, ap, sym, subst, ◌≤◌, length, List, Option}
+use Rattle.std.proofs.Common.{arith, ◌∙◌, ap, sym, subst, ◌≤◌, length, List, Option}
 use Rattle.std.specs.Prelude.{slice_get}
 use Rattle.newt_spec_query.specs.Cursor.{Cursor}
 use Rattle.newt_spec_world.specs.World.{flat}

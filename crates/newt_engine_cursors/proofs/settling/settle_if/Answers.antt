@@ -1,5 +1,5 @@
 -- A cursor that is reached is settled, and any other stays.
-use Rattle.std.proofs.Common.{arith, ◌≡◌, sym, ◌∙◌, subst, List, Option}
+use Rattle.std.proofs.Common.{arith, ◌≡◌, sym, subst, List, Option}
 use Rattle.std.specs.Prelude.{OnOk, slice_get}
 use Rattle.newt_spec_world.specs.World.{flat}
 use Rattle.newt_spec_query.specs.Cursor.{Cursor}

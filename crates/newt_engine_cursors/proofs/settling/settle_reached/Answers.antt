@@ -1,5 +1,5 @@
 -- Nothing, one entry, or the cursors on a store or a soup.
-use Rattle.std.proofs.Common.{arith, ◌≡◌, ◌∙◌, ◌*◌, ap, sym, subst, ℕ, true, false}
+use Rattle.std.proofs.Common.{arith, ◌≡◌, ◌∙◌, ◌*◌, ap, sym, subst, true, false}
 use Rattle.std.specs.Prelude.{OnOk}
 use Rattle.newt_host.proofs.Outside.{NoFault-refl}
 use Rattle.newt_spec_world.specs.World.{mounted_store}

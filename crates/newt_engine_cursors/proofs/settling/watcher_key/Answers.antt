@@ -1,5 +1,5 @@
 -- The cursor stands on the entry, and its key is looked up.
-use Rattle.std.proofs.Common.{◌≡◌, ◌∙◌, ap, sym, refl, true, option_map, ℕ}
+use Rattle.std.proofs.Common.{◌∙◌, ap, sym, option_map, ℕ}
 use Rattle.newt_cursor.specs.Seen.{query_of}
 use Rattle.newt_spec_store.specs.Keys.{Key}
 use Rattle.newt_laws_reach.specs.Reach.{on_entry}

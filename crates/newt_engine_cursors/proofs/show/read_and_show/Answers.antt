@@ -1,9 +1,8 @@
 -- The entry is there.
-use Rattle.std.proofs.Common.{◌≡◌, ◌∙◌, ap, refl, sym, Some, None, Option}
+use Rattle.std.proofs.Common.{◌∙◌, ap, refl, sym}
 use Rattle.std.proofs.lemmas.Result.{err_from_is_err_and}
 use Rattle.newt_engine_hits.proofs.Reading.{asked-read, end-read, is-read, not-read}
 use Rattle.newt_spec_graph.proofs.Lists.{some-same, none-some}
-use Rattle.newt_spec_store.specs.Store.{Entry}
 use Rattle.newt_store_change.specs.Entries.{entry_said, plain_entry}
 use Rattle.newt_engine_cursors.specs.Replies.{entry_reply}
 use Rattle.newt_engine_cursors.proofs.show.read_and_show.Goals as goal

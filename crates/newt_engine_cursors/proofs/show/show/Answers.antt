@@ -1,16 +1,13 @@
 -- The entry, or that it is no longer a hit.
 use Rattle.std.proofs.Common.{arith, ◌≡◌, ◌∙◌, ◌*◌, ap, sym, subst, refl, ℕ, true, option_map, Option, None}
-use Rattle.std.specs.Prelude.{Result, IfOk, slice_get}
+use Rattle.std.specs.Prelude.{slice_get}
 use Rattle.std.proofs.lemmas.Result.{IfOk-weaker, err_from_is_err_and}
 use Rattle.newt_cursor.specs.Seen.{query_of}
-use Rattle.newt_spec_query.specs.Cursor.{Cursor}
 use Rattle.newt_spec_world.specs.World.{World, flat}
 use Rattle.newt_engine_card.specs.Bounds.{FetchesAtMost}
-use Rattle.newt_engine_units.specs.Stands.{world_of}
 use Rattle.newt_engine_hits.specs.Present.{IsPresent, entry_there, fetched_there, identity, present_in}
 use Rattle.newt_engine_hits.specs.declared.present.Present.{Present}
 use Rattle.newt_engine_hits.proofs.Reading.{any-reading, asked-read, end-read, is-read, not-read, read-more}
-use Rattle.newt_engine_cursors.specs.Keyed.{seen_cursor, stands_on}
 use Rattle.newt_engine_cursors.specs.Replies.{hit_reply, shown_at, shown_reply}
 use Rattle.newt_engine_cursors.specs.World.{world_with}
 use Rattle.newt_engine_cursors.specs.declared.show.Shown.{Shown}

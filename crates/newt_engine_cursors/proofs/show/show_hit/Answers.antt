@@ -1,8 +1,8 @@
 -- The entry was read, or is read now.
-use Rattle.std.proofs.Common.{arith, ◌≡◌, ◌∙◌, ap, refl, sym, subst, ℕ, Option}
+use Rattle.std.proofs.Common.{arith, ◌≡◌, ◌∙◌, ap, refl, subst, ℕ, Option}
 use Rattle.newt_host.proofs.Outside.{NoFault-refl}
 use Rattle.newt_engine_hits.proofs.Reading.{asked-read, is-read, not-read}
-use Rattle.std.specs.Prelude.{IfOk, IfSome}
+use Rattle.std.specs.Prelude.{IfSome}
 use Rattle.std.proofs.lemmas.Result.{IfOk-weaker}
 use Rattle.newt_spec_store.specs.Store.{Entry}
 use Rattle.newt_store_change.specs.Entries.{plain_entry}

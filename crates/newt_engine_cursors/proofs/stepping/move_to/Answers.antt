@@ -1,6 +1,6 @@
 -- The place fits, and the cursor stands there when it is shown.
-use Rattle.std.proofs.Common.{◌≡◌, ◌∙◌, ◌*◌, subst, sym, ap, refl, ℕ, true, List, Option}
-use Rattle.std.specs.Prelude.{IfOk, slice_get}
+use Rattle.std.proofs.Common.{◌≡◌, ◌∙◌, ◌*◌, subst, sym, ap, List, Option}
+use Rattle.std.specs.Prelude.{slice_get}
 use Rattle.std.proofs.lemmas.Result.{IfOk-weaker}
 use Rattle.newt_cursor.specs.Seen.{place_of}
 use Rattle.newt_cursor.specs.Desk.{put_on}
@@ -8,7 +8,6 @@ use Rattle.newt_spec_query.specs.Cursor.{Cursor}
 use Rattle.newt_spec_world.specs.World.{World, flat, set_place}
 use Rattle.newt_laws_answers.specs.Fetched.{pages_shown}
 use Rattle.newt_laws_world.specs.Cursors.{with_cursors}
-use Rattle.newt_laws_world.specs.Settled.{MountedApart}
 use Rattle.newt_engine_card.specs.Bounds.{FetchesAtMost}
 use Rattle.newt_engine_units.specs.Stands.{world_of}
 use Rattle.newt_engine_cursors.specs.Calls.{Shows}

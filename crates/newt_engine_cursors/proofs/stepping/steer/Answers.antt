@@ -1,10 +1,8 @@
 -- The cursor is open, its next place is found, and it moves there.
-use Rattle.std.proofs.Common.{arith, ◌≡◌, ◌∙◌, ◌*◌, refl, ap, sym, subst, ℕ, true, Option}
+use Rattle.std.proofs.Common.{arith, ◌≡◌, ◌∙◌, ◌*◌, refl, ap, sym, subst, true}
 use Rattle.std.specs.Prelude.{Result, is_none, slice_get}
 use Rattle.std.proofs.lemmas.Result.{err_from_is_err_and}
 use Rattle.newt_cursor.specs.Seen.{place_of}
-use Rattle.newt_spec_query.specs.Cursor.{Cursor}
-use Rattle.newt_spec_world.specs.Changed.{stepped}
 use Rattle.newt_spec_world.specs.World.{World, flat, set_place}
 use Rattle.newt_laws_answers.specs.Fetched.{pages_shown}
 use Rattle.newt_laws_world.specs.Cursors.{with_cursors}
