@@ -7,7 +7,8 @@ ghost use Rattle.newt_spec_store.specs.Store.{Store};
 ghost use Rattle.newt_spec_store.specs.Valid.{well_formed};
 ghost use Rattle.newt_index_ranges.specs.Range.{range_in, mask_at};
 ghost use Rattle.newt_index_ranges.specs.Rows.{no_ranges, entry_kept, entry_forgotten};
-ghost use Rattle.newt_index_ranges.specs.Rows.{entry_renewed, with_range, without_range, with_masks};
+ghost use Rattle.newt_index_ranges.specs.Rows.{entry_renewed, with_range, without_range};
+ghost use Rattle.newt_index_ranges.specs.Rows.{with_masks};
 ghost use Rattle.newt_index_ranges.specs.Rows.{change_ranges, drop_ranges, range_found, mask_found};
 ghost use Rattle.newt_index_ranges.specs.Stands.{AreRangesOf};
 
@@ -113,7 +114,8 @@ impl Ranges {
 
     /// An entry of a soup with another graph.
     pub fn replace(&mut self, soup: Sig, uid: Uid, graph: &Graph) -> Result<(), AllocError>
-        ensures { OnOk result (self.new ≡ change_ranges soup (entry_renewed uid graph.now) self.old) }
+        ensures { OnOk result (self.new ≡ change_ranges soup (entry_renewed uid graph.now)
+            self.old) }
     {
         replace_in(self.soups.as_mut_slice(), soup, uid, graph)
     }

@@ -2,8 +2,8 @@
 ghost use Rattle.std.specs.Prelude.{◌≡◌, option_map, IfSome, IfOk, OnOk, OnErr};
 ghost use Rattle.newt_index.specs.Pairs.{IsSorted};
 ghost use Rattle.newt_index_ranges.specs.Rows.{no_ranges, entry_kept, entry_forgotten};
-ghost use Rattle.newt_index_ranges.specs.Rows.{entry_renewed, with_range, without_range, with_masks};
-ghost use Rattle.newt_index_ranges.specs.Rows.{find_range, find_mask};
+ghost use Rattle.newt_index_ranges.specs.Rows.{entry_renewed, with_range, without_range};
+ghost use Rattle.newt_index_ranges.specs.Rows.{with_masks, find_range, find_mask};
 
 use crate::entry::add_entry;
 use crate::indexes::Indexes;

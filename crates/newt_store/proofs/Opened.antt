@@ -1,13 +1,12 @@
 -- A store that is open, before and after calls on its unit.
-use Rattle.std.proofs.Common.{◌≡◌, ℕ, Bool, List, IsTrue, Some, Result, Err, sym, subst}
-use Rattle.newt_base.specs.declared.Refusal.{Refusal}
+use Rattle.std.proofs.Common.{◌≡◌, ℕ, Bool, List, IsTrue, Some, Err, sym, subst}
 use Rattle.newt_host.specs.Moments.{Moment, image}
 use Rattle.newt_host.specs.Outside.{Outside}
 use Rattle.newt_pagebook.specs.Book.{Numbers}
 use Rattle.newt_objects_commit.specs.Names.{names_of}
 use Rattle.newt_objects_commit.specs.Places.{place_of}
 use Rattle.newt_spec_store.specs.Store.{Store}
-use Rattle.newt_store_catalog.specs.Calls.{CanRead, HasEntry, LiesThere}
+use Rattle.newt_store_catalog.specs.Calls.{CanRead, HasEntry}
 use Rattle.newt_store_catalog.specs.Reading.{ReadsOf}
 use Rattle.newt_store_catalog.specs.Stands.{IsSound, StandsFor}
 use Rattle.newt_store_catalog.specs.declared.catalog.Catalog.{Catalog}

@@ -1,4 +1,4 @@
-use Rattle.std.proofs.Common.{◌≡◌, true, ◌*◌, ◌≤◌, ◌<◌, ℕ, List, length, IsSome, Result, Ok, Err, refl, sym, ◌∙◌, ap, subst, Option}
+use Rattle.std.proofs.Common.{◌≡◌, true, ◌*◌, ◌≤◌, ◌<◌, ℕ, List, length, IsSome, Result, Ok, Err, sym, ◌∙◌, ap, subst, Option}
 use Rattle.newt_host.specs.Moments.{image}
 use Rattle.newt_spec_image.specs.Objects.{Extent}
 use Rattle.newt_spec_image.specs.Pages.{cap}

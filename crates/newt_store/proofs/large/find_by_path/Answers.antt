@@ -1,8 +1,7 @@
-use Rattle.std.proofs.Common.{◌≡◌, ◌*◌, ℕ, not, sym, ◌∙◌, ap}
-use Rattle.std.specs.Option.{is_some, option_map}
+use Rattle.std.proofs.Common.{◌≡◌, ◌*◌, sym, ◌∙◌, ap}
+use Rattle.std.specs.Option.{option_map}
 use Rattle.newt_base.specs.Refusals.{first_of}
 use Rattle.newt_host.proofs.Outside.{NoFault-refl}
-use Rattle.newt_objects.specs.Held.{held}
 use Rattle.newt_spec_store.specs.Store.{entry_at}
 use Rattle.newt_store_change.specs.Entries.{large_checks}
 use Rattle.newt_store_change.specs.Faults.{RefusesWith}

@@ -5,7 +5,6 @@ use Rattle.newt_base.specs.Refusals.{first_of}
 use Rattle.newt_host.proofs.Outside.{NoFault-refl}
 use Rattle.newt_store_catalog.proofs.Exits.{reads-none}
 use Rattle.newt_store.proofs.Ends.{ends-refused, ends-stop}
-use Rattle.newt_objects.specs.Held.{held}
 use Rattle.newt_entries.specs.declared.row.LargeAt.{LargeAt}
 use Rattle.newt_soupdir.specs.Bare.{bare_store}
 use Rattle.newt_spec_store.specs.Store.{soup_of, entry_at}

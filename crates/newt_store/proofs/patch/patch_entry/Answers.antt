@@ -26,7 +26,7 @@ use Rattle.newt_store_catalog.specs.Stands.{StandsFor}
 use Rattle.newt_store_change.specs.Faults.{RefusesWith}
 use Rattle.newt_store.specs.Stands.{IsBeforeOrChanged}
 use Rattle.newt_store_catalog.proofs.Opening.{same-image}
-use Rattle.newt_store.proofs.Applying.{from-err, sound-over, leaves-before}
+use Rattle.newt_store.proofs.Applying.{from-err, leaves-before}
 use Rattle.newt_store_catalog.proofs.Kept.{kept-over}
 use Rattle.newt_store.proofs.Unanswered.{no-value}
 use Rattle.newt_store.proofs.Writing.{failed}

@@ -1,17 +1,16 @@
-use Rattle.std.proofs.Common.{◌≡◌, ◌*◌, ◌≤◌, ◌<◌, ℕ, List, IsTrue, None, Err, IfOk, IfErr, OnOk, sym, ◌∙◌, subst}
+use Rattle.std.proofs.Common.{◌≡◌, ◌*◌, ◌≤◌, ◌<◌, ℕ, List, IsTrue, Err, sym, ◌∙◌, subst}
 use Rattle.newt_host.specs.Moments.{Moment, image, Leaves}
 use Rattle.newt_spec_image.specs.Pages.{cap}
 use Rattle.newt_spec_store.specs.Cost.{cost}
 use Rattle.newt_spec_store.specs.Store.{Store as PlainStore}
 use Rattle.newt_spec_store.specs.OfImage.{blocks_of}
 use Rattle.newt_store_change.specs.declared.change.Change.{Change}
-use Rattle.newt_store_change.specs.Change.{changed_by, answer_of, refusal_of}
+use Rattle.newt_store_change.specs.Change.{changed_by, refusal_of}
 use Rattle.newt_store.specs.Calls.{MakesChange}
 use Rattle.newt_store.specs.Next.{IsEitherStore}
 use Rattle.newt_store_catalog.specs.Stands.{StandsFor}
 use Rattle.newt_store_change.specs.Faults.{IsRefused, RefusesWith}
-use Rattle.newt_store.specs.Stands.{IsBeforeOrChanged}
-use Rattle.newt_host.specs.Outside.{Touches, Spends, Wears}
+use Rattle.newt_host.specs.Outside.{Touches, Spends}
 use Rattle.newt_host.proofs.Outside.{Touches-append}
 use Rattle.newt_store.proofs.Ends.{ends-fails, ends-after, wears-after, wears-none}
 use Rattle.newt_pagebook.specs.Book.{IsOpenFor}
