@@ -1,5 +1,5 @@
 //! The page that a graph is printed on.
-ghost use Rattle.std.specs.Prelude.{◌≡◌, ◌+◌, [], nat_lt, OnOk};
+ghost use Rattle.std.specs.Prelude.{◌≡◌, ◌+◌, nat_lt, OnOk};
 ghost use Rattle.newt_base.specs.Text.{hex_text};
 ghost use Rattle.newt_spec_literal.specs.Spelling.{plain, spelled};
 ghost use Rattle.newt_spec_literal.specs.Printed as printed;
@@ -24,13 +24,11 @@ impl Model for Page {
 }
 
 impl Page {
-    pub fn new(alloc: Global) -> Page
-        ensures { result ≡ ([], 0) }
+    /// A text behind which no object has been met.
+    pub fn behind(text: Vec<u8>) -> Page
+        ensures { result ≡ (text.items, 0) }
     {
-        Page {
-            text: Vec::new(alloc),
-            met: 0,
-        }
+        Page { text, met: 0 }
     }
 
     pub fn into_text(self) -> Vec<u8>
@@ -72,17 +70,17 @@ impl Page {
         tokens::name(&mut self.text, name)
     }
 
-    pub fn string(&mut self, alloc: Global, units: &[u16]) -> Result<(), AllocError>
+    pub fn string(&mut self, units: &[u16]) -> Result<(), AllocError>
         ensures { OnOk result (self.new ≡ spelled self.old (plain
             (printed.string_text units.now))) }
     {
-        tokens::string(alloc, &mut self.text, units)
+        tokens::string(&mut self.text, units)
     }
 
-    pub fn hex(&mut self, alloc: Global, bytes: &[u8]) -> Result<(), AllocError>
+    pub fn hex(&mut self, bytes: &[u8]) -> Result<(), AllocError>
         ensures { OnOk result (self.new ≡ spelled self.old (plain (hex_text bytes.now))) }
     {
-        tokens::hex(alloc, &mut self.text, bytes)
+        tokens::hex(&mut self.text, bytes)
     }
 
     /// A label and the mark behind it, or nothing.

@@ -1,10 +1,11 @@
 //! Names, words, strings and binaries as they are printed.
-ghost use Rattle.std.specs.Prelude.{◌≡◌, ◌++◌, OnOk, decimal, flat_map, codes};
+ghost use Rattle.std.specs.Prelude.{◌≡◌, ◌++◌, ◌∷◌, [], ◌<◌, ◌/◌, ◌%◌, OnOk, decimal, flat_map};
+ghost use Rattle.std.specs.Prelude.{codes};
 ghost use Rattle.newt_base.specs.Text as text;
 ghost use Rattle.newt_spec_literal.specs.Printed as printed;
 ghost use Rattle.std.specs.Fmt.{signed_decimal};
 
-use newt_base::{hex_text, is_identifier};
+use newt_base::is_identifier;
 use std::alloc::{AllocError, Global};
 
 /// The word of nil.
@@ -52,23 +53,46 @@ pub fn name(out: &mut Vec<u8>, name: &[u8]) -> Result<(), AllocError>
     Ok(())
 }
 
+/// The digit of a number below 16.
+fn hex_digit(number: u8) -> u8
+    requires { number < 16 }
+    ensures { result ≡ text.hex_digit number }
+{
+    if number < 10 {
+        b'0' + number
+    } else {
+        b'A' - 10 + number
+    }
+}
+
+/// The two digits of a byte.
+fn hex_byte(out: &mut Vec<u8>, byte: u8) -> Result<(), AllocError>
+    ensures { OnOk result (out.new.items ≡ out.old.items
+        ++ text.hex_digit (byte / 16) ∷ text.hex_digit (byte % 16) ∷ []) }
+{
+    out.extend_from_slice(&[hex_digit(byte / 16), hex_digit(byte % 16)])?;
+    Ok(())
+}
+
 /// Two digits for each byte.
-pub fn hex(alloc: Global, out: &mut Vec<u8>, bytes: &[u8]) -> Result<(), AllocError>
+pub fn hex(out: &mut Vec<u8>, bytes: &[u8]) -> Result<(), AllocError>
     ensures { OnOk result (out.new.items ≡ out.old.items ++ text.hex_text bytes.now) }
 {
-    out.extend_from_slice(hex_text(alloc, bytes)?.as_slice())?;
+    for byte in bytes {
+        hex_byte(out, *byte)?;
+    }
     Ok(())
 }
 
 /// Four digits.
-fn hex16(alloc: Global, out: &mut Vec<u8>, n: u16) -> Result<(), AllocError>
+fn hex16(out: &mut Vec<u8>, n: u16) -> Result<(), AllocError>
     ensures { OnOk result (out.new.items ≡ out.old.items ++ printed.hex16 n) }
 {
-    hex(alloc, out, &n.to_be_bytes())
+    hex(out, &n.to_be_bytes())
 }
 
 /// A character from 33 to 126 but the backslash as itself, any other by four digits.
-fn character(alloc: Global, out: &mut Vec<u8>, c: u16) -> Result<(), AllocError>
+fn character(out: &mut Vec<u8>, c: u16) -> Result<(), AllocError>
     ensures { OnOk result (out.new.items ≡ out.old.items ++ printed.character_text c) }
 {
     out.push(b'$')?;
@@ -77,7 +101,7 @@ fn character(alloc: Global, out: &mut Vec<u8>, c: u16) -> Result<(), AllocError>
         return Ok(());
     }
     out.push(b'\\')?;
-    hex16(alloc, out, c)
+    hex16(out, c)
 }
 
 /// A number in decimal.
@@ -115,38 +139,38 @@ pub fn word(alloc: Global, out: &mut Vec<u8>, word: i32) -> Result<(), AllocErro
         return Ok(());
     }
     if bits % 16 == 6 && bits < CHARACTERS {
-        return character(alloc, out, (bits / 16) as u16);
+        return character(out, (bits / 16) as u16);
     }
     out.push(b'&')?;
-    hex(alloc, out, &bits.to_be_bytes())
+    hex(out, &bits.to_be_bytes())
 }
 
 /// A unit from 32 to 126 as itself, any other by four digits.
-pub fn unit(alloc: Global, out: &mut Vec<u8>, unit: u16) -> Result<(), AllocError>
+pub fn unit(out: &mut Vec<u8>, unit: u16) -> Result<(), AllocError>
     ensures { OnOk result (out.new.items ≡ out.old.items ++ printed.unit_text unit) }
 {
     if 32 <= unit && unit <= 126 {
         return escaped(out, b"\"\\", unit as u8);
     }
     out.extend_from_slice(b"\\u")?;
-    hex16(alloc, out, unit)
+    hex16(out, unit)
 }
 
-fn units(alloc: Global, out: &mut Vec<u8>, units: &[u16]) -> Result<(), AllocError>
+fn units(out: &mut Vec<u8>, units: &[u16]) -> Result<(), AllocError>
     ensures { OnOk result (out.new.items ≡ out.old.items ++ flat_map printed.unit_text units.now) }
 {
     for u in units {
-        unit(alloc, out, *u)?;
+        unit(out, *u)?;
     }
     Ok(())
 }
 
 /// A string between its quotes.
-pub fn string(alloc: Global, out: &mut Vec<u8>, text: &[u16]) -> Result<(), AllocError>
+pub fn string(out: &mut Vec<u8>, text: &[u16]) -> Result<(), AllocError>
     ensures { OnOk result (out.new.items ≡ out.old.items ++ printed.string_text text.now) }
 {
     out.push(b'"')?;
-    units(alloc, out, text)?;
+    units(out, text)?;
     out.push(b'"')?;
     Ok(())
 }

@@ -1,5 +1,6 @@
 //! The values of a graph, each object in full where it is met first.
-ghost use Rattle.std.specs.Prelude.{◌≡◌, ◌<◌, ◌≤◌, length, map, zip, slice_get, OnOk, IfOk, Some};
+ghost use Rattle.std.specs.Prelude.{◌≡◌, ◌<◌, ◌≤◌, ◌++◌, length, map, zip, slice_get, OnOk, IfOk};
+ghost use Rattle.std.specs.Prelude.{Some};
 ghost use Rattle.newt_spec_literal.specs.Spelling.{plain, spelled};
 ghost use Rattle.newt_spec_literal.specs.Printed as printed;
 
@@ -63,7 +64,7 @@ impl Source<'_> {
         page.put(before)?;
         self.symbol(page, class)?;
         page.put(b":")?;
-        page.hex(self.alloc, bytes)?;
+        page.hex(bytes)?;
         page.put(after)
     }
 
@@ -123,7 +124,7 @@ impl Source<'_> {
                 page.put(b"'")?;
                 page.name(name.list())
             }
-            Node::Str(units) => page.string(self.alloc, units.list()),
+            Node::Str(units) => page.string(units.list()),
             Node::Binary(class, bytes) => self.binary(page, b"<", b">", *class, bytes.list()),
             Node::Large(class, bytes) => self.binary(page, b"<<", b">>", *class, bytes.list()),
             Node::Array(class, values) => {
@@ -211,10 +212,10 @@ impl Source<'_> {
     }
 }
 
-/// The one text of a graph.
-pub fn print(alloc: Global, nodes: &[Node], root: Ref) -> Result<Vec<u8>, AllocError>
+/// The one text of a graph, behind a text.
+pub fn print(alloc: Global, text: Vec<u8>, nodes: &[Node], root: Ref) -> Result<Vec<u8>, AllocError>
     requires { length nodes.now ≤ 65535 }
-    ensures { IfOk result (λ text. text.items ≡ printed.literal
+    ensures { IfOk result (λ whole. whole.items ≡ text.items ++ printed.literal
         (record { nodes = nodes.now; root = root })) }
 {
     let labels = labels(alloc, nodes, root)?;
@@ -223,7 +224,7 @@ pub fn print(alloc: Global, nodes: &[Node], root: Ref) -> Result<Vec<u8>, AllocE
         nodes,
         labels: &labels,
     };
-    let mut page = Page::new(alloc);
+    let mut page = Page::behind(text);
     source.value(&mut page, root, LEVELS)?;
     Ok(page.into_text())
 }

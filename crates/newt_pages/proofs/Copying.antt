@@ -1,7 +1,8 @@
 -- Pages that are copied, one after the other.
-use Rattle.std.proofs.Common.{IsTrue, ◌≡◌, ℕ, zero, suc, ◌+◌, ◌-◌, ◌<◌, ◌≤◌, Bool, nat_eq, List, [], ◌∷◌, ◌++◌, length, Option, Some, None, Result, refl, sym, ◌∙◌, ap, subst, arith, append-nil, length-append}
+use Rattle.std.proofs.Common.{IsTrue, ◌≡◌, ℕ, zero, suc, ◌+◌, ◌-◌, ◌<◌, ◌≤◌, Bool, true, false, nat_eq, List, [], ◌∷◌, ◌++◌, length, Option, Some, None, Result, refl, sym, ◌∙◌, ap, subst, arith, append-nil, length-append}
 use Rattle.std.specs.List.{flat_map}
 use Rattle.std.specs.Map.{lookup}
+use Rattle.std.specs.Option.{is_some}
 use Rattle.std.proofs.lemmas.List.{map-append}
 use Rattle.std.proofs.lemmas.Grind.{flat_map-append}
 use Rattle.newt_host.specs.Moments.{Moment, image, Leaves}
@@ -21,7 +22,7 @@ use Rattle.newt_journal.specs.declared.journal.Journal.{Journal}
 use Rattle.newt_pagelog.specs.Placed.{Places, lifted, page_of}
 use Rattle.newt_pagelog.specs.Steps.{IsSteady, Stays, WritesMore, done}
 use Rattle.newt_pagelog.proofs.Stepping.{keeps-start, writes-none, more-two, writes-same}
-use Rattle.newt_pages.specs.Copies.{place_at, below, copying, CopiesPage, CopiesAll}
+use Rattle.newt_pages.specs.Copies.{place_at, below, copying, CopiesPage, CopiesAll, IsBound}
 
 pub stays-start : (told : Bool) (unit : ℕ) (o : Outside) → (IsTrue told → IsSteady unit o.now)
     → Stays told unit (copying 0) done o o
@@ -123,6 +124,57 @@ below-room n m places low = omega (
   below-le (n + 1) (m - (n + 1)) places,
   ap (λ (k : ℕ). length (below k places)) (let e : n + 1 + (m - (n + 1)) ≡ m = omega (arith, low) in e),
 )
+
+place-some : (number : ℕ) (o : Option ℕ) → is_some o ≡ true → length (place_at number o) ≡ 1
+place-some number None e = absurd cc
+place-some number (Some at) e = refl
+
+place-none : (number : ℕ) (o : Option ℕ) → is_some o ≡ false → length (place_at number o) ≡ 0
+place-none number None e = refl
+place-none number (Some at) e = absurd cc
+
+-- one number more, where it has a place and where it has none
+pub long-some : (n : ℕ) (places : Places) → is_some (lookup (nat_eq n) places) ≡ true → length (below (n + 1) places) ≡ length (below n places) + 1
+long-some n places e = omega (
+  arith,
+  ap (λ (l : Places). length l) (below-more n places),
+  length-append (below n places) (place_at n (lookup (nat_eq n) places)),
+  place-some n (lookup (nat_eq n) places) e,
+)
+
+pub long-none : (n : ℕ) (places : Places) → is_some (lookup (nat_eq n) places) ≡ false → length (below (n + 1) places) ≡ length (below n places)
+long-none n places e = omega (
+  arith,
+  ap (λ (l : Places). length l) (below-more n places),
+  length-append (below n places) (place_at n (lookup (nat_eq n) places)),
+  place-none n (lookup (nat_eq n) places) e,
+)
+
+-- Behind a bound no number has a place.
+no-place : (number : ℕ) (o : Option ℕ) → length (place_at number o) ≤ 0 → o ≡ None
+no-place number None few = refl
+no-place number (Some at) few = absurd (omega (arith, few))
+
+below-same : (n k : ℕ) (places : Places) → length (below (n + k) places) ≤ length (below n places)
+    → below (n + k) places ≡ below n places
+below-same n zero places le = ap (λ (m : ℕ). below m places) (let e : n + 0 ≡ n = omega arith in e)
+below-same n (suc k) places le =
+    let size = below-room (n + k) (n + suc k) places (omega arith) in
+    let none : lookup (nat_eq (n + k)) places ≡ None = no-place (n + k) (lookup (nat_eq (n + k)) places) (omega (arith, le, size, below-le n k places)) in
+    ap (λ (m : ℕ). below m places) (let e : n + suc k ≡ n + k + 1 = omega arith in e) ∙ below-more (n + k) places
+    ∙ ap (λ (o : Option ℕ). below (n + k) places ++ place_at (n + k) o) none ∙ append-nil (below (n + k) places)
+    ∙ below-same n k places (omega (arith, le, size))
+
+pub bound-is : (bound : ℕ) (places : Places) → IsBound bound places → below bound places ≡ below 65536 places
+bound-is bound places is =
+    let sum : bound + (65536 - bound) ≡ 65536 = omega (arith, is.small) in
+    let size = ap (λ (m : ℕ). length (below m places)) sum in
+    sym (below-same bound (65536 - bound) places (omega (arith, is.all, size))) ∙ ap (λ (m : ℕ). below m places) sum
+
+pub bound-none : (bound q : ℕ) (places : Places) → IsBound bound places → bound ≤ q → q < 65536 → lookup (nat_eq q) places ≡ None
+bound-none bound q places is low high =
+    let size = ap (λ (m : ℕ). length (below m places)) (let e : bound + (q - bound) ≡ q = omega (arith, low) in e) in
+    no-place q (lookup (nat_eq q) places) (omega (arith, is.all, size, below-le bound (q - bound) places, below-room q 65536 places high))
 
 -- the place of a number that has one
 pub at-some : (number at : ℕ) (o : Option ℕ) → o ≡ Some at → (number, at) ∷ [] ≡ place_at number o

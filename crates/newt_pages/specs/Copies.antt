@@ -1,5 +1,5 @@
 -- Pages that are copied into a record that is written.
-use Rattle.std.specs.Prelude.{IsTrue, ◌≡◌, ℕ, zero, suc, ◌+◌, ◌*◌, Bool, List, [], ◌∷◌, ◌++◌, length, nat_eq, Option, Some, None}
+use Rattle.std.specs.Prelude.{IsTrue, ◌≡◌, ℕ, zero, suc, ◌+◌, ◌*◌, ◌≤◌, Bool, List, [], ◌∷◌, ◌++◌, length, nat_eq, Option, Some, None}
 use Rattle.std.specs.List.{flat_map}
 use Rattle.std.specs.Map.{lookup}
 use Rattle.newt_host.specs.Moments.{image}
@@ -21,6 +21,11 @@ place_at number (Some at) = (number, at) ∷ []
 unfoldable pub below : ℕ → Places → Places
 below zero places = []
 below (suc n) places = below n places ++ place_at n (lookup (nat_eq n) places)
+
+-- All page numbers that have a place are below the bound.
+pub record IsBound (bound : ℕ) (places : Places) : Type 0 where
+  pub small : bound ≤ 65536
+  pub all : length (below bound places) ≡ length (below 65536 places)
 
 -- what is done to copy so many pages
 abbrev pub copying : ℕ → Work

@@ -13,7 +13,7 @@ ghost use Rattle.newt_pages.specs.Disk.{EachIsPageAtPlace, IsReadyFor, TakesOver
 use crate::append::commit_behind;
 use crate::hand::{Cache, forget_all};
 use crate::switch::replace_all;
-use crate::table::{FIRST_PAGE, move_pages, place_puts, remove_numbers, remove_puts};
+use crate::table::{FIRST_PAGE, bound_of, move_pages, place_puts, remove_numbers, remove_puts};
 use newt_host::{Failed, Host};
 use newt_journal::Journal;
 use newt_pagebook::Batch;
@@ -37,8 +37,10 @@ fn commit_beside<H: Host>(
 {
     remove_puts(places, batch.puts());
     remove_numbers(places, batch.deletes());
-    let journal = replace_all(journal, host, places, batch.puts(), live)?;
-    let next = move_pages(places, journal.first() + FIRST_PAGE);
+    let left = usize::from(live) - batch.puts().len();
+    let bound = bound_of(places, left);
+    let journal = replace_all(journal, host, places, bound, batch.puts(), live)?;
+    let next = move_pages(places, bound, journal.first() + FIRST_PAGE);
     place_puts(places, batch.puts(), next);
     Ok(journal)
 }

@@ -13,7 +13,7 @@ ghost use Rattle.newt_pagelog.specs.Kept.{all_of};
 ghost use Rattle.newt_pagelog.specs.Placed.{ArePlaced, lifted, page_of};
 ghost use Rattle.newt_pagelog.specs.Steps.{Stays};
 ghost use Rattle.newt_pages.specs.Disk.{LiesAt};
-ghost use Rattle.newt_pages.specs.Copies.{place_at, below, copying, writing_all, CopiesPage};
+ghost use Rattle.newt_pages.specs.Copies.{place_at, below, copying, writing_all, CopiesPage, IsBound};
 ghost use Rattle.newt_pages.specs.Copies.{CopiesAll, CopiesWhole, IsCopying, IsSteadyDraft};
 
 use newt_host::{Failed, Host};
@@ -60,8 +60,14 @@ fn copy_number<H: Host>(
     }
 }
 
-// Copies all pages, in the order of their numbers.
-fn copy_pages<H: Host>(draft: &mut Draft, host: &mut H, places: &Table<u32>) -> Result<(), Failed>
+// Copies all pages, in the order of their numbers, which are below the bound.
+fn copy_pages<H: Host>(
+    draft: &mut Draft,
+    host: &mut H,
+    places: &Table<u32>,
+    bound: u32,
+) -> Result<(), Failed>
+    requires bound { IsBound bound places.now.entries }
     requires room { put_of draft.old + 516 * length (below 65536 places.now.entries)
         ≤ len_of draft.old }
     requires copying { IsCopying H.told draft.old places.now.entries (H.outside host.old) }
@@ -72,7 +78,7 @@ fn copy_pages<H: Host>(draft: &mut Draft, host: &mut H, places: &Table<u32>) -> 
         (copying (length (below 65536 places.now.entries))) result
         (H.outside host.old) (H.outside host.new) }
 {
-    for number in 0..65536 {
+    for number in 0..bound {
         copy_number(draft, host, places, number)?;
     }
     Ok(())
@@ -83,9 +89,11 @@ fn copy_whole<H: Host>(
     draft: &mut Draft,
     host: &mut H,
     places: &Table<u32>,
+    bound: u32,
     puts: &[(u32, Page)],
     live: u16,
 ) -> Result<(), Failed>
+    requires bound { IsBound bound places.now.entries }
     requires count { live ≡ length (below 65536 places.now.entries) + length puts.now }
     requires room { put_of draft.old + (4 + 516 * live) ≤ len_of draft.old }
     requires copying { IsCopying H.told draft.old places.now.entries (H.outside host.old) }
@@ -96,20 +104,22 @@ fn copy_whole<H: Host>(
         (H.outside host.old) (H.outside host.new) }
 {
     write_counts(draft, host, live, 0)?;
-    copy_pages(draft, host, places)?;
+    copy_pages(draft, host, places, bound)?;
     write_puts(draft, host, puts)?;
     Ok(())
 }
 
 /// Writes all pages as one record into the other bank, once the votes are mended: those at the
-/// places, and the given ones behind them.
+/// places, whose numbers are below the bound, and the given ones behind them.
 pub(crate) fn replace_all<H: Host>(
     journal: Journal,
     host: &mut H,
     places: &Table<u32>,
+    bound: u32,
     puts: &[(u32, Page)],
     live: u16,
 ) -> Result<Journal, Failed>
+    requires bound { IsBound bound places.now.entries }
     requires stands { Stands H.told journal (H.outside host.old) }
     requires count { live ≡ length (below 65536 places.now.entries) + length puts.now }
     requires fits { 25 + 516 * live ≤ bank_size (blocks_under journal) }
@@ -125,7 +135,7 @@ pub(crate) fn replace_all<H: Host>(
         ≡ first_place after + 5 + (4 + 516 * live)) }
 {
     let mut draft = begin_alone(journal, host, 4 + 516 * u32::from(live))?;
-    copy_whole(&mut draft, host, places, puts, live)?;
+    copy_whole(&mut draft, host, places, bound, puts, live)?;
     let journal = draft.finish(host)?;
     Ok(journal)
 }

@@ -13,7 +13,7 @@ ghost use Rattle.newt_journal.specs.declared.journal.Journal.{Journal};
 ghost use Rattle.newt_pagelog.specs.Kept.{page_in, map_of, numbers_in, is_kept};
 ghost use Rattle.newt_pagebook.specs.Book.{changed_numbers};
 ghost use Rattle.newt_pagelog.specs.Placed.{lifted, ArePlaced};
-ghost use Rattle.newt_pages.specs.Copies.{below};
+ghost use Rattle.newt_pages.specs.Copies.{below, IsBound};
 ghost use Rattle.newt_pages.specs.Disk.{StandAt, TakesPages, MovesPages, KeepsRoom};
 
 use newt_pagebook::{Batch, Page};
@@ -119,9 +119,27 @@ fn move_page(places: &mut Table<u32>, number: u32, at: u32)
     }
 }
 
-/// Notes that all pages stand one behind the other, in the order of their numbers, the first at
-/// this place. Answers the place behind the last.
-pub(crate) fn move_pages(places: &mut Table<u32>, first: u32) -> u32
+/// A number below which all pages have theirs, where there are so many of them.
+pub(crate) fn bound_of(places: &Table<u32>, count: usize) -> u32
+    requires { count ≡ length (below 65536 places.now.entries) }
+    ensures { IsBound result places.now.entries }
+{
+    let mut left = count;
+    for number in 0..65536 {
+        if left == 0 {
+            return number;
+        }
+        if places.contains_key(&number) {
+            left -= 1;
+        }
+    }
+    65536
+}
+
+/// Notes that all pages stand one behind the other, in the order of their numbers, which are below
+/// the bound, the first at this place. Answers the place behind the last.
+pub(crate) fn move_pages(places: &mut Table<u32>, bound: u32, first: u32) -> u32
+    requires bound { IsBound bound places.old.entries }
     requires unique { hash.IsUnique nat_eq places.old }
     requires near { first + 516 * length (below 65536 places.old.entries) < 2 ^ 32 }
     ensures next { result ≡ first + 516 * length (below 65536 places.old.entries) }
@@ -129,7 +147,7 @@ pub(crate) fn move_pages(places: &mut Table<u32>, first: u32) -> u32
     ensures room { KeepsRoom places.old places.new }
 {
     let mut at = first;
-    for number in 0..65536 {
+    for number in 0..bound {
         if places.contains_key(&number) {
             move_page(places, number, at);
             at += PUT;

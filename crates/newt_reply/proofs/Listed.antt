@@ -1,8 +1,8 @@
 -- Lists with a comma and a space between each two items, and lists of fields.
 use Rattle.std.proofs.Common.{◌≡◌, ℕ, ◌+◌, ◌<◌, ◌≤◌, Bool, false, ◌==◌, if◌then◌else◌, List, [], ◌∷◌, ◌++◌, map, length, take, get_or, flat_map, codes, decimal, refl, sym, ap, ◌∙◌, arith, append_assoc, Bor}
 use Rattle.std.proofs.lemmas.Bool.{ne_eqb}
-use Rattle.std.proofs.lemmas.List.{take_more, take_all, length-take-le, length-map, map-append}
-use Rattle.newt_spec_world.specs.Reply.{items, field}
+use Rattle.std.proofs.lemmas.List.{append-nil, take_more, take_all, length-take-le, length-map, map-append}
+use Rattle.newt_spec_world.specs.Reply.{items, field, ok}
 use Rattle.newt_reply.specs.Fields.{alias_item, ok_text}
 
 -- ---- items
@@ -40,12 +40,29 @@ fields_of : (parts : List (Bor (List ℕ))) → flat_map (λ part. field part.no
 fields_of [] = refl
 fields_of (part ∷ parts) = ap (λ rest. field part.now ++ rest) (fields_of parts)
 
+-- the line up to its fields
+pub front_is : (parts : List (Bor (List ℕ))) (i : ℕ) (line : List ℕ) → length parts ≤ i
+    → line ≡ codes "ok" ++ flat_map (λ part. field part.now) (take i parts) → line ≡ ok (map (λ part. part.now) parts)
+front_is parts i line all line_is =
+    line_is ∙ ap (λ t. codes "ok" ++ t) (ap (flat_map (λ part. field part.now)) (take_all i parts all) ∙ fields_of parts)
+
 -- the whole line
-pub whole_line : (parts : List (Bor (List ℕ))) (i : ℕ) (line new : List ℕ) → length parts ≤ i
-    → line ≡ codes "ok" ++ flat_map (λ part. field part.now) (take i parts) → new ≡ line ++ 10 ∷ [] → new ≡ ok_text (map (λ part. part.now) parts)
+pub whole_line : (fields : List (List ℕ)) (line new : List ℕ) → line ≡ ok fields → new ≡ line ++ 10 ∷ [] → new ≡ ok_text fields
 unfolding ok_text
-whole_line parts i line new all line_is new_is =
-    new_is ∙ ap (λ t. t ++ 10 ∷ []) (line_is ∙ ap (λ t. codes "ok" ++ t) (ap (flat_map (λ part. field part.now)) (take_all i parts all) ∙ fields_of parts))
+whole_line fields line new line_is new_is = new_is ∙ ap (λ t. t ++ 10 ∷ []) line_is
+
+field_more : (fields : List (List ℕ)) (c : ℕ) (cs : List ℕ) → flat_map field fields ++ 32 ∷ c ∷ cs ≡ flat_map field (fields ++ (c ∷ cs) ∷ [])
+field_more [] c cs = sym (append-nil (32 ∷ c ∷ cs))
+field_more (x ∷ fields) c cs = append_assoc (field x) (flat_map field fields) (32 ∷ c ∷ cs) ∙ ap (λ rest. field x ++ rest) (field_more fields c cs)
+
+-- a field that has a character, behind the others
+pub one_field_more : (fields : List (List ℕ)) (text front spaced line : List ℕ) → 0 < length text → front ≡ ok fields
+    → spaced ≡ front ++ 32 ∷ [] → line ≡ spaced ++ text → line ≡ ok (fields ++ text ∷ [])
+one_field_more fields [] front spaced line some front_is spaced_is line_is = absurd (omega (arith, some))
+one_field_more fields (c ∷ cs) front spaced line some front_is spaced_is line_is =
+    line_is ∙ ap (λ t. t ++ c ∷ cs) (spaced_is ∙ ap (λ t. t ++ 32 ∷ []) front_is)
+    ∙ append_assoc (ok fields) (32 ∷ []) (c ∷ cs) ∙ append_assoc (codes "ok") (flat_map field fields) (32 ∷ c ∷ cs)
+    ∙ ap (λ t. codes "ok" ++ t) (field_more fields c cs)
 
 -- ---- aliases
 

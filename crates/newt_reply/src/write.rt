@@ -7,13 +7,12 @@ ghost use Rattle.newt_reply.specs.Said.{said};
 use crate::declared::{names_line, path_text};
 use crate::fields::{alias_literal, name_text, number_text, stream_text};
 use crate::items::{soups_text, specs_text, stores_text};
-use crate::line::ok_line;
+use crate::line::{literal_line, ok_line};
 use crate::reply::Reply;
 use crate::rows::TagRow;
 use newt_base::{Name, Refusal, Sig, Uid, hex_text};
 use newt_graph::Graph;
 use newt_host::Unit;
-use newt_lit_print::print_literal;
 use newt_tags::TagTable;
 use std::alloc::{AllocError, Global};
 
@@ -52,8 +51,7 @@ fn timed_line(alloc: Global, time: u32, graph: &Graph) -> Result<Vec<u8>, AllocE
     ensures { IfOk result (λ line. line.items ≡ written (spec.timed time graph.now)) }
 {
     let time = number_text(alloc, time)?;
-    let literal = print_literal(alloc, graph)?;
-    ok_line(alloc, &[time.as_slice(), literal.as_slice()])
+    literal_line(alloc, &[time.as_slice()], graph)
 }
 
 /// The minute of an entry, and the hexadecimal digits of its graph.
@@ -91,15 +89,10 @@ fn current_line(
     let unit = number_text(alloc, u32::from(unit.0))?;
     let uid = number_text(alloc, uid.0)?;
     let time = number_text(alloc, time)?;
-    let literal = print_literal(alloc, graph)?;
-    ok_line(
+    literal_line(
         alloc,
-        &[
-            unit.as_slice(),
-            uid.as_slice(),
-            time.as_slice(),
-            literal.as_slice(),
-        ],
+        &[unit.as_slice(), uid.as_slice(), time.as_slice()],
+        graph,
     )
 }
 
@@ -146,7 +139,7 @@ fn line_of(alloc: Global, reply: &Reply) -> Result<Vec<u8>, AllocError>
         Reply::Tags(row) => tags_line(alloc, row),
         Reply::Hex(bytes) => one_field(alloc, &hex_text(alloc, bytes.list())?),
         Reply::Nsof(graph) => one_field(alloc, &stream_text(alloc, graph)?),
-        Reply::Literal(graph) => one_field(alloc, &print_literal(alloc, graph)?),
+        Reply::Literal(graph) => literal_line(alloc, &[], graph),
         Reply::Timed(time, graph) => timed_line(alloc, *time, graph),
         Reply::TimedNsof(time, graph) => timed_stream_line(alloc, *time, graph),
         Reply::Alias(alias) => one_field(alloc, &alias_literal(alloc, *alias)?),

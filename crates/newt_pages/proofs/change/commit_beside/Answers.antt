@@ -40,6 +40,34 @@ reads told j o batch is old left numbered are_left book tells few payloads read 
     (alone ∙ ap (λ (ps : List (List ℕ)). Some (written_change (all_of (lifted (page_of j ps) (below 65536 left) ++ puts)) ∷ [])) same
     ∙ ap (λ (ps : List Put). Some (written_change (all_of (lifted f (below 65536 left) ++ ps)) ∷ [])) puts_are)
 
+pub overflow_sub-left : goal.overflow_sub-left
+overflow_sub-left g c =
+    let batch = c.args.batch.now in
+    let old = c.args.places.now.entries in
+    let left = c.remove_numbers.new.places.entries in
+    let is = c.requires.batch in
+    let numbered = c.requires.ready.numbered in
+    let are_left : AreLeft batch old left = left-of batch c.puts.result.now c.deletes.result.now old c.remove_puts.new.places.entries left c.puts.ensures.puts c.deletes.ensures.deletes c.remove_puts.ensures.updates c.remove_numbers.ensures.updates in
+    let count = whole-count batch is old left numbered are_left in
+    omega (arith, count, c.requires.live, ap (λ (l : List Put). length l) c.puts-2.ensures.puts)
+
+pub bound_of-bound-requires : goal.bound_of-bound-requires
+bound_of-bound-requires g c =
+    let batch = c.args.batch.now in
+    let old = c.args.places.now.entries in
+    let left = c.remove_numbers.new.places.entries in
+    let is = c.requires.batch in
+    let numbered = c.requires.ready.numbered in
+    let are_left : AreLeft batch old left = left-of batch c.puts.result.now c.deletes.result.now old c.remove_puts.new.places.entries left c.puts.ensures.puts c.deletes.ensures.deletes c.remove_puts.ensures.updates c.remove_numbers.ensures.updates in
+    let count = whole-count batch is old left numbered are_left in
+    omega (arith, count, c.requires.live, ap (λ (l : List Put). length l) c.puts-2.ensures.puts)
+
+pub replace_all-requires-clause-bound : goal.replace_all-requires-clause-bound
+replace_all-requires-clause-bound g c = c.bound_of-bound.ensures
+
+pub move_pages-next-requires-clause-bound : goal.move_pages-next-requires-clause-bound
+move_pages-next-requires-clause-bound g c = c.bound_of-bound.ensures
+
 pub replace_all-requires-clause-count : goal.replace_all-requires-clause-count
 replace_all-requires-clause-count g c =
     let batch = c.args.batch.now in
@@ -49,7 +77,7 @@ replace_all-requires-clause-count g c =
     let numbered = c.requires.ready.numbered in
     let are_left : AreLeft batch old left = left-of batch c.puts.result.now c.deletes.result.now old c.remove_puts.new.places.entries left c.puts.ensures.puts c.deletes.ensures.deletes c.remove_puts.ensures.updates c.remove_numbers.ensures.updates in
     let count = whole-count batch is old left numbered are_left in
-    omega (arith, count, c.requires.live, ap (λ (l : List Put). length l) c.puts-2.ensures.puts)
+    omega (arith, count, c.requires.live, ap (λ (l : List Put). length l) c.puts-3.ensures.puts)
 
 pub returns-in_err-journal-clause-commits : goal.returns-in_err-journal-clause-commits
 returns-in_err-journal-clause-commits g c =
@@ -67,7 +95,7 @@ returns-in_err-journal-clause-commits g c =
     let a = o c.args.host.now in
     let known = payloads_of told j old a c.requires.ready.book.holds in
     let b = o c.replace_all.new.host in
-    commits-failed told j _ batch _ c.from_residual.result a b c.from_residual.ensures.0 (commits told j _ batch _ _ a b (λ tells. reads told j a batch is old left numbered are_left c.requires.ready.book tells few known.0 (known.1 tells) c.puts-2.result.now c.puts-2.ensures.puts) (c.in_err-journal.ensures.rewrites known.0 known.1))
+    commits-failed told j _ batch _ c.from_residual.result a b c.from_residual.ensures.0 (commits told j _ batch _ _ a b (λ tells. reads told j a batch is old left numbered are_left c.requires.ready.book tells few known.0 (known.1 tells) c.puts-3.result.now c.puts-3.ensures.puts) (c.in_err-journal.ensures.rewrites known.0 known.1))
 
 pub returns-clause-commits : goal.returns-clause-commits
 returns-clause-commits g c =
@@ -84,7 +112,7 @@ returns-clause-commits g c =
     let few : length (below 65536 left) + length batch.puts < 65536 = cap-few j.blocks (length (below 65536 left) + length batch.puts) j.not_too_many (omega (arith, count, c.requires.ready.room.live)) in
     let a = o c.args.host.now in
     let known = payloads_of told j old a c.requires.ready.book.holds in
-    commits told j _ batch _ _ a (o c.replace_all.new.host) (λ tells. reads told j a batch is old left numbered are_left c.requires.ready.book tells few known.0 (known.1 tells) c.puts-2.result.now c.puts-2.ensures.puts) (c.in_ok-journal.ensures.rewrites known.0 known.1)
+    commits told j _ batch _ _ a (o c.replace_all.new.host) (λ tells. reads told j a batch is old left numbered are_left c.requires.ready.book tells few known.0 (known.1 tells) c.puts-3.result.now c.puts-3.ensures.puts) (c.in_ok-journal.ensures.rewrites known.0 known.1)
 
 pub move_pages-next-requires-clause-near : goal.move_pages-next-requires-clause-near
 move_pages-next-requires-clause-near g c =
@@ -114,7 +142,7 @@ place_puts-requires g c =
     let told = g.H.Host.told in
     let j = c.args.journal in
     let few : length (below 65536 left) + length batch.puts < 65536 = cap-few j.blocks (length (below 65536 left) + length batch.puts) j.not_too_many (omega (arith, count, c.requires.ready.room.live)) in
-    let size = ap (λ (l : List Put). length l) c.puts-3.ensures.puts in
+    let size = ap (λ (l : List Put). length l) c.puts-4.ensures.puts in
     record {
       takes = record {
         room = omega (arith, c.requires.ready.room.spare, c.remove_puts.ensures.spare, c.remove_numbers.ensures.spare, c.move_pages-next.ensures.room.spare, size);
@@ -143,8 +171,8 @@ returns-clause-takes g c =
     let first = c.first.result + 13 in
     let moved = c.move_pages-next.new.places.entries in
     let new = c.place_puts.new.places.entries in
-    let puts3 : c.puts-3.result.now ≡ batch.puts = c.puts-3.ensures.puts in
-    let size : length c.puts-3.result.now ≡ length batch.puts = ap (λ (l : List Put). length l) puts3 in
+    let puts3 : c.puts-4.result.now ≡ batch.puts = c.puts-4.ensures.puts in
+    let size : length c.puts-4.result.now ≡ length batch.puts = ap (λ (l : List Put). length l) puts3 in
     let ends = c.in_ok-journal.ensures.places in
     let moved_placed : ArePlaced k moved = λ q at there.
     let less = left-small batch is old left numbered are_left q (sym (c.move_pages-next.ensures.moves.kept q) ∙ ap is_some there) in
@@ -152,7 +180,7 @@ returns-clause-takes g c =
     let next : c.move_pages-next.result ≡ first + 516 * length (below 65536 left) = c.move_pages-next.ensures.next in
     let moves : (f g : ℕ → List ℕ) → StandAt g first (lifted f (below 65536 left) ++ batch.puts) → map_of (lifted g new) ≡ after batch (map_of (lifted f old)) = λ f g stand.
     let front : StandAt g first (lifted f (below 65536 left)) = stand-front g first (lifted f (below 65536 left)) batch.puts stand in
-    let back : StandAt g c.move_pages-next.result c.puts-3.result.now =
+    let back : StandAt g c.move_pages-next.result c.puts-4.result.now =
     subst (λ (l : List Put). StandAt g c.move_pages-next.result l) (sym puts3)
     (subst (λ (a : ℕ). StandAt g a batch.puts) (ap (λ (m : ℕ). first + 516 * m) (length-lifted f (below 65536 left)) ∙ sym next) (stand-behind g first (lifted f (below 65536 left)) batch.puts stand)) in
     moved-after batch is old left numbered are_left f g moved new (all-moved f g left moved (c.move_pages-next.ensures.moves.moved f g front) c.move_pages-next.ensures.moves.kept (left-small batch is old left numbered are_left))
@@ -167,8 +195,8 @@ returns-clause-takes g c =
           let entries : Entries = whole batch is old left numbered are_left f in
           let sound = sound-whole told j a h.payloads batch is old left numbered are_left c.requires.ready.book.stands tells h.read c.requires.ready.book.placed few in
           let w = c.in_ok-journal.ensures.rewrites h.payloads (λ _. h.read) in
-          let read = w.committed tells ∙ ap (λ (ps : List Put). Some (written_change (all_of (lifted f (below 65536 left) ++ ps)) ∷ [])) c.puts-2.ensures.puts in
-          let after_batch = reads told j a batch is old left numbered are_left c.requires.ready.book tells few h.payloads h.read c.puts-2.result.now c.puts-2.ensures.puts (image j.unit (o c.replace_all.new.host).now) (w.committed tells) in
+          let read = w.committed tells ∙ ap (λ (ps : List Put). Some (written_change (all_of (lifted f (below 65536 left) ++ ps)) ∷ [])) c.puts-3.ensures.puts in
+          let after_batch = reads told j a batch is old left numbered are_left c.requires.ready.book tells few h.payloads h.read c.puts-3.result.now c.puts-3.ensures.puts (image j.unit (o c.replace_all.new.host).now) (w.committed tells) in
           let stand = stand-alone k entries first sound (ap (λ (n : ℕ). n + 13) c.first.ensures.place) in
           subst (λ (u : ℕ). HoldsAt k (image u (o c.replace_all.new.host).now) new) (sym stands.1) (record {
             payloads = written_change (all_of entries) ∷ [];

@@ -1,11 +1,11 @@
-use Rattle.std.proofs.Common.{◌≡◌, ℕ, ◌+◌, ◌<◌, nat_eq, length, sym, ap, subst, arith, length-append}
+use Rattle.std.proofs.Common.{◌≡◌, ℕ, ◌+◌, ◌<◌, nat_eq, length, sym, ◌∙◌, ap, subst, arith, length-append}
 use Rattle.std.specs.Map.{lookup}
 use Rattle.newt_journal.specs.Draft.{unit_of}
 use Rattle.newt_journal.specs.declared.journal.Journal.{Journal}
 use Rattle.newt_pagelog.specs.Placed.{ArePlaced, Places}
 use Rattle.newt_pagelog.proofs.Stepping.{NoMore, both, stays-two, stays-on, stays-with, steady-on, writes-done, writes-failed, writes-ok, writes-widen}
 use Rattle.newt_pages.specs.Copies.{below, copying, place_at, CopiesAll}
-use Rattle.newt_pages.proofs.Copying.{stays-start, copies-none, copies-two, copies-same, below-none, below-more, below-room}
+use Rattle.newt_pages.proofs.Copying.{stays-start, copies-none, copies-two, copies-same, below-none, below-more, below-room, bound-is}
 use Rattle.newt_pages.proofs.switch.copy_pages.Goals as goal
 
 pub loop-number-init : goal.loop-number-init
@@ -21,7 +21,7 @@ loop-number-init g c =
 pub copy_number-requires-clause-room : goal.copy_number-requires-clause-room
 copy_number-requires-clause-room g c =
     let inv = c.loop-number.invariant in
-    omega (arith, inv.copies.put, inv.copies.writes.len, c.requires.room, below-room c.loop-number.number 65536 c.args.places.now.entries c.loop-number-test.true)
+    omega (arith, inv.copies.put, inv.copies.writes.len, c.requires.room, below-room c.loop-number.number 65536 c.args.places.now.entries (omega (arith, c.loop-number-test.true, c.requires.bound.small)))
 
 pub copy_number-requires-clause-copying : goal.copy_number-requires-clause-copying
 copy_number-requires-clause-copying g c =
@@ -61,7 +61,7 @@ returns-in_err-copy_number-clause-stays g c =
     let inv = c.loop-number.invariant in
     let n = c.loop-number.number in
     let places = c.args.places.now.entries in
-    writes-widen _ _ (more_pages n places c.loop-number-test.true)
+    writes-widen _ _ (more_pages n places (omega (arith, c.loop-number-test.true, c.requires.bound.small)))
     (stays-two (copying (length (below n places))) (copying (length (place_at n (lookup (nat_eq n) places)))) inv.copies.writes.same inv.stays
     (stays-on (unit_of c.loop-number.draft) (unit_of c.args.draft.now) inv.copies.writes.on
     (writes-failed c.from_residual.result c.from_residual.ensures.0 c.in_err-copy_number.ensures.stays)))
@@ -87,10 +87,13 @@ pub returns-clause-ok : goal.returns-clause-ok
 returns-clause-ok g c =
     let o = g.H.Host.outside in
     let d = c.args.draft.now in
-    let end : c.loop-number.number ≡ 65536 = omega (arith, c.loop-number-test.false, c.loop-number.auto.number-end) in
-    subst (λ (n : ℕ). CopiesAll g.H.Host.told (unit_of d) (below n c.args.places.now.entries) d c.loop-number.draft (o c.args.host.now) (o c.loop-number.host)) end c.loop-number.invariant.copies
+    let places = c.args.places.now.entries in
+    let end : c.loop-number.number ≡ c.args.bound = omega (arith, c.loop-number-test.false, c.loop-number.auto.number-end) in
+    subst (λ (l : Places). CopiesAll g.H.Host.told (unit_of d) l d c.loop-number.draft (o c.args.host.now) (o c.loop-number.host))
+    (ap (λ (n : ℕ). below n places) end ∙ bound-is c.args.bound places c.requires.bound) c.loop-number.invariant.copies
 
 pub returns-clause-stays : goal.returns-clause-stays
 returns-clause-stays g c =
-    let end : c.loop-number.number ≡ 65536 = omega (arith, c.loop-number-test.false, c.loop-number.auto.number-end) in
-    stays-with _ _ (ap (λ (n : ℕ). copying (length (below n c.args.places.now.entries))) end) (writes-ok c.loop-number.invariant.stays)
+    let places = c.args.places.now.entries in
+    let end : c.loop-number.number ≡ c.args.bound = omega (arith, c.loop-number-test.false, c.loop-number.auto.number-end) in
+    stays-with _ _ (ap (λ (l : Places). copying (length l)) (ap (λ (n : ℕ). below n places) end ∙ bound-is c.args.bound places c.requires.bound)) (writes-ok c.loop-number.invariant.stays)

@@ -1,5 +1,6 @@
+use Rattle.std.proofs.Common.{map}
 use Rattle.newt_reply.proofs.Listed.{whole_line}
 use Rattle.newt_reply.proofs.line.ok_line.Goals as goal
 
 pub returns : goal.returns
-returns c = whole_line c.args.fields.now c.loop-field.field-index c.loop-field.line.items c.push.new.self.items c.loop-field-test.false c.loop-field.invariant c.in_ok-push.ensures.items
+returns c = whole_line (map (λ part. part.now) c.args.fields.now) c.in_ok-line.line.items c.push.new.self.items c.in_ok-line.ensures c.in_ok-push.ensures.items

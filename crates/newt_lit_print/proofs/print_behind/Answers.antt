@@ -1,0 +1,13 @@
+use Rattle.std.proofs.Common.{◌≡◌, ◌++◌, refl, subst, IfOk}
+use Rattle.newt_graph.specs.Graph.{RawGraph}
+use Rattle.newt_spec_literal.specs.Printed.{literal}
+use Rattle.newt_lit_print.proofs.Character.{literal_some}
+use Rattle.newt_lit_print.proofs.print_behind.Goals as goal
+
+pub returns-clause-behind : goal.returns-clause-behind
+returns-clause-behind c =
+    let same : record { nodes = c.nodes.result.now; root = c.root.result } ≡ c.args.graph.now = rw (c.nodes.ensures.value, c.root.ensures.value) refl in
+    subst (λ (g : RawGraph). IfOk c.print.result (λ whole. whole.items ≡ c.args.text.items ++ literal g)) same c.print.ensures
+
+pub returns-clause-some : goal.returns-clause-some
+returns-clause-some c = literal_some c.args.graph.now c.root.ensures.graph
