@@ -59,6 +59,8 @@ means_no_cursor _ h k = cc
 -- and a step of a cursor uses one
 pub unread_uses_cursor : (w : World) (c : Command) → uses_cursors c ≡ false → steps_unread w c ≡ true → ⊥
 unfolding uses_cursors
+unread_uses_cursor w (command.Query _ _ _) h k = cc
+unread_uses_cursor w (command.QueryAll _ _) h k = cc
 unread_uses_cursor w (command.Entry _) h k = cc
 unread_uses_cursor w (command.Next _) h k = cc
 unread_uses_cursor w (command.Prev _) h k = cc
