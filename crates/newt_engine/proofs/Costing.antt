@@ -1,5 +1,5 @@
 -- What a command costs, by what a call on the units costs.
-use Rattle.std.proofs.Common.{arith, ◌≡◌, ap, sym, ◌∙◌, subst, ℕ, ◌+◌, ◌*◌, ◌≤◌, List, Bool, true, false, Option, inr}
+use Rattle.std.proofs.Common.{arith, ◌≡◌, ap, sym, ◌∙◌, subst, ℕ, ◌+◌, ◌*◌, ◌≤◌, List, true, false, Option, inr}
 use Rattle.std.specs.Prelude.{Result}
 use Rattle.newt_host.specs.Moments.{image}
 use Rattle.newt_host.specs.Outside.{Outside}

@@ -1,3 +1,4 @@
+pub mod Between
 pub mod Costing
 pub mod Groups
 pub mod Handed

@@ -1,7 +1,7 @@
 -- An entry that is moved to another store: the cursors on the new entry are settled before the old one is removed, and then are settled for the world after both.
-use Rattle.std.proofs.Common.{arith, ◌≡◌, refl, ap, sym, ◌∙◌, subst, ℕ, ◌+◌, ◌*◌, ◌≤◌, List, [], ◌∷◌, ◌⊎◌, inl, inr, Bool, true, false, cond, find, map, Option, Some, None, option_map, option_and_then, replicate, IsTrue, ◌==◌, if◌then◌else◌}
+use Rattle.std.proofs.Common.{◌≡◌, refl, ap, sym, ◌∙◌, subst, ℕ, List, [], ◌∷◌, ◌⊎◌, inl, inr, Bool, true, false, cond, find, map, Option, Some, None, option_map, option_and_then, replicate, IsTrue, ◌==◌, if◌then◌else◌}
 use Rattle.std.specs.Bool.{⊤}
-use Rattle.std.specs.Prelude.{unwrap_or, Result, Ok, Err}
+use Rattle.std.specs.Prelude.{unwrap_or, Err}
 use Rattle.std.proofs.lemmas.Bool.{eq-eqb, ne_eqb}
 use Rattle.newt_spec_graph.specs.Lists.{Among, Each, Pairs}
 use Rattle.newt_spec_graph.proofs.Lists.{each-at, none-some}
@@ -9,8 +9,6 @@ use Rattle.newt_spec_query.specs.Cursor.{Cursor, Place, same_identity, start, fi
 use Rattle.newt_spec_query.specs.Hits.{Hit, Query}
 use Rattle.newt_spec_store.specs.Store.{Entry, Store, add_entry, change_soup, entry_at, entry_of, remove_entry}
 use Rattle.newt_spec_store.specs.Valid.{well_formed}
-use Rattle.newt_spec_world.specs.Answer.{answer}
-use Rattle.newt_spec_world.specs.Reply.{Reply}
 use Rattle.newt_spec_world.specs.World.{World, change_media, change_store, hits_of, mounted_store, mounted_stores, on_unit}
 use Rattle.newt_spec_world.specs.declared.command.Command.{Command}
 use Rattle.newt_spec_world.specs.declared.command.Command.TheVariants as command
@@ -20,7 +18,6 @@ use Rattle.newt_laws_world.specs.Worlds.{has_form}
 use Rattle.newt_laws_world.proofs.Fewer.{mounted-among}
 use Rattle.newt_laws_world.proofs.Mounted.{apart-from-units, store-sigs, units-from-apart}
 use Rattle.newt_laws_world.proofs.Units.{device-other, same-or-not}
-use Rattle.newt_laws_answers.specs.There.{OnUnit}
 use Rattle.newt_laws_answers.proofs.Units.{is-mounted, on-changed}
 use Rattle.newt_laws_hits.specs.Located.{located_hit}
 use Rattle.newt_laws_hits.proofs.Origins.{same-looked-up}

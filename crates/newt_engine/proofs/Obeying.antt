@@ -1,5 +1,5 @@
 -- What a call on the units answers, handed on as the reply to its command.
-use Rattle.std.proofs.Common.{arith, ◌≡◌, ap, sym, ◌∙◌, subst, ℕ, ◌+◌, ◌≤◌, List, Bool, true, false, IsTrue, Option, None}
+use Rattle.std.proofs.Common.{arith, ◌≡◌, ap, sym, ◌∙◌, subst, ℕ, ◌+◌, ◌≤◌, List, Bool, true, false, Option, None}
 use Rattle.std.specs.Prelude.{Result, IfErr, OnOk}
 use Rattle.newt_base.specs.Refusals.{first_of}
 use Rattle.newt_base.specs.declared.Refusal.{Refusal}

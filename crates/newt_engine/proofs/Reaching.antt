@@ -1,17 +1,14 @@
 -- The entry that a command reaches is one that it means.
-use Rattle.std.proofs.Common.{arith, ◌≡◌, refl, ap, sym, ◌∙◌, subst, ℕ, ◌+◌, ◌*◌, ◌≤◌, List, [], ◌∷◌, ◌++◌, Bool, true, false, ◌⊎◌, inl, inr, cond, Option, Some, None, option_and_then, option_map, find, ◌==◌}
-use Rattle.std.specs.Prelude.{slice_get}
-use Rattle.std.proofs.lemmas.Bool.{eq-eqb, eqb-true}
+use Rattle.std.proofs.Common.{arith, ◌≡◌, refl, ap, sym, ◌∙◌, subst, ℕ, ◌≤◌, List, [], ◌∷◌, ◌++◌, Bool, true, false, ◌⊎◌, inl, inr, cond, Option, Some, None, option_and_then, option_map, find, ◌==◌}
+use Rattle.std.proofs.lemmas.Bool.{eqb-true}
 use Rattle.newt_base.specs.Names.{equal_text}
-use Rattle.newt_base.specs.Refusals.{first_of}
-use Rattle.newt_graph.specs.Graph.{RawGraph}
 use Rattle.newt_spec_graph.proofs.Lists.{both-ways, none-some, some-same}
-use Rattle.newt_spec_store.specs.Store.{Store, Soup, Entry, add_entry, change_entry, change_first, change_soup, entry_at, entry_of, next_uid_of, remove_entry, soup_named, soup_of, with_graph}
+use Rattle.newt_spec_store.specs.Store.{Store, Soup, Entry, add_entry, change_entry, change_first, change_soup, entry_at, entry_of, next_uid_of, remove_entry, soup_named, with_graph}
 use Rattle.newt_spec_store.specs.Valid.{well_formed}
 use Rattle.newt_spec_world.specs.declared.command.Command.{Command}
 use Rattle.newt_spec_world.specs.declared.command.Command.TheVariants as command
 use Rattle.newt_spec_world.specs.Changed.{changed, copy_to, graph_after_set, patched}
-use Rattle.newt_spec_world.specs.World.{World, Device, Media, blank, one, change_media, change_soup_in, change_store, default_unit, device, entry_in, flat, mounted_store, on_unit, soup_in, store_if_mounted, store_of}
+use Rattle.newt_spec_world.specs.World.{World, Device, Media, blank, one, change_media, change_soup_in, default_unit, device, entry_in, mounted_store, on_unit, soup_in, store_if_mounted, store_of}
 use Rattle.newt_laws_world.specs.Settled.{MountedApart}
 use Rattle.newt_laws_world.specs.Worlds.{OnMedia}
 use Rattle.newt_laws_world.proofs.Kept.{Every, Wf}
@@ -20,7 +17,7 @@ use Rattle.newt_laws_world.proofs.Units.{device-other, device-same, has-mounted,
 use Rattle.newt_laws_answers.specs.Fetched.{if_on, meant, means_entries, next_if_on, pages_there}
 use Rattle.newt_laws_answers.proofs.Fetched.{last-pages, named-pages}
 use Rattle.newt_laws_answers.proofs.Sigs.{soup-of-sig}
-use Rattle.newt_laws_reach.specs.Reach.{Reach, entry_reach, entry_reached, in_soup, in_store, is_of_one, next_reach, nowhere, on_entry, reach}
+use Rattle.newt_laws_reach.specs.Reach.{Reach, entry_reached, in_soup, in_store, is_of_one, on_entry, reach}
 use Rattle.newt_store_change.specs.Change.{pages_of_entry}
 
 -- ---- the soup of a name keeps its signature

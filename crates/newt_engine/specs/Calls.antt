@@ -104,10 +104,10 @@ module _ {C : Type 0} (reads : List ℕ → Option Store) where
   -- How a command ends. What is attached, the input and the output are as they were. But for a
   -- format each unit that has room is programmed by no more than the command may, is not erased, and
   -- is synced twice at most; where the command is one of entries, for each page of those that it
-  -- means 1024 bytes at most are fetched there; a step of a cursor whose query has no words fetches
-  -- 512 for each page of the entry that it answers; after a reply each bank is not closed or is as it was. A reply tells
-  -- that no fault was counted, an end of the run has its cause, and only what may take memory or use
-  -- a device ends the run so.
+  -- means 1024 bytes at most are fetched there; one that opens, shows, moves or counts a cursor whose
+  -- query asks for no words or texts fetches 512 for each page of the entry that it answers. After a
+  -- reply each bank is not closed or is as it was. A reply tells that no fault was counted, an end of
+  -- the run has its cause, and only what may take memory or use a device ends the run so.
   pub record Finished (told : Bool) (command : Command) (old : World C) (before after : Outside) (result : Result Reply Stop) : Type 0 where
     pub alone : OnDevices before after
     pub bound : IsTrue told → is_format command ≡ false → (u : ℕ) → ProgramsAtMost (most_programmed (world_with reads old.units old.desk before) command u) u before after

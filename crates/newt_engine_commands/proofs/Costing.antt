@@ -34,7 +34,7 @@ use Rattle.newt_store_change.specs.Change.{pages_of_entry}
 use Rattle.newt_store_change.specs.Faults.{GoesOn}
 use Rattle.newt_engine_units.specs.Calls.{CostsOf}
 use Rattle.newt_engine_units.specs.Found.{HasSoup, HasEntry}
-use Rattle.newt_engine_units.proofs.Costs.{after-read, behind-read, both-costs, costs-of, none-fits, of-unit-most, on-costs, on-few, on-within, read-few, same-fits}
+use Rattle.newt_engine_units.proofs.Costs.{after-read, behind-read, both-costs, costs-of, none-fits, on-costs, on-few, on-within, read-few, same-fits}
 use Rattle.newt_engine_commands.specs.Declares.{has_parts, has_real}
 use Rattle.newt_engine_commands.proofs.Commands.{entry-fits}
 use Rattle.newt_engine_commands.proofs.Replacing.{raw-of}

@@ -162,28 +162,6 @@ none-fits unit m other both less u = low (of_unit unit m u) (of_unit other 0 u) 
     nothing true = refl
     nothing false = refl
 
--- two calls on two units that fetch nothing
-pub both-few : (most : ℕ → ℕ) {v u n m : ℕ} {o p q : Outside} → FetchesOn v n 0 o p → FetchesOn u m 0 p q → changes u p.now ≡ changes u o.now → v ≢ u → n ≤ most v → m ≤ most u
-    → (j : ℕ) → IsOpenFor (most j) (image j o.now) → q.fetched j ≤ o.fetched j + 0
-both-few most {v} {u} {n} {m} {o} {p} {q} a b still apart less_v less_u j room = go (same-or-not j v) (same-or-not j u)
-  where
-    low : (x y z : ℕ) → x ≤ y + 0 → y ≤ z → x ≤ z + 0
-    low x y z h k = omega (arith, h, k)
-
-    high : (x y z : ℕ) → x ≤ y → y ≤ z + 0 → x ≤ z + 0
-    high x y z h k = omega (arith, h, k)
-
-    apart-low : (x y z : ℕ) → x ≤ y → y ≤ z → x ≤ z + 0
-    apart-low x y z h k = omega (arith, h, k)
-
-    go : (j ≡ v) ⊎ (j ≡ v → ⊥) → (j ≡ u) ⊎ (j ≡ u → ⊥) → q.fetched j ≤ o.fetched j + 0
-    go (inl is) x = subst (λ k. q.fetched k ≤ o.fetched k + 0) (sym is)
-        (high (q.fetched v) (p.fetched v) (o.fetched v) (b.unread v apart) (a.fetched (room-for-less less_v (subst (λ k. IsOpenFor (most k) (image k o.now)) is room))))
-    go (inr not) (inl is) = subst (λ k. q.fetched k ≤ o.fetched k + 0) (sym is)
-        (low (q.fetched u) (p.fetched u) (o.fetched u) (b.fetched (room-for-less less_u (still-open u (most u) p.now o.now still (subst (λ k. IsOpenFor (most k) (image k o.now)) is room))))
-        (a.unread u (λ e. apart (sym e))))
-    go (inr not) (inr other) = apart-low (q.fetched j) (p.fetched j) (o.fetched j) (b.unread j other) (a.unread j not)
-
 -- ---- calls
 
 -- nothing is programmed by none

@@ -1,5 +1,5 @@
 -- Both soups are looked up.
-use Rattle.std.proofs.Common.{ℕ, ◌≡◌, IsTrue}
+use Rattle.std.proofs.Common.{IsTrue}
 use Rattle.newt_engine_units.specs.Looks.{known_both}
 use Rattle.std.proofs.lemmas.Result.{err_from_is_err_and}
 use Rattle.newt_engine_units.specs.Stands.{Stands, world_of}

@@ -1,5 +1,5 @@
 -- Both soups are looked up.
-use Rattle.std.proofs.Common.{refl, ℕ, ◌≡◌, ◌∙◌}
+use Rattle.std.proofs.Common.{refl, ℕ}
 use Rattle.std.proofs.lemmas.Result.{err_from_is_err_and}
 use Rattle.newt_spec_world.specs.Reply.{Reply}
 use Rattle.newt_spec_world.specs.declared.command.Command.TheVariants as command

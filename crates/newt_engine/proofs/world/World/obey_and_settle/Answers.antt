@@ -1,5 +1,5 @@
 -- The cursors are settled where keys may have changed.
-use Rattle.std.proofs.Common.{◌≡◌, ap, refl, sym, ◌∙◌, subst, true, IsTrue, Ok, Err}
+use Rattle.std.proofs.Common.{◌≡◌, ap, refl, sym, ◌∙◌, subst, true, IsTrue, Ok}
 use Rattle.newt_engine_units.specs.Answers.{Answers}
 use Rattle.newt_host.specs.Moments.{Moment, Always}
 use Rattle.newt_host.proofs.Outside.{NoFault-append, OnDevices-append}
