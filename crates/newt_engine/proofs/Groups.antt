@@ -104,8 +104,3 @@ within_own c u name uid to target is within = is ∙ ap (λ n. command.Move u na
     kept : (b : Bool) → not b ≡ false → b ≡ true
     kept true h = refl
     kept false h = sym h
-
--- and a command that is no move is none to another unit
-pub others_within : (k : Command) → ((a b c d e : _) → k ≡ command.Move a b c d e → ⊥) → is_between k ≡ false
-others_within (command.Move a b c d e) move = absurd (move a b c d e refl)
-others_within _ move = cc

@@ -1,1 +1,0 @@
--- A move to another store, or any other command.
