@@ -105,7 +105,8 @@ impl<C: Card> World<C> {
         requires stands { UnitsStand C.place C.stands H.told self.old (H.outside host.old) }
         requires desk { CursorsFit self.old }
         ensures { let reached =
-            reached_by aim.now (world_of C.reads self.old.units (H.outside host.old)) (said reply) in
+            reached_by aim.now (world_of C.reads self.old.units (H.outside host.old)) (said reply)
+            in
             Settles C.reads C.place C.stands H.told reached reply self.old self.new
             (H.outside host.old) (H.outside host.new) result }
     {

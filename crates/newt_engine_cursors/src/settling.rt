@@ -187,7 +187,8 @@ fn give_keys<C: Card>(
         → Stands C.place C.stands true units.now outside →
         let w = world_of C.reads units.now outside in MountedApart w
         → ((c : ℕ) → IsAtHand w store soup uid entry.now (flat (slice_get desk.old c)))
-        → OnOk result (desk.new ≡ map (option_map (settle_where (on_entry store soup uid) w)) desk.old) }
+        → OnOk result (desk.new
+        ≡ map (option_map (settle_where (on_entry store soup uid) w)) desk.old) }
 {
     for cursor in 0..PLACES {
         give_key(units, desk, cursor, store, soup, uid, entry)?;
@@ -211,7 +212,8 @@ fn give_key<C: Card>(
         → Stands C.place C.stands true units.now outside →
         let w = world_of C.reads units.now outside in MountedApart w
         → IsAtHand w store soup uid entry.now (flat (slice_get desk.old cursor))
-        → OnOk result (desk.new ≡ change_at cursor (settle_where (on_entry store soup uid) w) desk.old) }
+        → OnOk result (desk.new
+        ≡ change_at cursor (settle_where (on_entry store soup uid) w) desk.old) }
 {
     if let Some(key) = watcher_key(units, desk, cursor, store, soup, uid, entry)? {
         desk.changed(cursor, key);

@@ -13,7 +13,8 @@ ghost use Rattle.newt_pagelog.specs.Kept.{all_of};
 ghost use Rattle.newt_pagelog.specs.Placed.{ArePlaced, lifted, page_of};
 ghost use Rattle.newt_pagelog.specs.Steps.{Stays};
 ghost use Rattle.newt_pages.specs.Disk.{LiesAt};
-ghost use Rattle.newt_pages.specs.Copies.{place_at, below, copying, writing_all, CopiesPage, IsBound};
+ghost use Rattle.newt_pages.specs.Copies.{place_at, below, copying, writing_all, CopiesPage};
+ghost use Rattle.newt_pages.specs.Copies.{IsBound};
 ghost use Rattle.newt_pages.specs.Copies.{CopiesAll, CopiesWhole, IsCopying, IsSteadyDraft};
 
 use newt_host::{Failed, Host};

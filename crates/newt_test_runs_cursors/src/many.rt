@@ -148,14 +148,16 @@ const ENTRIES: u32 = 8;
 /// Four stores, whose entries have more pages together than are cached of a unit.
 fn add_all(alloc: Global, table: &mut String) -> Result<(), Fail> {
     for unit in 0u32..4 {
-        let rows = format!(in alloc; "format {unit} A {unit} => ok
+        let rows = format!(in alloc;
+            "format {unit} A {unit} => ok
 mount {unit} => ok {unit} A
 soup {unit} N => ok 0
-index {unit} N k:int:ascend => ok\n")?;
+index {unit} N k:int:ascend => ok\n"
+        )?;
         table.push_str(&rows)?;
         for uid in 0..ENTRIES {
-            let row = format!(in alloc; "add {unit} N {{k: {uid}, t: \"word ~x*2200~\"}} => ok {uid}\n")?;
-            table.push_str(&row)?;
+            let entry = format!(in alloc; "{{k: {uid}, t: \"word ~x*2200~\"}}")?;
+            table.push_str(&format!(in alloc; "add {unit} N {entry} => ok {uid}\n")?)?;
         }
     }
     Ok(())
@@ -167,8 +169,8 @@ fn open_on_all(alloc: Global, table: &mut String) -> Result<(), Fail> {
         let unit = place / ENTRIES;
         let uid = place % ENTRIES;
         let number = place - 1;
-        let row = format!(in alloc; "query {unit} N {{indexPath: 'k, beginKey: {uid}, words: \"word\"}} => ok {number}\n")?;
-        table.push_str(&row)?;
+        let spec = format!(in alloc; "{{indexPath: 'k, beginKey: {uid}, words: \"word\"}}")?;
+        table.push_str(&format!(in alloc; "query {unit} N {spec} => ok {number}\n")?)?;
     }
     Ok(())
 }
