@@ -12,7 +12,7 @@ use Rattle.newt_graph.specs.declared.node.Ref.TheVariants as refs
 use Rattle.newt_graph.specs.Graph.{RawGraph, IsGraph, WalkLabel, WalkLabels, Walk, Walks}
 use Rattle.newt_spec_nsof.specs.Text.{units_text, number_text, large_text}
 use Rattle.newt_graph.specs.Slice.{At}
-use Rattle.newt_spec_nsof.specs.Written.{xlong_text, count_text, again_text, each_text, label_text, frame_text, plain_array_text, array_text, binary_text, plain_large_text, value_text, nsof}
+use Rattle.newt_spec_nsof.specs.Flat.{xlong_text, count_text, again_text, each_text, label_text, frame_text, plain_array_text, array_text, binary_text, plain_large_text, value_text, flat}
 use Rattle.newt_spec_nsof.specs.Lengths.{bare, skeleton, large_len, count_len, again_len, ref_len, node_len, agains_len}
 use Rattle.newt_graph.proofs.Slices.{at_first, at_rest, at_inside, at_here}
 use Rattle.newt_spec_nsof.proofs.Places.{label_met, labels_met, value_met, label_again, label_new, word_as, again_in_short, symbol_in_full, frame_in_full, plain_array_in_full, array_in_full, string_in_full, binary_in_full, large_in_full}
@@ -222,15 +222,15 @@ bares_len (node ∷ nodes) = omega (arith, bare_len node, bares_len nodes, sum_b
 
 -- ---- graphs
 
-whole_len : (nodes : List Node) (root : Ref) → Walk 200 0 root nodes → length (nsof (record { nodes = nodes; root = root })) + agains_len (length nodes) ≡ 1 + ref_len root + sum_by node_len nodes
-unfolding nsof
+whole_len : (nodes : List Node) (root : Ref) → Walk 200 0 root nodes → length (flat (record { nodes = nodes; root = root })) + agains_len (length nodes) ≡ 1 + ref_len root + sum_by node_len nodes
+unfolding flat
 whole_len nodes root walk =
     let at : At nodes nodes 0 = record { before = []; later = []; whole = sym (append-nil nodes); met_is = refl } in
     omega (arith, value_len walk nodes at, same_agains (0 + length nodes) (length nodes) (omega arith), no_agains)
 
-pub text_len : (g : RawGraph) → IsGraph g → length (nsof g) + agains_len (length g.nodes) ≡ 1 + ref_len g.root + sum_by node_len g.nodes
+pub text_len : (g : RawGraph) → IsGraph g → length (flat g) + agains_len (length g.nodes) ≡ 1 + ref_len g.root + sum_by node_len g.nodes
 text_len g is = whole_len g.nodes g.root is.walk
 
-pub skeleton_text_len : (g : RawGraph) → IsGraph g → length (nsof (skeleton g)) + sum_by large_len g.nodes ≡ length (nsof g)
+pub skeleton_text_len : (g : RawGraph) → IsGraph g → length (flat (skeleton g)) + sum_by large_len g.nodes ≡ length (flat g)
 skeleton_text_len g is =
     omega (arith, text_len g is, whole_len (map bare g.nodes) g.root (bare_walk is.walk), bares_len g.nodes, same_agains (length (map bare g.nodes)) (length g.nodes) (length-map g.nodes bare))

@@ -10,7 +10,7 @@ use Rattle.newt_graph.specs.declared.node.Ref.TheVariants as refs
 use Rattle.newt_graph.specs.Slice.{At}
 use Rattle.newt_graph.specs.Graph.{WalkLabel, WalkLabels, Walk, Walks}
 use Rattle.newt_graph.proofs.Slices.{at_first, at_rest, at_inside, at_here}
-use Rattle.newt_spec_nsof.specs.Written.{Text, word_text, symbol_text, again_text, each_text, label_text, frame_text, plain_array_text, array_text, any_array_text, string_text, binary_text, plain_large_text, text_at, value_text}
+use Rattle.newt_spec_nsof.specs.Flat.{Text, word_text, symbol_text, again_text, each_text, label_text, frame_text, plain_array_text, array_text, any_array_text, string_text, binary_text, plain_large_text, text_at, value_text}
 
 -- ---- how many nodes are met in the end
 

@@ -11,7 +11,7 @@ use Rattle.newt_graph.specs.declared.node.Ref.TheVariants as refs
 use Rattle.newt_graph.specs.Graph.{RawGraph, IsNamed, IsSymbol, IsAlike, IsName, IsNode, IsFrame, IsText, IsData, AreFoldedOnce, IsGraph, WalkLabel, WalkLabels, Walk, Walks}
 use Rattle.newt_spec_nsof.specs.Text.{Interned, SymbolText, Again, Label, Labels, Object, Objects, Spells, large_text}
 use Rattle.newt_graph.specs.Slice.{At}
-use Rattle.newt_spec_nsof.specs.Written.{symbol_text, again_text, count_text, each_text, label_text, frame_text, plain_array_text, array_text, string_text, binary_text, plain_large_text, value_text, nsof}
+use Rattle.newt_spec_nsof.specs.Flat.{symbol_text, again_text, count_text, each_text, label_text, frame_text, plain_array_text, array_text, string_text, binary_text, plain_large_text, value_text, flat}
 use Rattle.newt_graph.proofs.Elements.{get_append}
 use Rattle.newt_graph.proofs.Slices.{at_first, at_rest, at_inside, at_here, at_length}
 use Rattle.newt_spec_nsof.proofs.Places.{label_met, labels_met, value_met, label_again, label_new, word_as, again_in_short, symbol_in_full, frame_in_full, plain_array_in_full, array_in_full, string_in_full, binary_in_full, large_in_full}
@@ -45,25 +45,25 @@ get_upto (suc n) k lt =
     order k n lt = grind arith
 
 -- of an element within a front
-get_front : {X : Type 0} (xs ys : List X) (k : ℕ) → k < length xs → slice_get (xs ++ ys) k ≡ slice_get xs k
+pub get_front : {X : Type 0} (xs ys : List X) (k : ℕ) → k < length xs → slice_get (xs ++ ys) k ≡ slice_get xs k
 get_front [] ys k lt = absurd (omega arith)
 get_front (x ∷ xs) ys zero lt = refl
 get_front (x ∷ xs) ys (suc k) lt = get_front xs ys k (omega arith)
 
 -- what the walk relies on at each node
-record IsSound (nodes : List Node) : Type 0 where
-  each : All (IsNode nodes) nodes
-  once : AreFoldedOnce nodes
-  few : length nodes ≤ 65535
+pub record IsSound (nodes : List Node) : Type 0 where
+  pub each : All (IsNode nodes) nodes
+  pub once : AreFoldedOnce nodes
+  pub few : length nodes ≤ 65535
 
-node_is : (nodes : List Node) (k : ℕ) (node : Node) → IsSound nodes → slice_get nodes k ≡ Some node → IsNode nodes node
+pub node_is : (nodes : List Node) (k : ℕ) (node : Node) → IsSound nodes → slice_get nodes k ≡ Some node → IsNode nodes node
 node_is nodes k node sound e = subst (IsNode nodes) (get_or_from_slice_get nodes k node node e) (sound.each k node (slice_get_within nodes k node e))
 
-before_symbol : (nodes new : List Node) (met k : ℕ) (at : At nodes new met) → k < met → IsSymbol nodes k → IsSymbol at.before k
+pub before_symbol : (nodes new : List Node) (met k : ℕ) (at : At nodes new met) → k < met → IsSymbol nodes k → IsSymbol at.before k
 before_symbol nodes new met k at lt h =
     (h.0, sym (get_front at.before (new ++ at.later) k (omega (arith, at.met_is))) ∙ ap (λ (x : List Node). slice_get x k) (sym at.whole) ∙ h.1)
 
-none_before : (nodes : List Node) (name : List ℕ) (met : ℕ) (at : At nodes (Symbol name ∷ []) met) → IsSound nodes → (k : ℕ) → IsAlike at.before k name → ⊥
+pub none_before : (nodes : List Node) (name : List ℕ) (met : ℕ) (at : At nodes (Symbol name ∷ []) met) → IsSound nodes → (k : ℕ) → IsAlike at.before k name → ⊥
 none_before nodes name met at sound k alike =
     let lt : k < length at.before = slice_get_within at.before k (Symbol alike.0) alike.1 in
     let there : IsNamed nodes k alike.0 = ap (λ (x : List Node). slice_get x k) at.whole ∙ get_append at.before _ k (Symbol alike.0) alike.1 in
@@ -234,9 +234,9 @@ mutual
       rw (value_met w nodes (at_first nodes first others met at), upto_same (met + length (first ++ others)) (met + length first + length others) (omega (arith, length-append first others)))
       (Objects.more one rest)
 
-pub written_spells : (g : RawGraph) → IsGraph g → Spells (nsof g) g
-unfolding nsof
-written_spells g is =
+pub flat_spells : (g : RawGraph) → IsGraph g → Spells (flat g) g
+unfolding flat
+flat_spells g is =
     let at : At g.nodes g.nodes 0 = record { before = []; later = []; whole = sym (append-nil g.nodes); met_is = refl } in
     record {
       text = (value_text 200 g.nodes g.root 0).0;

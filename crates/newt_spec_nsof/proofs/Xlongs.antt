@@ -9,7 +9,7 @@ use Rattle.newt_graph.specs.declared.node.Node.{Node}
 use Rattle.newt_graph.specs.declared.node.Ref.TheVariants as refs
 use Rattle.newt_graph.specs.Graph.{IsWord}
 use Rattle.newt_spec_nsof.specs.Text.{Xlong, Count, Object}
-use Rattle.newt_spec_nsof.specs.Written.{xlong_text, count_text, character_text, word_text}
+use Rattle.newt_spec_nsof.specs.Flat.{xlong_text, count_text, character_text, word_text}
 
 pub xlong_fits : {text : List ℕ} {z : ℤ} → Xlong text z → FitsSigned w32 z
 xlong_fits (Xlong.short {n} lt) = record { sfits = omega arith }

@@ -9,7 +9,7 @@ use Rattle.newt_graph.specs.declared.node.Node.TheVariants.{Frame}
 use Rattle.newt_graph.specs.declared.node.Ref.{Ref}
 use Rattle.newt_graph.specs.declared.node.Ref.TheVariants as refs
 use Rattle.newt_graph.specs.Graph.{RawGraph}
-use Rattle.newt_spec_nsof.specs.Written.{word_text}
+use Rattle.newt_spec_nsof.specs.Flat.{word_text}
 
 -- ---- skeletons
 
