@@ -3,7 +3,7 @@ ghost use Rattle.std.specs.Prelude.{[], ◌≡◌, ◌++◌, ◌+◌, ◌*◌, �
 ghost use Rattle.newt_graph.specs.Graph.{IsNode};
 ghost use Rattle.newt_spec_nsof.specs.Place.{Ahead, BinaryWalk, LargeWalk};
 ghost use Rattle.newt_spec_nsof.specs.Text.{units_text, large_text};
-ghost use Rattle.newt_spec_nsof.specs.Written.{string_text, binary_text, plain_large_text};
+ghost use Rattle.newt_spec_nsof.specs.Flat.{string_text, binary_text, plain_large_text};
 ghost use Rattle.newt_nsof_write.specs.Writing.{Adds};
 
 use crate::labels::label;
@@ -58,7 +58,7 @@ pub(crate) fn binary(
 }
 
 /// What stands behind the class of a large binary that is not compressed.
-fn large_data(out: &mut Vec<u8>, bytes: &[u8]) -> Result<(), AllocError>
+pub(crate) fn large_data(out: &mut Vec<u8>, bytes: &[u8]) -> Result<(), AllocError>
     requires { length bytes.now ≤ 1000000 }
     ensures { OnOk result (out.new.items ≡ out.old.items ++ large_text 0 0 [] [] bytes.now) }
 {

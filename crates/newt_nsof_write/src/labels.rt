@@ -2,7 +2,7 @@
 ghost use Rattle.std.specs.Prelude.{◌≡◌, ◌++◌, ◌<◌, ◌≤◌, length, IfOk, OnOk, All};
 ghost use Rattle.newt_graph.specs.Graph.{IsNode, WalkLabel, WalkLabels};
 ghost use Rattle.newt_spec_nsof.specs.Place.{Ahead};
-ghost use Rattle.newt_spec_nsof.specs.Written.{again_text, symbol_text, each_text, label_text};
+ghost use Rattle.newt_spec_nsof.specs.Flat.{again_text, symbol_text, each_text, label_text};
 ghost use Rattle.newt_nsof_write.specs.Writing.{Adds};
 
 use crate::numbers::count;
@@ -32,7 +32,7 @@ pub(crate) fn symbol(out: &mut Vec<u8>, name: &[u8]) -> Result<(), AllocError>
 
 /// A class or a slot tag, after so many nodes: in full where it is met first. Answers how many are
 /// met afterwards.
-#[tactic(auto, unfolding(newt_spec_nsof::specs::Written::label_text))]
+#[tactic(auto, unfolding(newt_spec_nsof::specs::Flat::label_text))]
 pub(crate) fn label(out: &mut Vec<u8>, nodes: &[Node], k: u32, met: u32) -> Result<u32, AllocError>
     requires few { length nodes.now ≤ 65535 }
     requires named { All (IsNode nodes.now) nodes.now }

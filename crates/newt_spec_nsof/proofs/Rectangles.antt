@@ -119,7 +119,7 @@ sides_interned (WalkLabels.more {met} {k} {ks} {first} {others} w ws) nodes at s
     (sides_interned ws nodes (at_rest nodes first others met at) sound n (omega (arith, le)) rest h.1)
 
 -- there are as many
-sides_count : (nodes : List Node) (n : ℕ) (tags : List ℕ) (names : List (List ℕ)) → are_sides nodes n tags names ≡ true → length tags ≡ length names
+pub sides_count : (nodes : List Node) (n : ℕ) (tags : List ℕ) (names : List (List ℕ)) → are_sides nodes n tags names ≡ true → length tags ≡ length names
 sides_count nodes n [] [] e = refl
 sides_count nodes n [] (side ∷ rest) e = absurd cc
 sides_count nodes n (tag ∷ tags) [] e = absurd cc

@@ -13,8 +13,8 @@ use Rattle.newt_graph.specs.Graph.{RawGraph, IsSymbol, IsAlike, IsName, IsNode, 
 use Rattle.newt_graph.specs.Slice.{At}
 use Rattle.newt_graph.proofs.Slices.{at_first, at_rest, at_inside, at_here, at_length}
 use Rattle.newt_spec_nsof.specs.Text.{Interned, InternedEach, SymbolText, Again, Label, Labels, Object, Objects, Spells, corners, sides, large_text}
-use Rattle.newt_spec_nsof.specs.Flat.{symbol_text, again_text, count_text, string_text, word_text}
-use Rattle.newt_spec_nsof.specs.Written.{Text, number_of, each_text, new_label, numbered_or, label_text, small_frame, small_or, frame_text, plain_array_text, array_text, binary_text, plain_large_text, new_node, value_text, nsof}
+use Rattle.newt_spec_nsof.specs.Flat.{symbol_text, again_text, count_text, each_text, string_text, word_text}
+use Rattle.newt_spec_nsof.specs.Written.{Text, number_of, new_label, numbered_or, label_text, small_frame, small_or, frame_text, plain_array_text, array_text, binary_text, plain_large_text, new_node, value_text, nsof}
 use Rattle.newt_spec_nsof.proofs.Xlongs.{count_spelled, word_spelled}
 use Rattle.newt_spec_nsof.proofs.Spelled.{IsSound, node_is, before_symbol, none_before}
 use Rattle.newt_spec_nsof.proofs.Numbered.{AreNumbered, has_number, has_none, has_none_yet, numbers_few, none_numbered, number_again, number_next, labels_none}

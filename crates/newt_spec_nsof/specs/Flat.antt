@@ -56,11 +56,11 @@ symbol_text name = 7 ∷ (count_text (length name) ++ name)
 abbrev pub Text : Type 0
 Text = List ℕ × ℕ
 
--- texts of one thing after another
-unfoldable pub each_text : {A : Type 0} → (A → ℕ → Text) → List A → ℕ → Text
-each_text one [] met = ([], met)
-each_text one (x ∷ xs) met =
-    let first = one x met in
+-- texts of one thing after another, each with what is known after it
+unfoldable pub each_text : {A S : Type 0} → (A → S → List ℕ × S) → List A → S → List ℕ × S
+each_text one [] known = ([], known)
+each_text one (x ∷ xs) known =
+    let first = one x known in
     let others = each_text one xs first.1 in
     (first.0 ++ others.0, others.1)
 

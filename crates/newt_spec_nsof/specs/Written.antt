@@ -15,6 +15,7 @@ use Rattle.newt_graph.specs.Limits.{most_open}
 use Rattle.newt_graph.specs.Graph.{RawGraph}
 use Rattle.newt_spec_nsof.specs.Text.{sides, large_text}
 use Rattle.newt_spec_nsof.specs.Flat.{count_text, word_text, again_text, symbol_text, string_text}
+use Rattle.newt_spec_nsof.specs.Flat.{each_text}
 
 -- a text, and the nodes that have a number after it, in the order of their numbers
 abbrev pub Text : Type 0
@@ -23,14 +24,6 @@ Text = List ℕ × List ℕ
 -- the number of a node, if it has one
 abbrev pub number_of : ℕ → List ℕ → Option ℕ
 number_of k numbered = position (nat_eq k) numbered
-
--- texts of one thing after another
-unfoldable pub each_text : {A : Type 0} → (A → List ℕ → Text) → List A → List ℕ → Text
-each_text one [] numbered = ([], numbered)
-each_text one (x ∷ xs) numbered =
-    let first = one x numbered in
-    let others = each_text one xs first.1 in
-    (first.0 ++ others.0, others.1)
 
 -- a class or a tag in full, which takes a number
 abbrev pub new_label : ℕ → Option Node → List ℕ → Text
