@@ -13,7 +13,7 @@ use Rattle.newt_graph.specs.declared.node.Node.{Node}
 use Rattle.newt_graph.specs.declared.node.Node.TheVariants.{Large}
 use Rattle.newt_graph.specs.Graph.{RawGraph, IsGraph, payload}
 use Rattle.newt_spec_nsof.specs.Lengths.{skeleton, bare as bare_node}
-use Rattle.newt_spec_nsof.specs.Written.{nsof}
+use Rattle.newt_spec_nsof.specs.Flat.{flat}
 use Rattle.newt_spec_graph.specs.Graph.{object, is_frame}
 use Rattle.newt_spec_graph.specs.Limits.{within_limits}
 use Rattle.newt_spec_store.specs.Lies.{may_be_large, stretched}
@@ -92,8 +92,8 @@ abbrev pub all_may : List LargeAt → Bool
 all_may rows = list_all (λ (l : LargeAt). may_be_large (row_at l)) rows
 
 pub fits-is : (rows : List LargeAt) (g : RawGraph) → names_from 0 g.nodes (map row_at rows) ≡ true
-    → fits (map row_at rows) g ≡ (all_may rows && (is_frame (object g.nodes g.root) && within_limits (stretched (map row_at rows) g) && nat_le (length (nsof (skeleton g))) 64_000))
-fits-is rows g named = λ i. (named i && may i) && (framed i && within_limits (stretched (map row_at rows) g) && nat_le (length (nsof (bare i))) 64_000)
+    → fits (map row_at rows) g ≡ (all_may rows && (is_frame (object g.nodes g.root) && within_limits (stretched (map row_at rows) g) && nat_le (length (flat (skeleton g))) 64_000))
+fits-is rows g named = λ i. (named i && may i) && (framed i && within_limits (stretched (map row_at rows) g) && nat_le (length (flat (bare i))) 64_000)
   where
     zs : List (List ℕ)
     zs = zeros (map row_at rows)
@@ -108,20 +108,20 @@ fits-is rows g named = λ i. (named i && may i) && (framed i && within_limits (s
     bare = ap skeleton (stretched-is rows g named) ∙ ap {A = List Node} {B = RawGraph} (λ ns. record { nodes = ns; root = g.root }) (put-bare g.nodes zs)
 
 pub unfit-named : (rows : List LargeRow) (g : RawGraph) → names_from 0 g.nodes rows ≡ false → fits rows g ≡ false
-unfit-named rows g named = λ i. (named i && list_all may_be_large rows) && (is_frame (object (stretched rows g).nodes (stretched rows g).root) && within_limits (stretched rows g) && nat_le (length (nsof (skeleton (stretched rows g)))) 64_000)
+unfit-named rows g named = λ i. (named i && list_all may_be_large rows) && (is_frame (object (stretched rows g).nodes (stretched rows g).root) && within_limits (stretched rows g) && nat_le (length (flat (skeleton (stretched rows g)))) 64_000)
 
 -- ---- what fitting rows have
 
 fit-named : (rows : List LargeRow) (g : RawGraph) → fits rows g ≡ true → names_from 0 g.nodes rows ≡ true
 fit-named rows g h =
-    let valid : Bool = is_frame (object (stretched rows g).nodes (stretched rows g).root) && within_limits (stretched rows g) && nat_le (length (nsof (skeleton (stretched rows g)))) 64_000 in
+    let valid : Bool = is_frame (object (stretched rows g).nodes (stretched rows g).root) && within_limits (stretched rows g) && nat_le (length (flat (skeleton (stretched rows g)))) 64_000 in
     let p = and_parts (names_from 0 g.nodes rows && list_all may_be_large rows) valid h in
     (and_parts (names_from 0 g.nodes rows) (list_all may_be_large rows) p.0).0
 
 fit-within : (rows : List LargeRow) (g : RawGraph) → fits rows g ≡ true → within_limits (stretched rows g) ≡ true
 fit-within rows g h =
     let framed : Bool = is_frame (object (stretched rows g).nodes (stretched rows g).root) in
-    let short : Bool = nat_le (length (nsof (skeleton (stretched rows g)))) 64_000 in
+    let short : Bool = nat_le (length (flat (skeleton (stretched rows g)))) 64_000 in
     let p = and_parts (names_from 0 g.nodes rows && list_all may_be_large rows) (framed && within_limits (stretched rows g) && short) h in
     let q = and_parts (framed && within_limits (stretched rows g)) short p.1 in
     (and_parts framed (within_limits (stretched rows g)) q.0).1
@@ -174,14 +174,14 @@ pub filled-valid : (rows : List LargeAt) (g : RawGraph) (bs : List (List ℕ)) (
     → valid_entry (record { uid = uid; time = time; graph = filled (map row_at rows) g bs }) ≡ true
 filled-valid rows g bs uid time is h long = ap (λ (k : RawGraph). valid_entry (record { uid = uid; time = time; graph = k })) (filled-nodes rows g bs h long) ∙ test
   where
-    passed : (all_may rows && (is_frame (object g.nodes g.root) && within_limits (stretched (map row_at rows) g) && nat_le (length (nsof (skeleton g))) 64_000)) ≡ true
+    passed : (all_may rows && (is_frame (object g.nodes g.root) && within_limits (stretched (map row_at rows) g) && nat_le (length (flat (skeleton g))) 64_000)) ≡ true
     passed = sym (fits-is rows g (fit-named (map row_at rows) g h)) ∙ h
 
-    parts : (is_frame (object g.nodes g.root) ≡ true) × (nat_le (length (nsof (skeleton g))) 64_000 ≡ true)
+    parts : (is_frame (object g.nodes g.root) ≡ true) × (nat_le (length (flat (skeleton g))) 64_000 ≡ true)
     parts =
         let within : Bool = within_limits (stretched (map row_at rows) g) in
         let framed : Bool = is_frame (object g.nodes g.root) in
-        let short : Bool = nat_le (length (nsof (skeleton g))) 64_000 in
+        let short : Bool = nat_le (length (flat (skeleton g))) 64_000 in
         let p = (and_parts (all_may rows) (framed && within && short) passed).1 in
         let q = and_parts (framed && within) short p in
         ((and_parts framed within q.0).0, q.1)
@@ -189,8 +189,8 @@ filled-valid rows g bs uid time is h long = ap (λ (k : RawGraph). valid_entry (
     bare : skeleton (put_graph g bs) ≡ skeleton g
     bare = ap {A = List Node} {B = RawGraph} (λ ns. record { nodes = ns; root = g.root }) (put-bare g.nodes bs)
 
-    test : (is_frame (object (put_in g.nodes bs) g.root) && within_limits (put_graph g bs) && nat_le (length (nsof (skeleton (put_graph g bs)))) 64_000) ≡ true
-    test = (λ i. put-frame g.nodes bs g.root i && within-filled rows g bs is h long i && nat_le (length (nsof (bare i))) 64_000) ∙ (λ i. parts.0 i && true && parts.1 i)
+    test : (is_frame (object (put_in g.nodes bs) g.root) && within_limits (put_graph g bs) && nat_le (length (flat (skeleton (put_graph g bs)))) 64_000) ≡ true
+    test = (λ i. put-frame g.nodes bs g.root i && within-filled rows g bs is h long i && nat_le (length (flat (bare i))) 64_000) ∙ (λ i. parts.0 i && true && parts.1 i)
 
 pub filled-is_graph : (rows : List LargeAt) (g : RawGraph) (bs : List (List ℕ)) → IsGraph g → fits (map row_at rows) g ≡ true → AsLong bs rows → All HasBytes (put_in g.nodes bs) → IsGraph (put_graph g bs)
 filled-is_graph rows g bs is h long bytes =

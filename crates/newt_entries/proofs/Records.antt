@@ -3,7 +3,7 @@ use Rattle.std.proofs.Common.{◌≡◌, ℕ, ◌-◌, ◌*◌, ◌<◌, ◌≤�
 use Rattle.std.proofs.lemmas.List.{drop-drop}
 use Rattle.newt_base.specs.Text.{be16_at, be32_at}
 use Rattle.newt_graph.specs.Graph.{RawGraph}
-use Rattle.newt_spec_nsof.specs.Written.{nsof}
+use Rattle.newt_spec_nsof.specs.Flat.{flat}
 use Rattle.newt_spec_store.specs.Lies.{only, is_record, record_read}
 use Rattle.newt_spec_store.specs.StoreOf.{LargeRow, EntryRow, written}
 use Rattle.newt_entries.specs.Entry.{stream_graph, row_at, rows_in, fits}
@@ -33,7 +33,7 @@ by_tests : (bytes : List ℕ) (g : RawGraph) → 12 ≤ length bytes → 12 * be
 by_tests bytes g h room e = by_graph bytes h room ∙ ap (λ o. only is_record (option_map (λ g. (row_in bytes (the_text bytes), g)) o)) e
 
 pub fit : (bytes : List ℕ) (g : RawGraph) → 12 ≤ length bytes → 12 * be16_at bytes 2 ≤ length bytes - 12 → written stream_graph (the_text bytes) ≡ Some g → fits (the_rows bytes) g ≡ true
-    → record_read stream_graph bytes ≡ Some (row_in bytes (nsof g), g)
+    → record_read stream_graph bytes ≡ Some (row_in bytes (flat g), g)
 fit bytes g h room e is = by_tests bytes g h room e ∙ ap {A = Bool} {B = Option (EntryRow × RawGraph)} (λ b. cond b (Some (row_in bytes (the_text bytes), g)) None) is
     ∙ ap {A = List ℕ} {B = Option (EntryRow × RawGraph)} (λ text. Some (row_in bytes text, g)) (sym (written_text (the_text bytes) g e))
 
@@ -76,9 +76,9 @@ module _ (bytes : List ℕ) (g : RawGraph) (rows : List LargeAt) (count : ℕ) (
   its-text : written stream_graph (the_text bytes) ≡ Some g
   its-text = ap (written stream_graph) (sym (text-is bytes count e)) ∙ text
 
-  pub found : fits (map row_at rows) g ≡ true → record_read stream_graph bytes ≡ Some (the_row (be16_at bytes 0) (be32_at bytes 4) (be32_at bytes 8) (nsof g) (map row_at rows), g)
+  pub found : fits (map row_at rows) g ≡ true → record_read stream_graph bytes ≡ Some (the_row (be16_at bytes 0) (be32_at bytes 4) (be32_at bytes 8) (flat g) (map row_at rows), g)
   found is = fit bytes g h its-room its-text (ap (λ ls. fits ls g) (sym its-rows) ∙ is)
-      ∙ ap {A = List LargeRow} {B = Option (EntryRow × RawGraph)} (λ ls. Some (the_row (be16_at bytes 0) (be32_at bytes 4) (be32_at bytes 8) (nsof g) ls, g)) (sym its-rows)
+      ∙ ap {A = List LargeRow} {B = Option (EntryRow × RawGraph)} (λ ls. Some (the_row (be16_at bytes 0) (be32_at bytes 4) (be32_at bytes 8) (flat g) ls, g)) (sym its-rows)
 
   pub not_found : fits (map row_at rows) g ≡ false → record_read stream_graph bytes ≡ None
   not_found is = unfit bytes g h its-room its-text (ap (λ ls. fits ls g) (sym its-rows) ∙ is)

@@ -10,7 +10,7 @@ use Rattle.newt_graph.specs.declared.node.Ref.{Ref}
 use Rattle.newt_graph.specs.declared.node.Ref.TheVariants as refs
 use Rattle.newt_graph.specs.Graph.{RawGraph, IsGraph, IsNode, IsName, IsText, IsData}
 use Rattle.newt_spec_nsof.specs.Text.{units_text, number_text, large_text}
-use Rattle.newt_spec_nsof.specs.Written.{xlong_text, count_text, character_text, word_text, again_text, symbol_text, Text, each_text, new_label, label_text, frame_text, string_text, binary_text, plain_large_text, plain_array_text, array_text, any_array_text, new_node, text_at, value_text, nsof}
+use Rattle.newt_spec_nsof.specs.Flat.{xlong_text, count_text, character_text, word_text, again_text, symbol_text, Text, each_text, new_label, label_text, frame_text, string_text, binary_text, plain_large_text, plain_array_text, array_text, any_array_text, new_node, text_at, value_text, flat}
 use Rattle.newt_entries.specs.Entry.{are_bytes}
 
 abbrev Fit : List ℕ → Type 0
@@ -159,6 +159,6 @@ node_at [] all h k node e = absurd cc
 node_at (x ∷ xs) all h zero node e = let same : x ≡ node = cc in subst (λ (n : Node). IsNode all n) same (h 0 x (omega arith))
 node_at (x ∷ xs) all h (suc k) node e = node_at xs all (λ i d lt. h (suc i) d (omega (arith, lt))) k node e
 
-pub written_fits : (g : RawGraph) → IsGraph g → are_bytes (nsof g) ≡ true
-unfolding nsof
+pub written_fits : (g : RawGraph) → IsGraph g → are_bytes (flat g) ≡ true
+unfolding flat
 written_fits g h = values_fit g.nodes (node_at g.nodes g.nodes h.each) 200 g.root 0

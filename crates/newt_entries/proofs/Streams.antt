@@ -8,11 +8,11 @@ use Rattle.std.proofs.lemmas.Cmp.{nat_list_eq_equiv}
 use Rattle.std.proofs.lemmas.List.Elements.{All-from_recursion}
 use Rattle.newt_graph.specs.Graph.{RawGraph, IsGraph}
 use Rattle.newt_spec_nsof.specs.Text.{AreBytes, Spells}
-use Rattle.newt_spec_nsof.specs.Written.{nsof}
+use Rattle.newt_spec_nsof.specs.Flat.{flat}
 use Rattle.newt_spec_nsof.proofs.Normal.{spelled_is_graph}
 use Rattle.newt_nsof_read.specs.declared.fault.NsofFault.{NsofFault}
 use Rattle.newt_nsof_read.specs.Reading.{decoded}
-use Rattle.newt_nsof_read.proofs.Decoded.{read_as_spelled, written_is_read_again}
+use Rattle.newt_nsof_read.proofs.Decoded.{read_as_spelled, flat_is_read_again}
 use Rattle.newt_spec_store.specs.Lies.{ReadsGraphs}
 use Rattle.newt_spec_store.specs.StoreOf.{written}
 use Rattle.newt_entries.specs.Entry.{graph_in, are_bytes, stream_graph}
@@ -47,16 +47,16 @@ stream_decoded text g e = go (are_bytes text) (decoded text) refl refl
 
 pub reads_graphs : ReadsGraphs stream_graph
 reads_graphs = record {
-  back = λ g h. stream_is (nsof g) g (written_fits g h) (written_is_read_again g h);
+  back = λ g h. stream_is (flat g) g (written_fits g h) (flat_is_read_again g h);
   graphs = λ text g e. let p = stream_decoded text g e in spelled_is_graph text g ((read_as_spelled text g (each_byte text p.0)).0 p.1);
 }
 
 -- a text that is read as a graph and written of it
-pub written_is : (text : List ℕ) (g : RawGraph) → Spells text g → Ok g ≡ decoded text → nsof g ≡ text → written stream_graph text ≡ Some g
+pub written_is : (text : List ℕ) (g : RawGraph) → Spells text g → Ok g ≡ decoded text → flat g ≡ text → written stream_graph text ≡ Some g
 written_is text g h e same = rw (stream_is text g (ap are_bytes (sym same) ∙ written_fits g (spelled_is_graph text g h)) (sym e), same, nat_list_eq_equiv.refl text) refl
 
 -- what was compared and found the same
-pub same_text : (g : RawGraph) (items shown text : List ℕ) → shown ≡ items → items ≡ nsof g → not (bytes_eq shown text) ≡ false → nsof g ≡ text
+pub same_text : (g : RawGraph) (items shown text : List ℕ) → shown ≡ items → items ≡ flat g → not (bytes_eq shown text) ≡ false → flat g ≡ text
 same_text g items shown text e f h = sym f ∙ sym e ∙ (bytes_eq-Decides shown text).0 (not-false (bytes_eq shown text) h)
 
 -- a text that is written of a graph is one of a graph
@@ -70,24 +70,24 @@ written_graph text g e = go (stream_graph text) refl
     kept x true e = cc
     kept x false e = absurd (none_some e)
 
-    told : (o : Option RawGraph) → stream_graph text ≡ o → option_and_then (λ x. cond (bytes_eq (nsof x) text) (Some x) None) o ≡ Some g
-    told o h = sym (ap (option_and_then (λ x. cond (bytes_eq (nsof x) text) (Some x) None)) h) ∙ e
+    told : (o : Option RawGraph) → stream_graph text ≡ o → option_and_then (λ x. cond (bytes_eq (flat x) text) (Some x) None) o ≡ Some g
+    told o h = sym (ap (option_and_then (λ x. cond (bytes_eq (flat x) text) (Some x) None)) h) ∙ e
 
     go : (o : Option RawGraph) → stream_graph text ≡ o → IsGraph g
     go None h = absurd (none_some (told None h))
-    go (Some x) h = subst IsGraph (kept x (bytes_eq (nsof x) text) (told (Some x) h)) (reads_graphs.graphs text x h)
+    go (Some x) h = subst IsGraph (kept x (bytes_eq (flat x) text) (told (Some x) h)) (reads_graphs.graphs text x h)
 
 -- a text that is written of a graph is the graph's
-pub written_text : (text : List ℕ) (g : RawGraph) → written stream_graph text ≡ Some g → nsof g ≡ text
+pub written_text : (text : List ℕ) (g : RawGraph) → written stream_graph text ≡ Some g → flat g ≡ text
 written_text text g e = go (stream_graph text) e
   where
     none_some : Option.None ≡ Some g → ⊥
     none_some e = cc
 
-    test : (x : RawGraph) (b : Bool) → bytes_eq (nsof x) text ≡ b → cond b (Some x) None ≡ Some g → nsof g ≡ text
-    test x true k e = let same : x ≡ g = cc in ap nsof (sym same) ∙ (bytes_eq-Decides (nsof x) text).0 k
+    test : (x : RawGraph) (b : Bool) → bytes_eq (flat x) text ≡ b → cond b (Some x) None ≡ Some g → flat g ≡ text
+    test x true k e = let same : x ≡ g = cc in ap flat (sym same) ∙ (bytes_eq-Decides (flat x) text).0 k
     test x false k e = absurd (none_some e)
 
-    go : (o : Option RawGraph) → option_and_then (λ x. cond (bytes_eq (nsof x) text) (Some x) None) o ≡ Some g → nsof g ≡ text
+    go : (o : Option RawGraph) → option_and_then (λ x. cond (bytes_eq (flat x) text) (Some x) None) o ≡ Some g → flat g ≡ text
     go None e = absurd (none_some e)
-    go (Some x) e = test x (bytes_eq (nsof x) text) refl e
+    go (Some x) e = test x (bytes_eq (flat x) text) refl e

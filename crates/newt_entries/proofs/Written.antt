@@ -6,7 +6,7 @@ use Rattle.std.proofs.lemmas.List.Folds.{flat_map-map}
 use Rattle.std.proofs.lemmas.Slice.Zip.{length-zip}
 use Rattle.newt_base.specs.Text.{be16, be32}
 use Rattle.newt_graph.specs.Graph.{RawGraph}
-use Rattle.newt_spec_nsof.specs.Written.{nsof}
+use Rattle.newt_spec_nsof.specs.Flat.{flat}
 use Rattle.newt_spec_store.specs.Image.{larges, large_row, entry_bytes}
 use Rattle.newt_spec_store.specs.Laid.{Named, row_of_large}
 use Rattle.newt_spec_store.specs.Store.{Entry}
@@ -24,10 +24,10 @@ as-many-rows bare rows g ids are =
     omega (arith, each, rowed)
 
 pub is-record : (out : List ℕ) (soup uid time : ℕ) (bare : RawGraph) (rows : List LargeAt) (e : Entry) (ids : List ℕ) → e.uid ≡ uid → e.time ≡ time → AreRowsOf bare rows e.graph ids
-    → out ≡ be16 soup ++ be16 (length rows) ++ be32 uid ++ be32 time ++ nsof bare → out ++ flat_map large_bytes rows ≡ entry_bytes soup e ids
+    → out ≡ be16 soup ++ be16 (length rows) ++ be32 uid ++ be32 time ++ flat bare → out ++ flat_map large_bytes rows ≡ entry_bytes soup e ids
 is-record out soup uid time bare rows e ids of_uid of_time are is =
     ap (λ bs. bs ++ flat_map large_bytes rows) is
-    ∙ (λ i. be16 soup ++ be16 (as-many-rows bare rows e.graph ids are i) ++ be32 (uid-of i) ++ be32 (time-of i) ++ nsof (are.skeleton_is i) ++ rows-spelled rows (zip (larges e.graph) ids) are.rows_are i)
+    ∙ (λ i. be16 soup ++ be16 (as-many-rows bare rows e.graph ids are i) ++ be32 (uid-of i) ++ be32 (time-of i) ++ flat (are.skeleton_is i) ++ rows-spelled rows (zip (larges e.graph) ids) are.rows_are i)
   where
     uid-of : uid ≡ e.uid
     uid-of = sym of_uid

@@ -4,7 +4,7 @@ use Rattle.std.specs.List.{list_all, enumerate_from}
 use Rattle.newt_base.specs.Text.{be32, be32_at}
 use Rattle.newt_graph.specs.declared.node.Node.{Node}
 use Rattle.newt_graph.specs.Graph.{RawGraph}
-use Rattle.newt_spec_nsof.specs.Written.{nsof}
+use Rattle.newt_spec_nsof.specs.Flat.{flat}
 use Rattle.newt_spec_nsof.specs.Lengths.{skeleton}
 use Rattle.newt_nsof_read.specs.declared.fault.NsofFault.{NsofFault}
 use Rattle.newt_nsof_read.specs.Reading.{decoded}
@@ -38,7 +38,7 @@ large_bytes l = be32 l.node ++ be32 l.object ++ be32 l.length
 
 -- what a row says: its fields with the written text of the skeleton, and the skeleton
 abbrev pub said : EntryRow → PlainRow × RawGraph
-said row = (record { soup = row.soup; uid = row.uid; time = row.time; text = nsof row.skeleton; larges = map row_at row.larges }, row.skeleton)
+said row = (record { soup = row.soup; uid = row.uid; time = row.time; text = flat row.skeleton; larges = map row_at row.larges }, row.skeleton)
 
 -- The graph has this skeleton, and its large binaries with these objects are the rows.
 pub record AreRowsOf (bare : RawGraph) (rows : List LargeAt) (g : RawGraph) (ids : List ℕ) : Type 0 where

@@ -3,7 +3,7 @@ ghost use Rattle.std.specs.Prelude.{◌≡◌, ◌≤◌, ◌*◌, ◌&&◌, tru
 ghost use Rattle.std.specs.List.{list_all, sum_by};
 ghost use Rattle.newt_graph.specs.Graph.{IsGraph, payload};
 ghost use Rattle.newt_spec_nsof.specs.Lengths.{skeleton as skeleton_of};
-ghost use Rattle.newt_spec_nsof.specs.Written.{nsof};
+ghost use Rattle.newt_spec_nsof.specs.Flat.{flat};
 ghost use Rattle.newt_spec_graph.specs.Graph as words;
 ghost use Rattle.newt_spec_graph.specs.Limits.{within_limits};
 ghost use Rattle.newt_spec_store.specs.Lies.{may_be_large, stretched};
@@ -113,7 +113,7 @@ fn passes(skeleton: &Graph, rows: &[LargeAt]) -> bool
     ensures { result ≡ (list_all (λ row. may_be_large (row_at row)) rows.now &&
         (words.is_frame (words.object skeleton.now.nodes skeleton.now.root)
         && within_limits (stretched (map row_at rows.now) skeleton.now)
-        && nat_le (length (nsof (skeleton_of skeleton.now))) 64000)) }
+        && nat_le (length (flat (skeleton_of skeleton.now))) 64000)) }
 {
     may_be_larges(rows)
         && is_frame(skeleton)

@@ -12,7 +12,7 @@ use crate::row::{EntryRow, LargeAt, Larges};
 use newt_base::{Sig, Uid, be16, be32};
 use newt_graph::Graph;
 use newt_nsof_read::{NsofFault, decode};
-use newt_nsof_write::encode;
+use newt_nsof_write::encode_flat;
 use std::alloc::{AllocError, Global};
 
 /// The bytes before an entry's text: soup signature, number of large binaries, id and time.
@@ -31,7 +31,7 @@ fn graph_of(alloc: Global, text: &[u8]) -> Result<Graph, EntryFault>
         Err(NsofFault::Memory) => return Err(EntryFault::Memory),
         Err(_) => return Err(EntryFault::Bad),
     };
-    let Ok(text_again) = encode(alloc, &graph) else {
+    let Ok(text_again) = encode_flat(alloc, &graph) else {
         return Err(EntryFault::Memory);
     };
     if text_again.as_slice() != text {

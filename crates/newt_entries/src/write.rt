@@ -1,14 +1,14 @@
 //! Writing an entry record.
 ghost use Rattle.std.specs.Prelude.{◌≡◌, ◌<◌, ◌++◌, ℕ, List, length, flat_map, OnOk, IfOk};
 ghost use Rattle.newt_base.specs.Text.{be16, be32};
-ghost use Rattle.newt_spec_nsof.specs.Written.{nsof};
+ghost use Rattle.newt_spec_nsof.specs.Flat.{flat};
 ghost use Rattle.newt_spec_store.specs.Image.{entry_bytes};
 ghost use Rattle.newt_spec_store.specs.Store.{Entry};
 ghost use Rattle.newt_entries.specs.Entry.{large_bytes, AreRowsOf};
 
 use crate::row::{EntryRow, LargeAt};
 use newt_base::{push16, push32};
-use newt_nsof_write::encode;
+use newt_nsof_write::encode_flat;
 use std::alloc::{AllocError, Global};
 
 /// The row of a large binary.
@@ -35,14 +35,14 @@ fn head_and_text(alloc: Global, row: &EntryRow) -> Result<Vec<u8>, AllocError>
     requires soup { row.now.soup < 65536 }
     requires few { length row.now.larges < 65536 }
     ensures { IfOk result (λ v. v.items ≡ be16 row.now.soup ++ be16 (length row.now.larges) ++ be32
-        row.now.uid ++ be32 row.now.time ++ nsof row.now.skeleton) }
+        row.now.uid ++ be32 row.now.time ++ flat row.now.skeleton) }
 {
     let mut out = Vec::new(alloc);
     push16(&mut out, row.soup.0 as u16)?;
     push16(&mut out, row.larges.list().len() as u16)?;
     push32(&mut out, row.uid.0)?;
     push32(&mut out, row.time)?;
-    let text = encode(alloc, &row.skeleton)?;
+    let text = encode_flat(alloc, &row.skeleton)?;
     out.extend_from_slice(&text)?;
     Ok(out)
 }

@@ -7,7 +7,7 @@ use Rattle.newt_graph.specs.declared.node.Node.{Node}
 use Rattle.newt_graph.specs.declared.node.Node.TheVariants.{Symbol, Str, Binary, Large, Array, Frame}
 use Rattle.newt_graph.specs.Graph.{RawGraph}
 use Rattle.newt_spec_image.specs.Objects.{Objects, pages_for}
-use Rattle.newt_spec_nsof.specs.Written.{nsof}
+use Rattle.newt_spec_nsof.specs.Flat.{flat}
 use Rattle.newt_spec_nsof.specs.Lengths.{skeleton, bare as bare_node}
 use Rattle.newt_spec_graph.specs.Graph.{change_nth}
 use Rattle.newt_spec_graph.specs.Lists.{Each, Pairs, Among}
@@ -67,13 +67,13 @@ patched-valid e n c old b h same =
     let both = nth-alike n c old b e.graph.nodes h same in
     let framed = alike-frame (fill e.graph (n, b)) e.graph refl both in
     let limits = alike-limits (fill e.graph (n, b)) e.graph refl both in
-    let long = ap (λ (k : RawGraph). length (nsof k)) (patched-skeleton e.graph n b) in
+    let long = ap (λ (k : RawGraph). length (flat k)) (patched-skeleton e.graph n b) in
     λ i. framed i && limits i && nat_le (long i) 64_000
 
 pub patched-pages : (e : Entry) (n c : ℕ) (old b : List ℕ) → slice_get e.graph.nodes n ≡ Some (Large c old) → length b ≡ length old → entry_pages (with_patch e n b) ≡ entry_pages e
 patched-pages e n c old b h same =
     let lengths = nth-lengths n c old b e.graph.nodes h same in
-    let long = ap (λ (k : RawGraph). length (nsof k)) (patched-skeleton e.graph n b) in
+    let long = ap (λ (k : RawGraph). length (flat k)) (patched-skeleton e.graph n b) in
     λ i. pages_for (12 + long i + 12 * length (lengths i)) + sum (map pages_for (lengths i))
 
 -- ---- the large binaries
@@ -129,7 +129,7 @@ pub patched-bytes : (sig : ℕ) (e : Entry) (ids : List ℕ) (at n : ℕ) (old b
     → entry_bytes sig (with_patch e n b) ids ≡ entry_bytes sig e ids
 patched-bytes sig e ids at n old b h same =
     let rows = ap (λ (ls : List (ℕ × List ℕ)). flat_map large_row (zip ls ids)) (larges-patched 0 n n at old b e.graph.nodes (omega arith) h) ∙ rows-same at n old b (larges e.graph) ids h same in
-    λ i. be16 sig ++ be16 (length ids) ++ be32 e.uid ++ be32 e.time ++ nsof (patched-skeleton e.graph n b i) ++ rows i
+    λ i. be16 sig ++ be16 (length ids) ++ be32 e.uid ++ be32 e.time ++ flat (patched-skeleton e.graph n b i) ++ rows i
 
 -- ---- the objects
 

@@ -10,7 +10,7 @@ use Rattle.newt_spec_image.specs.Objects.{Objects}
 use Rattle.newt_spec_graph.specs.Graph.{every, object, is_frame}
 use Rattle.newt_spec_graph.specs.Limits.{within_limits}
 use Rattle.newt_spec_nsof.specs.Lengths.{skeleton}
-use Rattle.newt_spec_nsof.specs.Written.{nsof}
+use Rattle.newt_spec_nsof.specs.Flat.{flat}
 use Rattle.newt_spec_graph.proofs.Lists.{some-same, none-some}
 use Rattle.newt_spec_store.specs.Cost.{skeleton_length}
 use Rattle.newt_spec_store.specs.Image.{larges}
@@ -77,7 +77,7 @@ filled-valid objects row g bs names both = λ i. (framed i && limits i) && nat_l
     limits = ap within_limits (sym with-bytes) ∙ filled-limits g bs (zeros row.larges) long ∙ ap within_limits with-zeros
 
     shorts : skeleton_length (with_rows row.larges g bs) ≡ skeleton_length (stretched row.larges g)
-    shorts = ap {A = RawGraph} {B = ℕ} (λ k. length (nsof k)) (ap skeleton (sym with-bytes) ∙ filled-skeleton g bs ∙ sym (filled-skeleton g (zeros row.larges)) ∙ ap skeleton with-zeros)
+    shorts = ap {A = RawGraph} {B = ℕ} (λ k. length (flat k)) (ap skeleton (sym with-bytes) ∙ filled-skeleton g bs ∙ sym (filled-skeleton g (zeros row.larges)) ∙ ap skeleton with-zeros)
 
 -- ---- the parts of a record
 

@@ -188,7 +188,7 @@ rows-back (x ∷ laid) h = ap (λ o. every (o ∷ map (λ (o : ℕ × List ℕ).
     ∙ ap (option_map (λ rs. row_of x.soup x.entry x.ids ∷ rs)) (rows-back laid h.1)
 
 entries-back : (graph_of : List ℕ → Option RawGraph) (objects : Objects) (laid : List Laid) → Each (λ x. Rattle.newt_spec_store.specs.Laid.FitsRecord x.soup x.entry x.ids) laid
-    → Each (λ x. graph_of (Rattle.newt_spec_nsof.specs.Written.nsof (Rattle.newt_spec_nsof.specs.Lengths.skeleton x.entry.graph)) ≡ Some (Rattle.newt_spec_nsof.specs.Lengths.skeleton x.entry.graph)) laid
+    → Each (λ x. graph_of (Rattle.newt_spec_nsof.specs.Flat.flat (Rattle.newt_spec_nsof.specs.Lengths.skeleton x.entry.graph)) ≡ Some (Rattle.newt_spec_nsof.specs.Lengths.skeleton x.entry.graph)) laid
     → Each (λ x. Each (Rattle.newt_spec_store.specs.Laid.IsThere objects) (Rattle.std.specs.Prelude.zip (Rattle.newt_spec_store.specs.Image.larges x.entry.graph) x.ids)) laid
     → every (map (entry_of_row graph_of objects) (map (λ x. row_of x.soup x.entry x.ids) laid)) ≡ Some (map (λ x. (x.soup, x.entry)) laid)
 entries-back graph_of objects [] f d t = refl

@@ -11,7 +11,7 @@ use Rattle.newt_base.specs.Names.{equal_text}
 use Rattle.newt_graph.specs.Graph.{RawGraph}
 use Rattle.newt_spec_image.specs.Objects.{Objects}
 use Rattle.newt_spec_nsof.specs.Text.{AreBytes}
-use Rattle.newt_spec_nsof.specs.Written.{nsof}
+use Rattle.newt_spec_nsof.specs.Flat.{flat}
 use Rattle.newt_spec_nsof.specs.Lengths.{skeleton}
 use Rattle.newt_spec_graph.specs.Lists.{Each, Pairs, Among, rises, all_apart}
 use Rattle.newt_spec_graph.proofs.Lists.{each-at, each-from, each-list_all, list_all-each, among-filter, filter-among, some-same, pairs-more, pairs-filter}
@@ -242,7 +242,7 @@ module _ (graph_of : List ℕ → Option RawGraph) (reads : ReadsGraphs graph_of
     ];
     names = λ r o m. let n = g.names r o m in let k = of-record r n.0 n.1 n.2 in (k.0.0, k.0.1, is-in k.0 k.1, k.2.at);
     places = λ sig uid id h. let r = g.places sig uid id h in (r.0, is-in (sig, r.0) r.1, r.2);
-    skeletons = λ sig e is. let r = of-entry (sig, e) (in-es sig e is) in reads.graphs (nsof (skeleton e.graph)) (skeleton e.graph) r.2.read.of_row.reads;
+    skeletons = λ sig e is. let r = of-entry (sig, e) (in-es sig e is) in reads.graphs (flat (skeleton e.graph)) (skeleton e.graph) r.2.read.of_row.reads;
     times = λ sig e is. let r = of-entry (sig, e) (in-es sig e is) in (bytes-are graph_of objects r.0.1 sig e r.2.small r.2.read).1;
   }
 

@@ -11,7 +11,7 @@ use Rattle.newt_graph.specs.declared.node.Node.{Node}
 use Rattle.newt_graph.specs.declared.node.Node.TheVariants.{Symbol, Str, Binary, Large, Array, Frame}
 use Rattle.newt_graph.specs.Graph.{RawGraph}
 use Rattle.newt_spec_graph.specs.Graph.{change_nth}
-use Rattle.newt_spec_nsof.specs.Written.{nsof}
+use Rattle.newt_spec_nsof.specs.Flat.{flat}
 use Rattle.newt_spec_nsof.specs.Lengths.{skeleton, bare as bare_node}
 use Rattle.newt_spec_store.specs.Store.{Entry}
 use Rattle.newt_spec_store.specs.Image as image
@@ -55,7 +55,7 @@ abbrev from_larges : Entry → List ℕ → List ℕ
 from_larges e ids = flat_map image.large_row (zip (larges e.graph) ids)
 
 abbrev from_text : Entry → List ℕ → List ℕ
-from_text e ids = nsof (skeleton e.graph) ++ from_larges e ids
+from_text e ids = flat (skeleton e.graph) ++ from_larges e ids
 
 abbrev from_time : Entry → List ℕ → List ℕ
 from_time e ids = be32 e.time ++ from_text e ids
@@ -66,25 +66,25 @@ from_uid e ids = be32 e.uid ++ from_time e ids
 abbrev from_count : Entry → List ℕ → List ℕ
 from_count e ids = be16 (length ids) ++ from_uid e ids
 
-reads-entry : (soup : ℕ) (e : Entry) (ids : List ℕ) (size : ℕ) → FitsRecord soup e ids → size - 12 * length ids ≡ length (nsof (skeleton e.graph)) → Reads (entry_fields size) (entry_bytes soup e ids) (row_of soup e ids)
+reads-entry : (soup : ℕ) (e : Entry) (ids : List ℕ) (size : ℕ) → FitsRecord soup e ids → size - 12 * length ids ≡ length (flat (skeleton e.graph)) → Reads (entry_fields size) (entry_bytes soup e ids) (row_of soup e ids)
 reads-entry soup e ids size f is = regroup (entry_fields size) (row_of soup e ids) (entry_bytes soup e ids) (be16 soup ++ from_count e ids)
-    (six (be16 soup) (be16 (length ids)) (be32 e.uid) (be32 e.time) (nsof (skeleton e.graph)) (flat_map image.large_row (zip (larges e.graph) ids)))
+    (six (be16 soup) (be16 (length ids)) (be32 e.uid) (be32 e.time) (flat (skeleton e.graph)) (flat_map image.large_row (zip (larges e.graph) ids)))
     (reads-then (number 2) _ (be16 soup) (from_count e ids) soup (row_of soup e ids) (reads-be16 soup f.soup_fits)
     (reads-then (number 2) _ (be16 (length ids)) (from_uid e ids) (length ids) (row_of soup e ids) (reads-be16 (length ids) f.count_fits)
     (reads-then (number 4) _ (be32 e.uid) (from_time e ids) e.uid (row_of soup e ids) (reads-be32 e.uid f.uid_fits)
     (reads-then (number 4) _ (be32 e.time) (from_text e ids) e.time (row_of soup e ids) (reads-be32 e.time f.time_fits)
-    (reads-then (some_bytes (size - 12 * length ids)) _ (nsof (skeleton e.graph)) (from_larges e ids) (nsof (skeleton e.graph)) (row_of soup e ids)
-    (subst (λ n. Reads (some_bytes n) (nsof (skeleton e.graph)) (nsof (skeleton e.graph))) (sym is) (reads-some (nsof (skeleton e.graph))))
-    (reads-last (times (length ids) large_row) (λ ls. record { soup = soup; uid = e.uid; time = e.time; text = nsof (skeleton e.graph); larges = ls })
+    (reads-then (some_bytes (size - 12 * length ids)) _ (flat (skeleton e.graph)) (from_larges e ids) (flat (skeleton e.graph)) (row_of soup e ids)
+    (subst (λ n. Reads (some_bytes n) (flat (skeleton e.graph)) (flat (skeleton e.graph))) (sym is) (reads-some (flat (skeleton e.graph))))
+    (reads-last (times (length ids) large_row) (λ ls. record { soup = soup; uid = e.uid; time = e.time; text = flat (skeleton e.graph); larges = ls })
     (flat_map image.large_row (zip (larges e.graph) ids)) (map row_of_large (zip (larges e.graph) ids))
     (subst (λ n. Reads (times n large_row) (flat_map image.large_row (zip (larges e.graph) ids)) (map row_of_large (zip (larges e.graph) ids))) (zip-length (larges e.graph) ids f.each_named)
     (reads-larges (zip (larges e.graph) ids) f.rows_fit))))))))
 
-pub entry-length : (soup : ℕ) (e : Entry) (ids : List ℕ) → length (larges e.graph) ≡ length ids → length (entry_bytes soup e ids) ≡ 12 + length (nsof (skeleton e.graph)) + 12 * length ids
+pub entry-length : (soup : ℕ) (e : Entry) (ids : List ℕ) → length (larges e.graph) ≡ length ids → length (entry_bytes soup e ids) ≡ 12 + length (flat (skeleton e.graph)) + 12 * length ids
 entry-length soup e ids h = grind (
   arith,
-  length-append (be16 soup ++ be16 (length ids) ++ be32 e.uid ++ be32 e.time ++ nsof (skeleton e.graph)) (flat_map image.large_row (zip (larges e.graph) ids)),
-  length-append (be16 soup ++ be16 (length ids) ++ be32 e.uid ++ be32 e.time) (nsof (skeleton e.graph)),
+  length-append (be16 soup ++ be16 (length ids) ++ be32 e.uid ++ be32 e.time ++ flat (skeleton e.graph)) (flat_map image.large_row (zip (larges e.graph) ids)),
+  length-append (be16 soup ++ be16 (length ids) ++ be32 e.uid ++ be32 e.time) (flat (skeleton e.graph)),
   length-append (be16 soup ++ be16 (length ids) ++ be32 e.uid) (be32 e.time),
   length-append (be16 soup ++ be16 (length ids)) (be32 e.uid),
   length-append (be16 soup) (be16 (length ids)),
@@ -94,7 +94,7 @@ entry-length soup e ids h = grind (
 
 pub record-back : (soup : ℕ) (e : Entry) (ids : List ℕ) → FitsRecord soup e ids → entry_row (entry_bytes soup e ids) ≡ Some (row_of soup e ids)
 record-back soup e ids f = reads-whole (entry_fields (length (entry_bytes soup e ids) - 12)) (entry_bytes soup e ids) (row_of soup e ids)
-    (reads-entry soup e ids (length (entry_bytes soup e ids) - 12) f (size (length (entry_bytes soup e ids)) (length (nsof (skeleton e.graph))) (length ids) (entry-length soup e ids f.each_named)))
+    (reads-entry soup e ids (length (entry_bytes soup e ids) - 12) f (size (length (entry_bytes soup e ids)) (length (flat (skeleton e.graph))) (length ids) (entry-length soup e ids f.each_named)))
   where
     size : (a b n : ℕ) → a ≡ 12 + b + 12 * n → a - 12 - 12 * n ≡ b
     size a b n e = omega (arith, e)
@@ -215,11 +215,11 @@ larges-back graph_of objects soup e ids h there =
     test = and-true _ _ (ap (bytes_eq (map (λ (l : ℕ × List ℕ). l.0) (larges (skeleton e.graph)))) (zip-numbers (larges e.graph) ids h ∙ sym (same-numbers 0 e.graph.nodes)) ∙ bytes-same (map (λ (l : ℕ × List ℕ). l.0) (larges (skeleton e.graph))))
         (all-empty 0 e.graph.nodes)
 
-pub entry-back : (graph_of : List ℕ → Option RawGraph) (objects : Objects) (soup : ℕ) (e : Entry) (ids : List ℕ) → graph_of (nsof (skeleton e.graph)) ≡ Some (skeleton e.graph)
+pub entry-back : (graph_of : List ℕ → Option RawGraph) (objects : Objects) (soup : ℕ) (e : Entry) (ids : List ℕ) → graph_of (flat (skeleton e.graph)) ≡ Some (skeleton e.graph)
     → length (larges e.graph) ≡ length ids → Each (IsThere objects) (zip (larges e.graph) ids) → entry_of_row graph_of objects (row_of soup e ids) ≡ Some (soup, e)
 entry-back graph_of objects soup e ids reads h there =
     ap (λ o. option_map (λ g. (soup, record { uid = e.uid; time = e.time; graph = g })) (option_and_then (with_larges graph_of objects (row_of soup e ids)) o)) is-written
     ∙ ap {A = Option RawGraph} {B = Option (ℕ × Entry)} (option_map (λ g. (soup, record { uid = e.uid; time = e.time; graph = g }))) (larges-back graph_of objects soup e ids h there)
   where
-    is-written : written graph_of (nsof (skeleton e.graph)) ≡ Some (skeleton e.graph)
-    is-written = ap (option_and_then (λ g. cond (bytes_eq (nsof g) (nsof (skeleton e.graph))) (Some g) None)) reads ∙ ap (λ b. cond b (Some (skeleton e.graph)) None) (bytes-same (nsof (skeleton e.graph)))
+    is-written : written graph_of (flat (skeleton e.graph)) ≡ Some (skeleton e.graph)
+    is-written = ap (option_and_then (λ g. cond (bytes_eq (flat g) (flat (skeleton e.graph))) (Some g) None)) reads ∙ ap (λ b. cond b (Some (skeleton e.graph)) None) (bytes-same (flat (skeleton e.graph)))

@@ -9,7 +9,7 @@ use Rattle.newt_graph.specs.Graph.{RawGraph}
 use Rattle.newt_spec_image.specs.Objects.{Objects as Texts}
 use Rattle.newt_spec_graph.specs.Graph.{every}
 use Rattle.newt_spec_graph.specs.Lists.{Each}
-use Rattle.newt_spec_nsof.specs.Written.{nsof}
+use Rattle.newt_spec_nsof.specs.Flat.{flat}
 use Rattle.newt_spec_nsof.specs.Lengths.{skeleton}
 use Rattle.newt_spec_graph.proofs.Lists.{some-same, none-some}
 use Rattle.newt_spec_store.specs.Store.{Entry}
@@ -27,16 +27,16 @@ use Rattle.newt_laws_images.proofs.Spelt.{Small, row_bytes, large_bytes, record-
 pub text-same : (a b : List ℕ) → bytes_eq a b ≡ true → a ≡ b
 text-same a b h = (bytes_eq-Decides a b).0 h
 
-pub written-parts : (graph_of : List ℕ → Option RawGraph) (text : List ℕ) (g : RawGraph) → written graph_of text ≡ Some g → (graph_of text ≡ Some g) × (nsof g ≡ text)
+pub written-parts : (graph_of : List ℕ → Option RawGraph) (text : List ℕ) (g : RawGraph) → written graph_of text ≡ Some g → (graph_of text ≡ Some g) × (flat g ≡ text)
 written-parts graph_of text g h = go (graph_of text) refl h
   where
-    test : (b : Bool) (k : RawGraph) → bytes_eq (nsof k) text ≡ b → graph_of text ≡ Some k → cond b (Some k) None ≡ Some g → (graph_of text ≡ Some g) × (nsof g ≡ text)
-    test true k e r s = let q = some-same k g s in (r ∙ s, ap nsof (sym q) ∙ text-same (nsof k) text e)
+    test : (b : Bool) (k : RawGraph) → bytes_eq (flat k) text ≡ b → graph_of text ≡ Some k → cond b (Some k) None ≡ Some g → (graph_of text ≡ Some g) × (flat g ≡ text)
+    test true k e r s = let q = some-same k g s in (r ∙ s, ap flat (sym q) ∙ text-same (flat k) text e)
     test false k e r s = absurd (none-some g s)
 
-    go : (o : Option RawGraph) → graph_of text ≡ o → option_and_then (λ k. cond (bytes_eq (nsof k) text) (Some k) None) o ≡ Some g → (graph_of text ≡ Some g) × (nsof g ≡ text)
+    go : (o : Option RawGraph) → graph_of text ≡ o → option_and_then (λ k. cond (bytes_eq (flat k) text) (Some k) None) o ≡ Some g → (graph_of text ≡ Some g) × (flat g ≡ text)
     go None e k = absurd (none-some g k)
-    go (Some k) e s = test (bytes_eq (nsof k) text) k refl e s
+    go (Some k) e s = test (bytes_eq (flat k) text) k refl e s
 
 -- ---- large binaries
 
@@ -98,8 +98,8 @@ pub record IsRowOf (graph_of : List ℕ → Option RawGraph) (objects : Objects)
   pub of_larges : row.larges ≡ map row_of_large (zip (larges e.graph) (ids_of row.larges))
   pub each_named : length (larges e.graph) ≡ length (ids_of row.larges)
   pub there : Each (IsThere objects) (zip (larges e.graph) (ids_of row.larges))
-  pub text : row.text ≡ nsof (skeleton e.graph)
-  pub reads : graph_of (nsof (skeleton e.graph)) ≡ Some (skeleton e.graph)
+  pub text : row.text ≡ flat (skeleton e.graph)
+  pub reads : graph_of (flat (skeleton e.graph)) ≡ Some (skeleton e.graph)
 
 -- the same of a graph
 record IsFilled (objects : Objects) (row : EntryRow) (g k : RawGraph) : Type 0 where
@@ -155,7 +155,7 @@ row-of graph_of objects row sig e h = text (written graph_of row.text) refl h
         let is : k ≡ e.graph = ap (λ (v : Entry). v.graph) p.1 in
         let f = subst (IsFilled objects row g) is (is-filled graph_of objects row g k l) in
         let r = written-parts graph_of row.text g w in
-        let text : row.text ≡ nsof (skeleton e.graph) = sym r.1 ∙ ap nsof (sym f.skeleton_is) in
+        let text : row.text ≡ flat (skeleton e.graph) = sym r.1 ∙ ap flat (sym f.skeleton_is) in
         record {
           of_soup = p.0;
           of_uid = ap (λ (v : Entry). v.uid) p.1;
@@ -238,7 +238,7 @@ bytes-are graph_of objects bytes sig e small r =
     let ids = ids_of r.row.larges in
     let zs = zip (larges e.graph) ids in (
       spelt.0 ∙ ap row_bytes (is-row graph_of (map.entries objects) r.row sig e r.of_row)
-          ∙ (λ i. be16 sig ++ be16 (zip-count (larges e.graph) ids r.of_row.each_named i) ++ be32 e.uid ++ be32 e.time ++ nsof (skeleton e.graph) ++ same-bytes zs i),
+          ∙ (λ i. be16 sig ++ be16 (zip-count (larges e.graph) ids r.of_row.each_named i) ++ be32 e.uid ++ be32 e.time ++ flat (skeleton e.graph) ++ same-bytes zs i),
       subst (λ n. n < 4294967296) r.of_row.of_time spelt.1,
       spelt.2,
     )

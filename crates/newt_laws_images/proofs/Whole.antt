@@ -5,7 +5,7 @@ use Rattle.std.specs.FinMap as map
 use Rattle.std.proofs.lemmas.Bool.{eq-eqb, eqb-true, and_parts, cases_eq}
 use Rattle.newt_graph.specs.Graph.{RawGraph}
 use Rattle.newt_spec_image.specs.Objects.{Objects as Texts}
-use Rattle.newt_spec_nsof.specs.Written.{nsof}
+use Rattle.newt_spec_nsof.specs.Flat.{flat}
 use Rattle.newt_spec_nsof.specs.Lengths.{skeleton}
 use Rattle.newt_spec_graph.specs.Lists.{Each, Pairs, Among, all_apart}
 use Rattle.newt_spec_graph.proofs.Lists.{each-at, each-from, each-more, list_all-each, some-same, pairs-more, pairs-flat_map, flat_map-among}
@@ -132,7 +132,7 @@ module _ (objects : Texts) (place : Places) (s : Store) (lies : LiesIn objects p
     written = object-get objects 0 ∙ lies.directory;
     records = its-layout.records;
     fit = each (λ x. FitsRecord x.soup x.entry x.ids) (λ x p. entry-fits objects place s x.soup x.entry x.ids lies w p.is_in p.larges_are);
-    decoded = each (λ x. graph_of (nsof (skeleton x.entry.graph)) ≡ Some (skeleton x.entry.graph)) (λ x p. reads.back (skeleton x.entry.graph) (lies.skeletons x.soup x.entry p.is_in));
+    decoded = each (λ x. graph_of (flat (skeleton x.entry.graph)) ≡ Some (skeleton x.entry.graph)) (λ x p. reads.back (skeleton x.entry.graph) (lies.skeletons x.soup x.entry p.is_in));
     there = each (λ x. Each (IsThere (map.entries objects)) (zip (larges x.entry.graph) x.ids)) (λ x p.
         each-more _ (IsThere (map.entries objects)) (zip (larges x.entry.graph) x.ids) (λ l k. (k.0, k.1, object-get objects l.1 ∙ k.3)) p.larges_are.there);
     once = named-passes (map.entries objects) graph_of (map (λ (x : Laid). row_of x.soup x.entry x.ids) its-layout.laid) (laid_ids its-layout.laid)

@@ -218,12 +218,12 @@ patched-good (Some n) at new e room h = grind (
   h,
   at-frame at new e.graph n room,
   at-limits at new e.graph n room,
-  ap {A = RawGraph} {B = ℕ} (λ k. length (Rattle.newt_spec_nsof.specs.Written.nsof k)) (at-skeleton at new e.graph n room),
+  ap {A = RawGraph} {B = ℕ} (λ k. length (Rattle.newt_spec_nsof.specs.Flat.flat k)) (at-skeleton at new e.graph n room),
 )
 
 pub patched-pages : (o : Option ℕ) (at : ℕ) (new : List ℕ) (e : Entry) → at + length new ≤ length (bytes_of_large (option_and_then (slice_get e.graph.nodes) o))
     → entry_pages (record e { graph = patched_at o at new e.graph }) ≡ entry_pages e
 patched-pages None at new e room = refl
-patched-pages (Some n) at new e room = ap (λ k. pages_for (12 + length (Rattle.newt_spec_nsof.specs.Written.nsof k) + 12 * length (Rattle.newt_spec_store.specs.Cost.large_lengths (patched_at (Some n) at new e.graph)))
+patched-pages (Some n) at new e room = ap (λ k. pages_for (12 + length (Rattle.newt_spec_nsof.specs.Flat.flat k) + 12 * length (Rattle.newt_spec_store.specs.Cost.large_lengths (patched_at (Some n) at new e.graph)))
     + Rattle.std.specs.Prelude.sum (map pages_for (Rattle.newt_spec_store.specs.Cost.large_lengths (patched_at (Some n) at new e.graph)))) (at-skeleton at new e.graph n room)
     ∙ ap (λ ls. pages_for (12 + skeleton_length e.graph + 12 * length ls) + Rattle.std.specs.Prelude.sum (map pages_for ls)) (at-lengths at new e.graph n room)

@@ -5,9 +5,11 @@ use Rattle.std.proofs.lemmas.Bool.{cases_lt}
 use Rattle.std.proofs.lemmas.List.{get_or_past}
 use Rattle.newt_graph.specs.Graph.{RawGraph, IsGraph}
 use Rattle.newt_spec_nsof.specs.Text.{AreBytes, Spells, SpellsWide}
+use Rattle.newt_spec_nsof.specs.Flat.{flat}
 use Rattle.newt_spec_nsof.specs.Written.{nsof}
 use Rattle.newt_spec_nsof.proofs.Wider.{spelled_wider}
-use Rattle.newt_spec_nsof.proofs.Spelled.{written_spells}
+use Rattle.newt_spec_nsof.proofs.Spelled.{flat_spells}
+use Rattle.newt_spec_nsof.proofs.WrittenSpelled.{written_spells}
 use Rattle.newt_nsof_read.specs.declared.fault.NsofFault.{NsofFault}
 use Rattle.newt_nsof_read.specs.declared.fault.NsofFault.TheVariants.{Malformed, Compressed, Memory}
 use Rattle.newt_nsof_read.specs.Reading.{graph_at, decoded}
@@ -97,6 +99,9 @@ no_want_of_memory bytes e =
       | Answered.compressed h none read is ↦ cc
       | Answered.malformed none never is ↦ cc
     ]
+
+pub flat_is_read_again : (g : RawGraph) → IsGraph g → decoded (flat g) ≡ Ok g
+flat_is_read_again g is = read_again (flat g) g (flat_spells g is)
 
 pub written_is_read_again : (g : RawGraph) → IsGraph g → decoded (nsof g) ≡ Ok g
 written_is_read_again g is = read_again (nsof g) g (written_spells g is)

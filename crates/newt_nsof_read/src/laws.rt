@@ -2,6 +2,7 @@
 ghost use Rattle.std.specs.Prelude.{◌≡◌, ◌≢◌, ◌++◌, ◌↔◌, List, ℕ, []};
 ghost use Rattle.newt_graph.specs.Graph.{RawGraph, IsGraph};
 ghost use Rattle.newt_spec_nsof.specs.Text.{AreBytes, Spells, SpellsWide};
+ghost use Rattle.newt_spec_nsof.specs.Flat.{flat};
 ghost use Rattle.newt_spec_nsof.specs.Written.{nsof};
 ghost use Rattle.newt_nsof_read.specs.declared.fault.NsofFault.TheVariants.{Malformed, Compressed};
 ghost use Rattle.newt_nsof_read.specs.declared.fault.NsofFault.TheVariants.{Memory};
@@ -42,7 +43,12 @@ pub fn no_prefix()
         → SpellsWide (bytes ++ more) h → more ≡ [] }
 {}
 
-/// The written text of a graph is read as this very graph, with what it shares and with its cycles.
+/// The flat text of a graph is read as this very graph, with what it shares and with its cycles.
+pub fn flat_is_read_again()
+    ensures { (g : RawGraph) → IsGraph g → decoded (flat g) ≡ Ok g }
+{}
+
+/// So is the written text, with its small rectangles.
 pub fn written_is_read_again()
     ensures { (g : RawGraph) → IsGraph g → decoded (nsof g) ≡ Ok g }
 {}

@@ -5,7 +5,7 @@ use Rattle.newt_spec_image.specs.Objects.{pages_for}
 use Rattle.newt_graph.specs.Graph.{RawGraph}
 use Rattle.newt_graph.specs.declared.node.Node.{Node}
 use Rattle.newt_graph.specs.declared.node.Node.TheVariants.{Large}
-use Rattle.newt_spec_nsof.specs.Written.{nsof}
+use Rattle.newt_spec_nsof.specs.Flat.{flat}
 use Rattle.newt_spec_nsof.specs.Lengths.{skeleton}
 use Rattle.newt_spec_store.specs.declared.Kind.{Kind}
 use Rattle.newt_spec_store.specs.declared.Kind.TheVariants as kind
@@ -71,7 +71,7 @@ large_lengths g = flat_map large_length g.nodes
 
 -- the bytes of the written text of a graph without the bytes of its large binaries (this project's own)
 abbrev pub skeleton_length : RawGraph → ℕ
-skeleton_length g = length (nsof (skeleton g))
+skeleton_length g = length (flat (skeleton g))
 
 -- the pages of an entry's record, which is 12 bytes, the written skeleton and 12 bytes for each large binary (this project's own)
 abbrev pub record_pages : Entry → ℕ

@@ -5,7 +5,7 @@ use Rattle.newt_base.specs.Text.{be16, be32}
 use Rattle.newt_graph.specs.declared.node.Node.{Node}
 use Rattle.newt_graph.specs.declared.node.Node.TheVariants.{Large}
 use Rattle.newt_graph.specs.Graph.{RawGraph}
-use Rattle.newt_spec_nsof.specs.Written.{nsof}
+use Rattle.newt_spec_nsof.specs.Flat.{flat}
 use Rattle.newt_spec_nsof.specs.Lengths.{skeleton}
 use Rattle.newt_spec_store.specs.Store.{Entry, Store}
 
@@ -30,7 +30,7 @@ large_row (l, id) = be32 l.0 ++ be32 id ++ be32 (length l.1)
 -- written text of the skeleton, and the rows of the large binaries. (this project's own)
 abbrev pub entry_bytes : ℕ → Entry → List ℕ → List ℕ
 entry_bytes soup e ids =
-    be16 soup ++ be16 (length ids) ++ be32 e.uid ++ be32 e.time ++ nsof (skeleton e.graph)
+    be16 soup ++ be16 (length ids) ++ be32 e.uid ++ be32 e.time ++ flat (skeleton e.graph)
     ++ flat_map large_row (zip (larges e.graph) ids)
 
 -- all entries of a store, each with its soup's signature (a word of these definitions)

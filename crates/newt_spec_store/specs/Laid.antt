@@ -1,7 +1,7 @@
 -- Objects that write down a store, with the records of its entries in any order. This project's own format.
 use Rattle.std.specs.Prelude.{◌≡◌, [], ℕ, ◌%◌, ◌<◌, true, ◌==◌, List, length, map, filter, zip, Option, Some}
 use Rattle.newt_graph.specs.Graph.{RawGraph}
-use Rattle.newt_spec_nsof.specs.Written.{nsof}
+use Rattle.newt_spec_nsof.specs.Flat.{flat}
 use Rattle.newt_spec_nsof.specs.Lengths.{skeleton}
 use Rattle.newt_spec_store.specs.Store.{Entry, Soup, Store}
 use Rattle.newt_spec_store.specs.Cost.{directory_bytes}
@@ -35,7 +35,7 @@ IsThere objects l = (l.1 % 2 ≡ 0) × (0 < l.1) × (object_bytes objects l.1 �
 
 -- the row that an entry's record gives (this project's own)
 abbrev pub row_of : ℕ → Entry → List ℕ → EntryRow
-row_of soup e ids = record { soup = soup; uid = e.uid; time = e.time; text = nsof (skeleton e.graph); larges = map row_of_large (zip (larges e.graph) ids) }
+row_of soup e ids = record { soup = soup; uid = e.uid; time = e.time; text = flat (skeleton e.graph); larges = map row_of_large (zip (larges e.graph) ids) }
 
 -- the numbers of an entry's record fit their fields (this project's own)
 pub record FitsRecord (soup : ℕ) (e : Entry) (ids : List ℕ) : Type 0 where
@@ -73,7 +73,7 @@ pub record IsLaid (graph_of : List ℕ → Option RawGraph) (objects : Objects) 
   pub written : object_bytes objects 0 ≡ Some (directory_bytes s)
   pub records : filter (λ o. o.0 % 2 == 1) objects ≡ map record_of laid
   pub fit : Each (λ x. FitsRecord x.soup x.entry x.ids) laid
-  pub decoded : Each (λ x. graph_of (nsof (skeleton x.entry.graph)) ≡ Some (skeleton x.entry.graph)) laid
+  pub decoded : Each (λ x. graph_of (flat (skeleton x.entry.graph)) ≡ Some (skeleton x.entry.graph)) laid
   pub there : Each (λ x. Each (IsThere objects) (zip (larges x.entry.graph) x.ids)) laid
   pub once : named_once graph_of objects (map (λ x. row_of x.soup x.entry x.ids) laid) ≡ true
   pub entries : AreEntries s (map (λ x. (x.soup, x.entry)) laid)

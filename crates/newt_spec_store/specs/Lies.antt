@@ -4,7 +4,7 @@ use Rattle.std.specs.List.{list_all}
 use Rattle.std.specs.FinMap as map
 use Rattle.newt_graph.specs.Graph.{RawGraph, IsGraph}
 use Rattle.newt_spec_image.specs.Objects.{Objects}
-use Rattle.newt_spec_nsof.specs.Written.{nsof}
+use Rattle.newt_spec_nsof.specs.Flat.{flat}
 use Rattle.newt_spec_nsof.specs.Lengths.{skeleton}
 use Rattle.newt_spec_graph.specs.Lists.{Each, Pairs, Among}
 use Rattle.newt_spec_store.specs.Cost.{directory_bytes}
@@ -51,7 +51,7 @@ record_read graph_of bytes = only is_record (option_and_then (λ row. option_map
 
 -- Texts of graphs are read as the graphs that they are written of, and as no others. (a word of these definitions)
 pub record ReadsGraphs (graph_of : List ℕ → Option RawGraph) : Type 0 where
-  pub back : (g : RawGraph) → IsGraph g → graph_of (nsof g) ≡ Some g
+  pub back : (g : RawGraph) → IsGraph g → graph_of (flat g) ≡ Some g
   pub graphs : (text : List ℕ) (g : RawGraph) → graph_of text ≡ Some g → IsGraph g
 
 -- ---- stores

@@ -19,7 +19,7 @@ use Rattle.newt_host.specs.Outside.{Outside, Spends}
 use Rattle.newt_host.proofs.Outside.{Spends-append, Spends-widen}
 use Rattle.newt_spec_image.specs.Objects.{Extent, Objects, joined}
 use Rattle.newt_spec_nsof.specs.Lengths.{bare, skeleton}
-use Rattle.newt_spec_nsof.specs.Written.{nsof}
+use Rattle.newt_spec_nsof.specs.Flat.{flat}
 use Rattle.newt_pagebook.specs.Book.{Numbers}
 use Rattle.newt_objects.specs.Held.{Held, held}
 use Rattle.newt_objects.specs.Changing.{HoldsObjects}
@@ -137,19 +137,19 @@ graph-of-pair : (row : PlainRow) (o : Option RawGraph) (x : PlainRow × RawGraph
 graph-of-pair row None x h = absurd (none-some x h)
 graph-of-pair row (Some g) x h = ap (λ (p : PlainRow × RawGraph). let o : Option RawGraph = Some p.1 in o) (some-same {X = PlainRow × RawGraph} (row, g) x h)
 
-of-written : (text : List ℕ) (o : Option RawGraph) (a b : RawGraph) → o ≡ Some b → option_and_then (λ g. cond (bytes_eq (nsof g) text) (Some g) None) o ≡ Some a → a ≡ b
+of-written : (text : List ℕ) (o : Option RawGraph) (a b : RawGraph) → o ≡ Some b → option_and_then (λ g. cond (bytes_eq (flat g) text) (Some g) None) o ≡ Some a → a ≡ b
 of-written text None a b is w = absurd (none-some b is)
-of-written text (Some g) a b is w = go (bytes_eq (nsof g) text) w where
+of-written text (Some g) a b is w = go (bytes_eq (flat g) text) w where
   go : (t : Bool) → cond t (Some g) None ≡ Some a → a ≡ b
   go true e = sym (some-same g a e) ∙ some-same g b is
   go false e = absurd (none-some a e)
 
 read-skeleton : (sig : ℕ) (e : Entry) (ids : List ℕ) (row : EntryRow) → FitsRecord sig e ids → IsGraph (skeleton e.graph) → record_read stream_graph (entry_bytes sig e ids) ≡ Some (said row) → row.skeleton ≡ skeleton e.graph
 read-skeleton sig e ids row fits graph read =
-    let back : ◌≡◌ {A = Option (PlainRow × RawGraph)} (only is_record (option_map (λ g. (row_of sig e ids, g)) (written stream_graph (nsof (skeleton e.graph))))) (Some (said row)) =
+    let back : ◌≡◌ {A = Option (PlainRow × RawGraph)} (only is_record (option_map (λ g. (row_of sig e ids, g)) (written stream_graph (flat (skeleton e.graph))))) (Some (said row)) =
     sym (ap (λ (o : Option PlainRow). only is_record (option_and_then (λ r. option_map (λ g. (r, g)) (written stream_graph r.text)) o)) (record-back sig e ids fits)) ∙ read in
-    of-written (nsof (skeleton e.graph)) (stream_graph (nsof (skeleton e.graph))) row.skeleton (skeleton e.graph) (reads_graphs.back (skeleton e.graph) graph)
-    (graph-of-pair (row_of sig e ids) (written stream_graph (nsof (skeleton e.graph))) (said row) (only-some is_record _ (said row) back))
+    of-written (flat (skeleton e.graph)) (stream_graph (flat (skeleton e.graph))) row.skeleton (skeleton e.graph) (reads_graphs.back (skeleton e.graph) graph)
+    (graph-of-pair (row_of sig e ids) (written stream_graph (flat (skeleton e.graph))) (said row) (only-some is_record _ (said row) back))
 
 abbrev row-of : List LargeAt → ℕ → Option LargeAt
 row-of rows node = find (λ (r : LargeAt). r.node == node) rows

@@ -22,7 +22,7 @@ use Rattle.newt_host.proofs.Ranges.{length-overwritten}
 use Rattle.newt_spec_image.specs.Pages.{cap}
 use Rattle.newt_spec_image.specs.Objects.{Objects, Extent, pages_for}
 use Rattle.newt_spec_nsof.specs.Lengths.{skeleton}
-use Rattle.newt_spec_nsof.specs.Written.{nsof}
+use Rattle.newt_spec_nsof.specs.Flat.{flat}
 use Rattle.newt_pagebook.specs.Book.{Numbers, IsOpenFor}
 use Rattle.newt_objects.specs.Changing.{HoldsObjects}
 use Rattle.newt_vbo.specs.Ranges.{parts_met}
@@ -199,9 +199,9 @@ first-of-pair row (Some g) x h = ap (λ (p : PlainRow × RawGraph). p.0) (some-s
 -- the rows of an entry's record are those of its large binaries
 read-rows : (sig : ℕ) (e : Entry) (ids : List ℕ) (row : EntryRow) → FitsRecord sig e ids → record_read stream_graph (entry_bytes sig e ids) ≡ Some (said row) → map_list row_at row.larges ≡ map_list row_of_large (zip (larges e.graph) ids)
 read-rows sig e ids row fits read =
-    let back : ◌≡◌ {A = Option (PlainRow × RawGraph)} (only is_record (option_map (λ g. (row_of sig e ids, g)) (written stream_graph (nsof (skeleton e.graph))))) (Some (said row)) =
+    let back : ◌≡◌ {A = Option (PlainRow × RawGraph)} (only is_record (option_map (λ g. (row_of sig e ids, g)) (written stream_graph (flat (skeleton e.graph))))) (Some (said row)) =
     sym (ap (λ (o : Option PlainRow). only is_record (option_and_then (λ r. option_map (λ g. (r, g)) (written stream_graph r.text)) o)) (record-back sig e ids fits)) ∙ read in
-    let is = first-of-pair (row_of sig e ids) (written stream_graph (nsof (skeleton e.graph))) (said row) (only-some is_record _ (said row) back) in
+    let is = first-of-pair (row_of sig e ids) (written stream_graph (flat (skeleton e.graph))) (said row) (only-some is_record _ (said row) back) in
     sym (ap (λ (r : PlainRow). r.larges) is)
 
 -- ---- where a large binary is
@@ -222,7 +222,7 @@ module _ (catalog : Catalog) (s : Store) (now : List ℕ) (stands : StandsFor ca
       let many = found.laid.larges_are.each_named in
       let long : length (names_of catalog.names id) ≡ length (large_lengths found.entry.graph) =
       sym many ∙ sym (map-length (λ (l : ℕ × List ℕ). length l.1) (larges found.entry.graph)) ∙ ap (λ (l : List ℕ). length l) (lengths-from 0 found.entry.graph.nodes) in
-      ap pages_for (entry-length sig found.entry (names_of catalog.names id) many) ∙ ap (λ (n : ℕ). pages_for (12 + length (nsof (skeleton found.entry.graph)) + 12 * n)) long ∙ ap record_pages (sym found.found)
+      ap pages_for (entry-length sig found.entry (names_of catalog.names id) many) ∙ ap (λ (n : ℕ). pages_for (12 + length (flat (skeleton found.entry.graph)) + 12 * n)) long ∙ ap record_pages (sym found.found)
 
   pub record-costs : (unit : ℕ) (old new : Outside) → Spends unit 0 (512 * pages_for (length record-bytes)) old new → Spends unit 0 (512 * record_pages (entry_at sig uid s)) old new
   record-costs unit old new spends = subst (λ (n : ℕ). Spends unit 0 (512 * n) old new) record-long spends
