@@ -26,7 +26,7 @@ tied_pairs spec p q hp hq e =
     let h = tied (key_cmp (parts_of spec) p.0 q.0) (nat_cmp p.1 q.1) e in
     λ i. (equal_keys (parts_of spec) p.0 q.0 hp hq h.0 i, nat_cmp-IsAntisymmetric p.1 q.1 h.1 i)
 
-module _ (spec : Option IndexSpec) (slot : Slot) (key : Key) (probe : IsProbeOf spec key slot.bytes.items) where
+module _ (spec : Option IndexSpec) (slot : Slot) (key : Key) (probe : IsProbeOf spec key slot.bytes) where
   abbrev TakenOut : Entry → List Entry → Bool → Bool → Type 0
   TakenOut e es s t = (map pair_of (cond s es (e ∷ remove_entry (is_at (slot_cmp slot)) es)) ≡ cond t (map pair_of es) (pair_of e ∷ removed (parts_of spec) (map pair_of es) (key, slot.uid)))
       × AreKept spec (cond s es (e ∷ remove_entry (is_at (slot_cmp slot)) es))
@@ -46,7 +46,7 @@ module _ (spec : Option IndexSpec) (slot : Slot) (key : Key) (probe : IsProbeOf 
           (ap (λ xs. pair_of e ∷ xs) rest.0, All-cons (IsKept spec) e (remove_entry (is_at (slot_cmp slot)) es) (All-head (IsKept spec) e es kept) rest.1)
       by s t h rest = absurd (cc)
 
-module _ (spec : Option IndexSpec) (slot : Slot) (key : Key) (probe : IsProbeOf spec key slot.bytes.items) (fits : slot.uid < 2 ^ 32) where
+module _ (spec : Option IndexSpec) (slot : Slot) (key : Key) (probe : IsProbeOf spec key slot.bytes) (fits : slot.uid < 2 ^ 32) where
   abbrev Put : Entry → List Entry → Ordering → Ordering → Type 0
   Put e es o p = (map pair_of (match_ordering o ((slot, key) ∷ e ∷ es) ((e.0, key) ∷ es) (e ∷ insert_entry slot_cmp es slot key))
       ≡ match_ordering p ((key, slot.uid) ∷ pair_of e ∷ map pair_of es) (pair_of e ∷ map pair_of es) (pair_of e ∷ with_pair (parts_of spec) (map pair_of es) (key, slot.uid)))
@@ -75,12 +75,12 @@ module _ (spec : Option IndexSpec) (slot : Slot) (key : Key) (probe : IsProbeOf 
 
 -- the same over the value that a caller sees
 
-abbrev probe_from : (spec : Option IndexSpec) (slot : Slot) (key : Key) → IsKeyOf (parts_of spec) key → slot.bytes.items ≡ key_bytes (parts_of spec) key → IsProbeOf spec key slot.bytes.items
+abbrev probe_from : (spec : Option IndexSpec) (slot : Slot) (key : Key) → IsKeyOf (parts_of spec) key → slot.bytes ≡ key_bytes (parts_of spec) key → IsProbeOf spec key slot.bytes
 probe_from spec slot key k b = record { is_key = k; same = b }
 
 pub put_seen : (v : Sorted) (spec : Option IndexSpec) (es new : List Entry) (slot : Slot) (key : Key) (uid : ℕ)
     → record { spec = spec; pairs = map pair_of es } ≡ v → AreKept spec es → IsKeyOf (parts_of v.spec) key
-    → slot.bytes.items ≡ key_bytes (parts_of spec) key → slot.uid ≡ uid → slot.uid < 2 ^ 32
+    → slot.bytes ≡ key_bytes (parts_of spec) key → slot.uid ≡ uid → slot.uid < 2 ^ 32
     → new ≡ insert_entry slot_cmp es slot key
     → (record { spec = spec; pairs = map pair_of new } ≡ record v { pairs = with_pair (parts_of v.spec) v.pairs (key, uid) }) × AreKept spec new
 put_seen v spec es new slot key uid seen kept k b u small n =
@@ -93,7 +93,7 @@ put_seen v spec es new slot key uid seen kept k b u small n =
 
 pub removed_seen : (v : Sorted) (spec : Option IndexSpec) (es new : List Entry) (slot : Slot) (key : Key) (uid : ℕ)
     → record { spec = spec; pairs = map pair_of es } ≡ v → AreKept spec es → IsKeyOf (parts_of v.spec) key
-    → slot.bytes.items ≡ key_bytes (parts_of spec) key → slot.uid ≡ uid
+    → slot.bytes ≡ key_bytes (parts_of spec) key → slot.uid ≡ uid
     → new ≡ remove_entry (is_at (slot_cmp slot)) es
     → (record { spec = spec; pairs = map pair_of new } ≡ record v { pairs = removed (parts_of v.spec) v.pairs (key, uid) }) × AreKept spec new
 removed_seen v spec es new slot key uid seen kept k b u n =

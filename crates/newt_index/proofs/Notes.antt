@@ -43,10 +43,10 @@ others-apart : (uid : ℕ) (e : Entry) (es : List Entry) → (e.0.uid ≡ uid �
 others-apart uid e es apart = ap (λ (b : Bool). cond (not b) (e ∷ others uid es) (others uid es)) (equal_false e.0.uid uid apart)
 
 -- slots of the same bytes and id tie
-ties : (a b : Slot) → a.bytes.items ≡ b.bytes.items → a.uid ≡ b.uid → slot_cmp a b ≡ Equal
+ties : (a b : Slot) → a.bytes ≡ b.bytes → a.uid ≡ b.uid → slot_cmp a b ≡ Equal
 ties a b bytes uid =
-    ap (λ (l : List ℕ). ordering_then (slice_cmp nat_cmp l b.bytes.items) (nat_cmp a.uid b.uid)) bytes
-    ∙ ap (λ (o : Ordering). ordering_then o (nat_cmp a.uid b.uid)) (tied_itself nat_list_cmp_total b.bytes.items)
+    ap (λ (l : List ℕ). ordering_then (slice_cmp nat_cmp l b.bytes) (nat_cmp a.uid b.uid)) bytes
+    ∙ ap (λ (o : Ordering). ordering_then o (nat_cmp a.uid b.uid)) (tied_itself nat_list_cmp_total b.bytes)
     ∙ ap (λ (n : ℕ). nat_cmp n b.uid) uid ∙ tied_itself nat_cmp_total b.uid
 
 is_equal : (r : Ordering) → is_eq r ≡ true → r ≡ Equal
@@ -55,7 +55,7 @@ is_equal Equal e = refl
 is_equal Greater e = cc
 
 same_uid : (a b : Slot) → is_eq (slot_cmp a b) ≡ true → a.uid ≡ b.uid
-same_uid a b e = nat_cmp-IsAntisymmetric a.uid b.uid (tied (slice_cmp nat_cmp a.bytes.items b.bytes.items) (nat_cmp a.uid b.uid) (is_equal (slot_cmp a b) e)).1
+same_uid a b e = nat_cmp-IsAntisymmetric a.uid b.uid (tied (slice_cmp nat_cmp a.bytes b.bytes) (nat_cmp a.uid b.uid) (is_equal (slot_cmp a b) e)).1
 
 true_or_false : (b : Bool) → (b ≡ true) ⊎ (b ≡ false)
 true_or_false true = inl refl
@@ -67,7 +67,7 @@ not_true b never = ⊎_elim (λ (t : b ≡ true). absurd (never t)) (λ (f : b �
 -- a slot that is noted ties with each entry of its id
 noted_ties : (notes : Notes) (slot : Slot) (e : Entry) → IsNoted notes slot → Noted notes e → e.0.uid ≡ slot.uid → slot_cmp slot e.0 ≡ Equal
 noted_ties notes slot e known here same =
-    let bytes : Some slot.bytes.items ≡ Some e.0.bytes.items = sym known ∙ ap (bytes_at notes) (sym same) ∙ here in
+    let bytes : Some slot.bytes ≡ Some e.0.bytes = sym known ∙ ap (bytes_at notes) (sym same) ∙ here in
     ties slot e.0 (cc bytes) (sym same)
 
 apart_is_no : (slot : Slot) (e : Entry) → (e.0.uid ≡ slot.uid → ⊥) → is_at (slot_cmp slot) e.0 ≡ false
@@ -115,9 +115,9 @@ noted_there notes slot (e ∷ es) all there =
     by rest Less same found = rest found
     by rest Greater same found = rest found
     by rest Equal same found =
-        let both = tied (slice_cmp nat_cmp slot.bytes.items e.0.bytes.items) (nat_cmp slot.uid e.0.uid) same in
+        let both = tied (slice_cmp nat_cmp slot.bytes e.0.bytes) (nat_cmp slot.uid e.0.uid) same in
         ap (bytes_at notes) (nat_cmp-IsAntisymmetric slot.uid e.0.uid both.1) ∙ All-head (Noted notes) e es all
-        ∙ sym (ap (λ (l : List ℕ). Some l) (exact_bytes slot.bytes.items e.0.bytes.items both.0))
+        ∙ sym (ap (λ (l : List ℕ). Some l) (exact_bytes slot.bytes e.0.bytes both.0))
 
 -- and its key is the one of its id
 pub key_noted : (notes : Notes) (slot : Slot) (es : List Entry) → All (Noted notes) es → IsNoted notes slot → lookup (is_at (slot_cmp slot)) es ≡ key_at (map pair_of es) slot.uid
@@ -137,16 +137,16 @@ key_noted notes slot (e ∷ es) all known =
 pub none_noted : (notes : Notes) (uid : ℕ) (es : List Entry) → All (Noted notes) es → bytes_at notes uid ≡ None → es ≡ others uid es
 none_noted notes uid [] all none = refl
 none_noted notes uid (e ∷ es) all none =
-    let here : bytes_at notes e.0.uid ≡ Some e.0.bytes.items = All-head (Noted notes) e es all in
-    let apart : e.0.uid ≡ uid → ⊥ = λ (same : e.0.uid ≡ uid). (let e : None ≡ Some e.0.bytes.items = sym none ∙ ap (bytes_at notes) (sym same) ∙ here in cc) in
+    let here : bytes_at notes e.0.uid ≡ Some e.0.bytes = All-head (Noted notes) e es all in
+    let apart : e.0.uid ≡ uid → ⊥ = λ (same : e.0.uid ≡ uid). (let e : None ≡ Some e.0.bytes = sym none ∙ ap (bytes_at notes) (sym same) ∙ here in cc) in
     ap (λ (l : List Entry). e ∷ l) (none_noted notes uid es (All-tail (Noted notes) e es all) none) ∙ sym (others-apart uid e es apart)
 
 -- and no key
 pub no_key_noted : (notes : Notes) (uid : ℕ) (es : List Entry) → All (Noted notes) es → bytes_at notes uid ≡ None → key_at (map pair_of es) uid ≡ None
 no_key_noted notes uid [] all none = refl
 no_key_noted notes uid (e ∷ es) all none =
-    let here : bytes_at notes e.0.uid ≡ Some e.0.bytes.items = All-head (Noted notes) e es all in
-    let apart : e.0.uid ≡ uid → ⊥ = λ (same : e.0.uid ≡ uid). (let e : None ≡ Some e.0.bytes.items = sym none ∙ ap (bytes_at notes) (sym same) ∙ here in cc) in
+    let here : bytes_at notes e.0.uid ≡ Some e.0.bytes = All-head (Noted notes) e es all in
+    let apart : e.0.uid ≡ uid → ⊥ = λ (same : e.0.uid ≡ uid). (let e : None ≡ Some e.0.bytes = sym none ∙ ap (bytes_at notes) (sym same) ∙ here in cc) in
     ap (λ (b : Bool). cond b (Some e.1) (key_at (map pair_of es) uid)) (equal_false e.0.uid uid apart) ∙ no_key_noted notes uid es (All-tail (Noted notes) e es all) none
 
 -- ---- changes of the notes
@@ -169,7 +169,7 @@ abbrev IsOfId : Option Slot → ℕ → Type 0
 IsOfId found q = IfSome found (λ slot. slot.uid ≡ q)
 
 abbrev pub bytes_found : Option Slot → Option (List ℕ)
-bytes_found found = option_map (λ slot. slot.bytes.items) found
+bytes_found found = option_map (λ slot. slot.bytes) found
 
 -- the note of an id is a slot of that id, and is noted
 pub noted_slot : (notes : Notes) (uid : ℕ) (slot : Slot) (es : List Entry) → AreNotes notes es → tree.get nat_cmp notes uid ≡ Some slot → (slot.uid ≡ uid) × IsNoted notes slot
@@ -200,12 +200,12 @@ slot_struck old new slot es left are there removed none same =
 pub as_noted : (old new : Notes) → new.entries ≡ old.entries → (es : List Entry) → AreNotes old es → AreNotes new es
 as_noted old new same es was = record {
   of_id = λ q. subst (λ (l : List (ℕ × Slot)). IsOfId (lookup (is_at (nat_cmp q)) l) q) (sym same) (was.of_id q);
-  each = subst (λ (l : List (ℕ × Slot)). All (λ (e : Entry). bytes_found (lookup (is_at (nat_cmp e.0.uid)) l) ≡ Some e.0.bytes.items) es) (sym same) was.each;
+  each = subst (λ (l : List (ℕ × Slot)). All (λ (e : Entry). bytes_found (lookup (is_at (nat_cmp e.0.uid)) l) ≡ Some e.0.bytes) es) (sym same) was.each;
 }
 
 all_kept : (old new : Notes) (es : List Entry) → ((q : ℕ) (bytes : List ℕ) → bytes_at old q ≡ Some bytes → bytes_at new q ≡ Some bytes) → All (Noted old) es → All (Noted new) es
 all_kept old new [] kept all = All-nil (Noted new)
-all_kept old new (e ∷ es) kept all = All-cons (Noted new) e es (kept e.0.uid e.0.bytes.items (All-head (Noted old) e es all)) (all_kept old new es kept (All-tail (Noted old) e es all))
+all_kept old new (e ∷ es) kept all = All-cons (Noted new) e es (kept e.0.uid e.0.bytes (All-head (Noted old) e es all)) (all_kept old new es kept (All-tail (Noted old) e es all))
 
 -- a note more, of an id that had none
 pub written : (old new : Notes) (slot note : Slot) → tree.get nat_cmp old slot.uid ≡ None → tree.Updates nat_cmp old new slot.uid (Some note) → note.uid ≡ slot.uid

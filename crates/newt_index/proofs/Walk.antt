@@ -17,7 +17,7 @@ use Rattle.newt_index.specs.Pairs.{Pair, Sorted, parts_of, pair_cmp, first, last
 use Rattle.newt_index.specs.Kept.{Entry, pair_of, IsKept, AreKept, IsProbeOf, slot_cmp, lent}
 
 -- the order of the map is that of the pairs
-pub kept_cmp : (spec : Option IndexSpec) (a : Slot) (k : Key) (e : Entry) → IsProbeOf spec k a.bytes.items → IsKept spec e
+pub kept_cmp : (spec : Option IndexSpec) (a : Slot) (k : Key) (e : Entry) → IsProbeOf spec k a.bytes → IsKept spec e
     → slot_cmp a e.0 ≡ pair_cmp (parts_of spec) (k, a.uid) (pair_of e)
 kept_cmp spec a k e ha he =
     (λ i. ordering_then (slice_cmp nat_cmp (ha.same i) (he.bytes i)) (nat_cmp a.uid e.0.uid))
@@ -62,7 +62,7 @@ not_le Equal = refl
 not_le Greater = refl
 
 pub after_is : (spec : Option IndexSpec) (es walk rest : List Entry) (a : Slot) (k : Key) (found : Option (Bor Slot × Bor Key))
-    → AreKept spec es → IsProbeOf spec k a.bytes.items → walk ≡ filter (λ e. is_lt (slot_cmp a e.0) && not false) es → TakesFirst deref_pair walk found rest
+    → AreKept spec es → IsProbeOf spec k a.bytes → walk ≡ filter (λ e. is_lt (slot_cmp a e.0) && not false) es → TakesFirst deref_pair walk found rest
     → option_map lent found ≡ after (parts_of spec) (map pair_of es) (k, a.uid)
 after_is spec es walk rest a k found kept probe w t =
     first_taken walk rest found t
@@ -71,7 +71,7 @@ after_is spec es walk rest a k found kept probe w t =
     (λ e he. and_true (is_lt (slot_cmp a e.0)) ∙ ap is_lt (kept_cmp spec a k e probe he)) kept)
 
 pub before_is : (spec : Option IndexSpec) (es walk rest : List Entry) (a : Slot) (k : Key) (found : Option (Bor Slot × Bor Key))
-    → AreKept spec es → IsProbeOf spec k a.bytes.items → walk ≡ filter (λ e. true && not (is_le (slot_cmp a e.0))) es → TakesLast deref_pair walk found rest
+    → AreKept spec es → IsProbeOf spec k a.bytes → walk ≡ filter (λ e. true && not (is_le (slot_cmp a e.0))) es → TakesLast deref_pair walk found rest
     → option_map lent found ≡ before (parts_of spec) (map pair_of es) (k, a.uid)
 before_is spec es walk rest a k found kept probe w t =
     last_taken walk rest found t
@@ -87,7 +87,7 @@ from_least Equal zero = refl
 from_least Equal (suc n) = ap is_le (sym (nat_cmp_is 0 (suc n) Less (omega arith)))
 
 pub at_is : (spec : Option IndexSpec) (es walk rest : List Entry) (a : Slot) (k : Key) (found : Option (Bor Slot × Bor Key))
-    → AreKept spec es → IsProbeOf spec k a.bytes.items → a.uid ≡ 0 → walk ≡ filter (λ e. is_le (slot_cmp a e.0) && not false) es → TakesFirst deref_pair walk found rest
+    → AreKept spec es → IsProbeOf spec k a.bytes → a.uid ≡ 0 → walk ≡ filter (λ e. is_le (slot_cmp a e.0) && not false) es → TakesFirst deref_pair walk found rest
     → option_map lent found ≡ at_or_after (parts_of spec) (map pair_of es) k
 at_is spec es walk rest a k found kept probe z w t =
     first_taken walk rest found t
@@ -112,7 +112,7 @@ to_greatest Equal n h = upto (4294967295) n (omega (arith, h))
         (λ e g. ap (λ o. not (is_lt o)) e)
 
 pub back_is : (spec : Option IndexSpec) (es walk rest : List Entry) (a : Slot) (k : Key) (found : Option (Bor Slot × Bor Key))
-    → AreKept spec es → IsProbeOf spec k a.bytes.items → a.uid ≡ 4294967295 → walk ≡ filter (λ e. true && not (is_lt (slot_cmp a e.0))) es → TakesLast deref_pair walk found rest
+    → AreKept spec es → IsProbeOf spec k a.bytes → a.uid ≡ 4294967295 → walk ≡ filter (λ e. true && not (is_lt (slot_cmp a e.0))) es → TakesLast deref_pair walk found rest
     → option_map lent found ≡ at_or_before (parts_of spec) (map pair_of es) k
 back_is spec es walk rest a k found kept probe z w t =
     last_taken walk rest found t
@@ -137,33 +137,33 @@ lent_holds v spec slots es same seen kept =
     subst (λ (l : List Entry). Holds v spec l) (sym same) (record { seen = seen; kept = kept })
 
 pub after_seen : (v : Sorted) (bytes : List ℕ) (spec : Option IndexSpec) (es walk rest : List Entry) (a : Slot) (k : Key) (found : Option (Bor Slot × Bor Key))
-    → Holds v spec es → a.bytes.items ≡ bytes → IsProbeOf v.spec k bytes → walk ≡ filter (λ e. is_lt (slot_cmp a e.0) && not false) es → TakesFirst deref_pair walk found rest
+    → Holds v spec es → a.bytes ≡ bytes → IsProbeOf v.spec k bytes → walk ≡ filter (λ e. is_lt (slot_cmp a e.0) && not false) es → TakesFirst deref_pair walk found rest
     → option_map lent found ≡ after (parts_of v.spec) v.pairs (k, a.uid)
 after_seen v bytes spec es walk rest a k found holds held probe w t =
-    let Q : Sorted → Type 0 = λ u. IsProbeOf u.spec k a.bytes.items → option_map lent found ≡ after (parts_of u.spec) u.pairs (k, a.uid) in
+    let Q : Sorted → Type 0 = λ u. IsProbeOf u.spec k a.bytes → option_map lent found ≡ after (parts_of u.spec) u.pairs (k, a.uid) in
     let R : List ℕ → Type 0 = λ bs. IsProbeOf v.spec k bs in
     subst Q holds.seen (λ p. after_is spec es walk rest a k found holds.kept p w t) (subst R (sym held) probe)
 
 pub before_seen : (v : Sorted) (bytes : List ℕ) (spec : Option IndexSpec) (es walk rest : List Entry) (a : Slot) (k : Key) (found : Option (Bor Slot × Bor Key))
-    → Holds v spec es → a.bytes.items ≡ bytes → IsProbeOf v.spec k bytes → walk ≡ filter (λ e. true && not (is_le (slot_cmp a e.0))) es → TakesLast deref_pair walk found rest
+    → Holds v spec es → a.bytes ≡ bytes → IsProbeOf v.spec k bytes → walk ≡ filter (λ e. true && not (is_le (slot_cmp a e.0))) es → TakesLast deref_pair walk found rest
     → option_map lent found ≡ before (parts_of v.spec) v.pairs (k, a.uid)
 before_seen v bytes spec es walk rest a k found holds held probe w t =
-    let Q : Sorted → Type 0 = λ u. IsProbeOf u.spec k a.bytes.items → option_map lent found ≡ before (parts_of u.spec) u.pairs (k, a.uid) in
+    let Q : Sorted → Type 0 = λ u. IsProbeOf u.spec k a.bytes → option_map lent found ≡ before (parts_of u.spec) u.pairs (k, a.uid) in
     let R : List ℕ → Type 0 = λ bs. IsProbeOf v.spec k bs in
     subst Q holds.seen (λ p. before_is spec es walk rest a k found holds.kept p w t) (subst R (sym held) probe)
 
 pub at_seen : (v : Sorted) (bytes : List ℕ) (spec : Option IndexSpec) (es walk rest : List Entry) (a : Slot) (k : Key) (found : Option (Bor Slot × Bor Key))
-    → Holds v spec es → a.bytes.items ≡ bytes → IsProbeOf v.spec k bytes → a.uid ≡ 0 → walk ≡ filter (λ e. is_le (slot_cmp a e.0) && not false) es → TakesFirst deref_pair walk found rest
+    → Holds v spec es → a.bytes ≡ bytes → IsProbeOf v.spec k bytes → a.uid ≡ 0 → walk ≡ filter (λ e. is_le (slot_cmp a e.0) && not false) es → TakesFirst deref_pair walk found rest
     → option_map lent found ≡ at_or_after (parts_of v.spec) v.pairs k
 at_seen v bytes spec es walk rest a k found holds held probe z w t =
-    let Q : Sorted → Type 0 = λ u. IsProbeOf u.spec k a.bytes.items → option_map lent found ≡ at_or_after (parts_of u.spec) u.pairs k in
+    let Q : Sorted → Type 0 = λ u. IsProbeOf u.spec k a.bytes → option_map lent found ≡ at_or_after (parts_of u.spec) u.pairs k in
     let R : List ℕ → Type 0 = λ bs. IsProbeOf v.spec k bs in
     subst Q holds.seen (λ p. at_is spec es walk rest a k found holds.kept p z w t) (subst R (sym held) probe)
 
 pub back_seen : (v : Sorted) (bytes : List ℕ) (spec : Option IndexSpec) (es walk rest : List Entry) (a : Slot) (k : Key) (found : Option (Bor Slot × Bor Key))
-    → Holds v spec es → a.bytes.items ≡ bytes → IsProbeOf v.spec k bytes → a.uid ≡ 4294967295 → walk ≡ filter (λ e. true && not (is_lt (slot_cmp a e.0))) es → TakesLast deref_pair walk found rest
+    → Holds v spec es → a.bytes ≡ bytes → IsProbeOf v.spec k bytes → a.uid ≡ 4294967295 → walk ≡ filter (λ e. true && not (is_lt (slot_cmp a e.0))) es → TakesLast deref_pair walk found rest
     → option_map lent found ≡ at_or_before (parts_of v.spec) v.pairs k
 back_seen v bytes spec es walk rest a k found holds held probe z w t =
-    let Q : Sorted → Type 0 = λ u. IsProbeOf u.spec k a.bytes.items → option_map lent found ≡ at_or_before (parts_of u.spec) u.pairs k in
+    let Q : Sorted → Type 0 = λ u. IsProbeOf u.spec k a.bytes → option_map lent found ≡ at_or_before (parts_of u.spec) u.pairs k in
     let R : List ℕ → Type 0 = λ bs. IsProbeOf v.spec k bs in
     subst Q holds.seen (λ p. back_is spec es walk rest a k found holds.kept p z w t) (subst R (sym held) probe)

@@ -20,7 +20,7 @@ pair_of e = (e.1, e.0.uid)
 -- an entry of the map is under the bytes of its key, which is one of the declaration (this project's own)
 pub record IsKept (spec : Option IndexSpec) (e : Entry) : Type 0 where
   pub is_key : IsKeyOf (parts_of spec) e.1
-  pub bytes : e.0.bytes.items ≡ key_bytes (parts_of spec) e.1
+  pub bytes : e.0.bytes ≡ key_bytes (parts_of spec) e.1
   pub uid : e.0.uid < 2 ^ 32
 
 -- each entry is (a word of these definitions)
@@ -42,4 +42,4 @@ lent e = (e.1.now, e.0.now.uid)
 
 -- the derived order of the map's keys: by bytes, and then by id (this project's own)
 abbrev pub slot_cmp : Slot → Slot → Ordering
-slot_cmp a b = ordering_then (slice_cmp nat_cmp a.bytes.items b.bytes.items) (nat_cmp a.uid b.uid)
+slot_cmp a b = ordering_then (slice_cmp nat_cmp a.bytes b.bytes) (nat_cmp a.uid b.uid)

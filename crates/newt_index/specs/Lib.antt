@@ -5,3 +5,4 @@ pub mod Kept
 pub mod Range
 pub mod Spots
 pub mod Noted
+pub mod Front

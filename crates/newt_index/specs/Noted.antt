@@ -11,11 +11,11 @@ Notes = tree.BTreeMap ℕ Slot
 
 -- the key bytes that are noted of an id, if some are (a word of these definitions)
 abbrev pub bytes_at : Notes → ℕ → Option (List ℕ)
-bytes_at notes uid = option_map (λ slot. slot.bytes.items) (tree.get nat_cmp notes uid)
+bytes_at notes uid = option_map (λ slot. slot.bytes) (tree.get nat_cmp notes uid)
 
 -- the slot is noted under its id (this project's own)
 abbrev pub IsNoted : Notes → Slot → Type 0
-IsNoted notes slot = bytes_at notes slot.uid ≡ Some slot.bytes.items
+IsNoted notes slot = bytes_at notes slot.uid ≡ Some slot.bytes
 
 -- what holds of the notes of some entries: under an id stands a slot of that id, and each entry's is noted (this project's own)
 pub record AreNotes (notes : Notes) (es : List Entry) : Type 0 where

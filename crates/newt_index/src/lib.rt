@@ -7,6 +7,7 @@
 #![tactic(auto)]
 
 mod identity;
+mod key_bytes;
 mod search;
 mod slots;
 mod sorted;

@@ -4,6 +4,7 @@ ghost use Rattle.newt_keys.specs.KeyForm.{IsKeyOf, key_bytes};
 ghost use Rattle.newt_index.specs.Pairs.{parts_of};
 ghost use Rattle.newt_index.specs.Kept.{IsProbeOf};
 
+use crate::key_bytes::KeyBytes;
 use newt_base::Uid;
 use newt_keys::{IndexSpec, Key, key_bytes as bytes_of_key};
 use std::alloc::{AllocError, Global};
@@ -13,7 +14,7 @@ use std::marker::Model;
 /// the pairs.
 #[derive(PartialEq, Eq, PartialOrd, Ord, Drop)]
 pub(crate) struct Slot {
-    pub(crate) bytes: Vec<u8>,
+    pub(crate) bytes: KeyBytes,
     pub(crate) uid: u32,
 }
 
@@ -26,13 +27,11 @@ pub struct Probe {
 impl Slot {
     /// An equal slot.
     pub(crate) fn copy(&self) -> Result<Slot, AllocError>
-        ensures bytes { IfOk result (λ slot. slot.bytes.items ≡ self.now.bytes.items) }
+        ensures bytes { IfOk result (λ slot. slot.bytes ≡ self.now.bytes) }
         ensures uid { IfOk result (λ slot. slot.uid ≡ self.now.uid) }
     {
-        let mut bytes = Vec::new(*self.bytes.allocator());
-        bytes.extend_from_slice(&self.bytes)?;
         Ok(Slot {
-            bytes,
+            bytes: self.bytes.copy()?,
             uid: self.uid,
         })
     }
@@ -43,7 +42,7 @@ impl Model for Probe {
 
     ghost Value = { List ℕ };
 
-    ghost view = { λ p. p.slot.bytes.items };
+    ghost view = { λ p. p.slot.bytes };
 }
 
 impl Probe {
@@ -54,7 +53,10 @@ impl Probe {
     {
         let bytes = bytes_of_key(alloc, key, spec)?;
         Ok(Probe {
-            slot: Slot { bytes, uid: 0 },
+            slot: Slot {
+                bytes: KeyBytes::of(bytes),
+                uid: 0,
+            },
         })
     }
 
@@ -64,7 +66,7 @@ impl Probe {
     {
         Probe {
             slot: Slot {
-                bytes: Vec::new(alloc),
+                bytes: KeyBytes::of(Vec::new(alloc)),
                 uid: 0,
             },
         }
@@ -79,7 +81,7 @@ pub(crate) fn slot_of(
     uid: Uid,
 ) -> Result<Slot, AllocError>
     requires { IsKeyOf (parts_of spec.now) key.now }
-    ensures bytes { IfOk result (λ slot. slot.bytes.items ≡ key_bytes (parts_of spec.now) key.now) }
+    ensures bytes { IfOk result (λ slot. slot.bytes ≡ key_bytes (parts_of spec.now) key.now) }
     ensures uid { IfOk result (λ slot. slot.uid ≡ uid) }
     ensures fits { IfOk result (λ slot. slot.uid < 2 ^ 32) }
 {
@@ -87,5 +89,8 @@ pub(crate) fn slot_of(
         Some(spec) => bytes_of_key(alloc, key, spec)?,
         None => Vec::new(alloc),
     };
-    Ok(Slot { bytes, uid: uid.0 })
+    Ok(Slot {
+        bytes: KeyBytes::of(bytes),
+        uid: uid.0,
+    })
 }

@@ -134,8 +134,8 @@ fn take_rows(flags: &mut Vec<bool>, rows: &BTreeMap<u32, Option<Extent>>) -> boo
     true
 }
 
-// Which page numbers all objects have. None where two of them have one number.
-fn taken_by(
+/// Which page numbers all objects have. None where two of them have one number.
+pub(crate) fn taken_by(
     alloc: Global,
     rows: &BTreeMap<u32, Option<Extent>>,
 ) -> Result<Option<Taken>, AllocError>
