@@ -335,3 +335,11 @@ pub fn encode(alloc: Global, graph: &Graph) -> Result<Vec<u8>, AllocError>
     value(&mut out, &mut numbers, graph.nodes(), graph.root(), 201)?;
     Ok(out)
 }
+
+/// How many bytes the written text has. It takes the memory that `encode` takes.
+pub fn encoded_len(alloc: Global, graph: &Graph) -> Result<u64, AllocError>
+    ensures { IfOk result (λ n. n ≡ length (nsof graph.now)) }
+{
+    let text = encode(alloc, graph)?;
+    Ok(text.len() as u64)
+}
