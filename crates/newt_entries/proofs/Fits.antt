@@ -1,5 +1,5 @@
 -- Whether a skeleton and its rows may be those of an entry, test by test.
-use Rattle.std.proofs.Common.{arith, ◌≡◌, refl, ap, sym, subst, ◌∙◌, ℕ, zero, suc, ◌+◌, ◌<◌, ◌≤◌, List, [], ◌∷◌, true, false, Bool, ◌&&◌, length, fold, map, sum_by, nat_le, leb-true}
+use Rattle.std.proofs.Common.{arith, ◌≡◌, refl, ap, sym, subst, ◌∙◌, ℕ, zero, suc, ◌+◌, ◌<◌, ◌≤◌, List, [], ◌∷◌, true, false, Bool, ◌&&◌, length, fold, map, sum_by, nat_le, leb-true, Vec, Global}
 use Rattle.std.specs.Prelude.{slice_get, All, replicate}
 use Rattle.std.specs.List.{list_all, sum}
 use Rattle.std.proofs.lemmas.Bool.{and_parts}
@@ -205,3 +205,9 @@ made-is_graph rows g bs nodes root is h long of_nodes bytes of_root =
       same ∙ sym (filled-nodes rows g bs h long),
       subst IsGraph (sym same) (filled-is_graph rows g bs is h long (subst (All HasBytes) of_nodes bytes)),
     )
+
+-- without large binaries a skeleton is the graph itself
+pub nothing-filled : (rows : List LargeRow) (g : RawGraph) (larges : List (Vec ℕ Global)) → length larges ≡ 0 → g ≡ filled rows g (map (λ bytes. bytes.items) larges)
+nothing-filled [] g [] e = refl
+nothing-filled (r ∷ rows) g [] e = refl
+nothing-filled rows g (b ∷ bs) e = absurd (omega (arith, e))

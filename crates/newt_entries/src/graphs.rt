@@ -126,6 +126,27 @@ pub fn filled(alloc: Global, row: &EntryRow, larges: Vec<Vec<u8>>) -> Result<Gra
     Ok(Graph::of(nodes, row.skeleton.root()))
 }
 
+/// The same graph, of a row that is given away: where it has no large binaries nothing is copied.
+pub fn whole(alloc: Global, row: EntryRow, larges: Vec<Vec<u8>>) -> Result<Graph, AllocError>
+    requires fit { fits (map row_at row.larges) row.skeleton ≡ true }
+    requires lengths { map (λ bytes. length bytes.items) larges.items
+        ≡ map (λ l. l.length) row.larges }
+    ensures value { IfOk result (λ g. g ≡ filled (map row_at row.larges) row.skeleton
+        (map (λ bytes. bytes.items) larges.items)) }
+    ensures valid { IfOk result (λ g. valid_entry (record {
+      uid = row.uid;
+      time = row.time;
+      graph = g;
+    }) ≡ true) }
+{
+    if !larges.is_empty() {
+        return filled(alloc, &row, larges);
+    }
+    // Its contract tells that the skeleton is a graph.
+    let _root = row.skeleton.root();
+    Ok(row.skeleton)
+}
+
 /// Puts a copy of the bytes of a large binary behind others.
 fn add_bytes(larges: &mut Vec<Vec<u8>>, alloc: Global, node: &Node) -> Result<(), AllocError>
     ensures { OnOk result (map (λ bytes. bytes.items) larges.new.items ≡ map (λ bytes. bytes.items)

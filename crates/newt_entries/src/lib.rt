@@ -16,7 +16,7 @@ mod write;
 
 pub use fault::EntryFault;
 pub use fit::{MOST_TEXT, is_frame};
-pub use graphs::{filled, larges_of, row_of, skeleton};
+pub use graphs::{filled, larges_of, row_of, skeleton, whole};
 pub use laws::streams_are_read;
 pub use read::read_entry;
 pub use row::{EntryRow, LargeAt, Larges};
