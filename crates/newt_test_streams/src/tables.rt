@@ -45,7 +45,7 @@ fn text_of(alloc: Global, given: &[u8], words: &str) -> Result<Vec<u8>, Fail> {
 /// Whether this is the written text of a graph, in the length that is told beforehand.
 fn is_written(alloc: Global, graph: &Graph, text: &[u8]) -> bool {
     encode(alloc, graph).is_ok_and(|written| written.as_slice() == text)
-        && encoded_len(graph).is_ok_and(|length| length == text.len() as u64)
+        && encoded_len(alloc, graph).is_ok_and(|length| length == text.len() as u64)
 }
 
 /// Whether this is the flat text of a graph, in a length of which that of its skeleton and so many
@@ -56,6 +56,7 @@ fn is_flat(alloc: Global, graph: &Graph, text: &[u8], large: u64) -> bool {
 }
 
 /// The two texts of a graph, and how many bytes of large binaries it has.
+#[derive(Drop)]
 struct Texts<'a> {
     written: &'a [u8],
     flat: &'a [u8],
