@@ -24,7 +24,7 @@ from stores import (
     folded,
     paths_of,
 )
-from streams import Malformed, decode, encode
+from streams import Malformed, decode, encode, encode_flat
 from world import FINISH, MOST_MOUNTED, START, Cursor, World
 
 MOST_LINE = 140_000
@@ -215,7 +215,7 @@ def wants_frame(graph: Ref) -> None:
 
 
 def wants_size(graph: Ref) -> None:
-    if len(encode(graph, is_skeleton=True)) > MOST_SKELETON:
+    if len(encode_flat(graph, is_skeleton=True)) > MOST_SKELETON:
         raise Refused(34)
 
 

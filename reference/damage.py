@@ -12,7 +12,7 @@ from graphs import Array, Binary, Frame, Large, Symbol, Walk
 from images import BLOCK, HEADER
 from layouts import BLANK, VOTES, objects_of, pages_of, record, records_of, tail_of
 from stores import Part, Soup, Store, Tags, capacity, cost, entry_of, tags_bytes
-from streams import Malformed, decode, encode, pages
+from streams import Malformed, decode, encode, encode_flat, pages
 
 TELLING_BYTES = b"\x00\x01\x02\x03\x04\x05\x06\x07\x08\x09\x0a\x0b\x0c\x0d\x7f\x80\xfe\xff"
 TELLING_TEXT = b"\"\\|'$&#=:;,.*<>[]{} \t\r%-+0159aAfFzZ_~\x7f\xc3\xa9\xff\x00"
@@ -233,9 +233,10 @@ def respell(random: Random, objects: dict[int, bytes]) -> None:
     if kind == 0:
         for large in Walk(graph).larges():
             large.data = bytes(random.choice((0, 1, 12)))
-        skeleton = encode(graph)
+        skeleton = random.choice((encode, encode_flat))(graph)
     elif kind == 1:
-        skeleton = encode(random.choice((2, Array(None, [graph]), Frame([Symbol(b"k")], [graph]))), is_skeleton=True)
+        other = random.choice((2, Array(None, [graph]), Frame([Symbol(b"k")], [graph])))
+        skeleton = encode_flat(other, is_skeleton=True)
     elif kind == 2:
         skeleton = skeleton.replace(*random.choice(((b"\x0a", b"\x00\x02"), (b"\x06", b"\x06\xff\0\0\0"))), 1)
     else:

@@ -87,6 +87,19 @@ def depths() -> list[str]:
     return [*read, *changed, "getx 0 S 0", *deep]
 
 
+def rectangles() -> list[str]:
+    sides, other = "{top: 1, left: 2, bottom: 3, right: 255}", "{Top: 1, left: 2, bottom: 3, right: 4}"
+    values = [sides, other, f"[{sides}, {other}]", f"[{other}, {sides}]", f"[#1={sides}, #1#, 'right, 'right, #1#]"]
+    values += [f"['RIGHT, {sides}]", f"[top: {sides}, 'left]", f"{{top: {sides}, left: {sides}}}", nested(198, sides)]
+    values += ["{top: 1, left: 2, bottom: 3, right: 256}", "{top: 1, left: 2, right: 3, bottom: 4}"]
+    # The text with small rectangles is the longer one here: a symbol gets a number of five bytes.
+    many, tops = ", ".join(["[]"] * 253), ", ".join(["'top"] * 20)
+    values += [f"[{sides}, {many}, {tops}]", f"[{many}, {sides}, {tops}]"]
+    added = [f"add 0 S {{a: {it}, b: <<w:00>>}}" for it in values]
+    lines = [*START, *added, *[f"getx 0 S {uid}" for uid in range(len(values))]]
+    return lines + ["unmount 0", "mount 0", *[f"getx 0 S {uid}" for uid in range(len(values))]]
+
+
 def nodes() -> list[str]:
     lines = [*START, f"lit {array('[]', 46_000)}", "add 0 S {a: 1}", f"set 0 S 0 b {array('[]', 30_000)}"]
     lines += ["set 0 S 0 c [nil]", f"change 0 S 0 {{a: {array('[]', 30_000)}}}", f"set 0 S 0 d {array('[]', 45_000)}"]
@@ -126,6 +139,7 @@ EDGES = [
     (tags, (40,)),
     (lines, ()),
     (depths, (40,)),
+    (rectangles, (40,)),
     (nodes, (600,)),
     (larges, (4099,)),
     (blocks, (12, 13, 4099, 4100, 0, 1)),

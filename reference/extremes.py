@@ -7,7 +7,7 @@ from graphs import Frame, Large, String, Symbol
 from images import BLOCK, HEADER
 from layouts import BLANK, record
 from stores import ORDERS, Part, Soup, Store, capacity, directory
-from streams import encode, pages
+from streams import encode_flat, pages
 
 DEEPEST = 200
 SLOTS = 65_535
@@ -152,7 +152,7 @@ def entries(specs: tuple, graph_of: Callable[[int], Frame]) -> bytes:
     most = capacity(GREATEST)
     store = Store(b"C", 1, 1, (Soup(b"S", 0, most, specs),))
     count = most - pages(len(directory(store)))
-    records = {2 * uid + 1: struct.pack(">HHII", 0, 0, uid, 0) + encode(graph_of(uid)) for uid in range(count)}
+    records = {2 * uid + 1: struct.pack(">HHII", 0, 0, uid, 0) + encode_flat(graph_of(uid)) for uid in range(count)}
     return whole({0: directory(store), **records})
 
 
@@ -197,7 +197,7 @@ def full_entries() -> bytes:
 
 def large_binaries() -> bytes:
     """Entries that name a large binary of no bytes each."""
-    graph = encode(Frame([Symbol(b"v")], [Large(Symbol(b"w"), b"")]))
+    graph = encode_flat(Frame([Symbol(b"v")], [Large(Symbol(b"w"), b"")]))
     number = capacity(GREATEST) // 2 - 1
     store = Store(b"C", 1, 1, (Soup(b"S", 0, number),))
     objects = {0: directory(store)}

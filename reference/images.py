@@ -25,7 +25,7 @@ from stores import (
     is_name,
     paths_of,
 )
-from streams import Malformed, decode, encode, pages
+from streams import Malformed, decode, encode_flat, pages
 
 BLOCK = 4096
 HEADER = b"NSTORE\x00\x01" + bytes(8)
@@ -156,9 +156,8 @@ def read_entry(record: bytes, objects: dict, named: list) -> tuple[int, Entry]:
         graph, is_compressed = decode(skeleton)
     except Malformed as fault:
         raise NoStore from fault
-    wants(
-        len(skeleton) <= MOST_SKELETON and not is_compressed and isinstance(graph, Frame) and encode(graph) == skeleton
-    )
+    wants(len(skeleton) <= MOST_SKELETON and not is_compressed)
+    wants(isinstance(graph, Frame) and encode_flat(graph) == skeleton)
     walk = Walk(graph)
     wants(len(walk.larges()) == count and not any(it.data for it in walk.larges()))
     for large, (node, number, length) in zip(walk.larges(), struct.iter_unpack(">III", places)):
@@ -187,10 +186,10 @@ def store_of_image(image: bytes) -> Optional[Store]:
 
 
 def is_same_store(one: Store, other: Store) -> bool:
-    """Whether two stores are equal, their graphs by what they print as streams."""
+    """Whether two stores are equal, their graphs by their flat texts."""
 
     def told(store: Store) -> list:
-        entries = [(it.sig, [(at.uid, at.time, encode(at.graph)) for at in it.entries]) for it in store.soups]
+        entries = [(it.sig, [(at.uid, at.time, encode_flat(at.graph)) for at in it.entries]) for it in store.soups]
         return [
             store.name,
             store.sig,

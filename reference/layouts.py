@@ -7,7 +7,7 @@ from typing import Optional
 from graphs import Walk
 from images import BLOCK, HEADER
 from stores import Store, directory
-from streams import encode, pages
+from streams import encode_flat, pages
 
 # Votes that choose the bank, whose number is put for the 1; the 0 is the other bank, and any other number no vote.
 VOTES = ((1, 1, 1), (0, 1, 1), (1, 0, 1), (1, 1, 0), (1, 0, 255), (1, 255, 255), (255, 1, 1), (1, 7, 0))
@@ -25,7 +25,7 @@ def objects_of(random: Random, store: Store) -> dict[int, bytes]:
             objects.update({number: it.data for it, number in named})
             places = [struct.pack(">III", walk.numbers[id(it)], number, len(it.data)) for it, number in named]
             start = struct.pack(">HHII", soup.sig, len(named), entry.uid, entry.time)
-            objects[next(odd)] = start + encode(entry.graph, is_skeleton=True) + b"".join(places)
+            objects[next(odd)] = start + encode_flat(entry.graph, is_skeleton=True) + b"".join(places)
     return objects
 
 

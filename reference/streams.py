@@ -1,6 +1,9 @@
-"""The streamed form of graphs (NSOF, version 2): what bytes spell, and the written text of a graph."""
+"""The streamed form of graphs (NSOF, version 2): what bytes spell, and the two texts of a graph.
 
-from typing import Optional
+The flat text is that of records and of the cost; the written one has small rectangles, and is what replies hold.
+"""
+
+from typing import Callable, Optional
 
 from graphs import (
     MOST_BYTES,
@@ -18,8 +21,12 @@ from graphs import (
     Symbol,
     Walk,
     character,
+    integer,
+    is_same_name,
 )
 from scanner import Scanner
+
+SIDES = (b"top", b"left", b"bottom", b"right")
 
 
 class Malformed(Exception):
@@ -108,7 +115,7 @@ class Reader(Scanner):
     def rectangle(self, is_open: int) -> Frame:
         frame = self.container(Frame(), is_open)
         sides = self.take(4)
-        frame.tags = [self.named(it, False) for it in (b"top", b"left", b"bottom", b"right")]
+        frame.tags = [self.named(it, False) for it in SIDES]
         frame.values = [4 * it for it in sides]
         return frame
 
@@ -190,29 +197,64 @@ def of_immediate(word: int) -> bytes:
     return bytes([1, code]) if code < 256 else b"\x02" + code.to_bytes(2, "big")
 
 
-def encode(root: Ref, is_skeleton: bool = False) -> bytes:
-    """The written text of a graph; in that of its skeleton the large binaries are empty."""
+def in_full(node: Ref, text: Callable, data: bytes) -> bytes:
+    """A node by its own tag, with a text for each of its references and for its bytes."""
+    parts = b"".join(map(text, node.parts()))
+    if isinstance(node, Symbol):
+        return b"\x07" + xlong(len(node.name)) + node.name
+    if isinstance(node, String):
+        return b"\x08" + xlong(node.size()) + b"".join(it.to_bytes(2, "big") for it in [*node.units, 0])
+    if isinstance(node, Large):
+        return b"\x0c" + parts + b"\x00" + len(data).to_bytes(4, "big") + bytes(12) + data
+    if isinstance(node, Binary):
+        return b"\x03" + xlong(len(data)) + parts + data
+    if isinstance(node, Frame):
+        return b"\x06" + xlong(len(node.tags)) + parts
+    return (b"\x05" if node.kind is None else b"\x04") + xlong(len(node.values)) + parts
+
+
+def encode_flat(root: Ref, is_skeleton: bool = False) -> bytes:
+    """The flat text of a graph; in that of its skeleton the large binaries are empty."""
     numbers: dict[int, int] = {}
 
-    def text(node: Optional[Ref]) -> bytes:
+    def text(node: Ref) -> bytes:
         if isinstance(node, int):
             return of_immediate(node)
         if id(node) in numbers:
             return b"\x09" + xlong(numbers[id(node)])
         numbers[id(node)] = len(numbers)
-        if isinstance(node, Symbol):
-            return b"\x07" + xlong(len(node.name)) + node.name
-        if isinstance(node, String):
-            return b"\x08" + xlong(node.size()) + b"".join(it.to_bytes(2, "big") for it in [*node.units, 0])
-        if isinstance(node, Large):
-            data = b"" if is_skeleton else node.data
-            return b"\x0c" + text(node.kind) + b"\x00" + len(data).to_bytes(4, "big") + bytes(12) + data
-        if isinstance(node, Binary):
-            return b"\x03" + xlong(len(node.data)) + text(node.kind) + node.data
-        if isinstance(node, Frame):
-            return b"\x06" + xlong(len(node.tags)) + b"".join(map(text, node.parts()))
-        tag = b"\x05" if node.kind is None else b"\x04"
-        return tag + xlong(len(node.values)) + b"".join(map(text, node.parts()))
+        is_empty = is_skeleton and isinstance(node, Large)
+        return in_full(node, text, b"" if is_empty else getattr(node, "data", b""))
+
+    return b"\x02" + text(root)
+
+
+def small_sides(node: Ref, places: dict[int, int]) -> Optional[bytes]:
+    """The four sides of a frame that is small among the nodes of a walk, each at its place."""
+    if not isinstance(node, Frame) or len(node.tags) != 4:
+        return None
+    if not all(is_same_name(tag.name, side) for tag, side in zip(node.tags, SIDES)):
+        return None
+    sides = [integer(it) for it in node.values]
+    if not all(it is not None and 0 <= it <= 255 for it in sides):
+        return None
+    is_known = [places[id(tag)] < places[id(node)] or tag.name == tag.name.lower() for tag in node.tags]
+    return bytes(sides) if all(is_known) else None
+
+
+def encode(root: Ref) -> bytes:
+    """The written text of a graph: small frames by their four sides, numbers to what is written alone."""
+    places = Walk(root).numbers
+    numbers: dict[int, int] = {}
+
+    def text(node: Ref) -> bytes:
+        if isinstance(node, int):
+            return of_immediate(node)
+        if id(node) in numbers:
+            return b"\x09" + xlong(numbers[id(node)])
+        numbers[id(node)] = len(numbers)
+        sides = small_sides(node, places)
+        return in_full(node, text, getattr(node, "data", b"")) if sides is None else b"\x0b" + sides
 
     return b"\x02" + text(root)
 
@@ -225,5 +267,5 @@ def pages(length: int) -> int:
 def entry_cost(graph: Ref) -> int:
     """How many pages an entry takes: its record, and each of its large binaries."""
     larges = Walk(graph).larges()
-    record = 12 + len(encode(graph, is_skeleton=True)) + 12 * len(larges)
+    record = 12 + len(encode_flat(graph, is_skeleton=True)) + 12 * len(larges)
     return pages(record) + sum(pages(len(it.data)) for it in larges)

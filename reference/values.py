@@ -6,7 +6,7 @@ from literals import NoLiteral, read_literal
 from streams import encode
 
 SLOTS = ("k", "l", "n", "m", "x", "y", "t", "q", "|a b|")
-SYMBOLS = ("work", "work", "home", "Work", "play", "a", "b", "|x y|", "HOME", "c1")
+SYMBOLS = ("work", "work", "home", "Work", "play", "a", "b", "|x y|", "HOME", "c1", "top", "Left")
 ALPHABETS = ("ab", "abcABC", "aß ", "xyzß", "é ñ", "日本 a", "a-b c.", "ſK", "ΣςσA", "ﬁ fi", "😀a")
 INTEGERS = "0 -0 1 -3 5 536870911 -536870912".split()
 IMMEDIATES = r"nil true $a $\0041 $\0020 $\FFFF &00000003 &0010006F".split()
@@ -14,6 +14,7 @@ BINARIES = "<wave:00FF> <a:> <real:3ff8000000000000> <<x:01fe>> <<Wave:>>".split
 LARGES = "<<wave:*3>> <<wave:*500>> <<wave:*501>> <<wave:*1200>>".split()
 STREAMS = """
     020B01020304 0205020B010203040704546F7020 0205020703546F700B01020304 0205030B010203040701780902
+    0206040703546F7007046C6566740706626F74746F6D0705726967687400FF000003FC0004000400FF00000400
     020C0703666F6F010000000100000000000000000000000041 0200FF80000002 02050209000900
 """.split()
 
@@ -67,7 +68,8 @@ class Values:
         if self.often(0.3):
             self.labels += 1
             label = f"#{self.labels}="
-        return label + (self.array(depth) if self.often(0.5) else self.frame(depth))
+        write = self.one(self.array, self.array, self.frame, self.frame, lambda _: self.rectangle())
+        return label + write(depth)
 
     def array(self, depth: int) -> str:
         start = self.one("", "", "", self.one(*SYMBOLS) + ": ", "pathExpr: ", "alias:")
@@ -80,6 +82,18 @@ class Values:
         items = [*slots, *[f"{name}: {self.value(depth + 1)}" for name in more]]
         self.random.shuffle(items)
         return "{" + ", ".join(items) + "}"
+
+    def rectangle(self) -> str:
+        """A frame of four sides, most of which are small, some with another spelling or order."""
+        names = ["top", "left", "bottom", "right"]
+        if self.often(0.2):
+            names[self.random.randrange(4)] = self.one("TOP", "Left", "bottoM", "rights", "|top |")
+        if self.often(0.1):
+            self.random.shuffle(names)
+        items = [f"{name}: {self.one('0', '1', '7', '254', '255')}" for name in names]
+        if self.often(0.1):
+            items[self.random.randrange(4)] = f"{self.one('top', 'k')}: {self.one('-1', '256', 'nil', '$A')}"
+        return "{" + ", ".join(items[: self.one(4, 4, 4, 4, 4, 3)]) + "}"
 
     def any_value(self) -> str:
         self.labels = 0

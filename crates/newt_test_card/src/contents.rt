@@ -8,7 +8,7 @@ use crate::card::{found, host_of};
 use crate::digits::used;
 use newt_base::{Sig, Uid, hex_text};
 use newt_memhost::MemHost;
-use newt_nsof_write::encode;
+use newt_nsof_write::encode_flat;
 use newt_pagebook::PageBook;
 use newt_soupdir::Directory;
 use newt_store::{Entry, Store};
@@ -67,14 +67,14 @@ fn push_digits(alloc: Global, text: &mut Vec<u8>, bytes: &[u8]) -> Result<(), Al
     text.extend_from_slice(end.as_bytes())
 }
 
-// Appends the row of an entry: the signature of its soup, its id, its minute and its text.
+// Appends the row of an entry: the signature of its soup, its id, its minute and its flat text.
 fn push_row(alloc: Global, text: &mut Vec<u8>, soup: Sig, entry: &Entry) -> Result<(), Fail> {
     let sig = soup.0;
     let uid = entry.uid.0;
     let time = entry.time;
     let numbers = format!(in alloc; "; {sig} {uid} {time} ")?;
     text.extend_from_slice(numbers.as_bytes())?;
-    push_digits(alloc, text, &encode(alloc, &entry.graph)?)?;
+    push_digits(alloc, text, &encode_flat(alloc, &entry.graph)?)?;
     Ok(())
 }
 

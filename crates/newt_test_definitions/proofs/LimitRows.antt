@@ -11,7 +11,7 @@ use Rattle.newt_graph.proofs.Drafts.{once_push}
 use Rattle.newt_graph.proofs.Words.{integer_word}
 use Rattle.newt_spec_literal.specs.Grammar.{LargeBytes}
 use Rattle.newt_spec_nsof.specs.Text.{Object, Spells}
-use Rattle.newt_spec_nsof.specs.Written.{nsof}
+use Rattle.newt_spec_nsof.specs.Flat.{flat}
 use Rattle.newt_spec_nsof.proofs.Spelled.{flat_spells}
 
 -- a graph of one node
@@ -42,7 +42,7 @@ string_graph n h =
     lone_graph (Str (replicate n 65)) Walk.string few (record { few = few; each = All-replicate (λ u. u < 65536) n 65 (omega arith) }) (λ name e. cc)
 
 -- 1,000,000 bytes, the last unit counted
-longest_string : Spells (nsof (lone (letters 499999))) (lone (letters 499999))
+longest_string : Spells (flat (lone (letters 499999))) (lone (letters 499999))
 longest_string = flat_spells (lone (letters 499999)) (string_graph 499999 (omega arith))
 
 -- an array of so many integers
@@ -57,7 +57,7 @@ array_graph : (n : ℕ) → n ≤ 65535 → IsGraph (lone (ones n))
 unfolding ones
 array_graph n h = lone_graph (Array None (replicate n (Imm (pos 4)))) (Walk.plain_array (ones_walk n)) (omega arith) (omega (arith, h, length-replicate n (Imm (pos 4)))) (λ name e. cc)
 
-widest_array : Spells (nsof (lone (ones 65535))) (lone (ones 65535))
+widest_array : Spells (flat (lone (ones 65535))) (lone (ones 65535))
 widest_array = flat_spells (lone (ones 65535)) (array_graph 65535 (omega arith))
 
 -- the most bytes of zero that a number stands for

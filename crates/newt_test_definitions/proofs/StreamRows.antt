@@ -1,5 +1,5 @@
 -- Streams, worked by hand. `shown` reads the bytes that digits write and prints the graph;
--- `streamed` reads a literal and gives the digits of its stream. What is read is what is spelled
+-- `streamed` reads a literal and gives the digits of its written text. What is read is what is spelled
 -- (newt_nsof_read), so these are rows of the grammar too.
 use Rattle.std.proofs.Common.{arith, ◌≡◌, refl, ℕ, suc, true, false, List, [], ◌∷◌, ◌++◌, map, replicate, codes, Some, None, nat_lt, pos, take}
 use Rattle.std.specs.Prelude.{Ok, Err}
@@ -306,10 +306,9 @@ written_words : map streamed (map codes ("63" ∷ "&000000FE" ∷ "&000000FF" �
 unfolding open_tables
 written_words = refl
 
--- a node in full where it is met first, and by the number of the node afterwards; no compander, and
--- no small rectangle
+-- a node in full where it is met first, and by its number afterwards; no compander
 written_objects : map streamed (map codes ("{a: 1}" ∷ "{a: 1, b: 2}" ∷ "[1, 2]" ∷ "[c: 1, nil]" ∷ "[]" ∷ "[c:]" ∷ "\"\"" ∷ "\"A\"" ∷ "\"\\u0102\\uD83D\"" ∷ "'abc" ∷ "<b:0A0B>" ∷ "<<w:414243>>" ∷ "{top: 1, left: 2, bottom: 3, right: 4}" ∷ "{self: 1}" ∷ "#0={self: #0#}" ∷ "[#1=\"A\", #1#]" ∷ "['Foo, 'foo]" ∷ "['a, 'A, #1=\"x\", #1#]" ∷ "[c: 'c, {c: 'c}]" ∷ "[#1=<b:>, 'b, #1#]" ∷ []))
-    ≡ map codes ("0206010701610004" ∷ "02060207016107016200040008" ∷ "02050200040008" ∷ "02040207016300040A" ∷ "020500" ∷ "020400070163" ∷ "0208020000" ∷ "02080400410000" ∷ "0208060102D83D0000" ∷ "020703616263" ∷ "0203020701620A0B" ∷ "020C0701770000000003000000000000000000000000414243" ∷ "0206040703746F7007046C6566740706626F74746F6D0705726967687400040008000C0010" ∷ "020601070473656C660004" ∷ "020601070473656C660900" ∷ "0205020804004100000901" ∷ "0205020703466F6F0901" ∷ "02050407016109010804007800000902" ∷ "0204020701630901060109010901" ∷ "020503030007016209020901" ∷ [])
+    ≡ map codes ("0206010701610004" ∷ "02060207016107016200040008" ∷ "02050200040008" ∷ "02040207016300040A" ∷ "020500" ∷ "020400070163" ∷ "0208020000" ∷ "02080400410000" ∷ "0208060102D83D0000" ∷ "020703616263" ∷ "0203020701620A0B" ∷ "020C0701770000000003000000000000000000000000414243" ∷ "020B01020304" ∷ "020601070473656C660004" ∷ "020601070473656C660900" ∷ "0205020804004100000901" ∷ "0205020703466F6F0901" ∷ "02050407016109010804007800000902" ∷ "0204020701630901060109010901" ∷ "020503030007016209020901" ∷ [])
 unfolding open_tables
 written_objects = refl
 

@@ -31,10 +31,20 @@ streams_among =
     filter (λ digits. elim (hex_bytes digits)
     [ Some bytes ↦ not (is_malformed (decoded bytes)) | None ↦ true ])
 
--- the digits of the stream of a literal
+-- the digits of the written text of a literal
 abbrev pub streamed : List ℕ → List ℕ
 streamed text =
     elim (literal_read text) [ Ok g ↦ hex_text (nsof g) | Err fault ↦ codes "no literal" ]
+
+-- a text of what was read, in digits
+abbrev pub in_text : (RawGraph → List ℕ) → Result RawGraph NsofFault → List ℕ
+in_text text (Ok g) = hex_text (text g)
+in_text text (Err fault) = codes "no stream"
+
+-- the digits of this text of the graph whose stream these digits write
+abbrev pub rewritten : (RawGraph → List ℕ) → List ℕ → List ℕ
+rewritten text digits =
+    elim (hex_bytes digits) [ Some bytes ↦ in_text text (decoded bytes) | None ↦ codes "odd" ]
 
 -- a literal as it is printed
 abbrev pub printed : List ℕ → List ℕ

@@ -2,16 +2,16 @@
 use Rattle.std.specs.Prelude.{ℕ, List, [], ◌∷◌, codes, bytes_eq, Option, Some, None, if◌then◌else◌}
 use Rattle.std.specs.Prelude.{replicate}
 use Rattle.newt_graph.specs.Graph.{RawGraph}
-use Rattle.newt_spec_nsof.specs.Written.{nsof}
+use Rattle.newt_spec_nsof.specs.Flat.{flat}
 use Rattle.newt_spec_nsof.specs.Lengths.{skeleton}
 use Rattle.newt_spec_store.specs.Store.{Entry, Store, make_soup, add_entry, change_soup, new_store}
 use Rattle.newt_spec_store.specs.Cost.{directory_bytes}
 use Rattle.newt_spec_store.specs.Image.{Objects, entry_bytes}
 use Rattle.newt_test_definitions.specs.Worlds.{wave, S}
 
--- a reader of one text, for the example
+-- a reader of one flat text, for the example
 abbrev pub reads_wave : List ℕ → Option RawGraph
-reads_wave text = let g = skeleton (wave 3) in if bytes_eq text (nsof g) then Some g else None
+reads_wave text = let g = skeleton (wave 3) in if bytes_eq text (flat g) then Some g else None
 
 -- a new store
 abbrev pub internal : Store

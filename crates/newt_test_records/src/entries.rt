@@ -24,8 +24,8 @@ pub(crate) fn entry(alloc: Global, bytes: &[u8]) -> Result<String, Fail> {
     Ok(format!(in alloc; "{} {} {} {kept}", row.soup.0, row.uid.0, row.time)?)
 }
 
-/// An entry: the soup, how many large binaries it has, the id, the minute, the stream, and for each
-/// large binary its node, its object and its length.
+/// An entry: the soup, how many large binaries it has, the id, the minute, the flat text, and for
+/// each large binary its node, its object and its length.
 const ENTRIES: &str = "
 0003 0000 00000009 00000102 02 06 01 07 01 'a 0004 => 3 9 258 true
 0003 0001 00000009 00000102 02 06 01 07 01 'a 0C 07 01 'b 00*17 00000002 00000004 00000005 => 3 9 258 true
@@ -40,6 +40,12 @@ const ENTRIES: &str = "
 0003 0000 00000009 00000102 02 0A => Bad
 0003 0001 00000009 00000102 02 06 01 07 01 'a 0004 => Bad
 0003 0000 00000009 00000102 02 06 01 07 01 'a 00FF 00000004 => Bad
+0003 0000 00000009 00000102 02 06 04 07 03 'top 07 04 'left 07 06 'bottom 07 05 'right 0000*4 => 3 9 258 true
+0003 0000 00000009 00000102 02 0B 00000000 => Bad
+0003 0000 00000009 00000102 02 06 01 07 01 'a 06 04 07 03 'top 07 04 'left 07 06 'bottom 07 05 'right 0000*4 => 3 9 258 true
+0003 0000 00000009 00000102 02 06 01 07 01 'a 0B 00000000 => Bad
+0003 0001 00000009 00000102 02 06 02 07 03 'top 07 01 'v 06 04 09 01 07 04 'left 07 06 'bottom 07 05 'right 0000*4 0C 09 02 00*17 00000007 00000004 00000005 => 3 9 258 true
+0003 0001 00000009 00000102 02 06 02 07 03 'top 07 01 'v 06 04 09 01 07 04 'left 07 06 'bottom 07 05 'right 0000*4 0C 09 02 00*17 00000004 00000004 00000005 => Bad
 ";
 
 #[test]

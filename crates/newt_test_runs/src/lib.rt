@@ -18,6 +18,8 @@ mod lines;
 #[cfg(test)]
 mod modes;
 #[cfg(test)]
+mod rectangles;
+#[cfg(test)]
 mod replaces;
 #[cfg(test)]
 mod trial;

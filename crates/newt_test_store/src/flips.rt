@@ -125,7 +125,7 @@ const PATCHES: &str = "
 # The first entry is in no soup, or it is the third.
 12845 0002 none
 12849 00000002 none
-# No written text: a long number for a short one, a small rectangle.
+# No flat text: a long number for a short one, a small rectangle.
 12863 00FF none
 12857 020B00000000 none
 # The votes.

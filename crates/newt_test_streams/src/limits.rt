@@ -7,9 +7,6 @@ const LIMITS: &str = "
 02 0501*200 0A => kept
 02 0501*201 0A => malformed
 02 0501*200 0500 => malformed
-# A rectangle in 199 arrays, and in 200.
-02 0501*199 0B00000000 => 02 0501*199 0604 0703 'top 0704 'left 0706 'bottom 0705 'right 0000*4
-02 0501*200 0B00000000 => malformed
 # 65,535 nodes, and 65,536.
 02 05FF0000FFFE 0600*65534 => kept
 02 05FF0000FFFF 0600*65535 => malformed
@@ -36,4 +33,21 @@ const LIMITS: &str = "
 #[test]
 fn streams_are_read_up_to_their_limits(rt: HostRuntime) -> Result<(), Fail> {
     expect_answers(rt.alloc(), LIMITS)
+}
+
+const RECTANGLES: &str = "
+# A rectangle in 199 arrays, and in 200.
+02 0501*199 0B00000000 => kept / 02 0501*199 0604 sides 0000*4
+02 0501*200 0B00000000 => malformed
+# In 199 arrays of one class.
+02 0401 0704 'Left 04010901*198 0B01020304 => kept / 02 0401 0704 'Left 04010901*198 0604 0703 'top 0901 0706 'bottom 0705 'right 0004 0008 000C 0010
+# The written text is the longer one: a side that is met again has a number of five bytes.
+02 05FF00000112 0B010203FF 0500*253 0703 'top 09FF000000FF*19 => kept / 02 05FF00000112 0604 sides 0004 0008 000C 00FF000003FC 0500*253 0902*20
+# It is the shorter one: without the tags, the last array has a number of one byte.
+02 05FC 0B01020304 0500*250 09FB => kept / 02 05FC 0604 sides 0004 0008 000C 0010 0500*250 09FF000000FF
+";
+
+#[test]
+fn rectangles_are_written_up_to_their_limits(rt: HostRuntime) -> Result<(), Fail> {
+    expect_answers(rt.alloc(), RECTANGLES)
 }

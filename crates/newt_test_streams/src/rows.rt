@@ -1,5 +1,5 @@
-//! Small streams: what is read is written in its one form, and what is refused is refused for its
-//! reason. What is cut off anywhere is malformed.
+//! Small streams: what is read has its two texts, the written one and the flat one, and what is
+//! refused is refused for its reason. What is cut off anywhere is malformed.
 use crate::tables::expect_answers;
 use std::test::Fail;
 
@@ -49,17 +49,64 @@ const WRITTEN: &str = "
 # A compander's name, its parameters and the free number are dropped.
 02 0C 0703 'foo 00 00000001 00000002 00000000 00000000 'abA => 02 0C 0703 'foo 00 00000001 00000000 00000000 00000000 'A => 1
 02 0C 0703 'foo 00 00000001 00000000 00000002 80000001 'pqA => 02 0C 0703 'foo 00 00000001 00000000 00000000 00000000 'A => 1
-# A small rectangle is a frame of four integers.
-02 0B01020304 => 02 0604 0703 'top 0704 'left 0706 'bottom 0705 'right 0004 0008 000C 0010
-# Its symbols take no numbers: 2 is the rectangle's, 3 is that of the symbol behind it.
-02 0504 0703 'TOP 0B010203FF 0704 'left 0903 => 02 0504 0703 'TOP 0604 0901 0704 'left 0706 'bottom 0705 'right 0004 0008 000C 00FF000003FC 0903 0903
-# A symbol behind a rectangle is that of its side.
-02 0502 0B00000000 0704 'LEFT => 02 0502 0604 0703 'top 0704 'left 0706 'bottom 0705 'right 0000*4 0903
 ";
 
 #[test]
 fn what_is_read_is_written_in_one_form(rt: HostRuntime) -> Result<(), Fail> {
     expect_answers(rt.alloc(), WRITTEN)
+}
+
+/// Streams with small rectangles, whose two texts differ.
+const RECTANGLES: &str = "
+# Behind ` / ` stands the flat text, which has a small rectangle as a frame of four integers.
+02 0B01020304 => kept / 02 0604 sides 0004 0008 000C 0010
+02 0604 sides 00FF000003FC 0008 000C 0000 => 02 0BFF020300 / kept
+02 0604 sides 00FF000003F8 0008 000C 0000 => 02 0BFE020300 / kept
+# 256 and -1 are no sides, nor is what is no integer: nil, a character, a magic pointer, an object, the frame itself.
+02 0604 sides 00FF00000400 0008 000C 0010 => kept
+02 0604 sides 0004 0008 000C 00FFFFFFFFFC => kept
+02 0604 sides 0A 0008 000C 0010 => kept
+02 0604 sides 0004 0101 000C 0010 => kept
+02 0604 sides 0004 0008 0003 0010 => kept
+02 0604 sides 0004 0008 000C 0500 => kept
+02 0604 sides 0900 0008 000C 0010 => kept
+# Other tags: in another order, of three and of five slots, a name that is longer.
+02 0604 0704 'left 0703 'top 0706 'bottom 0705 'right 0004*4 => kept
+02 0603 0703 'top 0704 'left 0706 'bottom 0004*3 => kept
+02 0605 sides 0701 'k 0004*5 => kept
+02 0604 0703 'top 0704 'left 0706 'bottom 0706 'rights 0004*4 => kept
+# Its tags take no numbers: a symbol that stands in it is written in full where it is met again, with the next number.
+02 0502 0B01020304 0703 'top => kept / 02 0502 0604 sides 0004 0008 000C 0010 0902
+02 0503 0B01020304 0703 'top 0902 => kept / 02 0503 0604 sides 0004 0008 000C 0010 0902 0902
+02 0502 0B00000000 0704 'LEFT => 02 0502 0B00000000 0704 'left / 02 0502 0604 sides 0000*4 0903
+# So it is with a tag, a class, and the class of a large binary.
+02 0502 0B00000000 0602 0706 'bottom 0703 'top 0902 0903 => kept / 02 0502 0604 sides 0000*4 0602 0904 0902 0906 0904
+02 0503 0B00000000 0401 0705 'right 0A 0300 0903 => kept / 02 0503 0604 sides 0000*4 0401 0905 0A 0300 0905
+02 0502 0B00000000 0C 0703 'top 00 00000001 00000000 00000000 00000000 'A => kept / 02 0502 0604 sides 0000*4 0C 0902 00 00000001 00000000 00000000 00000000 'A => 1
+# Symbols that were met before it keep their numbers and their spelling.
+02 0502 0703 'top 0604 0901 0704 'left 0706 'bottom 0705 'right 0004*4 => 02 0502 0703 'top 0B01010101 / kept
+02 0504 0703 'TOP 0B010203FF 0704 'left 0903 => kept / 02 0504 0703 'TOP 0604 0901 0704 'left 0706 'bottom 0705 'right 0004 0008 000C 00FF000003FC 0903 0903
+02 0505 0705 'Right 0706 'botTom 0704 'LEFT 0703 'toP 0B01020304 => kept / 02 0505 0705 'Right 0706 'botTom 0704 'LEFT 0703 'toP 0604 0904 0903 0902 0901 0004 0008 000C 0010
+# A tag that is met in the frame first stands in lower case, or the frame is not small.
+02 0604 0703 'Top 0704 'left 0706 'bottom 0705 'right 0004 0008 000C 0010 => kept
+02 0604 0703 'top 0704 'left 0706 'bottom 0705 'righT 0004 0008 000C 0010 => kept
+02 0502 0604 0703 'Top 0704 'left 0706 'bottom 0705 'right 0004*4 0B01020304 => kept / 02 0502 0604 0703 'Top 0704 'left 0706 'bottom 0705 'right 0004*4 0604 0902 0903 0904 0905 0004 0008 000C 0010
+02 0503 0703 'top 0604 0901 0704 'Left 0706 'bottom 0705 'right 0004*4 0B01020304 => kept / 02 0503 0703 'top 0604 0901 0704 'Left 0706 'bottom 0705 'right 0004*4 0604 0901 0903 0904 0905 0004 0008 000C 0010
+# Two rectangles, and one that is met twice.
+02 0502 0B01020304 0B05060708 => kept / 02 0502 0604 sides 0004 0008 000C 0010 0604 0902 0903 0904 0905 0014 0018 001C 0020
+02 0503 0B01020304 0901 0901 => kept / 02 0503 0604 sides 0004 0008 000C 0010 0901 0901
+02 0504 0B01020304 0901 0703 'top 0902 => kept / 02 0504 0604 sides 0004 0008 000C 0010 0901 0902 0902
+# In an array of a class, which may be a side.
+02 0403 0701 'c 0B01020304 0902 0704 'left => kept / 02 0403 0701 'c 0604 sides 0004 0008 000C 0010 0902 0904
+02 0402 0703 'Top 0B01020304 0902 => kept / 02 0402 0703 'Top 0604 0901 0704 'left 0706 'bottom 0705 'right 0004 0008 000C 0010 0902
+# In frames, of which one has the tags of a rectangle, and is none since a rectangle is no integer.
+02 0602 0704 'left 0703 'top 0B01020304 0903 => kept / 02 0602 0704 'left 0703 'top 0604 0902 0901 0706 'bottom 0705 'right 0004 0008 000C 0010 0903
+02 0604 sides 0B01020304 0B05060708 0905 0900 => kept / 02 0604 sides 0604 0901 0902 0903 0904 0004 0008 000C 0010 0604 0901 0902 0903 0904 0014 0018 001C 0020 0905 0900
+";
+
+#[test]
+fn rectangles_are_written_small(rt: HostRuntime) -> Result<(), Fail> {
+    expect_answers(rt.alloc(), RECTANGLES)
 }
 
 /// Bytes that spell no graph, or one but for a flag.

@@ -1,6 +1,7 @@
 //! Tables of streams and their answers.
+use newt_graph::Graph;
 use newt_nsof_read::{NsofFault, decode};
-use newt_nsof_write::{encode, encoded_len, skeleton_len};
+use newt_nsof_write::{encode, encode_flat, encoded_len, skeleton_len};
 use newt_test_tables::push_word;
 use std::alloc::Global;
 use std::test::Fail;
@@ -16,31 +17,72 @@ fn push_names(to: &mut Vec<u8>, count: u32) -> Result<(), Fail> {
     Ok(())
 }
 
-/// The bytes that words stand for. `names*12` are twelve names.
+/// The tags of a small rectangle in full, each with its length before it.
+const SIDES: &[u8] = b"\x07\x03top\x07\x04left\x07\x06bottom\x07\x05right";
+
+/// The bytes that words stand for. `names*12` are twelve names, and `sides` the tags of a small
+/// rectangle.
 fn bytes_of(alloc: Global, words: &str) -> Result<Vec<u8>, Fail> {
     let mut bytes = Vec::new(alloc);
     for word in words.split_whitespace() {
         match word.strip_prefix("names*") {
             Some(count) => push_names(&mut bytes, count.parse()?)?,
+            None if word == "sides" => bytes.extend_from_slice(SIDES)?,
             None => push_word(alloc, &mut bytes, word)?,
         }
     }
     Ok(bytes)
 }
 
-/// Whether the bytes spell a graph that is written so, in the length that is told beforehand, which
-/// is that of its skeleton and of so many bytes of large binaries.
-fn gives(alloc: Global, given: &[u8], wanted: &[u8], large: u64) -> bool {
+/// A text of a row: `kept` is the stream as it stands.
+fn text_of(alloc: Global, given: &[u8], words: &str) -> Result<Vec<u8>, Fail> {
+    if words == "kept" {
+        return Ok(given.to_vec(alloc)?);
+    }
+    bytes_of(alloc, words)
+}
+
+/// Whether this is the written text of a graph, in the length that is told beforehand.
+fn is_written(alloc: Global, graph: &Graph, text: &[u8]) -> bool {
+    encode(alloc, graph).is_ok_and(|written| written.as_slice() == text)
+        && encoded_len(alloc, graph).is_ok_and(|length| length == text.len() as u64)
+}
+
+/// Whether this is the flat text of a graph, in a length of which that of its skeleton and so many
+/// bytes of large binaries are told beforehand.
+fn is_flat(alloc: Global, graph: &Graph, text: &[u8], large: u64) -> bool {
+    encode_flat(alloc, graph).is_ok_and(|flat| flat.as_slice() == text)
+        && skeleton_len(graph) == (text.len() as u64).saturating_sub(large)
+}
+
+/// The two texts of a graph, and how many bytes of large binaries it has.
+#[derive(Drop)]
+struct Texts<'a> {
+    written: &'a [u8],
+    flat: &'a [u8],
+    large: u64,
+}
+
+/// Whether the bytes spell a graph of these texts.
+fn gives(alloc: Global, given: &[u8], texts: &Texts) -> bool {
     let Ok(graph) = decode(alloc, given) else {
         return false;
     };
-    let Ok(written) = encode(alloc, &graph) else {
-        return false;
-    };
-    let length = wanted.len() as u64;
-    written.as_slice() == wanted
-        && encoded_len(&graph) == length
-        && skeleton_len(&graph) == length.saturating_sub(large)
+    is_written(alloc, &graph, texts.written) && is_flat(alloc, &graph, texts.flat, texts.large)
+}
+
+/// The same of a text that is not the stream itself.
+fn gives_too(alloc: Global, text: &[u8], given: &[u8], texts: &Texts) -> bool {
+    text == given || gives(alloc, text, texts)
+}
+
+/// Whether the bytes spell a graph of these texts, each text does, and what is cut off is
+/// malformed.
+fn spells(alloc: Global, given: &[u8], texts: &Texts) -> bool {
+    gives(alloc, given, texts)
+        && gives_too(alloc, texts.written, given, texts)
+        && gives_too(alloc, texts.flat, given, texts)
+        && is_whole(alloc, given)
 }
 
 /// How bytes are refused.
@@ -63,20 +105,19 @@ fn has_answer(alloc: Global, given: &[u8], answer: &str, large: u64) -> Result<b
     Ok(match answer {
         "malformed" => refusal(alloc, given) == answer,
         "compressed" => refusal(alloc, given) == answer && is_whole(alloc, given),
-        "kept" => gives(alloc, given, given, large) && is_whole(alloc, given),
-        written => {
-            let wanted = bytes_of(alloc, written)?;
-            gives(alloc, given, &wanted, large)
-                && gives(alloc, &wanted, &wanted, large)
-                && is_whole(alloc, given)
+        texts => {
+            let (written, flat) = texts.split_once(" / ").unwrap_or((texts, texts));
+            let written = text_of(alloc, given, written)?;
+            let flat = text_of(alloc, given, flat)?;
+            spells(alloc, given, &Texts { written: &written, flat: &flat, large })
         }
     })
 }
 
-/// Looks for the answer of each row. A row is a stream and, behind ` => `, `kept` where it is
-/// written as it stands, its one form where it is written in another, or how it is refused. Behind
-/// another ` => ` stands how many bytes of large binaries it has, if any. Rows that begin with `#`
-/// are comments.
+/// Looks for the answer of each row. A row is a stream and, behind ` => `, its written text and,
+/// behind ` / `, its flat text where that is another one, or how it is refused; `kept` is a text
+/// that is the stream as it stands. Behind another ` => ` stands how many bytes of large binaries
+/// it has, if any. Rows that begin with `#` are comments.
 pub fn expect_answers(alloc: Global, table: &str) -> Result<(), Fail> {
     for row in table.lines() {
         if row.is_empty() || row.starts_with('#') {
