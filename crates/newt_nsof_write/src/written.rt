@@ -20,12 +20,7 @@ use std::alloc::{AllocError, Global};
 
 /// A class or a slot tag: by its number where it has one, else in full.
 #[tactic(auto, unfolding(newt_spec_nsof::specs::Written::label_text))]
-fn label(
-    out: &mut Vec<u8>,
-    numbers: &mut Numbers,
-    nodes: &[Node],
-    k: u32,
-) -> Result<(), AllocError>
+fn label(out: &mut Vec<u8>, numbers: &mut Numbers, nodes: &[Node], k: u32) -> Result<(), AllocError>
     requires few { length nodes.now ≤ 65535 }
     requires named { All (IsNode nodes.now) nodes.now }
     ensures { OnOk result (Adds out.old.items out.new.items numbers.new

@@ -1,5 +1,5 @@
 -- The nodes that have a number, in a text that is written.
-use Rattle.std.proofs.Common.{◌≡◌, Bool, true, false, ℕ, zero, suc, ◌+◌, ◌<◌, ◌≤◌, List, [], ◌∷◌, ◌++◌, length, Option, Some, None, refl, sym, ap, subst, ◌∙◌, arith, inl, inr, ◌⊎◌, ⊎_elim}
+use Rattle.std.proofs.Common.{◌≡◌, Bool, true, false, ℕ, suc, ◌+◌, ◌<◌, ◌≤◌, List, [], ◌∷◌, ◌++◌, length, Option, Some, None, refl, sym, ap, subst, ◌∙◌, arith, inl, inr, ◌⊎◌, ⊎_elim}
 use Rattle.std.specs.Prelude.{slice_get, nat_eq, cond, ◌||◌}
 use Rattle.std.specs.List.{list_any, position_from, IsDistinct}
 use Rattle.std.specs.Cmp.{nat_eq_equiv}

@@ -1,6 +1,6 @@
 -- A frame that is written as a small rectangle is read as this frame.
-use Rattle.std.proofs.Common.{◌≡◌, Bool, true, false, ℕ, zero, suc, ◌+◌, ◌*◌, ◌/◌, ◌%◌, ◌<◌, ◌≤◌, List, [], ◌∷◌, ◌++◌, length, map, All, Option, Some, None, refl, sym, ap, subst, ◌∙◌, arith}
-use Rattle.std.specs.Prelude.{slice_get, nat_lt, ◌==◌, ◌&&◌, ℤ, pos, negsuc, bytes_eq}
+use Rattle.std.proofs.Common.{◌≡◌, Bool, true, false, ℕ, suc, ◌/◌, ◌%◌, ◌<◌, ◌≤◌, List, [], ◌∷◌, ◌++◌, length, map, All, Option, Some, None, refl, sym, ap, subst, ◌∙◌, arith}
+use Rattle.std.specs.Prelude.{slice_get, nat_lt, ◌==◌, ◌&&◌, pos, negsuc}
 use Rattle.std.proofs.lemmas.List.{length-map}
 use Rattle.std.proofs.lemmas.List.Elements.{All-cons}
 use Rattle.std.proofs.lemmas.Slice.Eq.{bytes_eq-Decides}
@@ -9,8 +9,7 @@ use Rattle.newt_graph.specs.declared.node.Node.{Node}
 use Rattle.newt_graph.specs.declared.node.Node.TheVariants.{Symbol, Str, Binary, Large, Array, Frame}
 use Rattle.newt_graph.specs.declared.node.Ref.{Ref}
 use Rattle.newt_graph.specs.declared.node.Ref.TheVariants as refs
-use Rattle.newt_graph.specs.Graph.{IsSymbol, IsAlike, integer, folded, WalkLabel, WalkLabels, Walk, Walks}
-use Rattle.newt_graph.specs.Draft.{is_alike}
+use Rattle.newt_graph.specs.Graph.{IsAlike, integer, folded, WalkLabel, WalkLabels, Walk, Walks}
 use Rattle.newt_graph.specs.Slice.{At}
 use Rattle.newt_graph.proofs.Drafts.{alike_symbol}
 use Rattle.newt_graph.proofs.Slices.{at_first, at_rest, at_here}

@@ -1,7 +1,6 @@
 -- What is written of a graph, with small rectangles, spells it.
-use Rattle.std.proofs.Common.{◌≡◌, Bool, true, false, ℕ, zero, suc, ◌+◌, ◌*◌, ◌<◌, ◌≤◌, List, [], ◌∷◌, ◌++◌, length, map, All, Option, Some, None, refl, sym, ap, subst, ◌∙◌, append_assoc, arith}
-use Rattle.std.specs.Prelude.{slice_get, nat_eq, ℤ}
-use Rattle.std.specs.List.{list_any}
+use Rattle.std.proofs.Common.{◌≡◌, false, ℕ, suc, ◌+◌, ◌*◌, ◌<◌, ◌≤◌, List, [], ◌∷◌, ◌++◌, length, All, Option, Some, None, refl, sym, ap, subst, ◌∙◌, append_assoc, arith}
+use Rattle.std.specs.Prelude.{slice_get, ℤ}
 use Rattle.std.proofs.lemmas.List.{append-nil, length-append}
 use Rattle.std.proofs.lemmas.List.Elements.{All-head, All-tail}
 use Rattle.std.proofs.lemmas.Option.{slice_get_within}
@@ -9,11 +8,11 @@ use Rattle.newt_graph.specs.declared.node.Node.{Node}
 use Rattle.newt_graph.specs.declared.node.Node.TheVariants.{Symbol, Str, Binary, Large, Array, Frame}
 use Rattle.newt_graph.specs.declared.node.Ref.{Ref}
 use Rattle.newt_graph.specs.declared.node.Ref.TheVariants as refs
-use Rattle.newt_graph.specs.Graph.{RawGraph, IsSymbol, IsAlike, IsName, IsNode, IsFrame, IsText, IsData, IsGraph, IsWord, integer, WalkLabel, WalkLabels, Walk, Walks}
+use Rattle.newt_graph.specs.Graph.{RawGraph, IsSymbol, IsName, IsFrame, IsText, IsData, IsGraph, IsWord, WalkLabel, WalkLabels, Walk, Walks}
 use Rattle.newt_graph.specs.Slice.{At}
 use Rattle.newt_graph.proofs.Slices.{at_first, at_rest, at_inside, at_here, at_length}
-use Rattle.newt_spec_nsof.specs.Text.{Interned, InternedEach, SymbolText, Again, Label, Labels, Object, Objects, Spells, corners, sides, large_text}
-use Rattle.newt_spec_nsof.specs.Flat.{symbol_text, again_text, count_text, each_text, string_text, word_text}
+use Rattle.newt_spec_nsof.specs.Text.{Interned, InternedEach, SymbolText, Again, Label, Labels, Object, Objects, Spells, corners, sides}
+use Rattle.newt_spec_nsof.specs.Flat.{symbol_text, again_text, each_text, string_text}
 use Rattle.newt_spec_nsof.specs.Written.{Text, number_of, new_label, numbered_or, label_text, small_frame, small_or, frame_text, plain_array_text, array_text, binary_text, plain_large_text, new_node, value_text, nsof}
 use Rattle.newt_spec_nsof.proofs.Xlongs.{count_spelled, word_spelled}
 use Rattle.newt_spec_nsof.proofs.Spelled.{IsSound, node_is, before_symbol, none_before}

@@ -2,7 +2,7 @@
 -- that a frame of four small sides is written by tag 11, without its tags. So not every node of the
 -- text has a number: the texts carry the list of those that have one. When a frame is small, and
 -- that the list is so, is this project's own.
-use Rattle.std.specs.Prelude.{ℕ, Bool, true, false, zero, suc, ◌+◌, ◌*◌, ◌/◌, ◌%◌, List, [], ◌∷◌}
+use Rattle.std.specs.Prelude.{ℕ, Bool, true, false, zero, suc, ◌/◌, ◌%◌, List, [], ◌∷◌}
 use Rattle.std.specs.Prelude.{◌++◌, length, Option, Some, None, pos, slice_get, nat_lt, nat_eq}
 use Rattle.std.specs.Prelude.{◌==◌, ◌&&◌, bytes_eq, position}
 use Rattle.newt_graph.specs.declared.node.Node.{Node}

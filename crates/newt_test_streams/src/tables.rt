@@ -109,7 +109,15 @@ fn has_answer(alloc: Global, given: &[u8], answer: &str, large: u64) -> Result<b
             let (written, flat) = texts.split_once(" / ").unwrap_or((texts, texts));
             let written = text_of(alloc, given, written)?;
             let flat = text_of(alloc, given, flat)?;
-            spells(alloc, given, &Texts { written: &written, flat: &flat, large })
+            spells(
+                alloc,
+                given,
+                &Texts {
+                    written: &written,
+                    flat: &flat,
+                    large,
+                },
+            )
         }
     })
 }
