@@ -48,8 +48,14 @@ fn shows_rectangles(rt: HostRuntime) -> Result<(), Fail> {
 #[test]
 fn packs_rectangles(rt: HostRuntime) -> Result<(), Fail> {
     let cases: &[(&[u8], &[u8])] = &[
-        (b"{top: 1, left: 2, bottom: 3, right: 255}", b"\x02\x0B\x01\x02\x03\xFF"),
-        (b"['Top, {top: 1, left: 2, bottom: 3, right: 4}]", b"\x02\x05\x02\x07\x03Top\x0B\x01\x02\x03\x04"),
+        (
+            b"{top: 1, left: 2, bottom: 3, right: 255}",
+            b"\x02\x0B\x01\x02\x03\xFF",
+        ),
+        (
+            b"['Top, {top: 1, left: 2, bottom: 3, right: 4}]",
+            b"\x02\x05\x02\x07\x03Top\x0B\x01\x02\x03\x04",
+        ),
         (
             b"{top: 1, left: 2, bottom: 3, right: -1}",
             b"\x02\x06\x04\x07\x03top\x07\x04left\x07\x06bottom\x07\x05right\x00\x04\x00\x08\x00\x0C\x00\xFF\xFF\xFF\xFF\xFC",
