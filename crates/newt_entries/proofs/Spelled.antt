@@ -1,4 +1,4 @@
--- The written text of a graph is a list of bytes.
+-- The flat text of a graph is a list of bytes.
 use Rattle.std.proofs.Common.{◌≡◌, ℕ, zero, suc, ◌+◌, ◌*◌, ◌/◌, ◌%◌, ◌^◌, ◌<◌, ◌≤◌, Bool, true, false, cond, ◌&&◌, ltb, eqb, List, [], ◌∷◌, ◌++◌, length, get_or, Option, Some, None, All, refl, subst, ◌∙◌, arith, ℤ, pos, negsuc}
 use Rattle.std.specs.List.{slice_get}
 use Rattle.std.specs.Int.{w32, to_be_bytes, cast_unsigned}

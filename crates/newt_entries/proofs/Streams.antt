@@ -59,7 +59,7 @@ written_is text g h e same = rw (stream_is text g (ap are_bytes (sym same) ∙ w
 pub same_text : (g : RawGraph) (items shown text : List ℕ) → shown ≡ items → items ≡ flat g → not (bytes_eq shown text) ≡ false → flat g ≡ text
 same_text g items shown text e f h = sym f ∙ sym e ∙ (bytes_eq-Decides shown text).0 (not-false (bytes_eq shown text) h)
 
--- a text that is written of a graph is one of a graph
+-- a flat text of a graph is one of a graph
 pub written_graph : (text : List ℕ) (g : RawGraph) → written stream_graph text ≡ Some g → IsGraph g
 written_graph text g e = go (stream_graph text) refl
   where
@@ -77,7 +77,7 @@ written_graph text g e = go (stream_graph text) refl
     go None h = absurd (none_some (told None h))
     go (Some x) h = subst IsGraph (kept x (bytes_eq (flat x) text) (told (Some x) h)) (reads_graphs.graphs text x h)
 
--- a text that is written of a graph is the graph's
+-- a flat text of a graph is the graph's
 pub written_text : (text : List ℕ) (g : RawGraph) → written stream_graph text ≡ Some g → flat g ≡ text
 written_text text g e = go (stream_graph text) e
   where

@@ -36,7 +36,7 @@ row_at l = (l.node, l.object, l.length)
 abbrev pub large_bytes : LargeAt → List ℕ
 large_bytes l = be32 l.node ++ be32 l.object ++ be32 l.length
 
--- what a row says: its fields with the written text of the skeleton, and the skeleton
+-- what a row says: its fields with the flat text of the skeleton, and the skeleton
 abbrev pub said : EntryRow → PlainRow × RawGraph
 said row = (record { soup = row.soup; uid = row.uid; time = row.time; text = flat row.skeleton; larges = map row_at row.larges }, row.skeleton)
 

@@ -2,7 +2,7 @@
 ghost use Rattle.newt_spec_store.specs.Lies.{ReadsGraphs};
 ghost use Rattle.newt_entries.specs.Entry.{stream_graph};
 
-/// Written texts are read as the graphs that they are written of, and only graphs in normal form
+/// Flat texts are read as the graphs that they are written of, and only graphs in normal form
 /// are read.
 pub fn streams_are_read()
     ensures { ReadsGraphs stream_graph }

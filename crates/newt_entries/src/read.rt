@@ -21,7 +21,7 @@ const HEAD: usize = 12;
 /// The bytes of the row of a large binary: node, object and length.
 const ROW: usize = 12;
 
-/// The graph whose written text this is.
+/// The graph whose flat text this is.
 fn graph_of(alloc: Global, text: &[u8]) -> Result<Graph, EntryFault>
     ensures found { IfOk result (λ g. written stream_graph text.now ≡ Some g) }
     ensures bad { IsErrOf result EntryFault.Bad → written stream_graph text.now ≡ None }

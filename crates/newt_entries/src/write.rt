@@ -30,7 +30,7 @@ fn put_larges(out: &mut Vec<u8>, larges: &[LargeAt]) -> Result<(), AllocError>
     Ok(())
 }
 
-/// The head of a record, and the written text of its skeleton.
+/// The head of a record, and the flat text of its skeleton.
 fn head_and_text(alloc: Global, row: &EntryRow) -> Result<Vec<u8>, AllocError>
     requires soup { row.now.soup < 65536 }
     requires few { length row.now.larges < 65536 }

@@ -1,4 +1,5 @@
-//! Symbols and precedents, and the classes and slot tags that are one or the other.
+//! Symbols and precedents, and the classes and slot tags of a flat text, which are one or the
+//! other.
 ghost use Rattle.std.specs.Prelude.{◌≡◌, ◌++◌, ◌<◌, ◌≤◌, length, IfOk, OnOk, All};
 ghost use Rattle.newt_graph.specs.Graph.{IsNode, WalkLabel, WalkLabels};
 ghost use Rattle.newt_spec_nsof.specs.Place.{Ahead};
@@ -9,7 +10,7 @@ use crate::numbers::count;
 use newt_graph::Node;
 use std::alloc::AllocError;
 
-/// A node that was met before: a precedent. In a written text the number of an object is that of
+/// A node that was met before: a precedent. In a flat text the number of an object is that of
 /// its node.
 pub(crate) fn again(out: &mut Vec<u8>, k: u32) -> Result<(), AllocError>
     requires { k < 65535 }

@@ -1,4 +1,4 @@
--- The length of a written text: each node in full once, and all other references to it short.
+-- The length of a flat text: each node in full once, and all other references to it short.
 use Rattle.std.proofs.Common.{◌≡◌, ℕ, suc, ◌+◌, ◌*◌, ◌-◌, Bool, true, false, cond, ltb, List, [], ◌∷◌, ◌++◌, length, Some, None, refl, sym, ap, subst, arith, add-one}
 use Rattle.std.specs.Prelude.{map}
 use Rattle.std.specs.List.{sum_by}

@@ -1,4 +1,4 @@
--- The nodes that have a number, in a text that is written.
+-- The nodes that have a number in the written text.
 use Rattle.std.proofs.Common.{◌≡◌, Bool, true, false, ℕ, suc, ◌+◌, ◌<◌, ◌≤◌, List, [], ◌∷◌, ◌++◌, length, Option, Some, None, refl, sym, ap, subst, ◌∙◌, arith, inl, inr, ◌⊎◌, ⊎_elim}
 use Rattle.std.specs.Prelude.{slice_get, nat_eq, cond, ◌||◌}
 use Rattle.std.specs.List.{list_any, position_from, IsDistinct}

@@ -1,4 +1,4 @@
--- What is written of a graph spells it.
+-- The flat text of a graph spells it.
 use Rattle.std.proofs.Common.{◌≡◌, false, ℕ, zero, suc, ◌+◌, ◌*◌, ◌-◌, ◌<◌, ◌≤◌, List, [], ◌∷◌, ◌++◌, length, All, Some, None, refl, sym, ap, subst, ◌∙◌, append_assoc, arith, inl, inr, ◌⊎◌, add-one}
 use Rattle.std.specs.Prelude.{slice_get}
 use Rattle.std.proofs.lemmas.List.{append-nil, length-append, length_push}
@@ -17,7 +17,7 @@ use Rattle.newt_graph.proofs.Slices.{at_first, at_rest, at_inside, at_here, at_l
 use Rattle.newt_spec_nsof.proofs.Places.{label_met, labels_met, value_met, label_again, label_new, word_as, again_in_short, symbol_in_full, frame_in_full, plain_array_in_full, array_in_full, string_in_full, binary_in_full, large_in_full}
 use Rattle.newt_spec_nsof.proofs.Xlongs.{count_spelled, word_spelled}
 
--- the numbered objects of a text that is written: each node, in order
+-- the numbered objects of a flat text: each node, in order
 abbrev upto : ℕ → List ℕ
 upto zero = []
 upto (suc n) = upto n ++ n ∷ []

@@ -1,4 +1,4 @@
--- What is written of a graph, with small rectangles, spells it.
+-- The written text of a graph, with its small rectangles, spells it.
 use Rattle.std.proofs.Common.{◌≡◌, false, ℕ, suc, ◌+◌, ◌*◌, ◌<◌, ◌≤◌, List, [], ◌∷◌, ◌++◌, length, All, Option, Some, None, refl, sym, ap, subst, ◌∙◌, append_assoc, arith}
 use Rattle.std.specs.Prelude.{slice_get, ℤ}
 use Rattle.std.proofs.lemmas.List.{append-nil, length-append}

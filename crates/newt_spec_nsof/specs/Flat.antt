@@ -1,6 +1,7 @@
--- The one text that is written of a graph, in the rows of Newton Formats 1.1: every number in its
--- shortest form, nil and characters by their own tags, a node in full where the walk from the root
--- meets it first and as a precedent afterwards. Tag 11 is not written.
+-- The flat text of a graph, which records of entries keep and their cost counts, in the rows of
+-- Newton Formats 1.1: every number in its shortest form, nil and characters by their own tags, a
+-- node in full where the walk from the root meets it first and as a precedent afterwards. It has no
+-- tag 11, so each node has a number.
 use Rattle.std.specs.Prelude.{ℕ, Bool, false, zero, suc, ◌+◌, ◌*◌, ◌/◌, ◌%◌, List, [], ◌∷◌, ◌++◌}
 use Rattle.std.specs.Prelude.{length, Option, Some, None, ℤ, pos, negsuc, slice_get, nat_lt, ◌==◌}
 use Rattle.std.specs.Prelude.{◌&&◌, if◌then◌else◌}
@@ -44,7 +45,7 @@ word_text (pos n) =
     else 0 ∷ xlong_text (pos n)
 word_text (negsuc n) = 0 ∷ xlong_text (negsuc n)
 
--- a node that was met: as each object of a written text adds a node, its number is that of the node
+-- a node that was met: as each object of a flat text adds a node, its number is that of the node
 abbrev pub again_text : ℕ → List ℕ
 again_text k = 9 ∷ count_text k
 
@@ -136,6 +137,6 @@ value_text zero nodes value met = text_at (λ value met. ([], met)) nodes value 
 value_text (suc room) nodes value met =
     text_at (λ value met. value_text room nodes value met) nodes value met
 
--- the written text of a graph: the version, and the root
+-- the flat text of a graph: the version, and the root
 unfoldable pub flat : RawGraph → List ℕ
 flat g = 2 ∷ (value_text most_open g.nodes g.root 0).0

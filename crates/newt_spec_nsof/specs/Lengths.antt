@@ -1,4 +1,4 @@
--- How long a written text is, from one pass over the nodes: in normal form each node is written in
+-- How long a flat text is, from one pass over the nodes: in normal form each node is written in
 -- full once.
 use Rattle.std.specs.Prelude.{ℕ, zero, suc, ◌+◌, ◌*◌, [], length, map, Option, Some, None, nat_lt}
 use Rattle.std.specs.Prelude.{if◌then◌else◌}

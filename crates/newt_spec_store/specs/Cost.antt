@@ -69,7 +69,7 @@ large_length _ = []
 abbrev pub large_lengths : RawGraph → List ℕ
 large_lengths g = flat_map large_length g.nodes
 
--- the bytes of the written text of a graph without the bytes of its large binaries (this project's own)
+-- the bytes of the flat text of a graph without the bytes of its large binaries (this project's own)
 abbrev pub skeleton_length : RawGraph → ℕ
 skeleton_length g = length (flat (skeleton g))
 

@@ -27,7 +27,7 @@ abbrev pub large_row : (ℕ × List ℕ) × ℕ → List ℕ
 large_row (l, id) = be32 l.0 ++ be32 id ++ be32 (length l.1)
 
 -- An entry's record, where its large binaries have these object ids: soup signature and number of large binaries in two bytes each, id and time in four, the
--- written text of the skeleton, and the rows of the large binaries. (this project's own)
+-- flat text of the skeleton, and the rows of the large binaries. (this project's own)
 abbrev pub entry_bytes : ℕ → Entry → List ℕ → List ℕ
 entry_bytes soup e ids =
     be16 soup ++ be16 (length ids) ++ be32 e.uid ++ be32 e.time ++ flat (skeleton e.graph)

@@ -21,7 +21,7 @@ valid_tags None = true
 valid_tags (Some t) =
     valid_path t.path && nat_le (length t.symbols) 64 && list_all is_identifier t.symbols && all_apart same_name t.symbols
 
--- the root is a frame, the graph is within the limits of one graph, and its skeleton's written text has at most 64,000 bytes (this project's own)
+-- the root is a frame, the graph is within the limits of one graph, and its skeleton's flat text has at most 64,000 bytes (this project's own)
 abbrev pub valid_entry : Entry → Bool
 valid_entry e =
     is_frame (object e.graph.nodes e.graph.root) && within_limits e.graph && nat_le (skeleton_length e.graph) 64_000

@@ -103,7 +103,7 @@ full w u c =
 abbrev pub not_frame : RawGraph → Check
 not_frame g = (Notframe, not (is_frame (object g.nodes g.root)))
 
--- the skeleton's written text has more than 64,000 bytes (this project's own)
+-- the skeleton's flat text has more than 64,000 bytes (this project's own)
 abbrev pub too_large : RawGraph → Check
 too_large g = (Size, nat_lt 64_000 (skeleton_length g))
 

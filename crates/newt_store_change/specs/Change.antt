@@ -82,7 +82,7 @@ answer_of (SetTags sig table) s = 0
 abbrev pub has_no_ids : Option Soup → Bool
 has_no_ids p = next_uid_of p == 536_870_911
 
--- the skeleton's written text has more than 64,000 bytes
+-- the skeleton's flat text has more than 64,000 bytes
 abbrev pub is_too_large : RawGraph → Bool
 is_too_large g = nat_lt 64_000 (skeleton_length g)
 
