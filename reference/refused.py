@@ -9,8 +9,7 @@ tried. It ends with 1 at the first run that is not so:
 
 - it ends with the status of want of memory and its line on standard error, or, where the program can do without what was
   refused, as it would have ended with it;
-- the replies before are whole, and the first of those of the run to which nothing is refused; where a file could not be
-  attached for want of memory, of those over the other file alone;
+- the replies before are whole, and the first of those of the run to which nothing is refused;
 - each file is read as its unit's store after these commands or after one more.
 
 It needs a C compiler, cc, for the library that refuses (refused.c).
@@ -157,24 +156,24 @@ class Bench:
         return [store_of_image(file.read_bytes()) for file in self.files]
 
 
-def world_without(absent: set[int]) -> World:
-    return World([None if number in absent else Unit(BLOCKS) for number in (0, 1)])
+def first_world() -> World:
+    return World([Unit(BLOCKS), Unit(BLOCKS)])
 
 
-def replies_of(script: list[str], absent: set[int]) -> list[str]:
-    world = world_without(absent)
+def replies_of(script: list[str]) -> list[str]:
+    world = first_world()
     replies = [answer(world, it.encode()) for it in script]
     return [it for it in replies if it is not None]
 
 
-def stores_of(script: list[str], absent: set[int], most: int) -> list[Optional[Store]]:
+def stores_of(script: list[str], most: int) -> list[Optional[Store]]:
     """The stores of both units after so many commands with a reply."""
-    world = world_without(absent)
+    world = first_world()
     for line in script:
         if most == 0:
             break
         most -= answer(world, line.encode()) is not None
-    return [it.store if it else None for it in world.units[:2]]
+    return [it.store for it in world.units[:2]]
 
 
 def is_one_of(found: Optional[Store], wanted: list[Optional[Store]]) -> bool:
@@ -185,43 +184,37 @@ def is_one_of(found: Optional[Store], wanted: list[Optional[Store]]) -> bool:
 
 
 class Script(NamedTuple):
-    """A script, and its output with both files and without one or both."""
+    """A script, and its output."""
 
     lines: list[str]
-    outputs: list[tuple[set[int], bytes]]
+    output: bytes
 
 
 def played(lines: list[str]) -> Script:
-    def output(absent: set[int]) -> bytes:
-        return "".join(it + "\n" for it in replies_of(lines, absent)).encode()
-
-    return Script(lines, [(it, output(it)) for it in (set(), {0}, {1}, {0, 1})])
+    return Script(lines, "".join(it + "\n" for it in replies_of(lines)).encode())
 
 
 def look(bench: Bench, script: Script, ended: Ended) -> str:
     """Looks at the end of a run, and says what it was."""
-    if ended.status == 0 and not ended.told:
-        for absent, output in script.outputs:
-            if ended.output == output:
-                return "did without a file" if absent else "did without"
-        raise Wrong(f"other replies: {ended.output[-200:]!r}")
+    if ended.status == 0 and not ended.told and ended.output == script.output:
+        return "did without"
     if ended.status != MEMORY or ended.told.count(b"\n") != 1 or not ended.told.endswith(b"\n"):
-        raise Wrong(f"status {ended.status}, {ended.told!r}")
-    for absent, output in script.outputs:
-        if output.startswith(ended.output) and ended.output[-1:] in (b"", b"\n"):
-            replies = ended.output.count(b"\n")
-            before, after = stores_of(script.lines, absent, replies), stores_of(script.lines, absent, replies + 1)
-            if all(is_one_of(found, both) for found, *both in zip(bench.stores(), before, after)):
-                return "ended as want of memory"
-    raise Wrong(f"other replies or another store: {ended.output[-200:]!r}")
+        raise Wrong(f"status {ended.status}, {ended.told!r}, {ended.output[-200:]!r}")
+    if not script.output.startswith(ended.output) or ended.output[-1:] not in (b"", b"\n"):
+        raise Wrong(f"other replies: {ended.output[-200:]!r}")
+    replies = ended.output.count(b"\n")
+    before, after = stores_of(script.lines, replies), stores_of(script.lines, replies + 1)
+    if not all(is_one_of(found, both) for found, *both in zip(bench.stores(), before, after)):
+        raise Wrong(f"another store after {replies} replies")
+    return "ended as want of memory"
 
 
 def refuse_each(bench: Bench, name: str, lines: list[str], each: int) -> None:
     script, text = played(lines), "\n".join(lines).encode() + b"\n"
     whole = bench.ran(text, 0, False)
-    if whole.status != 0 or whole.output != script.outputs[0][1]:
+    if whole.status != 0 or whole.output != script.output:
         raise Wrong(f"{name}: status {whole.status}, other replies")
-    print(f"{name}: {whole.calls} allocations, {len(replies_of(lines, set()))} replies", flush=True)
+    print(f"{name}: {whole.calls} allocations, {len(replies_of(lines))} replies", flush=True)
     for goes_on, word in ((False, "one"), (True, "all from one on")):
         counts: Counter = Counter()
         for at in range(1, whole.calls + 1, each):

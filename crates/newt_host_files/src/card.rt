@@ -1,12 +1,15 @@
 //! What is kept of a unit beside its file.
-ghost use Rattle.std.specs.Prelude.{◌≡◌, ◌≤◌, ◌+◌, ◌<◌, ◌^◌, false};
+ghost use Rattle.std.specs.Prelude.{◌≡◌, ◌≤◌, ◌+◌, ◌<◌, ◌^◌, false, IfOk, vec_capacity};
 ghost use Rattle.newt_host.specs.Outside.{Rose};
 
-use std::alloc::Global;
+use std::alloc::{AllocError, Global};
+
+/// The most bytes that the name of a file has: the system opens none of a longer name.
+pub(crate) const MOST_NAME: usize = 4095;
 
 /// A unit: the name of its file, its whole blocks of 4,096 bytes, and its counts: of faults, of
 /// bytes that it was to program and to fetch, of blocks that it was to erase, and of syncs. Without
-/// a file it has no blocks.
+/// a file it has no blocks. It has room for any name, so that an attach takes no memory.
 #[derive(Drop)]
 pub(crate) struct Card {
     pub attached: bool,
@@ -19,23 +22,24 @@ pub(crate) struct Card {
     pub synced: u64,
     ghost free: { attached ≡ false → blocks ≡ 0 },
     ghost few: { blocks < 2 ^ 32 },
+    ghost room: { 4095 ≤ vec_capacity name },
 }
 
 impl Card {
     /// A unit without a file.
-    pub(crate) fn new(alloc: Global) -> Self
-        ensures { result.attached ≡ false }
+    pub(crate) fn new(alloc: Global) -> Result<Self, AllocError>
+        ensures { IfOk result (λ card. card.attached ≡ false) }
     {
-        Card {
+        Ok(Card {
             attached: false,
-            name: Vec::new(alloc),
+            name: Vec::with_capacity(alloc, MOST_NAME)?,
             blocks: 0,
             faults: 0,
             programmed: 0,
             fetched: 0,
             erased: 0,
             synced: 0,
-        }
+        })
     }
 }
 

@@ -1,9 +1,10 @@
 //! The file of a unit.
-ghost use Rattle.std.specs.Prelude.{◌≡◌, true};
+ghost use Rattle.std.specs.Prelude.{◌≡◌, ◌≤◌, true, length};
 ghost use Rattle.newt_host_files.specs.Cards.{SameCard};
 
 use crate::card::Card;
-use newt_host::Unit;
+use newt_host::{UNITS, Unit};
+use std::alloc::{AllocError, Global};
 use std::fs::{OpenFile, OpenOptions};
 use std::os::unix::fs::FileExt;
 use std::rt::Files;
@@ -21,17 +22,22 @@ pub(crate) fn open<S: Files>(system: &S, name: &str) -> Option<(S::File, u32)> {
     Some((file, u32::try_from(bytes / 4096).unwrap_or(u32::MAX)))
 }
 
-/// Keeps the file of a unit, and answers whether there was memory for it.
-pub(crate) fn keep<F: Drop>(files: &mut Vec<Option<F>>, unit: Unit, file: F) -> bool {
-    let place = unit.0 as usize;
-    for _ in files.len()..place + 1 {
+/// A place for the file of each unit, all empty.
+pub(crate) fn places<F: Drop>(alloc: Global) -> Result<Vec<Option<F>>, AllocError> {
+    let mut files = Vec::with_capacity(alloc, UNITS as usize)?;
+    for _ in 0..UNITS {
         if files.push(None).is_err() {
-            return false;
+            return Err(AllocError);
         }
     }
-    match files.get_mut(place) {
-        Some(slot) => {
-            *slot = Some(file);
+    Ok(files)
+}
+
+/// Keeps the file of a unit, and answers whether it has a place.
+pub(crate) fn keep<F: Drop>(files: &mut [Option<F>], unit: Unit, file: F) -> bool {
+    match files.get_mut(unit.0 as usize) {
+        Some(place) => {
+            *place = Some(file);
             true
         }
         None => false,
@@ -63,19 +69,15 @@ pub(crate) fn sync<F: OpenFile>(files: &[Option<F>], unit: Unit) -> bool {
 }
 
 /// A unit has this file from now on.
-pub(crate) fn attach(card: &mut Card, name: Vec<u8>, blocks: u32)
+pub(crate) fn attach(card: &mut Card, name: &[u8], blocks: u32)
+    requires { length name.now ≤ 4095 }
     ensures attached { card.new.attached ≡ true }
-    ensures name { card.new.name.items ≡ name.items }
+    ensures name { card.new.name.items ≡ name.now }
     ensures counts { SameCard card.old card.new }
 {
-    *card = Card {
-        attached: true,
-        name,
-        blocks,
-        faults: card.faults,
-        programmed: card.programmed,
-        fetched: card.fetched,
-        erased: card.erased,
-        synced: card.synced,
-    };
+    card.attached = true;
+    card.blocks = blocks;
+    card.name.clear();
+    let is_kept = card.name.extend_from_slice(name).is_ok();
+    prove!(is_kept);
 }

@@ -1,11 +1,11 @@
 //! The outside by a reader, a writer, and one file for each unit. It tells no bytes.
-ghost use Rattle.std.specs.Prelude.{◌≡◌, ℕ, None, length, slice_get};
+ghost use Rattle.std.specs.Prelude.{◌≡◌, ℕ, IfOk, None, length, slice_get};
 ghost use Rattle.newt_host_files.specs.Cards.{name_of};
 
-use crate::card::{Card, count};
+use crate::card::{Card, MOST_NAME, count};
 use crate::{counts, device, edge};
 use newt_host::{Failed, Host, Unit};
-use std::alloc::Global;
+use std::alloc::{AllocError, Global};
 use std::io::{Read, Write};
 use std::os::unix::fs::FileExt;
 use std::rt::Files;
@@ -13,7 +13,6 @@ use std::rt::Files;
 /// Standard input and output, and up to eight files.
 #[derive(Drop)]
 pub struct FileHost<S: Files + Drop, R: Read + Drop, W: Write + Drop> {
-    alloc: Global,
     system: S,
     input: R,
     output: W,
@@ -26,30 +25,36 @@ pub struct FileHost<S: Files + Drop, R: Read + Drop, W: Write + Drop> {
 }
 
 impl<S: Files + Drop, R: Read + Drop, W: Write + Drop> FileHost<S, R, W> {
-    /// Without files.
-    pub fn new(alloc: Global, system: S, input: R, output: W) -> Self
-        ensures { (unit : ℕ) → name_of (slice_get result.cards unit) ≡ None }
+    /// Without files. It takes all the memory that a host needs.
+    pub fn new(alloc: Global, system: S, input: R, output: W) -> Result<Self, AllocError>
+        ensures { IfOk result (λ host. (unit : ℕ) → name_of (slice_get host.cards unit) ≡ None) }
     {
-        FileHost {
-            alloc,
+        Ok(FileHost {
             system,
             input,
             output,
-            cards: [
-                Card::new(alloc),
-                Card::new(alloc),
-                Card::new(alloc),
-                Card::new(alloc),
-                Card::new(alloc),
-                Card::new(alloc),
-                Card::new(alloc),
-                Card::new(alloc),
-            ],
-            files: Vec::new(alloc),
+            cards: blank_cards(alloc)?,
+            files: device::places(alloc)?,
             in_faults: 0,
             out_faults: 0,
-        }
+        })
     }
+}
+
+/// Eight units without files.
+fn blank_cards(alloc: Global) -> Result<[Card; 8], AllocError>
+    ensures { IfOk result (λ cards. (unit : ℕ) → name_of (slice_get cards unit) ≡ None) }
+{
+    Ok([
+        Card::new(alloc)?,
+        Card::new(alloc)?,
+        Card::new(alloc)?,
+        Card::new(alloc)?,
+        Card::new(alloc)?,
+        Card::new(alloc)?,
+        Card::new(alloc)?,
+        Card::new(alloc)?,
+    ])
 }
 
 impl<S: Files + Drop, R: Read + Drop, W: Write + Drop> Host for FileHost<S, R, W>
@@ -77,17 +82,17 @@ where
     ghost history = { λ s unit told some. untold told };
 
     fn attach(&mut self, unit: Unit, name: &str) -> bool {
-        let Some((file, blocks)) = device::open(&self.system, name) else {
+        if name.len() > MOST_NAME {
             return false;
-        };
-        let Ok(name) = name.as_bytes().to_vec(self.alloc) else {
+        }
+        let Some((file, blocks)) = device::open(&self.system, name) else {
             return false;
         };
         if !device::keep(&mut self.files, unit, file) {
             return false;
         }
         let card = &mut self.cards[unit.0 as usize];
-        device::attach(card, name, blocks);
+        device::attach(card, name.as_bytes(), blocks);
         true
     }
 

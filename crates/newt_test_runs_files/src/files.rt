@@ -4,6 +4,7 @@ ghost use Rattle.std.specs.Prelude.{◌≡◌, ℕ, IsFalse, IsSome, None};
 use crate::filled::write_filled;
 use newt_host::{Host, Unit};
 use newt_host_files::FileHost;
+use std::alloc::AllocError;
 use std::fs;
 use std::os::unix::fs::PermissionsExt;
 use std::process::Abort;
@@ -101,18 +102,19 @@ fn assert_bytes(rt: &impl Abort, bytes: &[u8]) {
 }
 
 // One host changes the card, and another one reads it.
-fn change_and_read(abort: &impl Abort, rt: &HostRuntime) {
-    let mut host = FileHost::new(rt.alloc(), rt, rt.stdin(), rt.stdout());
+fn change_and_read(abort: &impl Abort, rt: &HostRuntime) -> Result<(), AllocError> {
+    let mut host = FileHost::new(rt.alloc(), rt, rt.stdin(), rt.stdout())?;
     change(abort, &mut host);
-    let mut other = FileHost::new(rt.alloc(), rt, rt.stdin(), rt.stdout());
+    let mut other = FileHost::new(rt.alloc(), rt, rt.stdin(), rt.stdout())?;
     read_again(abort, &mut other);
+    Ok(())
 }
 
 #[test]
 fn keeps_what_was_written_and_leaves_the_rest(rt: HostRuntime) -> Result<(), Fail> {
     // Five bytes more than thirteen blocks, which are no part of any.
     write_filled(&rt, "card", 53_253, 7)?;
-    change_and_read(&rt, &rt);
+    change_and_read(&rt, &rt)?;
     let after = fs::read(&rt, "card")?;
     fs::remove_file(&rt, "card")?;
     assert_bytes(&rt, &after);
@@ -131,25 +133,25 @@ fn tried<H: Host>(host: &mut H, name: &str) -> Option<u32>
 }
 
 // The same of a new host.
-fn attached(rt: &HostRuntime, name: &str) -> Option<u32> {
-    let mut host = FileHost::new(rt.alloc(), rt, rt.stdin(), rt.stdout());
-    tried(&mut host, name)
+fn attached(rt: &HostRuntime, name: &str) -> Result<Option<u32>, AllocError> {
+    let mut host = FileHost::new(rt.alloc(), rt, rt.stdin(), rt.stdout())?;
+    Ok(tried(&mut host, name))
 }
 
 #[test]
 fn attaches_no_folder_and_no_missing_file(rt: HostRuntime) -> Result<(), Fail> {
     fs::create_dir(&rt, "folder")?;
-    let folder = attached(&rt, "folder");
+    let folder = attached(&rt, "folder")?;
     fs::remove_dir(&rt, "folder")?;
     assert!(rt; folder == None);
-    assert!(rt; attached(&rt, "missing") == None);
+    assert!(rt; attached(&rt, "missing")? == None);
     Ok(())
 }
 
 #[test]
 fn attaches_a_file_shorter_than_a_block_with_no_blocks(rt: HostRuntime) -> Result<(), Fail> {
     fs::write(&rt, "short", b"less than a block".as_slice())?;
-    let short = attached(&rt, "short");
+    let short = attached(&rt, "short")?;
     fs::remove_file(&rt, "short")?;
     assert!(rt; short == Some(0));
     Ok(())
@@ -164,7 +166,7 @@ fn attaches_only_what_can_be_written(rt: HostRuntime) -> Result<(), Fail> {
         .write(true)
         .open(&rt, "locked")
         .is_err();
-    let locked = attached(&rt, "locked");
+    let locked = attached(&rt, "locked")?;
     fs::remove_file(&rt, "locked")?;
     assert!(rt; locked.is_none() == refused);
     Ok(())

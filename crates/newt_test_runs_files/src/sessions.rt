@@ -20,7 +20,7 @@ fn words(alloc: Global, texts: &[&str]) -> Result<Vec<String>, AllocError> {
 fn run_script(rt: &HostRuntime) -> Result<Status, Fail> {
     let words = words(rt.alloc(), &["run", "internal", "card"])?;
     let (input, output) = (File::open(rt, "script")?, File::create(rt, "replies")?);
-    let mut host = FileHost::new(rt.alloc(), rt, input, output);
+    let mut host = FileHost::new(rt.alloc(), rt, input, output)?;
     Ok(run(rt.alloc(), &words, &mut host))
 }
 

@@ -4,6 +4,15 @@ use Rattle.newt_host_files.specs.Laws.{untold}
 use Rattle.newt_host_files.proofs.Units.{attaches, attach_call, same-cards, same-counts}
 use Rattle.newt_host_files.proofs.files.FileHostHost.attach.Goals as goal
 
+pub returns-then-name-gt-MOST_NAME : goal.returns-then-name-gt-MOST_NAME
+returns-then-name-gt-MOST_NAME g c =
+    record {
+      known = λ tells. untold tells;
+      attached = λ so. untold so;
+      refused = λ no. (same-cards c.args.self.now.cards, λ tells. untold tells);
+      call = record { input = refl; counts = same-counts c.args.self.now.cards; in_faults = refl; out_faults = refl };
+    }
+
 pub returns-in_default : goal.returns-in_default
 returns-in_default g c =
     record {
@@ -33,7 +42,7 @@ returns g c =
     let cards = c.args.self.now.cards in
     let low : c.unit.inside.0 < length cards = subst (λ (k : ℕ). k < length cards) (sym c.unit.view_is) (subst (λ (n : ℕ). c.args.unit < n) (sym c.args.self.now.eight) c.requires.unit) in
     let there = slice_get-get_or cards c.unit.inside.0 c.index-self-unit.result low in
-    let named : c.attach.new.card.name.items ≡ c.args.name.now = c.attach.ensures.name ∙ c.in-Ok.ensures.items_if_clones_equal (λ x y same. same) ∙ c.as_bytes.ensures.value in
+    let named : c.attach.new.card.name.items ≡ c.args.name.now = c.attach.ensures.name ∙ c.as_bytes.ensures.value in
     record {
       known = λ tells. untold tells;
       attached = λ so. attaches cards _ c.args.unit _ _ c.unit.view_is there c.args.name.now c.attach.ensures.attached named _ _;
