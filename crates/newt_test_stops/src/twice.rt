@@ -14,9 +14,6 @@ use std::test::Fail;
 /// The unit that is stopped twice.
 const UNIT: Unit = Unit(0);
 
-/// Into how many tests the stops are split.
-const PARTS: u32 = 8;
-
 /// A second run over what a stop left, and a stop at each of its calls: what is left is a store of
 /// the second run over what the unit holds where nothing is stopped.
 fn stop_second(alloc: Global, left: &[u8], plain: &[u8]) -> Result<Counts, Fail> {
@@ -39,13 +36,12 @@ fn stop_after(alloc: Global, left: &[u8], replies: usize, looks: &Looks) -> Resu
 }
 
 /// A stop at each call on the unit behind so many replies, and the second run over each image that
-/// is left, of which this part alone is taken. Says how many images there were in all.
+/// is left. Says how many images there were.
 fn stop_twice(
     alloc: Global,
     host: &MemHost,
     first: usize,
     looks: &Looks,
-    part: u32,
 ) -> Result<(u32, Counts), Fail> {
     if host.blocks(UNIT) == 0 {
         return Err(Fail::new("a unit without a device"));
@@ -61,9 +57,7 @@ fn stop_twice(
         }
         let Crash { image, .. } = host.images(UNIT, call, Pick::Fill(0))?;
         if image != left {
-            if stops % PARTS == part {
-                counts.add(stop_after(alloc, &image, replies, looks)?);
-            }
+            counts.add(stop_after(alloc, &image, replies, looks)?);
             stops = stops.saturating_add(1);
             left = image;
         }
@@ -85,8 +79,9 @@ fn switches(looks: &Looks, first: usize) -> u32 {
     count
 }
 
-/// One part of the stops within the last commands.
-fn stop_part(alloc: Global, part: u32) -> Result<Counts, Fail> {
+#[test]
+fn a_stop_within_recovery_leaves_a_store(rt: HostRuntime) -> Result<(), Fail> {
+    let alloc = rt.alloc();
     let host = run_table(alloc, "run a b", SCRIPT)?;
     let (script, output) = lines_of(alloc, SCRIPT)?;
     let first = begun(&output).saturating_sub(LAST);
@@ -95,49 +90,9 @@ fn stop_part(alloc: Global, part: u32) -> Result<Counts, Fail> {
     if switches(&looks, first) != 1 {
         return Err(Fail::new("the last commands do not change the bank once"));
     }
-    let (stops, counts) = stop_twice(alloc, &host, first, &looks, part)?;
-    if stops != 1 {
+    let (stops, counts) = stop_twice(alloc, &host, first, &looks)?;
+    if stops != 94 {
         return Err(Fail::new(format_args!("{stops} stops")));
     }
-    Ok(counts)
-}
-
-#[test]
-fn a_stop_within_recovery_leaves_a_store_first_part(rt: HostRuntime) -> Result<(), Fail> {
-    stop_part(rt.alloc(), 0)?.expect(1, 1)
-}
-
-#[test]
-fn a_stop_within_recovery_leaves_a_store_second_part(rt: HostRuntime) -> Result<(), Fail> {
-    stop_part(rt.alloc(), 1)?.expect(1, 1)
-}
-
-#[test]
-fn a_stop_within_recovery_leaves_a_store_third_part(rt: HostRuntime) -> Result<(), Fail> {
-    stop_part(rt.alloc(), 2)?.expect(1, 1)
-}
-
-#[test]
-fn a_stop_within_recovery_leaves_a_store_fourth_part(rt: HostRuntime) -> Result<(), Fail> {
-    stop_part(rt.alloc(), 3)?.expect(1, 1)
-}
-
-#[test]
-fn a_stop_within_recovery_leaves_a_store_fifth_part(rt: HostRuntime) -> Result<(), Fail> {
-    stop_part(rt.alloc(), 4)?.expect(1, 1)
-}
-
-#[test]
-fn a_stop_within_recovery_leaves_a_store_sixth_part(rt: HostRuntime) -> Result<(), Fail> {
-    stop_part(rt.alloc(), 5)?.expect(1, 1)
-}
-
-#[test]
-fn a_stop_within_recovery_leaves_a_store_seventh_part(rt: HostRuntime) -> Result<(), Fail> {
-    stop_part(rt.alloc(), 6)?.expect(1, 1)
-}
-
-#[test]
-fn a_stop_within_recovery_leaves_a_store_last_part(rt: HostRuntime) -> Result<(), Fail> {
-    stop_part(rt.alloc(), 7)?.expect(1, 1)
+    counts.expect(13_042, 2_672)
 }
