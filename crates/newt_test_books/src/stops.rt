@@ -5,10 +5,11 @@ use crate::sessions::{InMemory, OnDevice, run_over};
 use newt_host::{Host, Unit};
 use newt_memhost::{Crash, MemHost, Pick};
 use newt_script_session::Interpreter;
+use newt_test_scripts::image;
 use std::alloc::Global;
 use std::test::Fail;
 
-/// What is tried of each call.
+/// What is tried of each call, beside each byte.
 const PICKS: [Pick; 6] = [
     Pick::Old,
     Pick::New,
@@ -36,40 +37,96 @@ fn found<I: Interpreter>(alloc: Global, bytes: &[u8]) -> Result<u32, Fail> {
     }
 }
 
-/// A stop within a call leaves the card with all entries or all but the added one, and with that
-/// one where its reply had begun.
-fn expect_kept<I: Interpreter>(
-    alloc: Global,
-    host: &MemHost,
-    call: u64,
-    pick: Pick,
-) -> Result<(), Fail> {
-    if host.blocks(Unit(0)) == 0 || call >= host.calls() {
-        return Err(Fail::new("no such call"));
-    }
-    let Crash { image, out } = host.images(Unit(0), call, pick)?;
-    if found::<I>(alloc, &image)? == 200 && out > MOUNTED.len() as u64 {
-        return Err(Fail::new(format_args!("an entry is lost at call {call}")));
-    }
-    Ok(())
+/// A run that adds an entry to the card, the first of its calls behind the reply to its mount, and
+/// what the card holds before the add and behind it.
+#[derive(Drop)]
+struct Added {
+    host: MemHost,
+    first: u64,
+    before: Vec<u8>,
+    behind: Vec<u8>,
 }
 
-/// The same of each call of the add, and each pick.
-fn stops<I: Interpreter>(alloc: Global) -> Result<(), Fail> {
-    let bytes = card(alloc)?;
-    let mounted = run_over::<I>(alloc, MOUNT, &bytes)?;
-    let host = run_over::<I>(alloc, ADD, &bytes)?;
+fn added<I: Interpreter>(alloc: Global) -> Result<Added, Fail> {
+    let before = card(alloc)?;
+    let mounted = run_over::<I>(alloc, MOUNT, &before)?;
+    let host = run_over::<I>(alloc, ADD, &before)?;
+    let behind = image(alloc, &host, Unit(0))?;
+    if found::<I>(alloc, &before)? != 200 || found::<I>(alloc, &behind)? != 201 {
+        return Err(Fail::new("the add does not add one name"));
+    }
     // the last call of the first run looks for more input
-    for call in mounted.calls().saturating_sub(1)..host.calls() {
-        for pick in PICKS {
-            expect_kept::<I>(alloc, &host, call, pick)?;
+    let first = mounted.calls().saturating_sub(1);
+    Ok(Added {
+        host,
+        first,
+        before,
+        behind,
+    })
+}
+
+/// A stop within each call of the add leaves the card with all entries or all but the added one,
+/// and with that one where its reply had begun. Says how many of the images were mounted, which is
+/// each that is not that before the add or behind it, or the same as the last one.
+fn stop_at_each<I: Interpreter>(alloc: Global, added: &Added, pick: Pick) -> Result<u32, Fail> {
+    let host = &added.host;
+    if host.blocks(Unit(0)) == 0 {
+        return Err(Fail::new("a unit without a device"));
+    }
+    let mut mounts = 0u32;
+    let mut left = Vec::from_slice(alloc, &added.before)?;
+    let mut names = 200;
+    for call in added.first..host.calls() {
+        let Crash { image, out } = host.images(Unit(0), call, pick)?;
+        if image == added.behind {
+            names = 201;
+        } else if image != left {
+            names = found::<I>(alloc, &image)?;
+            mounts = mounts.saturating_add(1);
         }
+        left = image;
+        if names == 200 && out > MOUNTED.len() as u64 {
+            return Err(Fail::new(format_args!("an entry is lost at call {call}")));
+        }
+    }
+    Ok(mounts)
+}
+
+/// The same with each of these picks.
+fn stop_add<I: Interpreter>(alloc: Global, picks: &[Pick], wanted: u32) -> Result<(), Fail> {
+    let added = added::<I>(alloc)?;
+    let mut mounts = 0u32;
+    for pick in picks {
+        mounts = mounts.saturating_add(stop_at_each::<I>(alloc, &added, *pick)?);
+    }
+    expect_mounts(mounts, wanted)
+}
+
+/// The same with each byte in what a stop has torn.
+fn stop_add_by_bytes(alloc: Global, wanted: u32) -> Result<(), Fail> {
+    let added = added::<OnDevice>(alloc)?;
+    let mut mounts = 0u32;
+    for byte in 0..256u32 {
+        let pick = Pick::Fill(byte as u8);
+        mounts = mounts.saturating_add(stop_at_each::<OnDevice>(alloc, &added, pick)?);
+    }
+    expect_mounts(mounts, wanted)
+}
+
+fn expect_mounts(mounts: u32, wanted: u32) -> Result<(), Fail> {
+    if mounts != wanted {
+        return Err(Fail::new(format_args!("{mounts} images were mounted")));
     }
     Ok(())
 }
 
 #[test]
 fn a_stop_within_an_add_loses_nothing(rt: HostRuntime) -> Result<(), Fail> {
-    stops::<InMemory>(rt.alloc())?;
-    stops::<OnDevice>(rt.alloc())
+    stop_add::<InMemory>(rt.alloc(), &PICKS, 24)?;
+    stop_add::<OnDevice>(rt.alloc(), &PICKS, 24)
+}
+
+#[test]
+fn a_stop_loses_nothing_whatever_byte_it_leaves(rt: HostRuntime) -> Result<(), Fail> {
+    stop_add_by_bytes(rt.alloc(), 1_530)
 }

@@ -1,7 +1,10 @@
 //! What a next run finds where the power failed.
 
-use crate::hosts::{over, over_blank};
-use crate::runs::{has_device, image, run_on, run_table};
+ghost use Rattle.std.specs.Prelude.{◌<◌};
+ghost use Rattle.newt_memhost.specs.Words.{calls_of};
+
+use crate::hosts::{blocks, over};
+use crate::runs::{has_device, run_on, run_table};
 use crate::tables::lines_of;
 use newt_host::Unit;
 use newt_memhost::{Crash, MemHost, Pick};
@@ -9,11 +12,57 @@ use newt_top::Status;
 use std::alloc::Global;
 use std::test::Fail;
 
-/// What next runs answer after each number of first lines of a run.
-pub(crate) type Looks = Vec<Vec<u8>>;
+/// What a unit holds behind each number of first lines of a run that is not stopped, and what a
+/// next run answers over it.
+#[derive(Drop)]
+pub struct Looks {
+    pub images: Vec<Vec<u8>>,
+    pub answers: Vec<Vec<u8>>,
+}
+
+/// How much was compared: the images that a stop may leave, and those of them that are neither just
+/// what the unit holds before or after a command nor the same as the one before, each of which a
+/// next run has mounted.
+#[derive(Clone, Copy)]
+pub struct Counts {
+    pub images: u32,
+    pub mounts: u32,
+}
+
+impl Counts {
+    /// Nothing yet.
+    pub fn none() -> Counts {
+        Counts {
+            images: 0,
+            mounts: 0,
+        }
+    }
+
+    /// Another image, which was mounted or was the same as the one before.
+    fn add_image(&mut self, is_mounted: bool) {
+        self.images = self.images.saturating_add(1);
+        if is_mounted {
+            self.mounts = self.mounts.saturating_add(1);
+        }
+    }
+
+    /// What was compared elsewhere.
+    pub fn add(&mut self, other: Counts) {
+        self.images = self.images.saturating_add(other.images);
+        self.mounts = self.mounts.saturating_add(other.mounts);
+    }
+
+    /// There were so many, and not fewer or more.
+    pub fn expect(self, images: u32, mounts: u32) -> Result<(), Fail> {
+        if self.images != images || self.mounts != mounts {
+            return Err(Fail::new(format_args!("{} images, {} mounts", self.images, self.mounts)));
+        }
+        Ok(())
+    }
+}
 
 /// What a next run answers over a device of these bytes.
-pub(crate) fn look(alloc: Global, ask: &[u8], bytes: &[u8]) -> Result<Vec<u8>, Fail> {
+pub fn look(alloc: Global, ask: &[u8], bytes: &[u8]) -> Result<Vec<u8>, Fail> {
     let mut host = over(alloc, ask, bytes, &[])?;
     if run_on(alloc, "run a", &mut host)? != Status::Ok {
         return Err(Fail::new("a next run does not end well"));
@@ -21,29 +70,69 @@ pub(crate) fn look(alloc: Global, ask: &[u8], bytes: &[u8]) -> Result<Vec<u8>, F
     Ok(Vec::from_slice(alloc, host.output())?)
 }
 
-/// What a next run answers behind a script over two devices of zero bytes.
-fn look_behind(alloc: Global, script: &[u8], ask: &[u8], unit: Unit) -> Result<Vec<u8>, Fail> {
-    let mut host = over_blank(alloc, script)?;
+/// Whether a call is the last one before more is read behind a line: it reads on, or ends the run.
+fn ends_line(host: &MemHost, script: &[u8], call: u64) -> bool
+    requires { call < calls_of host.now }
+{
+    let taken = host.in_before(call);
+    let next = call.saturating_add(1);
+    if next < host.calls() && host.in_before(next) == taken {
+        return false;
+    }
+    match taken.checked_sub(1) {
+        None => true,
+        Some(last) => script.get(last as usize) == Some(&b'\n'),
+    }
+}
+
+/// What a unit holds where a run of a script reads on behind a line, and what a next run answers
+/// over it.
+fn looks_of(
+    alloc: Global,
+    host: &MemHost,
+    script: &[u8],
+    ask: &[u8],
+    unit: Unit,
+) -> Result<Looks, Fail> {
+    if !has_device(host, unit) {
+        return Err(Fail::new("a unit without a device"));
+    }
+    let mut images: Vec<Vec<u8>> = Vec::new(alloc);
+    let mut answers = Vec::new(alloc);
+    let mut answer = Vec::new(alloc);
+    for call in 0..host.calls() {
+        if ends_line(host, script, call) {
+            let Crash { image, .. } = host.images(unit, call, Pick::New)?;
+            if !images.last().is_some_and(|last| *last == image) {
+                answer = look(alloc, ask, &image)?;
+            }
+            images.push(image)?;
+            answers.push(Vec::from_slice(alloc, &answer)?)?;
+        }
+    }
+    Ok(Looks { images, answers })
+}
+
+/// The same of a script over the devices `a` and `b` of these bytes. The script is read a byte at a
+/// time, so that a unit is looked at behind all that a line has done.
+pub fn looks_behind(
+    alloc: Global,
+    script: &[u8],
+    devices: [&[u8]; 2],
+    ask: &[u8],
+    unit: Unit,
+) -> Result<Looks, Fail> {
+    let [a, b] = devices;
+    let mut host = over(alloc, script, a, b)?;
+    host.piece(1);
     if run_on(alloc, "run a b", &mut host)? != Status::Ok {
         return Err(Fail::new("a first run does not end well"));
     }
-    look(alloc, ask, &image(alloc, &host, unit)?)
-}
-
-/// What next runs answer after each number of first lines.
-pub(crate) fn looks(alloc: Global, script: &[u8], ask: &[u8], unit: Unit) -> Result<Looks, Fail> {
-    let mut all = Vec::new(alloc);
-    all.push(look_behind(alloc, b"", ask, unit)?)?;
-    for (place, byte) in script.iter().enumerate() {
-        if *byte == b'\n' {
-            all.push(look_behind(alloc, &script[..place + 1], ask, unit)?)?;
-        }
-    }
-    Ok(all)
+    looks_of(alloc, &host, script, ask, unit)
 }
 
 /// How many replies have begun in an output.
-fn begun(output: &[u8]) -> usize {
+pub fn begun(output: &[u8]) -> usize {
     let ended = output.iter().filter(|byte| **byte == b'\n').count();
     match output.last() {
         Some(b'\n') | None => ended,
@@ -51,75 +140,116 @@ fn begun(output: &[u8]) -> usize {
     }
 }
 
-/// What was found is the store before or after the next command; a device that has none in both is
-/// as it was, zero bytes.
-pub(crate) fn expect_found(
-    output: &[u8],
-    left: &[u8],
-    found: &[u8],
-    looks: &[Vec<u8>],
-) -> Result<(), Fail> {
-    let first = begun(output);
-    let (Some(none), Some(before)) = (looks.first(), looks.get(first)) else {
-        return Err(Fail::new("more replies than lines"));
-    };
-    let after = looks.get(first.saturating_add(1)).unwrap_or(before);
-    if found != before.as_slice() && found != after.as_slice() {
-        return Err(Fail::new(format_args!("another store is found after {first} replies")));
+/// Of so many lines and one more the first behind which this is what stands.
+fn place_of(bytes: &[u8], lines: usize, all: &[Vec<u8>]) -> Option<usize> {
+    for place in [lines, lines.saturating_add(1)] {
+        if all.get(place).is_some_and(|one| bytes == one.as_slice()) {
+            return Some(place);
+        }
     }
-    if before == none && after == none && left.iter().any(|byte| *byte != 0) {
-        return Err(Fail::new(format_args!("a device is not blank after {first} replies")));
+    None
+}
+
+impl Looks {
+    /// Behind how many lines a next run answers what was found: those whose replies have begun, or
+    /// one more.
+    pub fn lines_before(&self, found: &[u8], replies: usize) -> Option<usize> {
+        place_of(found, replies, &self.answers)
+    }
+
+    /// Whether the unit holds just this behind the lines whose replies have begun, or one more.
+    fn has_image(&self, image: &[u8], replies: usize) -> bool {
+        place_of(image, replies, &self.images).is_some()
+    }
+
+    /// Whether the store is still that from before the run, and the next line does not change it.
+    fn is_untouched(&self, replies: usize) -> bool {
+        match (self.answers.first(), self.answers.get(replies)) {
+            (Some(none), Some(before)) => {
+                let next = replies.saturating_add(1);
+                let after = self.answers.get(next).unwrap_or(before);
+                before == none && after == none
+            }
+            _ => false,
+        }
+    }
+}
+
+/// What was found is the store before or after the next command; a device whose store is that from
+/// before the run, or is none as then, is as it was held.
+pub(crate) fn expect_found(
+    replies: usize,
+    left: &[u8],
+    held: &[u8],
+    found: &[u8],
+    looks: &Looks,
+) -> Result<(), Fail> {
+    if looks.lines_before(found, replies).is_none() {
+        return Err(Fail::new(format_args!("another store is found after {replies} replies")));
+    }
+    if looks.is_untouched(replies) && left != held {
+        return Err(Fail::new(format_args!("a device is touched after {replies} replies")));
     }
     Ok(())
 }
 
-/// The same for a crash within each call of a run.
-fn expect_safe(
+/// The same for a crash within each call of a run: an image that is just what the unit holds before
+/// or after the next command, or else what a next run answers over it. Says how much was compared.
+pub fn expect_safe(
     alloc: Global,
     host: &MemHost,
     unit: Unit,
     pick: Pick,
     ask: &[u8],
-    looks: &[Vec<u8>],
-) -> Result<(), Fail> {
-    if !has_device(host, unit) {
+    looks: &Looks,
+) -> Result<Counts, Fail> {
+    if !has_device(host, unit) || host.calls() == 0 {
         return Err(Fail::new("a unit without a device"));
     }
+    let Crash { image: held, .. } = host.images(unit, 0, Pick::Old)?;
+    let mut counts = Counts::none();
     let mut left = Vec::new(alloc);
     let mut found = Vec::new(alloc);
     for call in 0..host.calls() {
         let Crash { image, out } = host.images(unit, call, pick)?;
+        let shown = host.output().len().min(out as usize);
+        let replies = begun(&host.output()[..shown]);
+        let is_known = looks.has_image(&image, replies);
+        counts.add_image(!is_known && image != left);
+        if is_known {
+            continue;
+        }
         if image != left {
             found = look(alloc, ask, &image)?;
             left = image;
         }
-        let (output, _) = host
-            .output()
-            .split_at(host.output().len().min(out as usize));
-        expect_found(output, &left, &found, looks)?;
+        expect_found(replies, &left, &held, &found, looks)?;
     }
-    Ok(())
-}
-
-/// The same for each pick.
-fn expect_each_safe(
-    alloc: Global,
-    host: &MemHost,
-    script: &[u8],
-    unit: Unit,
-    picks: &[Pick],
-    ask: &[u8],
-) -> Result<(), Fail> {
-    let looks = looks(alloc, script, ask, unit)?;
-    for pick in picks {
-        expect_safe(alloc, host, unit, *pick, ask, &looks)?;
-    }
-    Ok(())
+    Ok(counts)
 }
 
 /// Runs a table over the devices `a` and `b` of 13 blocks of zero bytes. A next run over what a
-/// crash within any of its calls leaves of these units by each pick, asked these lines, finds the
-/// store before or after the command whose reply is the next to begin.
+/// crash within any of its calls leaves of this unit by each pick, asked these lines, finds the
+/// store before or after the command whose reply is the next to begin. Says how much was compared.
+pub fn expect_unit_safe(
+    alloc: Global,
+    table: &str,
+    ask: &[u8],
+    unit: Unit,
+    picks: &[Pick],
+) -> Result<Counts, Fail> {
+    let host = run_table(alloc, "run a b", table)?;
+    let (script, _) = lines_of(alloc, table)?;
+    let blank = blocks(alloc, 13)?;
+    let looks = looks_behind(alloc, &script, [&blank, &blank], ask, unit)?;
+    let mut counts = Counts::none();
+    for pick in picks {
+        counts.add(expect_safe(alloc, &host, unit, *pick, ask, &looks)?);
+    }
+    Ok(counts)
+}
+
+/// The same of each of these units.
 pub fn expect_all_safe(
     alloc: Global,
     table: &str,
@@ -127,10 +257,8 @@ pub fn expect_all_safe(
     units: &[Unit],
     picks: &[Pick],
 ) -> Result<(), Fail> {
-    let host = run_table(alloc, "run a b", table)?;
-    let (script, _) = lines_of(alloc, table)?;
     for unit in units {
-        expect_each_safe(alloc, &host, &script, *unit, picks, ask)?;
+        expect_unit_safe(alloc, table, ask, *unit, picks)?;
     }
     Ok(())
 }

@@ -1,10 +1,12 @@
 //! Runs in which a call of the host fails.
 
+ghost use Rattle.std.specs.Prelude.{◌<◌};
 ghost use Rattle.newt_memhost.specs.Outside.{outside_of};
+ghost use Rattle.newt_memhost.specs.Words.{calls_of};
 ghost use Rattle.newt_test_scripts.specs.Free.{IsFree};
 
-use crate::crashes::{Looks, expect_found, look, looks};
-use crate::hosts::over_blank;
+use crate::crashes::{Looks, begun, expect_found, look, looks_behind};
+use crate::hosts::{blocks, over_blank};
 use crate::runs::{has_device, run_on, run_table};
 use crate::tables::lines_of;
 use newt_host::Unit;
@@ -13,15 +15,52 @@ use newt_top::Status;
 use std::alloc::Global;
 use std::test::Fail;
 
-/// Whether a run ends as it should where a call fails that was on a unit, or on the input or the
-/// output. Behind a device's call there are whole replies.
-fn is_halted(host: &MemHost, status: Status, unit: Option<Unit>) -> bool {
-    match unit {
-        Some(unit) => {
-            status == Status::Device(unit) && matches!(host.output().last(), Some(b'\n') | None)
-        }
-        None => status == Status::Source || status == Status::Sink,
+/// The length of the output when the call behind one began.
+fn out_behind(host: &MemHost, call: u64) -> u64 {
+    let next = call.saturating_add(1);
+    if next < host.calls() {
+        host.out_before(next)
+    } else {
+        host.output().len() as u64
     }
+}
+
+/// How a run ends where this call of a sound run fails: by the unit that the call was on, or by the
+/// output, if it was written by it, or the input.
+fn wanted(sound: &MemHost, call: u64) -> Status
+    requires { call < calls_of sound.now }
+{
+    match sound.unit_of(call) {
+        Some(unit) => Status::Device(unit),
+        None if sound.out_before(call) < out_behind(sound, call) => Status::Sink,
+        None => Status::Source,
+    }
+}
+
+/// Whether a run has ended at a call, and has written what a sound run had written when that began.
+fn has_halted(host: &MemHost, sound: &MemHost, call: u64) -> bool
+    requires { call < calls_of sound.now }
+{
+    host.calls() == call.saturating_add(1)
+        && host.output().len() as u64 == sound.out_before(call)
+        && sound.output().starts_with(host.output())
+}
+
+/// Where the call of a number fails, the run of a host ends there, with the status of the call and
+/// what was written before it.
+fn expect_status(alloc: Global, sound: &MemHost, call: u64, host: &mut MemHost) -> Result<(), Fail>
+    requires free { IsFree (outside_of host.old) }
+    requires call { call < calls_of sound.now }
+{
+    host.fail(call)?;
+    let status = run_on(alloc, "run a b", host)?;
+    if status != wanted(sound, call) {
+        return Err(Fail::new(format_args!("{status:?} at call {call}")));
+    }
+    if !has_halted(host, sound, call) {
+        return Err(Fail::new(format_args!("not halted at call {call}")));
+    }
+    Ok(())
 }
 
 /// What the run of a host left is the store before or after the next command.
@@ -33,11 +72,16 @@ fn expect_left(
     looks: &Looks,
 ) -> Result<(), Fail> {
     let found = look(alloc, ask, left)?;
-    expect_found(host.output(), left, &found, looks)
+    expect_found(
+        begun(host.output()),
+        left,
+        &blocks(alloc, 13)?,
+        &found,
+        looks,
+    )
 }
 
-/// Where the call of a number fails, the run of a host ends there, and what it leaves, with a crash
-/// and without one, is the store before or after the next command.
+/// And what it leaves, with a crash and without one, is the store before or after the next command.
 fn expect_halted_on(
     alloc: Global,
     ask: &[u8],
@@ -46,18 +90,12 @@ fn expect_halted_on(
     looks: &Looks,
     host: &mut MemHost,
 ) -> Result<(), Fail>
-    requires { IsFree (outside_of host.old) }
+    requires free { IsFree (outside_of host.old) }
+    requires call { call < calls_of sound.now }
 {
-    host.fail(call)?;
-    let status = run_on(alloc, "run a b", host)?;
-    if call >= sound.calls() || call >= host.calls() || !has_device(host, Unit(0)) {
+    expect_status(alloc, sound, call, host)?;
+    if call >= host.calls() || !has_device(host, Unit(0)) {
         return Err(Fail::new("no such call"));
-    }
-    if !is_halted(host, status, sound.unit_of(call)) {
-        return Err(Fail::new(format_args!("{status:?} at call {call}")));
-    }
-    if !sound.output().starts_with(host.output()) || host.calls() != call.saturating_add(1) {
-        return Err(Fail::new(format_args!("not halted at call {call}")));
     }
     expect_left(alloc, host, ask, host.bytes(Unit(0)), looks)?;
     let Crash { image, .. } = host.images(Unit(0), call, Pick::Half)?;
@@ -72,7 +110,9 @@ fn expect_halted(
     sound: &MemHost,
     call: u64,
     looks: &Looks,
-) -> Result<(), Fail> {
+) -> Result<(), Fail>
+    requires { call < calls_of sound.now }
+{
     let mut host = over_blank(alloc, script)?;
     expect_halted_on(alloc, ask, sound, call, looks, &mut host)
 }
@@ -84,7 +124,8 @@ fn expect_all_halted(
     ask: &[u8],
     sound: &MemHost,
 ) -> Result<(), Fail> {
-    let looks = looks(alloc, script, ask, Unit(0))?;
+    let blank = blocks(alloc, 13)?;
+    let looks = looks_behind(alloc, script, [&blank, &blank], ask, Unit(0))?;
     for call in 0..sound.calls() {
         expect_halted(alloc, script, ask, sound, call, &looks)?;
     }
@@ -92,10 +133,26 @@ fn expect_all_halted(
 }
 
 /// Runs a table over the devices `a` and `b` of 13 blocks of zero bytes, once for each of its
-/// calls, which fails. The run ends there, and a next run that is asked these lines finds the store
-/// of the first unit before or after the command whose reply is the next to begin.
+/// calls, which fails. The run ends there with the status of the call, behind what it had written
+/// so far, and a next run that is asked these lines finds the store of the first unit before or
+/// after the command whose reply is the next to begin.
 pub fn expect_halts(alloc: Global, table: &str, ask: &[u8]) -> Result<(), Fail> {
     let sound = run_table(alloc, "run a b", table)?;
     let (script, _) = lines_of(alloc, table)?;
     expect_all_halted(alloc, &script, ask, &sound)
+}
+
+/// The same of these of its calls alone, without a next run: the run ends there with the status of
+/// the call, behind what it had written so far. Says how many calls there are in all.
+pub fn expect_statuses(alloc: Global, table: &str, first: u64, end: u64) -> Result<u64, Fail> {
+    let sound = run_table(alloc, "run a b", table)?;
+    let (script, _) = lines_of(alloc, table)?;
+    for call in first..end {
+        if call >= sound.calls() {
+            break;
+        }
+        let mut host = over_blank(alloc, &script)?;
+        expect_status(alloc, &sound, call, &mut host)?;
+    }
+    Ok(sound.calls())
 }

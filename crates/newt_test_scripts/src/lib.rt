@@ -10,8 +10,10 @@ mod hosts;
 mod runs;
 mod tables;
 
-pub use crashes::expect_all_safe;
-pub use halts::expect_halts;
+pub use crashes::{
+    Counts, Looks, begun, expect_all_safe, expect_safe, expect_unit_safe, look, looks_behind,
+};
+pub use halts::{expect_halts, expect_statuses};
 pub use hosts::{blocks, host, over, over_blank, over_blocks};
 pub use runs::{expect, expect_end, expect_over, image, run_on, run_table, run_table_on};
 pub use tables::{expanded, lines_of};
