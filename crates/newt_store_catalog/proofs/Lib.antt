@@ -6,3 +6,4 @@ pub mod ReadLarges
 pub mod Rows
 pub mod Exits
 pub mod Lying
+pub mod Gathering
