@@ -21,12 +21,12 @@ fn unit(bytes: &[u8]) -> Result<(u16, &[u8]), NsofFault>
     }
 }
 
-/// So many units.
+/// So many units. Their memory is taken at once, where there are as many.
 fn units(alloc: Global, count: u32, bytes: &[u8]) -> Result<(Vec<u16>, &[u8]), NsofFault>
     ensures { (met : Met) → Gives (λ x. (x.0.items, met, x.1.now)) result
         (many_at unit_at count met bytes.now) }
 {
-    let mut units = Vec::new(alloc);
+    let mut units = Vec::with_capacity(alloc, (count as usize).min(bytes.len() / 2))?;
     let mut rest = bytes;
     for _ in 0..count {
         let (one, after) = unit(rest)?;

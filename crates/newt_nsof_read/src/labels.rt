@@ -59,7 +59,7 @@ pub(crate) fn label<'a>(
     }
 }
 
-/// The tags of a frame.
+/// The tags of a frame. Their memory is taken at once: each takes two bytes or more.
 pub(crate) fn labels<'a>(
     alloc: Global,
     seen: &mut Seen,
@@ -69,7 +69,7 @@ pub(crate) fn labels<'a>(
     ensures { Gives (λ x. (x.0.items, seen.new, x.1.now)) result
         (many_at label_at count seen.old bytes.now) }
 {
-    let mut labels = Vec::new(alloc);
+    let mut labels = Vec::with_capacity(alloc, (count as usize).min(bytes.len() / 2))?;
     let mut rest = bytes;
     for _ in 0..count {
         let (k, after) = label(alloc, seen, rest)?;
