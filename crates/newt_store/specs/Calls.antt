@@ -107,9 +107,9 @@ pub record PlansChange (told : Bool) (change : Change) (now : ℕ) (catalog : Ca
 -- What was gathered of a store: of its soups, where the graph of each of its entries was told,
 -- without the bytes of its large binaries.
 pub record AreGathered {G : Type 0} (gathers : PlainStore → Graphs → G → Type 0) (s : PlainStore)
-    (gathered : G) : Type 0 where
+    (gatherer : G) : Type 0 where
   pub told : Graphs
-  pub gathered : gathers (bare s) told gathered
+  pub gathered : gathers (bare s) told gatherer
   pub are : (sig uid : ℕ) → told sig uid ≡
       option_map (λ e. skeleton e.graph) (entry_at sig uid s)
 

@@ -1,6 +1,7 @@
 pub mod Kept
 pub mod Opening
 pub mod OpeningPlaces
+pub mod Unnamed
 pub mod Owning
 pub mod ReadLarges
 pub mod Rows

@@ -30,7 +30,7 @@ abbrev pub skeleton_at : Objects → Places → Graphs
 skeleton_at texts place sig uid = option_and_then (λ id. option_and_then skeleton_read (map.get texts id)) (place sig uid)
 
 -- what was gathered is that of the records of these places
-pub record HasGathered {G : Type 0} (gathers : Store → Graphs → G → Type 0) (d : Store) (place : Places) (gathered : G) (texts : Objects) : Type 0 where
+pub record HasGathered {G : Type 0} (gathers : Store → Graphs → G → Type 0) (d : Store) (place : Places) (gatherer : G) (texts : Objects) : Type 0 where
   pub told : Graphs
-  pub gathered : gathers d told gathered
+  pub gathered : gathers d told gatherer
   pub are : (sig uid : ℕ) → told sig uid ≡ skeleton_at texts place sig uid

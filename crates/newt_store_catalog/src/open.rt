@@ -1,6 +1,6 @@
 // The store of an image is found.
-ghost use Rattle.std.specs.Prelude.{IsTrue, ◌≡◌, ◌≢◌, ◌+◌, ◌%◌, ◌<◌, ◌≤◌, ℕ, true, false, IsSome};
-ghost use Rattle.std.specs.Prelude.{Some, None, OnOk, IfOk, IsErrOf};
+ghost use Rattle.std.specs.Prelude.{IsTrue, ◌≡◌, ◌≢◌, ◌+◌, ◌%◌, ◌<◌, ◌≤◌, ℕ, [], true, false};
+ghost use Rattle.std.specs.Prelude.{IsSome, Some, None, OnOk, IfOk, IsErrOf};
 ghost use Rattle.std.specs.List.{list_all};
 ghost use Rattle.newt_host.specs.Moments.{image, IsDurable};
 ghost use Rattle.newt_spec_nsof.specs.Text.{AreBytes};
@@ -267,6 +267,19 @@ struct Finding {
     owners: BTreeMap<u32, u32>,
 }
 
+/// Keeps which objects a record names, of which none were kept. Where it names none nothing is kept.
+fn keep_names(names: &mut NameTable, id: u32, ids: Vec<u32>) -> Result<(), AllocError>
+    requires { names_of names.old id ≡ [] }
+    ensures kept { OnOk result (names_of names.new id ≡ ids.items) }
+    ensures others { OnOk result ((other : ℕ) → other ≢ id → names_of names.new other ≡ names_of
+        names.old other) }
+{
+    if ids.is_empty() {
+        return Ok(());
+    }
+    names.insert(id, ids)
+}
+
 /// Keeps what is found of the record of an entry. The entry must have no place yet, and its large
 /// binaries must be there and be named by no other.
 fn find_row(
@@ -278,6 +291,7 @@ fn find_row(
     id: u32,
 ) -> Result<(), BookFault>
     requires formed { IsTrue (well_formed (bare_store directory.now)) }
+    requires unnamed { names_of finding.old.names id ≡ [] }
     ensures found { OnOk result (FindsRow (held objects.now) (bare_store directory.now) id row.now
         (place_of finding.old.places) (names_of finding.old.names) (owner_of finding.old.owners)
         (place_of finding.new.places) (names_of finding.new.names) (owner_of finding.new.owners)) }
@@ -300,7 +314,7 @@ fn find_row(
     if !are_free {
         return Err(BookFault::NotStore);
     }
-    finding.names.insert(id, ids)?;
+    keep_names(&mut finding.names, id, ids)?;
     Ok(finding.places.insert(row.soup, row.uid, id)?)
 }
 

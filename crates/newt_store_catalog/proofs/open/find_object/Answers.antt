@@ -17,6 +17,7 @@ use Rattle.newt_store_catalog.proofs.Exits.{Fails, no-value, reads-none, search-
 use Rattle.newt_store_catalog.proofs.Gathering.{gathered-next}
 use Rattle.newt_store_catalog.proofs.Opening.{record-not-given, record-twice, record-missing, record-owned}
 use Rattle.newt_store_catalog.proofs.Owning.{all-there, not-there, named-there}
+use Rattle.newt_store_catalog.proofs.Unnamed.{none-named}
 use Rattle.newt_store_catalog.proofs.OpeningPlaces.{odd-is, sound-next, sound-even, row-next, even-next}
 use Rattle.newt_store_catalog.proofs.open.find_object.Goals as goal
 
@@ -51,6 +52,9 @@ returns-in_err-row g c =
       gathered = no-value r fault _ fails;
       searches = record { book = e.searches.book; ends = search-fails r fault fails c.in_err-row.ensures.searches.ends };
     }
+
+pub find_row-requires-clause-unnamed : goal.find_row-requires-clause-unnamed
+find_row-requires-clause-unnamed g c = none-named c.args.last c.args.id (c.requires.next.found c.args.id refl).1 (held c.args.objects.now) (place_of c.args.finding.now.places) (names_of c.args.finding.now.names) (owner_of c.args.finding.now.owners) c.requires.found.sound
 
 pub returns-in_err-find_row : goal.returns-in_err-find_row
 returns-in_err-find_row g c =
@@ -131,7 +135,7 @@ returns g c =
             place' names' f.free f.placed f.other_places f.named f.other_names (c.requires.found.found tells texts h);
       };
       gathered = λ tells texts h.
-          gathered-next g.G.Gatherer.gathers d texts place place' id row c.args.gatherer.now c.gather.new.gatherer (is_row tells texts h) f.free f.placed f.other_places
+          gathered-next g.G.Gatherer.gathers d texts place place' id row c.args.gatherer.now c.gather.new.self (is_row tells texts h) f.free f.placed f.other_places
           c.in_ok-gather.ensures (c.requires.gathered tells texts h);
       searches = record { book = e.searches.book; ends = search-value (c.in_ok-row.ensures.searches.ends.no_fault tt) };
     }
