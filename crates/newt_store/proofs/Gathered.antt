@@ -5,7 +5,7 @@ use Rattle.std.specs.Prelude.{bytes_eq}
 use Rattle.newt_graph.specs.Graph.{RawGraph}
 use Rattle.newt_spec_image.specs.Objects.{Objects}
 use Rattle.newt_spec_nsof.specs.Lengths.{skeleton}
-use Rattle.newt_spec_nsof.specs.Written.{nsof}
+use Rattle.newt_spec_nsof.specs.Flat.{flat}
 use Rattle.newt_spec_graph.proofs.Lists.{none-some, some-same}
 use Rattle.newt_spec_store.specs.Image.{entry_bytes}
 use Rattle.newt_spec_store.specs.Laid.{row_of}
@@ -37,9 +37,9 @@ module _ (directory : Directory) (place : Places) (names : Names) (texts : Objec
       bytes : List ℕ
       bytes = entry_bytes sig e ids
 
-      text : written stream_graph (nsof (skeleton e.graph)) ≡ Some (skeleton e.graph)
-      text = ap (option_and_then (λ g. cond (bytes_eq (nsof g) (nsof (skeleton e.graph))) (Some g) None)) (reads_graphs.back (skeleton e.graph) (d.lies.skeletons sig e is-in))
-          ∙ ap (λ b. cond b (Some (skeleton e.graph)) None) (bytes-same (nsof (skeleton e.graph)))
+      text : written stream_graph (flat (skeleton e.graph)) ≡ Some (skeleton e.graph)
+      text = ap (option_and_then (λ g. cond (bytes_eq (flat g) (flat (skeleton e.graph))) (Some g) None)) (reads_graphs.back (skeleton e.graph) (d.lies.skeletons sig e is-in))
+          ∙ ap (λ b. cond b (Some (skeleton e.graph)) None) (bytes-same (flat (skeleton e.graph)))
 
       go : (o : Option (PlainRow × RawGraph)) → record_read stream_graph bytes ≡ o → option_map (λ r. r.1) o ≡ Some (skeleton e.graph)
       go None is = absurd (none-some (sig, e) (sym (bad-alone stream_graph texts bytes is) ∙ laid.read))
