@@ -1,7 +1,8 @@
 -- What a record is read as beside other objects.
-use Rattle.std.proofs.Common.{◌≡◌, ℕ, ◌-◌, ◌*◌, ◌<◌, ◌≤◌, Bool, true, false, cond, List, length, take, drop, Option, Some, None, option_map, option_and_then, sym, ap, subst, ◌∙◌, map, arith, ◌+◌}
+use Rattle.std.proofs.Common.{◌≡◌, ◌⊎◌, inl, inr, refl, ℕ, ◌-◌, ◌*◌, ◌<◌, ◌≤◌, Bool, true, false, cond, List, length, take, drop, Option, Some, None, option_map, option_and_then, sym, ap, subst, ◌∙◌, map, arith, ◌+◌}
 use Rattle.std.proofs.lemmas.List.{drop-drop}
 use Rattle.newt_base.specs.Text.{be16_at, be32_at}
+use Rattle.newt_spec_graph.proofs.Lists.{some-same}
 use Rattle.newt_graph.specs.Graph.{RawGraph}
 use Rattle.newt_spec_nsof.specs.Written.{nsof}
 use Rattle.newt_spec_store.specs.Lies.{only, is_record, record_read}
@@ -65,20 +66,45 @@ rows-are bytes count h room e =
     size : length bytes - 12 * count ≡ 12 + (length bytes - 12 - 12 * count)
     size = omega (arith, h, room)
 
-module _ (bytes : List ℕ) (g : RawGraph) (rows : List LargeAt) (count : ℕ) (h : 12 ≤ length bytes) (room : 12 * count ≤ length bytes - 12) (e : count ≡ be16_at bytes 2) (text : written stream_graph (taken_text bytes count) ≡ Some g)
-    (named : map row_at rows ≡ taken_rows bytes count) where
+module _ (bytes : List ℕ) (g : RawGraph) (rows : List LargeAt) (count : ℕ) (h : 12 ≤ length bytes) (room : 12 * count ≤ length bytes - 12) (e : count ≡ be16_at bytes 2) (named : map row_at rows ≡ taken_rows bytes count) where
   its-rows : map row_at rows ≡ the_rows bytes
   its-rows = named ∙ rows-are bytes count h room e
 
   its-room : 12 * be16_at bytes 2 ≤ length bytes - 12
   its-room = subst (λ n. 12 * n ≤ length bytes - 12) e room
 
-  its-text : written stream_graph (the_text bytes) ≡ Some g
-  its-text = ap (written stream_graph) (sym (text-is bytes count e)) ∙ text
+  its-text : written stream_graph (taken_text bytes count) ≡ Some g → written stream_graph (the_text bytes) ≡ Some g
+  its-text text = ap (written stream_graph) (sym (text-is bytes count e)) ∙ text
 
-  pub found : fits (map row_at rows) g ≡ true → record_read stream_graph bytes ≡ Some (the_row (be16_at bytes 0) (be32_at bytes 4) (be32_at bytes 8) (nsof g) (map row_at rows), g)
-  found is = fit bytes g h its-room its-text (ap (λ ls. fits ls g) (sym its-rows) ∙ is)
+  pub found : written stream_graph (taken_text bytes count) ≡ Some g → fits (map row_at rows) g ≡ true
+      → record_read stream_graph bytes ≡ Some (the_row (be16_at bytes 0) (be32_at bytes 4) (be32_at bytes 8) (nsof g) (map row_at rows), g)
+  found text is = fit bytes g h its-room (its-text text) (ap (λ ls. fits ls g) (sym its-rows) ∙ is)
       ∙ ap {A = List LargeRow} {B = Option (EntryRow × RawGraph)} (λ ls. Some (the_row (be16_at bytes 0) (be32_at bytes 4) (be32_at bytes 8) (nsof g) ls, g)) (sym its-rows)
 
-  pub not_found : fits (map row_at rows) g ≡ false → record_read stream_graph bytes ≡ None
-  not_found is = unfit bytes g h its-room its-text (ap (λ ls. fits ls g) (sym its-rows) ∙ is)
+  not_found : written stream_graph (taken_text bytes count) ≡ Some g → fits (map row_at rows) g ≡ false → record_read stream_graph bytes ≡ None
+  not_found text is = unfit bytes g h its-room (its-text text) (ap (λ ls. fits ls g) (sym its-rows) ∙ is)
+
+  -- a record has the text of a graph
+  no-text : written stream_graph (taken_text bytes count) ≡ None → record_read stream_graph bytes ≡ None
+  no-text none = by_graph bytes h its-room ∙ ap (λ o. only is_record (option_map (λ g. (row_in bytes (the_text bytes), g)) o)) (ap (written stream_graph) (sym (text-is bytes count e)) ∙ none)
+
+  its-graph : ((is : RawGraph) → written stream_graph (taken_text bytes count) ≡ Some is → is ≡ g) → (o : Option RawGraph) → written stream_graph (taken_text bytes count) ≡ o
+      → (o ≡ None) ⊎ (o ≡ Some g)
+  its-graph only None w = inl refl
+  its-graph only (Some x) w = inr (ap Some (only x w))
+
+  -- where only this graph can be the one of the text
+  pub known : ((is : RawGraph) → written stream_graph (taken_text bytes count) ≡ Some is → is ≡ g) → fits (map row_at rows) g ≡ true → (is : EntryRow × RawGraph) → record_read stream_graph bytes ≡ Some is
+      → is ≡ (the_row (be16_at bytes 0) (be32_at bytes 4) (be32_at bytes 8) (nsof g) (map row_at rows), g)
+  known only fit is read = by (its-graph only (written stream_graph (taken_text bytes count)) refl)
+    where
+      by : (written stream_graph (taken_text bytes count) ≡ None) ⊎ (written stream_graph (taken_text bytes count) ≡ Some g) → is ≡ (the_row (be16_at bytes 0) (be32_at bytes 4) (be32_at bytes 8) (nsof g) (map row_at rows), g)
+      by (inl none) = absurd (let e : Option.None ≡ Some is = sym (no-text none) ∙ read in cc)
+      by (inr some) = some-same is (the_row (be16_at bytes 0) (be32_at bytes 4) (be32_at bytes 8) (nsof g) (map row_at rows), g) (sym read ∙ found some fit)
+
+  pub not_known : ((is : RawGraph) → written stream_graph (taken_text bytes count) ≡ Some is → is ≡ g) → fits (map row_at rows) g ≡ false → record_read stream_graph bytes ≡ None
+  not_known only is = by (its-graph only (written stream_graph (taken_text bytes count)) refl)
+    where
+      by : (written stream_graph (taken_text bytes count) ≡ None) ⊎ (written stream_graph (taken_text bytes count) ≡ Some g) → record_read stream_graph bytes ≡ None
+      by (inl none) = no-text none
+      by (inr some) = not_found some is

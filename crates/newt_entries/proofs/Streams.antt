@@ -16,6 +16,7 @@ use Rattle.newt_nsof_read.proofs.Decoded.{read_as_spelled, written_is_read_again
 use Rattle.newt_spec_store.specs.Lies.{ReadsGraphs}
 use Rattle.newt_spec_store.specs.StoreOf.{written}
 use Rattle.newt_entries.specs.Entry.{graph_in, are_bytes, stream_graph}
+use Rattle.newt_entries.specs.Known.{IsTextOf}
 use Rattle.newt_entries.proofs.Spelled.{written_fits}
 
 each_byte : (bytes : List ℕ) → are_bytes bytes ≡ true → AreBytes bytes
@@ -91,3 +92,28 @@ written_text text g e = go (stream_graph text) e
     go : (o : Option RawGraph) → option_and_then (λ x. cond (bytes_eq (nsof x) text) (Some x) None) o ≡ Some g → nsof g ≡ text
     go None e = absurd (none_some e)
     go (Some x) e = test x (bytes_eq (nsof x) text) refl e
+
+-- a text that is written of a graph is read as it
+written_read : (text : List ℕ) (g : RawGraph) → written stream_graph text ≡ Some g → stream_graph text ≡ Some g
+written_read text g e = go (stream_graph text) refl
+  where
+    none_some : Option.None ≡ Some g → ⊥
+    none_some e = cc
+
+    test : (x : RawGraph) (b : Bool) → cond b (Some x) None ≡ Some g → Some x ≡ Some g
+    test x true e = e
+    test x false e = absurd (none_some e)
+
+    told : (o : Option RawGraph) → stream_graph text ≡ o → option_and_then (λ x. cond (bytes_eq (nsof x) text) (Some x) None) o ≡ Some g
+    told o h = sym (ap (option_and_then (λ x. cond (bytes_eq (nsof x) text) (Some x) None)) h) ∙ e
+
+    go : (o : Option RawGraph) → stream_graph text ≡ o → stream_graph text ≡ Some g
+    go None h = absurd (none_some (told None h))
+    go (Some x) h = h ∙ test x (bytes_eq (nsof x) text) (told (Some x) h)
+
+-- what a text is read as is what it is written of, where it is written of a graph
+pub text_of : (text : List ℕ) (g : RawGraph) → Spells text g → Ok g ≡ decoded text → IsTextOf text g
+text_of text g h e = record {
+  is_graph = spelled_is_graph text g h;
+  only = λ is w. let same : Result.Ok g ≡ Ok is = e ∙ (stream_decoded text is (written_read text is w)).1 in cc;
+}

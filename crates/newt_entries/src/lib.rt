@@ -18,6 +18,6 @@ pub use fault::EntryFault;
 pub use fit::{MOST_TEXT, is_frame};
 pub use graphs::{filled, larges_of, row_of, skeleton, whole};
 pub use laws::streams_are_read;
-pub use read::read_entry;
+pub use read::{read_entry, read_written};
 pub use row::{EntryRow, LargeAt, Larges};
 pub use write::write_entry;

@@ -5,6 +5,7 @@ ghost use Rattle.newt_base.specs.Text.{be32_at};
 ghost use Rattle.newt_spec_store.specs.Lies.{record_read};
 ghost use Rattle.newt_spec_store.specs.StoreOf.{written};
 ghost use Rattle.newt_entries.specs.Entry.{stream_graph, row_at, rows_in, fits, said};
+ghost use Rattle.newt_entries.specs.Known.{IsTextOf, IsRecordOf};
 
 use crate::fault::EntryFault;
 use crate::fit::is_fit;
@@ -21,9 +22,21 @@ const HEAD: usize = 12;
 /// The bytes of the row of a large binary: node, object and length.
 const ROW: usize = 12;
 
-/// The graph whose written text this is.
-fn graph_of(alloc: Global, text: &[u8]) -> Result<Graph, EntryFault>
-    ensures found { IfOk result (λ g. written stream_graph text.now ≡ Some g) }
+/// What is known of bytes before they are read.
+#[derive(Clone, Copy, PartialEq, Eq, Debug)]
+enum Trust {
+    /// They may be any.
+    Nothing,
+    /// Where the device gives what was written, they were written as a record.
+    Written,
+}
+
+/// The graph whose written text this is. Where it is known that it is one, its spelling is not
+/// looked at.
+fn graph_of(alloc: Global, text: &[u8], trust: Trust) -> Result<Graph, EntryFault>
+    ensures known { IfOk result (IsTextOf text.now) }
+    ensures found { trust ≡ Trust.Nothing
+        → IfOk result (λ g. written stream_graph text.now ≡ Some g) }
     ensures bad { IsErrOf result EntryFault.Bad → written stream_graph text.now ≡ None }
 {
     let graph = match decode(alloc, text) {
@@ -31,6 +44,9 @@ fn graph_of(alloc: Global, text: &[u8]) -> Result<Graph, EntryFault>
         Err(NsofFault::Memory) => return Err(EntryFault::Memory),
         Err(_) => return Err(EntryFault::Bad),
     };
+    if trust == Trust::Written {
+        return Ok(graph);
+    }
     let Ok(text_again) = encode(alloc, &graph) else {
         return Err(EntryFault::Memory);
     };
@@ -68,14 +84,11 @@ fn rows_of(alloc: Global, bytes: &[u8], count: usize) -> Result<Vec<LargeAt>, Al
     Ok(rows)
 }
 
-/// The record that all of the bytes are read as, beside other objects: at most 65,535 large
-/// binaries of at most 1,000,000 bytes each, which are those of its skeleton. `Bad` comes only
-/// where the bytes are no record. The objects that it names are not looked at.
-pub fn read_entry(alloc: Global, bytes: &[u8]) -> Result<EntryRow, EntryFault>
-    ensures found { IfOk result (λ row. record_read stream_graph bytes.now ≡ Some (said row)) }
-    ensures fit { IfOk result (λ row. fits (map row_at row.larges) row.skeleton ≡ true) }
-    ensures few { IfOk result (λ row. length row.larges < 65536) }
-    ensures short { IfOk result (λ row. All (λ l. l.length ≤ 1000000) row.larges) }
+/// The record that all of the bytes are read as.
+fn read_by(alloc: Global, bytes: &[u8], trust: Trust) -> Result<EntryRow, EntryFault>
+    ensures found { trust ≡ Trust.Nothing
+        → IfOk result (λ row. record_read stream_graph bytes.now ≡ Some (said row)) }
+    ensures known { IfOk result (IsRecordOf bytes.now) }
     ensures soup { IfOk result (λ row. row.soup < 65536) }
     ensures bad { IsErrOf result EntryFault.Bad → record_read stream_graph bytes.now ≡ None }
 {
@@ -87,7 +100,7 @@ pub fn read_entry(alloc: Global, bytes: &[u8]) -> Result<EntryRow, EntryFault>
         return Err(EntryFault::Bad);
     }
     let end = bytes.len() - ROW * count;
-    let skeleton = graph_of(alloc, &bytes[HEAD..end])?;
+    let skeleton = graph_of(alloc, &bytes[HEAD..end], trust)?;
     let larges = rows_of(alloc, &bytes[end..], count)?;
     if !is_fit(&skeleton, &larges) {
         return Err(EntryFault::Bad);
@@ -99,4 +112,27 @@ pub fn read_entry(alloc: Global, bytes: &[u8]) -> Result<EntryRow, EntryFault>
         skeleton,
         larges: Larges::of(larges),
     })
+}
+
+/// The record that all of the bytes are read as, beside other objects: at most 65,535 large
+/// binaries of at most 1,000,000 bytes each, which are those of its skeleton. `Bad` comes only
+/// where the bytes are no record. The objects that it names are not looked at.
+pub fn read_entry(alloc: Global, bytes: &[u8]) -> Result<EntryRow, EntryFault>
+    ensures found { IfOk result (λ row. record_read stream_graph bytes.now ≡ Some (said row)) }
+    ensures fit { IfOk result (λ row. fits (map row_at row.larges) row.skeleton ≡ true) }
+    ensures few { IfOk result (λ row. length row.larges < 65536) }
+    ensures short { IfOk result (λ row. All (λ l. l.length ≤ 1000000) row.larges) }
+    ensures soup { IfOk result (λ row. row.soup < 65536) }
+    ensures bad { IsErrOf result EntryFault.Bad → record_read stream_graph bytes.now ≡ None }
+{
+    read_by(alloc, bytes, Trust::Nothing)
+}
+
+/// The record that bytes are read as that were written as one. It is `read_entry` where they are a
+/// record, and does not look whether the text of the graph is spelled as it is written.
+pub fn read_written(alloc: Global, bytes: &[u8]) -> Result<EntryRow, EntryFault>
+    ensures known { IfOk result (IsRecordOf bytes.now) }
+    ensures bad { IsErrOf result EntryFault.Bad → record_read stream_graph bytes.now ≡ None }
+{
+    read_by(alloc, bytes, Trust::Written)
 }
