@@ -40,14 +40,14 @@ fn found<I: Interpreter>(alloc: Global, bytes: &[u8]) -> Result<u32, Fail> {
 /// A run that adds an entry to the card, the first of its calls behind the reply to its mount, and
 /// what the card holds before the add and behind it.
 #[derive(Drop)]
-struct Added {
+struct AddRun {
     host: MemHost,
     first: u64,
     before: Vec<u8>,
     behind: Vec<u8>,
 }
 
-fn added<I: Interpreter>(alloc: Global) -> Result<Added, Fail> {
+fn add_run<I: Interpreter>(alloc: Global) -> Result<AddRun, Fail> {
     let before = card(alloc)?;
     let mounted = run_over::<I>(alloc, MOUNT, &before)?;
     let host = run_over::<I>(alloc, ADD, &before)?;
@@ -57,7 +57,7 @@ fn added<I: Interpreter>(alloc: Global) -> Result<Added, Fail> {
     }
     // the last call of the first run looks for more input
     let first = mounted.calls().saturating_sub(1);
-    Ok(Added {
+    Ok(AddRun {
         host,
         first,
         before,
@@ -68,7 +68,7 @@ fn added<I: Interpreter>(alloc: Global) -> Result<Added, Fail> {
 /// A stop within each call of the add leaves the card with all entries or all but the added one,
 /// and with that one where its reply had begun. Says how many of the images were mounted, which is
 /// each that is not that before the add or behind it, or the same as the last one.
-fn stop_at_each<I: Interpreter>(alloc: Global, added: &Added, pick: Pick) -> Result<u32, Fail> {
+fn stop_at_each<I: Interpreter>(alloc: Global, added: &AddRun, pick: Pick) -> Result<u32, Fail> {
     let host = &added.host;
     if host.blocks(Unit(0)) == 0 {
         return Err(Fail::new("a unit without a device"));
@@ -94,7 +94,7 @@ fn stop_at_each<I: Interpreter>(alloc: Global, added: &Added, pick: Pick) -> Res
 
 /// The same with each of these picks.
 fn stop_add<I: Interpreter>(alloc: Global, picks: &[Pick], wanted: u32) -> Result<(), Fail> {
-    let added = added::<I>(alloc)?;
+    let added = add_run::<I>(alloc)?;
     let mut mounts = 0u32;
     for pick in picks {
         mounts = mounts.saturating_add(stop_at_each::<I>(alloc, &added, *pick)?);
@@ -104,7 +104,7 @@ fn stop_add<I: Interpreter>(alloc: Global, picks: &[Pick], wanted: u32) -> Resul
 
 /// The same with each byte in what a stop has torn.
 fn stop_add_by_bytes(alloc: Global, wanted: u32) -> Result<(), Fail> {
-    let added = added::<OnDevice>(alloc)?;
+    let added = add_run::<OnDevice>(alloc)?;
     let mut mounts = 0u32;
     for byte in 0..256u32 {
         let pick = Pick::Fill(byte as u8);
