@@ -213,8 +213,8 @@ def in_full(node: Ref, text: Callable, data: bytes) -> bytes:
     return (b"\x05" if node.kind is None else b"\x04") + xlong(len(node.values)) + parts
 
 
-def encode_flat(root: Ref, is_skeleton: bool = False) -> bytes:
-    """The flat text of a graph; in that of its skeleton the large binaries are empty."""
+def numbered(root: Ref, whole: Callable) -> bytes:
+    """A text in which a node that was written before stands by its number, and any other as `whole` writes it."""
     numbers: dict[int, int] = {}
 
     def text(node: Ref) -> bytes:
@@ -223,10 +223,19 @@ def encode_flat(root: Ref, is_skeleton: bool = False) -> bytes:
         if id(node) in numbers:
             return b"\x09" + xlong(numbers[id(node)])
         numbers[id(node)] = len(numbers)
+        return whole(node, text)
+
+    return b"\x02" + text(root)
+
+
+def encode_flat(root: Ref, is_skeleton: bool = False) -> bytes:
+    """The flat text of a graph; in that of its skeleton the large binaries are empty."""
+
+    def whole(node: Ref, text: Callable) -> bytes:
         is_empty = is_skeleton and isinstance(node, Large)
         return in_full(node, text, b"" if is_empty else getattr(node, "data", b""))
 
-    return b"\x02" + text(root)
+    return numbered(root, whole)
 
 
 def small_sides(node: Ref, places: dict[int, int]) -> Optional[bytes]:
@@ -245,18 +254,12 @@ def small_sides(node: Ref, places: dict[int, int]) -> Optional[bytes]:
 def encode(root: Ref) -> bytes:
     """The written text of a graph: small frames by their four sides, numbers to what is written alone."""
     places = Walk(root).numbers
-    numbers: dict[int, int] = {}
 
-    def text(node: Ref) -> bytes:
-        if isinstance(node, int):
-            return of_immediate(node)
-        if id(node) in numbers:
-            return b"\x09" + xlong(numbers[id(node)])
-        numbers[id(node)] = len(numbers)
+    def whole(node: Ref, text: Callable) -> bytes:
         sides = small_sides(node, places)
         return in_full(node, text, getattr(node, "data", b"")) if sides is None else b"\x0b" + sides
 
-    return b"\x02" + text(root)
+    return numbered(root, whole)
 
 
 def pages(length: int) -> int:
