@@ -21,3 +21,4 @@ pub mod Ends
 pub mod Larges
 pub mod Leaving
 pub mod Opened
+pub mod Gathered

@@ -1,5 +1,5 @@
 -- What calls on a store promise. All of it is this project's own.
-use Rattle.std.specs.Prelude.{◌≡◌, ℕ, ◌*◌, Bool, IsTrue, List, Option, Some, None, Result, OnOk, IfOk, IfErr, IsErrOf}
+use Rattle.std.specs.Prelude.{◌≡◌, ℕ, ◌*◌, Bool, IsTrue, List, Option, Some, None, option_map, Result, OnOk, IfOk, IfErr, IsErrOf}
 use Rattle.newt_entries.specs.Entry.{stream_graph}
 use Rattle.newt_host.specs.Moments.{Anything, IsDurable, image, Leaves}
 use Rattle.newt_host.specs.Outside.{Outside, NoFault, OnlyReads, Spends, Touches, Wears}
@@ -8,9 +8,12 @@ use Rattle.newt_pagebook.specs.declared.book.BookFault.{BookFault}
 use Rattle.newt_pagebook.specs.declared.book.Stop.{Stop}
 use Rattle.newt_pagebook.specs.declared.book.Stop.TheVariants.{Memory}
 use Rattle.newt_spec_store.specs.ImageStore.{store_of_image}
+use Rattle.newt_store_catalog.specs.Gathering.{Graphs}
 use Rattle.newt_store_catalog.specs.Readable.{readable}
 use Rattle.newt_store_catalog.specs.Reading.{ReadEnds, ReadsOf, SearchEnds}
-use Rattle.newt_spec_store.specs.Store.{Store as PlainStore}
+use Rattle.newt_spec_nsof.specs.Lengths.{skeleton}
+use Rattle.newt_spec_store.specs.Laid.{bare}
+use Rattle.newt_spec_store.specs.Store.{Store as PlainStore, entry_at}
 use Rattle.newt_spec_store.specs.OfImage.{blocks_of}
 use Rattle.newt_base.specs.Refusals.{first_of}
 use Rattle.newt_base.specs.declared.Refusal.{Refusal}
@@ -101,6 +104,15 @@ pub record PlansChange (told : Bool) (change : Change) (now : ℕ) (catalog : Ca
   pub refused : ForStore told catalog image (λ s.
       IfErr result (RefusesWith (first_of (first_checks change s))))
 
+-- What was gathered of a store: of its soups, where the graph of each of its entries was told,
+-- without the bytes of its large binaries.
+pub record AreGathered {G : Type 0} (gathers : PlainStore → Graphs → G → Type 0) (s : PlainStore)
+    (gatherer : G) : Type 0 where
+  pub told : Graphs
+  pub gathered : gathers (bare s) told gatherer
+  pub are : (sig uid : ℕ) → told sig uid ≡
+      option_map (λ e. skeleton e.graph) (entry_at sig uid s)
+
 module _ {B : Type 0} (place : B → ℕ) (numbers : B → Numbers) (stands : Bool → B → Outside → Type 0) where
   -- This book stands for the unit, what is kept in memory is sound, and where bytes are told,
   -- memory and image stand for a store.
@@ -113,17 +125,21 @@ module _ {B : Type 0} (place : B → ℕ) (numbers : B → Numbers) (stands : Bo
   abbrev pub IsOpen : Bool → Store B → Outside → Type 0
   IsOpen told store outside = AreOpen told store.book store.catalog outside
 
-  -- The opening of a unit's store: it is open there, and it is the one that the image is read as;
-  -- or why there is none.
-  pub record OpensStore (told : Bool) (unit : ℕ) (before after : Outside)
-      (result : Result (Store B) BookFault) : Type 0 where
-    pub is_open : IfOk result (λ store. IsOpen told store after)
-    pub place_is : IfOk result (λ store. place store.book ≡ unit)
-    pub found : IsTrue told → IfOk result (λ store. (s : PlainStore) ×
+  -- The opening of a unit's store, which is a part of the answer: it is open there, and it is the
+  -- one that the image is read as; or why there is none.
+  pub record OpensAs {T : Type 0} (store_of : T → Store B) (told : Bool) (unit : ℕ)
+      (before after : Outside) (result : Result T BookFault) : Type 0 where
+    pub is_open : IfOk result (λ opened. IsOpen told (store_of opened) after)
+    pub place_is : IfOk result (λ opened. place (store_of opened).book ≡ unit)
+    pub found : IsTrue told → IfOk result (λ opened. (s : PlainStore) ×
         (readable (image unit before.now) ≡ Some s) ×
-        StandsFor store.catalog s (image unit before.now))
+        StandsFor (store_of opened).catalog s (image unit before.now))
     pub looks : OnlyReads unit before after
     pub ends : SearchEnds told unit before after result
+
+  -- the same where it is the answer
+  abbrev pub OpensStore : Bool → ℕ → (before after : Outside) → Result (Store B) BookFault → Type 0
+  OpensStore told unit before after result = OpensAs (λ store. store) told unit before after result
 
   -- A call that reads of a store's objects: book and objects are what they were, and why it ends.
   pub record ReadsObjects {T : Type 0} (told : Bool) (objects : Held) (old new : B)

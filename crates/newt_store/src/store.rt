@@ -12,8 +12,9 @@ ghost use Rattle.newt_store_change.specs.Change.{most_bytes};
 ghost use Rattle.newt_store_change.specs.Entries.{ReadsLarge, large_fetches, plain_entry};
 ghost use Rattle.newt_store_catalog.specs.Reading.{ReadEnds};
 ghost use Rattle.newt_store_catalog.specs.Stands.{StandsFor};
-ghost use Rattle.newt_store.specs.Calls.{CallEnds, Changes, FormatsUnit, IsOpen, OpensStore, Reads};
-ghost use Rattle.newt_store.specs.Calls.{ForShown, catalog_of, unit_of};
+ghost use Rattle.newt_store.specs.Calls.{AreGathered, CallEnds, Changes, FormatsUnit, IsOpen};
+ghost use Rattle.newt_store.specs.Calls.{ForShown, OpensAs, OpensStore, Reads, catalog_of};
+ghost use Rattle.newt_store.specs.Calls.{unit_of};
 
 use crate::carry::carry_out;
 use crate::format::format_unit;
@@ -26,7 +27,7 @@ use newt_host::{Host, Unit};
 use newt_pagebook::{BookFault, PageBook, Stop};
 use newt_path::Path;
 use newt_soupdir::Directory;
-use newt_store_catalog::{Catalog, open_catalog, read_whole};
+use newt_store_catalog::{Catalog, Gatherer, Nothing, open_catalog, read_whole};
 use newt_store_change::{Change, Entry, StoreFault};
 use std::alloc::{AllocError, Global};
 
@@ -66,12 +67,33 @@ impl<P: PageBook> Store<P> {
         ensures { OpensStore P.place P.numbers P.stands H.told unit
             (H.outside host.old) (H.outside host.new) result }
     {
-        let (book, catalog) = open_catalog::<P, H>(alloc, host, unit)?;
-        Ok(Store {
+        let (store, _nothing) = Store::<P>::open_with::<Nothing, H>(alloc, host, unit)?;
+        Ok(store)
+    }
+
+    /// The same, and tells each entry, without the bytes of its large binaries. Each record of an
+    /// entry is read once.
+    pub fn open_with<G: Gatherer, H: Host>(
+        alloc: Global,
+        host: &mut H,
+        unit: Unit,
+    ) -> Result<(Store<P>, G), BookFault>
+        requires enough { 13 ≤ (H.outside host.old).blocks unit }
+        requires not_too_many { (H.outside host.old).blocks unit ≤ 4099 }
+        requires at_rest { IsTrue H.told → IsDurable unit (H.outside host.old).now }
+        ensures opens { OpensAs P.place P.numbers P.stands (λ opened. opened.0) H.told unit
+            (H.outside host.old) (H.outside host.new) result }
+        ensures gathered { IsTrue H.told → IfOk result (λ opened. (s : PlainStore)
+            → StandsFor (catalog_of opened.0) s (image unit (H.outside host.old).now)
+            → AreGathered G.gathers s opened.1) }
+    {
+        let (book, catalog, gatherer) = open_catalog::<P, G, H>(alloc, host, unit)?;
+        let store = Store {
             alloc,
             book,
             catalog,
-        })
+        };
+        Ok((store, gatherer))
     }
 
     /// Makes a change at a minute, and answers the new id or soup signature, else 0. After a

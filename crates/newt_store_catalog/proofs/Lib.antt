@@ -1,8 +1,10 @@
 pub mod Kept
 pub mod Opening
 pub mod OpeningPlaces
+pub mod Unnamed
 pub mod Owning
 pub mod ReadLarges
 pub mod Rows
 pub mod Exits
 pub mod Lying
+pub mod Gathering

@@ -14,7 +14,7 @@ use Rattle.newt_objects.specs.Held.{Held, held}
 use Rattle.newt_objects.specs.Changing.{HoldsObjects}
 use Rattle.newt_objects_commit.specs.Commit.{AreKept}
 use Rattle.newt_objects_commit.specs.Names.{AreSoundNames}
-use Rattle.newt_objects_commit.specs.Places.{AreSoundPlaces}
+use Rattle.newt_objects_commit.specs.Places.{AreSoundPlaces, place_of}
 use Rattle.newt_laws_changes.specs.Written.{Names}
 use Rattle.newt_laws_images.specs.Found.{IsFound}
 use Rattle.newt_spec_store.specs.Cost.{entry_pages}
@@ -29,6 +29,7 @@ use Rattle.newt_entries.specs.declared.row.LargeAt.{LargeAt}
 use Rattle.newt_store_change.specs.Entries.{plain_entry}
 use Rattle.newt_store_change.specs.declared.entry.Entry.{Entry as ReadEntry}
 use Rattle.newt_store_catalog.specs.Opening.{AreFoundTo, AreSoundTo, IsRoot, OfObjects, Owners, has_length}
+use Rattle.newt_store_catalog.specs.Gathering.{Graphs, HasGathered}
 use Rattle.newt_store_catalog.specs.Readable.{readable}
 use Rattle.newt_store_catalog.specs.Reading.{HaveBytes, IsLaidAt, ReadEnds, ReadsOf, SearchEnds}
 use Rattle.newt_store_catalog.specs.Stands.{IsSound, StandsFor}
@@ -142,14 +143,17 @@ module _ {B : Type 0} (place : B → ℕ) (numbers : B → Numbers)
     pub ends : SearchEnds told (place old) before after result
 
   -- The opening of a unit's store: the book stands for the unit, and memory and image stand for
-  -- the store that the image is read as; or why there is none.
-  pub record OpensCatalog (told : Bool) (unit : ℕ) (before after : Outside)
-      (result : Result (B × Catalog) BookFault) : Type 0 where
+  -- the store that the image is read as, whose entries were gathered; or why there is none.
+  pub record OpensCatalog {G : Type 0} (gathers : Store → Graphs → G → Type 0) (told : Bool)
+      (unit : ℕ) (before after : Outside) (result : Result (B × Catalog × G) BookFault) :
+      Type 0 where
     pub stands : IfOk result (λ found. standing told found.0 after)
     pub place_is : IfOk result (λ found. place found.0 ≡ unit)
     pub sound : IfOk result (λ found. IsSound told found.1 (numbers found.0) unit after)
     pub found : IsTrue told → IfOk result (λ found. (s : Store) ×
         (readable (image unit before.now) ≡ Some s) ×
         StandsFor found.1 s (image unit before.now))
+    pub gathered : IfOk result (λ found. OfObjects told (image unit before.now)
+        (HasGathered gathers (bare_store found.1.directory) (place_of found.1.places) found.2))
     pub looks : OnlyReads unit before after
     pub ends : SearchEnds told unit before after result

@@ -1,6 +1,6 @@
 // The store of an image is found.
-ghost use Rattle.std.specs.Prelude.{IsTrue, ◌≡◌, ◌≢◌, ◌+◌, ◌%◌, ◌<◌, ◌≤◌, ℕ, true, false, IsSome};
-ghost use Rattle.std.specs.Prelude.{Some, None, OnOk, IfOk, IsErrOf};
+ghost use Rattle.std.specs.Prelude.{IsTrue, ◌≡◌, ◌≢◌, ◌+◌, ◌%◌, ◌<◌, ◌≤◌, ℕ, [], true, false};
+ghost use Rattle.std.specs.Prelude.{IsSome, Some, None, OnOk, IfOk, IsErrOf};
 ghost use Rattle.std.specs.List.{list_all};
 ghost use Rattle.newt_host.specs.Moments.{image, IsDurable};
 ghost use Rattle.newt_spec_nsof.specs.Text.{AreBytes};
@@ -18,6 +18,7 @@ ghost use Rattle.newt_objects_commit.specs.Names.{names_of};
 ghost use Rattle.newt_objects_commit.specs.Places.{place_of};
 ghost use Rattle.newt_store_catalog.specs.Calls.{CanRead, FindsAll, IsDirectory, IsFoundTo};
 ghost use Rattle.newt_store_catalog.specs.Calls.{OpensCatalog, Searches};
+ghost use Rattle.newt_store_catalog.specs.Gathering.{HasGathered, nothing};
 ghost use Rattle.newt_store_catalog.specs.Readable.{readable};
 ghost use Rattle.newt_store_catalog.specs.Reading.{BookReads, SearchEnds};
 ghost use Rattle.newt_store_catalog.specs.Stands.{StandsFor, IsSound};
@@ -26,6 +27,7 @@ ghost use Rattle.newt_store_catalog.specs.Opening.{objects_named, owner_of, Owns
 ghost use Rattle.newt_store_catalog.specs.Opening.{FindsRow, IsNoRow};
 
 use crate::catalog::Catalog;
+use crate::gather::Gatherer;
 use newt_entries::{EntryFault, EntryRow, LargeAt, read_entry};
 use newt_host::{Host, Unit};
 use newt_objects::{Objects, ScanFault};
@@ -265,6 +267,19 @@ struct Finding {
     owners: BTreeMap<u32, u32>,
 }
 
+/// Keeps which objects a record names, of which none were kept. Where it names none nothing is kept.
+fn keep_names(names: &mut NameTable, id: u32, ids: Vec<u32>) -> Result<(), AllocError>
+    requires { names_of names.old id ≡ [] }
+    ensures kept { OnOk result (names_of names.new id ≡ ids.items) }
+    ensures others { OnOk result ((other : ℕ) → other ≢ id → names_of names.new other ≡ names_of
+        names.old other) }
+{
+    if ids.is_empty() {
+        return Ok(());
+    }
+    names.insert(id, ids)
+}
+
 /// Keeps what is found of the record of an entry. The entry must have no place yet, and its large
 /// binaries must be there and be named by no other.
 fn find_row(
@@ -276,6 +291,7 @@ fn find_row(
     id: u32,
 ) -> Result<(), BookFault>
     requires formed { IsTrue (well_formed (bare_store directory.now)) }
+    requires unnamed { names_of finding.old.names id ≡ [] }
     ensures found { OnOk result (FindsRow (held objects.now) (bare_store directory.now) id row.now
         (place_of finding.old.places) (names_of finding.old.names) (owner_of finding.old.owners)
         (place_of finding.new.places) (names_of finding.new.names) (owner_of finding.new.owners)) }
@@ -298,19 +314,20 @@ fn find_row(
     if !are_free {
         return Err(BookFault::NotStore);
     }
-    finding.names.insert(id, ids)?;
+    keep_names(&mut finding.names, id, ids)?;
     Ok(finding.places.insert(row.soup, row.uid, id)?)
 }
 
 /// Keeps what is found of the next object. One with an odd id must be a record of an entry that has
-/// no place yet, and whose large binaries are there and are named by no other.
-fn find_object<P: PageBook, H: Host>(
+/// no place yet, and whose large binaries are there and are named by no other; its entry is told.
+fn find_object<P: PageBook, G: Gatherer, H: Host>(
     alloc: Global,
     host: &mut H,
     book: &mut P,
     objects: &Objects,
     directory: &Directory,
     finding: &mut Finding,
+    gatherer: &mut G,
     last: u32,
     id: u32,
 ) -> Result<(), BookFault>
@@ -322,10 +339,16 @@ fn find_object<P: PageBook, H: Host>(
     requires found { IsFoundTo H.told (image (P.place book.old) (H.outside host.old).now)
         (held objects.now) directory.now last (place_of finding.old.places)
         (names_of finding.old.names) (owner_of finding.old.owners) }
+    requires gathered { OfObjects H.told (image (P.place book.old) (H.outside host.old).now)
+        (HasGathered G.gathers (bare_store directory.now) (place_of finding.old.places)
+        gatherer.old) }
     ensures found { OnOk result (IsFoundTo H.told
         (image (P.place book.old) (H.outside host.old).now)
         (held objects.now) directory.now id (place_of finding.new.places)
         (names_of finding.new.names) (owner_of finding.new.owners)) }
+    ensures gathered { OnOk result (OfObjects H.told
+        (image (P.place book.old) (H.outside host.old).now) (HasGathered G.gathers
+        (bare_store directory.now) (place_of finding.new.places) gatherer.new)) }
     ensures searches { Searches P.place P.numbers P.stands H.told objects.now book.old book.new
         (H.outside host.old) (H.outside host.new) result }
 {
@@ -333,25 +356,31 @@ fn find_object<P: PageBook, H: Host>(
         return Ok(());
     }
     let row = read_record(alloc, host, book, objects, id)?;
-    find_row(alloc, objects, directory, finding, &row, id)
+    find_row(alloc, objects, directory, finding, &row, id)?;
+    Ok(gatherer.gather(row.soup, row.uid, &row.skeleton)?)
 }
 
 /// Finds the objects of all records of entries, and which objects they name: each with an even id
-/// above 0 must be named.
-fn find_records<P: PageBook, H: Host>(
+/// above 0 must be named. All entries are told.
+fn find_records<P: PageBook, G: Gatherer, H: Host>(
     alloc: Global,
     host: &mut H,
     book: &mut P,
     objects: &Objects,
     directory: &Directory,
+    gatherer: &mut G,
 ) -> Result<Finding, BookFault>
     requires can { CanRead P.place P.numbers P.stands H.told objects.now book.old
         (H.outside host.old) }
     requires root { IsDirectory H.told (image (P.place book.old) (H.outside host.old).now)
         directory.now }
+    requires begun { G.gathers (bare_store directory.now) nothing gatherer.old }
     ensures found { IfOk result (λ finding. FindsAll H.told
         (image (P.place book.old) (H.outside host.old).now) (held objects.now) directory.now
         (place_of finding.places) (names_of finding.names)) }
+    ensures gathered { IfOk result (λ finding. OfObjects H.told
+        (image (P.place book.old) (H.outside host.old).now) (HasGathered G.gathers
+        (bare_store directory.now) (place_of finding.places) gatherer.new)) }
     ensures searches { Searches P.place P.numbers P.stands H.told objects.now book.old book.new
         (H.outside host.old) (H.outside host.new) result }
 {
@@ -372,6 +401,7 @@ fn find_records<P: PageBook, H: Host>(
             objects,
             directory,
             &mut finding,
+            gatherer,
             last,
             id,
         )?;
@@ -383,18 +413,21 @@ fn find_records<P: PageBook, H: Host>(
     Ok(finding)
 }
 
-/// Finds the store that the objects of an open book write down.
-fn find_catalog<P: PageBook, H: Host>(
+/// Finds the store that the objects of an open book write down, and tells its entries.
+fn find_catalog<P: PageBook, G: Gatherer, H: Host>(
     alloc: Global,
     host: &mut H,
     book: &mut P,
-) -> Result<Catalog, BookFault>
+) -> Result<(Catalog, G), BookFault>
     requires stands { P.stands H.told book.old (H.outside host.old) }
-    ensures sound { IfOk result (λ catalog.
-        IsSound H.told catalog (P.numbers book.new) (P.place book.new) (H.outside host.new)) }
+    ensures sound { IfOk result (λ found.
+        IsSound H.told found.0 (P.numbers book.new) (P.place book.new) (H.outside host.new)) }
     ensures found { let now = image (P.place book.old) (H.outside host.old).now in
-        IsTrue H.told → IfOk result (λ catalog.
-        (s : PlainStore) × (readable now ≡ Some s) × StandsFor catalog s now) }
+        IsTrue H.told → IfOk result (λ found.
+        (s : PlainStore) × (readable now ≡ Some s) × StandsFor found.0 s now) }
+    ensures gathered { IfOk result (λ found. OfObjects H.told
+        (image (P.place book.old) (H.outside host.old).now) (HasGathered G.gathers
+        (bare_store found.0.directory) (place_of found.0.places) found.1)) }
     ensures reads { BookReads P.place P.numbers P.stands H.told book.old book.new
         (H.outside host.old) (H.outside host.new) }
     ensures ends { SearchEnds H.told (P.place book.old)
@@ -402,32 +435,35 @@ fn find_catalog<P: PageBook, H: Host>(
 {
     let objects = scan_objects(alloc, host, book)?;
     let directory = read_root(alloc, host, book, &objects)?;
-    let finding = find_records(alloc, host, book, &objects, &directory)?;
+    let mut gatherer = G::begin(alloc, &directory)?;
+    let finding = find_records(alloc, host, book, &objects, &directory, &mut gatherer)?;
     if cap(host.blocks(book.unit())) < book.live() {
         return Err(BookFault::NotStore);
     }
-    Ok(Catalog {
+    let catalog = Catalog {
         objects,
         directory,
         places: finding.places,
         names: finding.names,
         hint: 0,
-    })
+    };
+    Ok((catalog, gatherer))
 }
 
-/// Opens the book of a unit, and finds the store that its objects write down.
-pub fn open_catalog<P: PageBook, H: Host>(
+/// Opens the book of a unit, and finds the store that its objects write down. Each entry's record
+/// is read once, and told.
+pub fn open_catalog<P: PageBook, G: Gatherer, H: Host>(
     alloc: Global,
     host: &mut H,
     unit: Unit,
-) -> Result<(P, Catalog), BookFault>
+) -> Result<(P, Catalog, G), BookFault>
     requires enough { 13 ≤ (H.outside host.old).blocks unit }
     requires not_too_many { (H.outside host.old).blocks unit ≤ 4099 }
     requires at_rest { IsTrue H.told → IsDurable unit (H.outside host.old).now }
-    ensures { OpensCatalog P.place P.numbers P.stands H.told unit
+    ensures { OpensCatalog P.place P.numbers P.stands G.gathers H.told unit
         (H.outside host.old) (H.outside host.new) result }
 {
     let mut book: P = P::open(alloc, host, unit)?;
-    let catalog = find_catalog(alloc, host, &mut book)?;
-    Ok((book, catalog))
+    let (catalog, gatherer) = find_catalog::<P, G, H>(alloc, host, &mut book)?;
+    Ok((book, catalog, gatherer))
 }

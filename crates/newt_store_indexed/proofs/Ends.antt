@@ -1,24 +1,15 @@
 -- The end of a list of ids, and the first of it.
 use Rattle.std.proofs.Common.{◌≡◌, ℕ, ◌+◌, ◌-◌, ◌<◌, ◌≤◌, List, [], ◌∷◌, length, take, drop, get_or, refl, sym, ◌∙◌, ap, arith}
 use Rattle.std.proofs.lemmas.Grind.{common_steps}
-use Rattle.newt_store_change.specs.Change.{pages_of_entry, uids_in}
-use Rattle.newt_spec_store.specs.Store.{Store, entry_at, soup_of}
+use Rattle.newt_store_change.specs.Change.{pages_of_entry}
+use Rattle.newt_spec_store.specs.Store.{Store, entry_at}
 use Rattle.newt_graph.specs.Graph.{RawGraph}
-use Rattle.newt_index_ranges.specs.declared.rows.SoupRanges.{SoupRanges}
-use Rattle.newt_store_indexed.specs.Filling.{with_read, with_all, rows_with, rows_with_all, rows_of_soups}
+use Rattle.newt_store_indexed.specs.Filling.{with_read, with_all}
 use Rattle.newt_store_change.specs.Change.{pages_listed}
 
 pub with-none : {T : Type 0} (add : ℕ → RawGraph → T → T) (sig : ℕ) (s : Store) (us : List ℕ) (v : T) → length us < 1 → with_all add sig s us v ≡ v
 with-none add sig s [] v low = refl
 with-none add sig s (u ∷ us) v low = absurd (omega (arith, low))
-
-pub rows-none : (sig : ℕ) (s : Store) (us : List ℕ) (rows : List SoupRanges) → length us < 1 → rows_with_all sig s us rows ≡ rows
-rows-none sig s [] rows low = refl
-rows-none sig s (u ∷ us) rows low = absurd (omega (arith, low))
-
-pub soups-none : (s : Store) (sigs : List ℕ) (rows : List SoupRanges) → length sigs < 1 → rows_of_soups s sigs rows ≡ rows
-soups-none s [] rows low = refl
-soups-none s (sig ∷ sigs) rows low = absurd (omega (arith, low))
 
 pub pages-none : (sig : ℕ) (s : Store) (us : List ℕ) (n total : ℕ) → length us < 1 → n + pages_listed sig s us ≡ total → n ≡ total
 pages-none sig s [] n total low is = omega (arith, is)
@@ -40,15 +31,6 @@ pub with-first : {T : Type 0} (add : ℕ → RawGraph → T → T) (sig : ℕ) (
 with-first add sig s [] u v some is = absurd (omega (arith, some))
 with-first add sig s (x ∷ us) u v some is =
     ap (λ (w : ℕ). with_all add sig s us (with_read add w (entry_at sig w s) v)) (sym is) ∙ ap (λ (ws : List ℕ). with_all add sig s ws (with_read add u (entry_at sig u s) v)) (sym (behind-is x us))
-
-pub rows-first : (sig : ℕ) (s : Store) (us : List ℕ) (u : ℕ) (rows : List SoupRanges) → 1 ≤ length us → u ≡ get_or us 0 u → rows_with_all sig s us rows ≡ rows_with_all sig s (behind us) (rows_with sig u (entry_at sig u s) rows)
-rows-first sig s [] u rows some is = absurd (omega (arith, some))
-rows-first sig s (x ∷ us) u rows some is = ap (λ (w : ℕ). rows_with_all sig s us (rows_with sig w (entry_at sig w s) rows)) (sym is) ∙ ap (λ (ws : List ℕ). rows_with_all sig s ws (rows_with sig u (entry_at sig u s) rows)) (sym (behind-is x us))
-
-pub soups-first : (s : Store) (sigs : List ℕ) (sig : ℕ) (rows : List SoupRanges) → 1 ≤ length sigs → sig ≡ get_or sigs 0 sig → rows_of_soups s sigs rows ≡ rows_of_soups s (behind sigs) (rows_with_all sig s (uids_in (soup_of sig s)) rows)
-soups-first s [] sig rows some is = absurd (omega (arith, some))
-soups-first s (x ∷ sigs) sig rows some is =
-    ap (λ (w : ℕ). rows_of_soups s sigs (rows_with_all w s (uids_in (soup_of w s)) rows)) (sym is) ∙ ap (λ (ws : List ℕ). rows_of_soups s ws (rows_with_all sig s (uids_in (soup_of sig s)) rows)) (sym (behind-is x sigs))
 
 pub sum-next : (n left total k rest : ℕ) → n + left ≡ total → left ≡ k + rest → (n + k) + rest ≡ total
 sum-next n left total k rest e f = omega (arith, e, f)

@@ -1,86 +1,38 @@
--- The ranges of a store whose entries were read are the store's.
-use Rattle.std.proofs.Common.{◌≡◌, ℕ, ◌==◌, ◌<◌, Bool, true, cond, List, [], ◌∷◌, map, Option, Some, None, refl, sym, ◌∙◌, ap, subst, inl, inr, arith}
-use Rattle.std.specs.Option.{option_and_then}
-use Rattle.std.proofs.lemmas.Bool.{eq-eqb}
-use Rattle.newt_spec_graph.specs.Lists.{Each, Pairs, Among}
-use Rattle.newt_spec_graph.proofs.Lists.{each-from, rises-pairs}
+-- The ranges of a store whose entries were told are the store's.
+use Rattle.std.proofs.Common.{◌≡◌, ℕ, ◌==◌, Bool, true, false, cond, List, [], ◌∷◌, map, Option, Some, None, option_map, option_and_then, refl, sym, ◌∙◌, ap, inl, inr}
+use Rattle.std.proofs.lemmas.Bool.{eqb-true, eq-eqb}
+use Rattle.newt_graph.specs.Graph.{RawGraph}
+use Rattle.newt_graph.specs.declared.node.Node.{Node}
+use Rattle.newt_graph.specs.declared.node.Node.TheVariants.{Symbol, Str, Binary, Large, Array, Frame}
+use Rattle.newt_spec_nsof.specs.Lengths.{bare as bare_node, skeleton}
+use Rattle.newt_spec_graph.specs.Lists.{Among}
+use Rattle.newt_spec_graph.proofs.Lists.{both-ways}
+use Rattle.newt_spec_store.specs.Keys.{IndexSpec}
 use Rattle.newt_spec_store.specs.Laid.{bare, bare_soup as emptied}
-use Rattle.newt_spec_store.specs.Store.{Entry, Soup, Store, entry_of, soup_of, entry_at}
+use Rattle.newt_spec_store.specs.Store.{Entry, Soup, Store, TagTable, entry_of, entry_at}
 use Rattle.newt_spec_store.specs.Valid.{well_formed}
-use Rattle.newt_laws_images.proofs.Assembled.{map-among}
+use Rattle.newt_laws_images.proofs.Both.{Both}
+use Rattle.newt_laws_images.proofs.Skeletons.{Like}
+use Rattle.newt_laws_images.proofs.Known.{bare-good}
 use Rattle.newt_laws_images.proofs.Stores.{is-store}
-use Rattle.newt_laws_images.proofs.Chosen.{OnePasses, one-sig-of, there-soup}
+use Rattle.newt_laws_images.proofs.Chosen.{one-sig-of, there-soup}
 use Rattle.newt_soupdir.specs.Bare.{bare_store, bare_soup}
 use Rattle.newt_soupdir.specs.declared.rows.Directory.{Directory}
 use Rattle.newt_soupdir.specs.declared.rows.SoupRow.{SoupRow}
+use Rattle.newt_tags.specs.Masks.{mask_of}
+use Rattle.newt_index.specs.Pairs.{parts_of}
+use Rattle.newt_index_ranges.specs.Range.{key_by}
 use Rattle.newt_index_ranges.specs.declared.rows.SoupRanges.{SoupRanges}
-use Rattle.newt_index_ranges.specs.Rows.{no_ranges}
+use Rattle.newt_index_ranges.specs.Rows.{no_ranges, entry_kept, change_ranges}
 use Rattle.newt_index_ranges.specs.Stands.{graphs_of, IsRangesOf, AreRanges, AreRangesOf}
-use Rattle.newt_index_ranges.proofs.Laws.{soup_listed, entry_listed, opened}
-use Rattle.newt_index_ranges.proofs.Standing.{of_sig}
-use Rattle.newt_store_change.specs.Change.{uids_in}
-use Rattle.newt_store_indexed.specs.Filling.{rows_with, rows_with_all, rows_of_soups}
-use Rattle.newt_store_indexed.proofs.Told.{Told, graph_in, nothing, told_one, told_all, told_soups, other_sig, other_soup, still_none, soup-told, ids-rise, ids-there, IsThere}
+use Rattle.newt_index_ranges.proofs.Laws.{soup_listed, entry_listed}
+use Rattle.newt_index_ranges.proofs.Seen.{AreLike, like-key, like-mask}
+use Rattle.newt_index_ranges.proofs.Standing.{same_keys, same_masks, none_changed}
+use Rattle.newt_store_catalog.specs.Gathering.{Graphs, nothing, IsOneMore}
+use Rattle.newt_store.specs.Calls.{AreGathered}
+use Rattle.newt_store_indexed.specs.Listing.{Lists}
 
--- the ranges of soups whose graphs are told
-abbrev Stand : Told → List Soup → List SoupRanges → Type 0
-Stand told ps rows = AreRanges (λ p. told p.sig) ps rows
-
-module _ (s : Store) (ps : List Soup) (one : (sig : ℕ) → OnePasses (of_sig sig) ps) where
-  -- one entry more
-  listed-one : (sig u : ℕ) (told : Told) (rows : List SoupRanges) → IsThere sig s u → told sig u ≡ None → Stand told ps rows → Stand (told_one sig u (entry_at sig u s) told) ps (rows_with sig u (entry_at sig u s) rows)
-  listed-one sig u told rows there none are =
-      subst (λ (o : Option Entry). Stand (told_one sig u o told) ps (rows_with sig u o rows)) (sym there.1)
-      (entry_listed (λ p. told p.sig) (λ p. told_one sig u (Some there.0) told p.sig) ps rows sig u there.0.graph (one sig)
-      (λ p m is. (ap (λ (t : ℕ). told t u) is ∙ none, λ w. here p.sig is w))
-      (λ p m differ w. sym (other_sig sig u (Some there.0) told p.sig w differ)) are)
-    where
-      here : (t : ℕ) → t ≡ sig → (w : ℕ) → told_one sig u (Some there.0) told t w ≡ cond (u == w) (Some there.0.graph) (told t w)
-      here t is w = ap (λ (b : Bool). cond b (cond (u == w) (Some there.0.graph) (told t w)) (told t w)) (eq-eqb t sig is)
-
-  listed-all : (sig : ℕ) (us : List ℕ) (told : Told) (rows : List SoupRanges) → Pairs (λ m n. m < n) us → Each (IsThere sig s) us → Each (λ u. told sig u ≡ None) us → Stand told ps rows
-      → Stand (told_all sig s us told) ps (rows_with_all sig s us rows)
-  listed-all sig [] told rows rise there none are = are
-  listed-all sig (u ∷ us) told rows rise there none are =
-      listed-all sig us (told_one sig u (entry_at sig u s) told) (rows_with sig u (entry_at sig u s) rows) rise.1 there.1
-      (still_none sig u (entry_at sig u s) told us rise.0 none.1) (listed-one sig u told rows there.0 none.0 are)
-
-  -- nothing is told of soups that come later
-  abbrev AreNone : Told → List ℕ → Type 0
-  AreNone told sigs = Each (λ sig. (w : ℕ) → told sig w ≡ None) sigs
-
-  later-none : (sig : ℕ) (us : List ℕ) (told : Told) (sigs : List ℕ) → Each (λ t. sig < t) sigs → AreNone told sigs → AreNone (told_all sig s us told) sigs
-  later-none sig us told [] above none = tt
-  later-none sig us told (t ∷ sigs) above none = (
-    λ w. other_soup sig s us told t w (λ is. let low = above.0 in omega (arith, low, is)) ∙ none.0 w,
-    later-none sig us told sigs above.1 none.1,
-  )
-
-  listed-soups : (sigs : List ℕ) (told : Told) (rows : List SoupRanges) → well_formed s ≡ true → Pairs (λ m n. m < n) sigs → AreNone told sigs → Stand told ps rows
-      → Stand (told_soups s sigs told) ps (rows_of_soups s sigs rows)
-  listed-soups [] told rows formed rise none are = are
-  listed-soups (sig ∷ sigs) told rows formed rise none are =
-      listed-soups sigs (told_all sig s (uids_in (soup_of sig s)) told) (rows_with_all sig s (uids_in (soup_of sig s)) rows) formed rise.1
-      (later-none sig (uids_in (soup_of sig s)) told sigs rise.0 none.1)
-      (listed-all sig (uids_in (soup_of sig s)) told rows (ids-rise sig s formed) (ids-there sig s formed) (each-from (λ u. told sig u ≡ None) (uids_in (soup_of sig s)) (λ z m. none.0 z)) are)
-
--- what was told of a soup that is none of these stays
-others-told : (s : Store) (sigs : List ℕ) (told : Told) (t w : ℕ) → Each (λ sig. t < sig) sigs → told_soups s sigs told t w ≡ told t w
-others-told s [] told t w above = refl
-others-told s (sig ∷ sigs) told t w above =
-    others-told s sigs (told_all sig s (uids_in (soup_of sig s)) told) t w above.1 ∙ other_soup sig s (uids_in (soup_of sig s)) told t w (λ is. let low = above.0 in omega (arith, low, is))
-
-soups-told : (s : Store) (sigs : List ℕ) (told : Told) (t w : ℕ) → Pairs (λ m n. m < n) sigs → Each (λ sig. (w : ℕ) → told sig w ≡ None) sigs → Among sigs t → told_soups s sigs told t w ≡ graph_in (entry_at t w s)
-soups-told s [] told t w rise none m = absurd m
-soups-told s (sig ∷ sigs) told t w rise none (inl is) =
-    subst (λ (t : ℕ). told_soups s (sig ∷ sigs) told t w ≡ graph_in (entry_at t w s)) is
-    (others-told s sigs (told_all sig s (uids_in (soup_of sig s)) told) sig w rise.0 ∙ soup-told sig s told w none.0)
-soups-told s (sig ∷ sigs) told t w rise none (inr m) =
-    soups-told s sigs (told_all sig s (uids_in (soup_of sig s)) told) t w rise.1 (keep sigs rise.0 none.1) m
-  where
-    keep : (ts : List ℕ) → Each (λ t. sig < t) ts → Each (λ sig. (w : ℕ) → told sig w ≡ None) ts → Each (λ t. (w : ℕ) → told_all sig s (uids_in (soup_of sig s)) told t w ≡ None) ts
-    keep [] above none = tt
-    keep (t ∷ ts) above none = (λ w. other_soup sig s (uids_in (soup_of sig s)) told t w (λ is. let low = above.0 in omega (arith, low, is)) ∙ none.0 w, keep ts above.1 none.1)
+-- ---- one entry after the other
 
 -- ranges without entries
 none-listed : (rows : List SoupRow) → AreRanges (λ p. nothing p.sig) (map bare_soup rows) (map (λ row. no_ranges row.sig row.specs row.tags) rows)
@@ -94,61 +46,75 @@ none-listed rows = go rows
     go (row ∷ rows) = front (bare_soup row) (map bare_soup rows) (no_ranges row.sig row.specs row.tags) (map (λ row. no_ranges row.sig row.specs row.tags) rows)
         (soup_listed [] [] (bare_soup row) tt).0 (go rows)
 
--- the signatures of the soups of a store
-bare-sigs : (ps : List Soup) (rows : List SoupRow) → map emptied ps ≡ map bare_soup rows → map (λ (row : SoupRow). row.sig) rows ≡ map (λ (p : Soup). p.sig) ps
-bare-sigs ps rows same = of_rows rows ∙ ap (λ (qs : List Soup). map (λ (p : Soup). p.sig) qs) (sym same) ∙ of_soups ps
+pub listed-none : (d : Directory) (rows : List SoupRanges) → rows ≡ map (λ (row : SoupRow). no_ranges row.sig row.specs row.tags) d.soups → Lists (bare_store d) nothing rows
+listed-none d rows is formed = rw is (none-listed d.soups)
+
+-- one entry more
+pub listed-more : (d : Store) (told more : Graphs) (old new : List SoupRanges) (sig u : ℕ) (g : RawGraph) → new ≡ change_ranges sig (entry_kept u g) old
+    → Lists d told old → IsOneMore sig u g told more → Lists d more new
+listed-more d told more old new sig u g is are one formed =
+    rw is (entry_listed (λ p. told p.sig) (λ p. more p.sig) d.soups old sig u g (one-sig-of sig d.next_soup d.soups (is-store d formed).sigs)
+    (λ p m same. (ap (λ (t : ℕ). told t u) same ∙ one.none, λ w. here p.sig w same))
+    (λ p m differ w. sym (one.others p.sig w (λ same k. differ same))) (are formed))
   where
-    of_rows : (rows : List SoupRow) → map (λ (row : SoupRow). row.sig) rows ≡ map (λ (p : Soup). p.sig) (map bare_soup rows)
-    of_rows [] = refl
-    of_rows (row ∷ rows) = ap (λ ns. row.sig ∷ ns) (of_rows rows)
+    here : (t w : ℕ) → t ≡ sig → more t w ≡ cond (u == w) (Some g) (told t w)
+    here t w same = go (u == w) refl
+      where
+        go : (b : Bool) → (u == w) ≡ b → more t w ≡ cond b (Some g) (told t w)
+        go true e = ap (λ (v : ℕ). more t v) (sym (eqb-true u w e)) ∙ ap (λ (s : ℕ). more s u) same ∙ one.one
+        go false e = one.others t w (λ s k. both-ways (sym e ∙ eq-eqb u w (sym k)))
 
-    of_soups : (ps : List Soup) → map (λ (p : Soup). p.sig) (map emptied ps) ≡ map (λ (p : Soup). p.sig) ps
-    of_soups [] = refl
-    of_soups (p ∷ ps) = ap (λ ns. p.sig ∷ ns) (of_soups ps)
+-- ---- all entries of a store
 
--- the signatures of a directory, and its ranges without entries
-abbrev pub sigs-of : Directory → List ℕ
-sigs-of d = map (λ (row : SoupRow). row.sig) d.soups
-
-abbrev pub empty-rows : Directory → List SoupRanges
-empty-rows d = map (λ (row : SoupRow). no_ranges row.sig row.specs row.tags) d.soups
-
--- the ranges of a store, its soups listed from its directory and its entries read
-pub all-listed : (s : Store) (d : Directory) → well_formed s ≡ true → bare s ≡ bare_store d
-    → AreRangesOf s (rows_of_soups s (sigs-of d) (empty-rows d))
-all-listed s d formed is =
-    opened s (rows_of_soups s (sigs-of d) (empty-rows d)) (told_soups s (sigs-of d) nothing) (λ p m w. known p m w)
-    (subst (λ (ps : List Soup). Stand (told_soups s (sigs-of d) nothing) ps (rows_of_soups s (sigs-of d) (empty-rows d))) (sym same)
-    (listed-soups s (map bare_soup d.soups) one (sigs-of d) nothing (empty-rows d) formed rise (each-from (λ sig. (w : ℕ) → nothing sig w ≡ None) (sigs-of d) (λ z m w. refl)) (none-listed d.soups)))
+-- a graph is seen as it is without the bytes of its large binaries
+bare-like : (g : RawGraph) → AreLike (skeleton g) g
+bare-like g = record { root = refl; nodes = go g.nodes }
   where
-    same : (bare s).soups ≡ map bare_soup d.soups
-    same = ap (λ (t : Store). t.soups) is
+    like : (n : Node) → Like (bare_node n) n
+    like (Symbol s) = refl
+    like (Str s) = refl
+    like (Binary c b) = refl
+    like (Large c b) = (b, refl)
+    like (Array c v) = refl
+    like (Frame t v) = refl
 
-    sigs-are : sigs-of d ≡ map (λ (p : Soup). p.sig) s.soups
-    sigs-are = bare-sigs s.soups d.soups same
+    go : (ns : List Node) → Both Like (map bare_node ns) ns
+    go [] = tt
+    go (n ∷ ns) = (like n, go ns)
 
-    rising : Rattle.newt_spec_graph.specs.Lists.rises 0 s.next_soup (sigs-of d) ≡ true
-    rising = ap (Rattle.newt_spec_graph.specs.Lists.rises 0 s.next_soup) sigs-are ∙ (is-store s formed).sigs
+-- what is seen of entries is seen of their graphs without these bytes
+module _ {Y : Type 0} (see : RawGraph → Option Y) (alike : (g h : RawGraph) → AreLike g h → see g ≡ see h) where
+  same-seen : (o : Option Entry) → option_and_then see (option_map (λ e. skeleton e.graph) o) ≡ option_and_then see (option_map (λ e. e.graph) o)
+  same-seen None = refl
+  same-seen (Some e) = alike (skeleton e.graph) e.graph (bare-like e.graph)
 
-    rise : Pairs (λ m n. m < n) (sigs-of d)
-    rise = rises-pairs 0 s.next_soup (sigs-of d) rising
+  told-seen : (s : Store) (told : Graphs) → well_formed s ≡ true → ((sig uid : ℕ) → told sig uid ≡ option_map (λ e. skeleton e.graph) (entry_at sig uid s))
+      → (p : Soup) → Among s.soups p → (w : ℕ) → option_and_then see (told p.sig w) ≡ option_and_then see (graphs_of p w)
+  told-seen s told formed are p m w =
+      ap (option_and_then see) (are p.sig w ∙ ap (λ (o : Option Soup). option_map (λ e. skeleton e.graph) (option_and_then (entry_of w) o)) (there-soup s p formed m)) ∙ same-seen (entry_of w p)
 
-    of_rows : (rows : List SoupRow) → map (λ (p : Soup). p.sig) (map bare_soup rows) ≡ map (λ (row : SoupRow). row.sig) rows
-    of_rows [] = refl
-    of_rows (row ∷ rows) = ap (λ ns. row.sig ∷ ns) (of_rows rows)
+-- a mask of a graph, if there is one
+masked : (t : TagTable) (o : Option RawGraph) → option_and_then (λ g. Some (mask_of t g)) o ≡ option_map (mask_of t) o
+masked t None = refl
+masked t (Some g) = refl
 
-    one : (sig : ℕ) → OnePasses (of_sig sig) (map bare_soup d.soups)
-    one sig = one-sig-of sig s.next_soup (map bare_soup d.soups) (ap (Rattle.newt_spec_graph.specs.Lists.rises 0 s.next_soup) (of_rows d.soups) ∙ rising)
+pub all-listed : {L : Type 0} (rows_of : L → List SoupRanges) (s : Store) (listing : L) → well_formed s ≡ true → AreGathered (λ d told l. Lists d told (rows_of l)) s listing → AreRangesOf s (rows_of listing)
+all-listed rows_of s listing formed h = go s.soups (rows_of listing) (λ p m. m) (h.gathered (bare-good s formed))
+  where
+    keys : (p : Soup) → Among s.soups p → (spec : Option IndexSpec) (w : ℕ) → option_and_then (key_by spec) (h.told p.sig w) ≡ option_and_then (key_by spec) (graphs_of p w)
+    keys p m spec w = told-seen (key_by spec) (λ g k like. like-key g k like (parts_of spec)) s h.told formed h.are p m w
 
-    known : (p : Soup) → Among s.soups p → (w : ℕ) → told_soups s (sigs-of d) nothing p.sig w ≡ graphs_of p w
-    known p m w =
-        soups-told s (sigs-of d) nothing p.sig w rise (each-from (λ sig. (w : ℕ) → nothing sig w ≡ None) (sigs-of d) (λ z m w. refl))
-        (subst (λ (ns : List ℕ). Among ns p.sig) (sym sigs-are) (map-among (λ (p : Soup). p.sig) s.soups p m))
-        ∙ ap (λ (o : Option Soup). graph_in (option_and_then (entry_of w) o)) (there-soup s p formed m)
+    masks : (p : Soup) → Among s.soups p → (t : TagTable) (w : ℕ) → option_map (mask_of t) (h.told p.sig w) ≡ option_map (mask_of t) (graphs_of p w)
+    masks p m t w =
+        sym (masked t (h.told p.sig w)) ∙ told-seen (λ g. Some (mask_of t g)) (λ g k like. ap Some (like-mask g k like t)) s h.told formed h.are p m w ∙ masked t (graphs_of p w)
 
--- in other words
-pub listed-as : (s : Store) (d : Directory) → well_formed s ≡ true → bare s ≡ bare_store d → (sigs : List ℕ) (rows later : List SoupRanges) → sigs ≡ sigs-of d
-    → rows ≡ empty-rows d → later ≡ rows_of_soups s sigs rows → AreRangesOf s later
-listed-as s d formed is sigs rows later e f h =
-    subst (λ (x : List SoupRanges). AreRangesOf s x) (sym (h ∙ ap (λ (ns : List ℕ). rows_of_soups s ns rows) e ∙ ap (λ (rs : List SoupRanges). rows_of_soups s (sigs-of d) rs) f))
-    (all-listed s d formed is)
+    go : (ps : List Soup) (rows : List SoupRanges) → ((p : Soup) → Among ps p → Among s.soups p) → AreRanges (λ p. h.told p.sig) (map emptied ps) rows → AreRanges graphs_of ps rows
+    go [] [] within are = tt
+    go (p ∷ ps) (r ∷ rows) within are = (
+      none_changed (emptied p) p (h.told p.sig) (graphs_of p) r refl refl refl
+          (λ spec v. same_keys spec (h.told p.sig) (graphs_of p) v (keys p (within p (inl refl)) spec))
+          (λ t m. same_masks t (h.told p.sig) (graphs_of p) m (masks p (within p (inl refl)) t)) are.0,
+      go ps rows (λ q m. within q (inr m)) are.1,
+    )
+    go [] (r ∷ rows) within are = absurd are
+    go (p ∷ ps) [] within are = absurd are

@@ -32,11 +32,6 @@ abbrev pub told_all : ℕ → Store → List ℕ → Told → Told
 told_all sig s [] told = told
 told_all sig s (u ∷ us) told = told_all sig s us (told_one sig u (entry_at sig u s) told)
 
--- and those of all these soups
-abbrev pub told_soups : Store → List ℕ → Told → Told
-told_soups s [] told = told
-told_soups s (sig ∷ sigs) told = told_soups s sigs (told_all sig s (uids_in (soup_of sig s)) told)
-
 same : (n : ℕ) → (n == n) ≡ true
 same n = eq-eqb n n refl
 

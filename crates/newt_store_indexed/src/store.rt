@@ -12,7 +12,7 @@ ghost use Rattle.newt_store_change.specs.Faults.{IsRefused};
 ghost use Rattle.newt_store.specs.Calls.{Changes, IsOpen, Shows, catalog_of, unit_of};
 ghost use Rattle.newt_store_indexed.specs.Steps.{IsStepOf};
 
-use crate::listing::ranges_of;
+use crate::listing::Listing;
 use crate::plan::step_of;
 use crate::step::{Step, follow};
 use newt_base::{Name, Sig, Uid};
@@ -73,12 +73,9 @@ impl<P: PageBook> Card for IndexedStore<P> {
     }
 
     fn open<H: Host>(alloc: Global, host: &mut H, unit: Unit) -> Result<Self, BookFault> {
-        let mut store: Store<P> = Store::open(alloc, host, unit)?;
-        match ranges_of(&mut store, host) {
-            Ok(ranges) => Ok(IndexedStore { store, ranges }),
-            Err(Stop::Memory) => Err(BookFault::Memory),
-            Err(Stop::Device(_)) => Err(BookFault::Device),
-        }
+        let (store, listing) = Store::<P>::open_with::<Listing, H>(alloc, host, unit)?;
+        let ranges = listing.ranges;
+        Ok(IndexedStore { store, ranges })
     }
 
     fn apply<H: Host>(

@@ -4,6 +4,7 @@ use Rattle.newt_host.proofs.Outside.{NoFault-append}
 use Rattle.newt_spec_image.specs.Pages.{cap}
 use Rattle.newt_laws_images.specs.Found.{IsFound}
 use Rattle.newt_pagebook.specs.declared.book.BookFault.{BookFault}
+use Rattle.newt_pagebook.specs.declared.book.BookFault.TheVariants.{Memory}
 use Rattle.newt_spec_store.specs.Store.{Store}
 use Rattle.newt_soupdir.specs.Bare.{bare_store}
 use Rattle.newt_entries.specs.Entry.{stream_graph}
@@ -12,9 +13,10 @@ use Rattle.newt_objects_commit.specs.Places.{place_of}
 use Rattle.newt_store_catalog.specs.declared.catalog.Catalog.{Catalog}
 use Rattle.newt_store_catalog.specs.Readable.{readable}
 use Rattle.newt_store_catalog.specs.Stands.{StandsFor, IsSound}
+use Rattle.newt_store_catalog.specs.Gathering.{HasGathered}
 use Rattle.newt_store_catalog.specs.Opening.{OfObjects}
 use Rattle.newt_store_catalog.specs.Calls.{IsDirectory}
-use Rattle.newt_store_catalog.proofs.Exits.{Fails, no-value, book-on, can-on, of-book, search-value, search-none, search-fails, search-after}
+use Rattle.newt_store_catalog.proofs.Exits.{Fails, no-value, book-on, can-on, of-book, search-value, search-none, search-fails, search-memory, search-after}
 use Rattle.newt_store_catalog.proofs.Opening.{same-image}
 use Rattle.newt_store_catalog.proofs.OpeningPlaces.{live-large, live-opened}
 use Rattle.newt_store_catalog.proofs.open.find_catalog.Goals as goal
@@ -57,6 +59,7 @@ returns-then-cap-live g c =
     record {
       sound = tt;
       found = λ tells. tt;
+      gathered = tt;
       reads = book-on before (of-book three.searches.book);
       ends = search-none
           (λ tells.
@@ -90,6 +93,7 @@ returns g c =
           (subst (λ (b : List ℕ). OfObjects g.H.Host.told b (λ texts. IsFound stream_graph texts (place_of c.in_ok-finding.finding.places) (names_of c.in_ok-finding.finding.names) (bare_store c.in_ok-directory.directory))) second three.found.found)
           (is-few _ _ _ _ room c.live.ensures c.if-cap-live.false)
           (record { objects = c.in_ok-objects.objects; directory = c.in_ok-directory.directory; places = c.in_ok-finding.finding.places; names = c.in_ok-finding.finding.names; hint = 0 }) refl refl refl;
+      gathered = subst (λ (b : List ℕ). OfObjects g.H.Host.told b (HasGathered g.G.Gatherer.gathers (bare_store c.in_ok-directory.directory) (place_of c.in_ok-finding.finding.places) c.find_records.new.gatherer)) second three.gathered;
       reads = book-on before (of-book three.searches.book);
       ends = search-value none;
     }
@@ -101,12 +105,13 @@ returns-in_err-objects g c =
     let u : ℕ = place c.args.book.now in
     let first = o c.args.host.now in
     let fault : BookFault = c.in_err-objects.field-0.0 in
-    let r : Result Catalog BookFault = c.from_residual.result in
+    let r : Result (Catalog × g.row.G.Denot) BookFault = c.from_residual.result in
     let fails : Fails r fault = c.from_residual.ensures.1 in
     let e = c.scan_objects.ensures in
     record {
-      sound = no-value r fault (λ catalog. IsSound g.H.Host.told catalog (g.P.PageBook.numbers c.scan_objects.new.book) (place c.scan_objects.new.book) (o c.scan_objects.new.host)) fails;
-      found = λ tells. no-value r fault (λ catalog. (s : Store) × (readable (image u first.now) ≡ Some s) × StandsFor catalog s (image u first.now)) fails;
+      sound = no-value r fault (λ found. IsSound g.H.Host.told found.0 (g.P.PageBook.numbers c.scan_objects.new.book) (place c.scan_objects.new.book) (o c.scan_objects.new.host)) fails;
+      found = λ tells. no-value r fault (λ found. (s : Store) × (readable (image u first.now) ≡ Some s) × StandsFor found.0 s (image u first.now)) fails;
+      gathered = no-value r fault _ fails;
       reads = e.reads;
       ends = search-fails r fault fails c.in_err-objects.ensures.ends;
     }
@@ -118,12 +123,13 @@ returns-in_err-directory g c =
     let u : ℕ = place c.args.book.now in
     let first = o c.args.host.now in
     let fault : BookFault = c.in_err-directory.field-0.0 in
-    let r : Result Catalog BookFault = c.from_residual-in_err-directory.result in
+    let r : Result (Catalog × g.row.G.Denot) BookFault = c.from_residual-in_err-directory.result in
     let fails : Fails r fault = c.from_residual-in_err-directory.ensures.1 in
     let one = c.in_ok-objects.ensures in
     record {
-      sound = no-value r fault (λ catalog. IsSound g.H.Host.told catalog (g.P.PageBook.numbers c.read_root.new.book) (place c.read_root.new.book) (o c.read_root.new.host)) fails;
-      found = λ tells. no-value r fault (λ catalog. (s : Store) × (readable (image u first.now) ≡ Some s) × StandsFor catalog s (image u first.now)) fails;
+      sound = no-value r fault (λ found. IsSound g.H.Host.told found.0 (g.P.PageBook.numbers c.read_root.new.book) (place c.read_root.new.book) (o c.read_root.new.host)) fails;
+      found = λ tells. no-value r fault (λ found. (s : Store) × (readable (image u first.now) ≡ Some s) × StandsFor found.0 s (image u first.now)) fails;
+      gathered = no-value r fault _ fails;
       reads = book-on one.reads (of-book c.read_root.ensures.searches.book);
       ends = search-after one.reads.same_place one.reads.looks (one.ends.no_fault tt) (search-fails r fault fails c.in_err-directory.ensures.searches.ends);
     }
@@ -135,14 +141,31 @@ returns-in_err-finding g c =
     let u : ℕ = place c.args.book.now in
     let first = o c.args.host.now in
     let fault : BookFault = c.in_err-finding.field-0.0 in
-    let r : Result Catalog BookFault = c.from_residual-in_err-finding.result in
+    let r : Result (Catalog × g.row.G.Denot) BookFault = c.from_residual-in_err-finding.result in
     let fails : Fails r fault = c.from_residual-in_err-finding.ensures.1 in
     let one = c.in_ok-objects.ensures in
     let two = c.in_ok-directory.ensures in
     let before = book-on one.reads (of-book two.searches.book) in
     record {
-      sound = no-value r fault (λ catalog. IsSound g.H.Host.told catalog (g.P.PageBook.numbers c.find_records.new.book) (place c.find_records.new.book) (o c.find_records.new.host)) fails;
-      found = λ tells. no-value r fault (λ catalog. (s : Store) × (readable (image u first.now) ≡ Some s) × StandsFor catalog s (image u first.now)) fails;
+      sound = no-value r fault (λ found. IsSound g.H.Host.told found.0 (g.P.PageBook.numbers c.find_records.new.book) (place c.find_records.new.book) (o c.find_records.new.host)) fails;
+      found = λ tells. no-value r fault (λ found. (s : Store) × (readable (image u first.now) ≡ Some s) × StandsFor found.0 s (image u first.now)) fails;
+      gathered = no-value r fault _ fails;
       reads = book-on before (of-book c.find_records.ensures.searches.book);
       ends = search-after before.same_place before.looks (NoFault-append (one.ends.no_fault tt) (two.searches.ends.no_fault tt)) (search-fails r fault fails c.in_err-finding.ensures.searches.ends);
+    }
+
+pub returns-in_err-gatherer : goal.returns-in_err-gatherer
+returns-in_err-gatherer g c =
+    let o = g.H.Host.outside in
+    let place = g.P.PageBook.place in
+    let u : ℕ = place c.args.book.now in
+    let first = o c.args.host.now in
+    let r : Result (Catalog × g.row.G.Denot) BookFault = c.from_residual-in_err-gatherer.result in
+    let fails : Fails r Memory = c.from_residual-in_err-gatherer.ensures.1 in
+    record {
+      sound = no-value r Memory (λ found. IsSound g.H.Host.told found.0 (g.P.PageBook.numbers c.read_root.new.book) (place c.read_root.new.book) (o c.read_root.new.host)) fails;
+      found = λ tells. no-value r Memory (λ found. (s : Store) × (readable (image u first.now) ≡ Some s) × StandsFor found.0 s (image u first.now)) fails;
+      gathered = no-value r Memory _ fails;
+      reads = book-on c.in_ok-objects.ensures.reads (of-book c.read_root.ensures.searches.book);
+      ends = search-fails {T = Unit {0}} r Memory fails search-memory;
     }

@@ -10,8 +10,10 @@ use Rattle.newt_entries.specs.Entry.{stream_graph}
 use Rattle.newt_objects_commit.specs.Names.{AreSoundNames, names_of}
 use Rattle.newt_objects_commit.specs.Places.{AreSoundPlaces, place_of}
 use Rattle.newt_store_catalog.specs.declared.open.Finding.{Finding}
-use Rattle.newt_store_catalog.specs.Opening.{owner_of}
+use Rattle.newt_store_catalog.specs.Gathering.{HasGathered}
+use Rattle.newt_store_catalog.specs.Opening.{OfObjects, owner_of}
 use Rattle.newt_store_catalog.specs.Calls.{IsDirectory, IsFoundTo}
+use Rattle.newt_store_catalog.proofs.Gathering.{gathered-none}
 use Rattle.newt_store_catalog.proofs.Opening.{kept-none, kept-there, large-not-named, same-image}
 use Rattle.newt_store_catalog.proofs.Exits.{Fails, no-value, reads-none, reads-on, search-value, search-none, search-fails, search-after}
 use Rattle.newt_store_catalog.proofs.OpeningPlaces.{sound-none, found-none, found-all}
@@ -25,6 +27,7 @@ loop-id-init g c = record {
     sound = sound-none (held c.args.objects.now) (place_of c.new-places.result) (names_of c.new-names.result) (owner_of c.no_owners-owners.result) c.new-places.ensures c.new-names.ensures c.no_owners-owners.ensures;
     found = λ tells texts h. found-none texts (bare_store c.args.directory.now) (place_of c.new-places.result) (names_of c.new-names.result) c.new-places.ensures;
   };
+  gathered = λ tells texts h. gathered-none g.G.Gatherer.gathers (bare_store c.args.directory.now) texts (place_of c.new-places.result) c.args.gatherer.now c.new-places.ensures c.requires.begun;
 }
 
 pub loop-id-smaller : goal.loop-id-smaller
@@ -45,6 +48,12 @@ find_object-requires-clause-found g c =
     let i = c.loop-id.invariant in
     subst (λ (b : List ℕ). IsFoundTo g.H.Host.told b (held c.args.objects.now) c.args.directory.now c.loop-id.last (place_of c.loop-id.finding.places) (names_of c.loop-id.finding.names) (owner_of c.loop-id.finding.owners)) (sym (same-image _ _ _ _ i.reads.same_place i.reads.looks.moment)) i.found
 
+pub find_object-requires-clause-gathered : goal.find_object-requires-clause-gathered
+find_object-requires-clause-gathered g c =
+    let i = c.loop-id.invariant in
+    subst (λ (b : List ℕ). OfObjects g.H.Host.told b (HasGathered g.G.Gatherer.gathers (bare_store c.args.directory.now) (place_of c.loop-id.finding.places) c.loop-id.gatherer))
+    (sym (same-image _ _ _ _ i.reads.same_place i.reads.looks.moment)) i.gathered
+
 pub loop-id-preserved : goal.loop-id-preserved
 loop-id-preserved g c =
     let i = c.loop-id.invariant in
@@ -54,6 +63,8 @@ loop-id-preserved g c =
       no_fault = NoFault-append i.no_fault (e.searches.ends.no_fault tt);
       found = subst (λ (b : List ℕ). IsFoundTo g.H.Host.told b (held c.args.objects.now) c.args.directory.now c.in-Some.id (place_of c.find_object.new.finding.places) (names_of c.find_object.new.finding.names) (owner_of c.find_object.new.finding.owners))
           (same-image _ _ _ _ i.reads.same_place i.reads.looks.moment) e.found;
+      gathered = subst (λ (b : List ℕ). OfObjects g.H.Host.told b (HasGathered g.G.Gatherer.gathers (bare_store c.args.directory.now) (place_of c.find_object.new.finding.places) c.find_object.new.gatherer))
+          (same-image _ _ _ _ i.reads.same_place i.reads.looks.moment) e.gathered;
     }
 
 pub returns-then-not-are_owned : goal.returns-then-not-are_owned
@@ -61,6 +72,7 @@ returns-then-not-are_owned g c =
     let i = c.loop-id.invariant in
     record {
       found = tt;
+      gathered = tt;
       searches = record {
         book = i.reads;
         ends = search-none
@@ -88,6 +100,7 @@ returns g c =
             (λ id bytes at n even. c.are_owned.ensures.owned c.if-not-are_owned.false id
             (kept-there g.H.Host.told c.args.objects.now (g.P.PageBook.numbers c.args.book.now) (g.P.PageBook.place c.args.book.now) (g.H.Host.outside c.args.host.now) c.requires.can.kept tells texts h id bytes at) n even);
       };
+      gathered = i.gathered;
       searches = record { book = i.reads; ends = search-value i.no_fault };
     }
 
@@ -100,6 +113,7 @@ returns-in_err-find_object g c =
     let fails : Fails r fault = c.from_residual.ensures.1 in
     record {
       found = no-value r fault _ fails;
+      gathered = no-value r fault _ fails;
       searches = record {
         book = reads-on i.reads e.searches.book;
         ends = search-after i.reads.same_place i.reads.looks i.no_fault (search-fails r fault fails c.in_err-find_object.ensures.searches.ends);

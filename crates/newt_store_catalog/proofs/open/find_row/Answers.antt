@@ -29,20 +29,20 @@ returns-in_err-are_free c =
       no_device = λ is. memory-device (fault-is r Memory Device fails is);
     }
 
-pub returns-in_err-insert : goal.returns-in_err-insert
-returns-in_err-insert c =
-    let r : Result (Unit {0}) BookFault = c.from_residual-in_err-insert.result in
-    let fails : Fails r Memory = c.from_residual-in_err-insert.ensures.1 in
+pub returns-in_err-keep_names : goal.returns-in_err-keep_names
+returns-in_err-keep_names c =
+    let r : Result (Unit {0}) BookFault = c.from_residual-in_err-keep_names.result in
+    let fails : Fails r Memory = c.from_residual-in_err-keep_names.ensures.1 in
     record {
       found = no-value r Memory _ fails;
       bad = λ is. absurd (memory-store (fault-is r Memory NotStore fails is));
       no_device = λ is. memory-device (fault-is r Memory Device fails is);
     }
 
-pub returns-in_err-insert-2 : goal.returns-in_err-insert-2
-returns-in_err-insert-2 c =
-    let r : Result (Unit {0}) BookFault = c.from_residual-in_err-insert-2.result in
-    let fails : Fails r Memory = c.from_residual-in_err-insert-2.ensures.1 in
+pub returns-in_err-insert : goal.returns-in_err-insert
+returns-in_err-insert c =
+    let r : Result (Unit {0}) BookFault = c.from_residual-in_err-insert.result in
+    let fails : Fails r Memory = c.from_residual-in_err-insert.ensures.1 in
     record {
       found = no-value r Memory _ fails;
       bad = λ is. absurd (memory-store (fault-is r Memory NotStore fails is));
@@ -73,8 +73,8 @@ returns-clause-found c =
       free = sym c.get.ensures ∙ is-none c.get.result (sym c.if-is_some.ensures);
       there = ap (λ (rows : List LargeAt). list_all (λ row. has_length (held c.args.objects.now) row) rows) (sym c.list.ensures) ∙ sym c.are_there.ensures ∙ c.if-not-are_there.false;
       owns = subst (λ (ids : List ℕ). OwnsThese ids c.args.id (owner_of c.args.finding.now.owners) (owner_of c.own_all.new.owners)) named (c.in_ok-are_free.ensures.owned c.if-not-are_free.false);
-      placed = c.in_ok-insert-2.ensures.kept;
-      other_places = c.in_ok-insert-2.ensures.others;
-      named = c.in_ok-insert.ensures.kept ∙ sym c.deref.ensures.value ∙ named;
-      other_names = c.in_ok-insert.ensures.others;
+      placed = c.in_ok-insert.ensures.kept;
+      other_places = c.in_ok-insert.ensures.others;
+      named = c.in_ok-keep_names.ensures.kept ∙ sym c.deref.ensures.value ∙ named;
+      other_names = c.in_ok-keep_names.ensures.others;
     }
