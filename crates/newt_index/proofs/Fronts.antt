@@ -1,11 +1,12 @@
 -- Where the numbers of the first bytes differ, they decide as the bytes do.
-use Rattle.std.proofs.Common.{◌≡◌, ℕ, zero, suc, ◌<◌, List, [], ◌∷◌, get_or, refl, sym, ◌∙◌, ap, arith}
+use Rattle.std.proofs.Common.{◌≡◌, ◌==◌, ℕ, zero, suc, ◌<◌, Bool, true, false, cond, List, [], ◌∷◌, length, get_or, refl, sym, ◌∙◌, ap, arith}
 use Rattle.std.specs.List.{All}
 use Rattle.std.specs.declared.cmp.Ordering.{Ordering}
 use Rattle.std.specs.declared.cmp.Ordering.TheVariants.{Less, Equal, Greater}
 use Rattle.std.specs.Ordering.{nat_cmp, ordering_then}
 use Rattle.std.specs.Cmp.{nat_cmp_is, nat_cmp_total, tied_itself}
 use Rattle.std.specs.Cmp.Lexicographic.{slice_cmp}
+use Rattle.std.proofs.lemmas.Bool.{eqb-true}
 use Rattle.std.proofs.lemmas.List.Elements.{All-head, All-tail}
 use Rattle.newt_keys.proofs.Turned.{then_then, two_digits}
 use Rattle.newt_index.specs.Front.{number_to, front_of}
@@ -97,3 +98,11 @@ pub fronts_decide : (a b : List ℕ) (m n : ℕ) (o : Ordering) → m ≡ front_
 fronts_decide a b m n o em en ha hb e h =
     let same : bytewise 7 a b ≡ o = as_numbers 7 a b ha hb ∙ sym (λ i. nat_cmp (em i) (en i)) ∙ e in
     decided 7 a b (λ tie. h (sym same ∙ tie)) ∙ same
+
+-- no bytes before others
+pub none_first : (a b : List ℕ) (t : Bool) → (length a == 0) ≡ true → (length b == 0) ≡ t → cond t Equal Less ≡ slice_cmp nat_cmp a b
+none_first [] [] true ha hb = refl
+none_first [] (y ∷ b) false ha hb = refl
+none_first [] [] false ha hb = cc
+none_first [] (y ∷ b) true ha hb = absurd (omega (arith, eqb-true (length (y ∷ b)) 0 hb))
+none_first (x ∷ a) b t ha hb = absurd (omega (arith, eqb-true (length (x ∷ a)) 0 ha))

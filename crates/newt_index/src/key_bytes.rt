@@ -73,6 +73,20 @@ fn front_of(bytes: &[u8]) -> u64
     (six * 256 + byte_at(bytes, 6)) * 256 + byte_at(bytes, 7)
 }
 
+/// Compares bytes one by one. An index without a declaration has none, and nothing to compare.
+fn compare(a: &[u8], b: &[u8]) -> Ordering
+    ensures { result ≡ slice_cmp nat_cmp a.now b.now }
+{
+    if !a.is_empty() {
+        return a.cmp(&b);
+    }
+    if b.is_empty() {
+        Ordering::Equal
+    } else {
+        Ordering::Less
+    }
+}
+
 impl PartialEq for KeyBytes {
     ghost eq = { pointwise nat_eq };
 
@@ -110,7 +124,7 @@ impl Ord for KeyBytes {
         match self.front.cmp(&other.front) {
             Ordering::Less => Ordering::Less,
             Ordering::Greater => Ordering::Greater,
-            Ordering::Equal => self.items.as_slice().cmp(&other.items.as_slice()),
+            Ordering::Equal => compare(&self.items, &other.items),
         }
     }
 }
