@@ -10,7 +10,7 @@ ghost use Rattle.newt_store_catalog.specs.Opening.{has_length};
 ghost use Rattle.newt_store_change.specs.Entries.{plain_entry};
 
 use crate::open::are_there;
-use newt_entries::{EntryFault, EntryRow, LargeAt, filled, read_entry};
+use newt_entries::{EntryFault, EntryRow, LargeAt, read_entry, whole};
 use newt_host::Host;
 use newt_objects::Objects;
 use newt_pagebook::{PageBook, Stop};
@@ -126,10 +126,7 @@ pub fn read_whole<P: PageBook, H: Host>(
 {
     let row = read_row(alloc, host, book, objects, id)?;
     let larges = read_larges(alloc, host, book, objects, row.larges.list())?;
-    let graph = filled(alloc, &row, larges)?;
-    Ok(Entry {
-        uid: row.uid,
-        time: row.time,
-        graph,
-    })
+    let (uid, time) = (row.uid, row.time);
+    let graph = whole(alloc, row, larges)?;
+    Ok(Entry { uid, time, graph })
 }
