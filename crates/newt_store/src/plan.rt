@@ -66,14 +66,33 @@ fn free_from(objects: &Objects, from: u32, parity: u32) -> Option<u32>
     None
 }
 
-// An odd id that no object has, the least from `2 * hint + 1` on, or else the least of all.
+// Half of a number above the ids of all objects: from there on the search for a free id is short.
+fn half_above(objects: &Objects) -> u32
+    ensures { result ≤ 2147483648 }
+{
+    let mut low = 0;
+    let mut high = HALF_IDS;
+    while low < high {
+        let half = low + (high - low) / 2;
+        if objects.next(2 * half).is_some() {
+            low = half + 1;
+        } else {
+            high = half;
+        }
+    }
+    low
+}
+
+// An odd id that no object has, the least from `2 * hint + 1` on, or else the least of all. Without
+// a hint, which is 0, the search begins above all objects.
 fn free_id(objects: &Objects, hint: u32) -> Option<u32>
     ensures free { IfSome result (λ id. held objects.now id ≡ None) }
     ensures odd { IfSome result (λ id. id % 2 ≡ 1) }
     ensures none { (half : ℕ) → half < 2147483648 → held objects.now (2 * half + 1) ≡ None
         → IsSome result }
 {
-    match free_from(objects, hint, 1) {
+    let from = if hint == 0 { half_above(objects) } else { hint };
+    match free_from(objects, from, 1) {
         Some(id) => Some(id),
         None => free_from(objects, 0, 1),
     }
