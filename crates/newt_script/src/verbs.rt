@@ -88,8 +88,17 @@ pub enum CursorVerb {
     Close,
 }
 
-/// All first words.
+/// All first words. A search looks at them one after another, so those that scripts repeat stand
+/// first.
 const VERBS: [Verb; 43] = [
+    Verb::Cursor(CursorVerb::Next),
+    Verb::Entry(EntryVerb::Get),
+    Verb::Add,
+    Verb::Set,
+    Verb::Change,
+    Verb::Entry(EntryVerb::Remove),
+    Verb::Cursor(CursorVerb::Prev),
+    Verb::Cursor(CursorVerb::Entry),
     Verb::Nsof,
     Verb::Lit,
     Verb::Time,
@@ -102,14 +111,9 @@ const VERBS: [Verb; 43] = [
     Verb::Soup(SoupVerb::Soup),
     Verb::Unit(UnitVerb::Soups),
     Verb::Soup(SoupVerb::Drop),
-    Verb::Add,
     Verb::Addx,
     Verb::Addu,
-    Verb::Entry(EntryVerb::Get),
     Verb::Entry(EntryVerb::Getx),
-    Verb::Set,
-    Verb::Change,
-    Verb::Entry(EntryVerb::Remove),
     Verb::Transfer(TransferVerb::Copy),
     Verb::Transfer(TransferVerb::Move),
     Verb::Entry(EntryVerb::Alias),
@@ -121,9 +125,6 @@ const VERBS: [Verb; 43] = [
     Verb::Soup(SoupVerb::Indexes),
     Verb::Tags,
     Verb::Query,
-    Verb::Cursor(CursorVerb::Entry),
-    Verb::Cursor(CursorVerb::Next),
-    Verb::Cursor(CursorVerb::Prev),
     Verb::Cursor(CursorVerb::Reset),
     Verb::Cursor(CursorVerb::End),
     Verb::Moveby,
