@@ -78,7 +78,8 @@ impl Builder {
         ensures grows { OnOk result (length self.old ≤ length self.new) }
         ensures kept { OnErr result (self.new ≡ self.old) }
     {
-        if let Some(k) = self.names.find(self.alloc, &self.nodes, name)? {
+        let key = Names::key(self.alloc, name)?;
+        if let Some(k) = self.names.find(&self.nodes, name, &key) {
             return Ok(k);
         }
         let n = self.nodes.len();
@@ -86,7 +87,7 @@ impl Builder {
             return Err(GraphFault::Limit);
         }
         let symbol = Node::Symbol(Bytes::of(Vec::from_slice(self.alloc, name)?));
-        self.names.note(self.alloc, name, n as u32)?;
+        self.names.note(key, n as u32)?;
         self.nodes.push(symbol)?;
         Ok(n as u32)
     }

@@ -89,7 +89,10 @@ fn known_as(
     ensures { IfOk result (λ k. k ≡ known_as old.now node.now) }
 {
     match node {
-        Node::Symbol(name) => names.find(alloc, old, name.list()),
+        Node::Symbol(name) => {
+            let key = Names::key(alloc, name.list())?;
+            Ok(names.find(old, name.list(), &key))
+        }
         Node::Str(_)
         | Node::Binary(_, _)
         | Node::Large(_, _)

@@ -1,5 +1,5 @@
 //! Symbols by their names.
-ghost use Rattle.std.specs.Prelude.{◌≡◌, ◌+◌, ◌<◌, ◌++◌, [], length, Some, IfOk, OnOk, OnErr};
+ghost use Rattle.std.specs.Prelude.{◌≡◌, ℕ, ◌+◌, ◌<◌, List, ◌++◌, [], length, Some, IfOk, OnOk, OnErr};
 ghost use Rattle.newt_graph.specs.Graph.{folded, AreFoldedOnce};
 ghost use Rattle.newt_graph.specs.Draft.{is_alike, find_alike};
 ghost use Rattle.newt_graph.specs.Names.{IsKeyOf, Knows, Notes, checked_among, mixed};
@@ -12,7 +12,7 @@ use std::hash::{FoldHasher, Hasher};
 /// A name in lower case, behind a number that is made of it. The derived order looks at the number
 /// first, so names are compared byte by byte only where their numbers are equal.
 #[derive(PartialEq, Eq, PartialOrd, Ord, Drop)]
-struct Key {
+pub struct Key {
     mix: u64,
     name: Vec<u8>,
 }
@@ -37,29 +37,37 @@ impl Names {
         }
     }
 
-    /// The number of the first symbol of this name but for ASCII case, where there is one.
-    pub fn find(
-        &self,
-        alloc: Global,
-        nodes: &[Node],
-        name: &[u8],
-    ) -> Result<Option<u32>, AllocError>
-        requires { Knows self.now.numbers nodes.now }
-        ensures { IfOk result (λ k. k ≡ find_alike name.now nodes.now) }
+    /// The key of a name, whatever its case.
+    pub fn key(alloc: Global, name: &[u8]) -> Result<Key, AllocError>
+        ensures { IfOk result (λ key. IsKeyOf name.now key) }
     {
-        let key = key_of(alloc, name)?;
-        match self.numbers.get(&key) {
-            Some(k) => Ok(checked(name, nodes, *k)),
-            None => Ok(None),
+        let mut name = Vec::from_slice(alloc, name)?;
+        name.make_ascii_lowercase();
+        Ok(Key {
+            mix: mixed(&name),
+            name,
+        })
+    }
+
+    /// The number of the first symbol of this name but for ASCII case, where there is one. The key
+    /// is that of the name.
+    pub fn find(&self, nodes: &[Node], name: &[u8], key: &Key) -> Option<u32>
+        requires known { Knows self.now.numbers nodes.now }
+        requires key { IsKeyOf name.now key.now }
+        ensures { result ≡ find_alike name.now nodes.now }
+    {
+        match self.numbers.get(key) {
+            Some(k) => checked(name, nodes, *k),
+            None => None,
         }
     }
 
-    /// Gives a name this number. After an error the numbers are as they were.
-    pub fn note(&mut self, alloc: Global, name: &[u8], n: u32) -> Result<(), AllocError>
-        ensures noted { OnOk result (Notes self.old.numbers name.now n self.new.numbers) }
+    /// Gives the names of a key this number. After an error the numbers are as they were.
+    pub fn note(&mut self, key: Key, n: u32) -> Result<(), AllocError>
+        ensures noted { OnOk result ((name : List ℕ) → IsKeyOf name key
+            → Notes self.old.numbers name n self.new.numbers) }
         ensures kept { OnErr result (self.new.numbers.entries ≡ self.old.numbers.entries) }
     {
-        let key = key_of(alloc, name)?;
         self.numbers.insert(key, n)?;
         Ok(())
     }
@@ -79,7 +87,8 @@ impl Names {
     {
         for (i, node) in new.iter().enumerate() {
             if let Node::Symbol(name) = node {
-                self.note(alloc, name.list(), (old.len() + i) as u32)?;
+                let key = Names::key(alloc, name.list())?;
+                self.note(key, (old.len() + i) as u32)?;
             }
         }
         Ok(())
@@ -113,15 +122,4 @@ fn mixed(name: &[u8]) -> u64
     let mut hasher = FoldHasher::default();
     hasher.write(name);
     hasher.finish()
-}
-
-fn key_of(alloc: Global, name: &[u8]) -> Result<Key, AllocError>
-    ensures { IfOk result (λ key. IsKeyOf name.now key) }
-{
-    let mut name = Vec::from_slice(alloc, name)?;
-    name.make_ascii_lowercase();
-    Ok(Key {
-        mix: mixed(&name),
-        name,
-    })
 }
