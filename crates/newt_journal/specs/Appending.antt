@@ -17,9 +17,9 @@ pub record DraftedBy (d : Appending) (done : List Change) : Type 0 where
   pub so_far : List ℕ
   pub more : ℕ
   pub bank : Holds d.journal.blocks (bank_number d.journal.bank)
-      ((written payloads ++ 255 ∷ []) ++ (length_bytes d.len ++ so_far ++ replicate (d.len - d.put) 255) ++ replicate more 255) (bytes_after done)
+      ((written d.journal.version payloads ++ 255 ∷ []) ++ (length_bytes d.len ++ so_far ++ replicate (d.len - d.put) 255) ++ replicate more 255) (bytes_after done)
   pub put : length so_far ≡ d.put
-  pub end : d.journal.end ≡ start_of d.journal.blocks d.journal.bank + length (written payloads)
+  pub end : d.journal.end ≡ start_of d.journal.blocks d.journal.bank + length (written d.journal.version payloads)
   pub crash : (left : List ℕ) → LeftBy done left → SameOutside (d.journal.end + 1) (4 + d.len) (bytes_after done) left
 
 abbrev pub IsDrafted : Appending → Moment → Type 0

@@ -100,6 +100,7 @@ impl Appending {
             blocks,
             bank,
             end: end + 5 + len,
+            version: 2,
             closed: false,
         })
     }

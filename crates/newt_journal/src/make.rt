@@ -46,6 +46,7 @@ impl Journal {
             blocks,
             bank: Bank::First,
             end: start + 21 + len,
+            version: 2,
             closed: false,
         })
     }

@@ -50,9 +50,9 @@ impl Journal {
         };
         let start = bank.start(blocks);
         let limit = bank.limit(blocks);
-        if !has_header(host, unit, start)? {
+        let Some(version) = bank_version(host, unit, start)? else {
             return Err(JournalFault::NotStore);
-        }
+        };
         let Some(end) = find_end(host, unit, start + 16, limit)? else {
             return Err(JournalFault::NotStore);
         };
@@ -62,7 +62,8 @@ impl Journal {
             blocks,
             bank,
             end,
-            closed: !blank,
+            version,
+            closed: !blank || version == 1,
         })
     }
 }

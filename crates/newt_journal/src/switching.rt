@@ -103,6 +103,7 @@ impl Switching {
             blocks,
             bank: to,
             end: to.start(blocks) + 21 + len,
+            version: 2,
             closed: false,
         })
     }

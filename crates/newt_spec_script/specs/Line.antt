@@ -154,6 +154,7 @@ rows =
     ∷ (codes "unindex", whole (of3 unit name (several 4 path_of) command.Unindex))
     ∷ (codes "indexes", whole (of2 unit name command.Indexes))
     ∷ (codes "tags", tags_row)
+    ∷ (codes "info", info_row)
     ∷ (codes "add", and_literal (of2 unit name (λ u s g. command.Add u s g)))
     ∷ (codes "addx", and_stream (of2 unit name (λ u s g. command.Addx u s g)))
     ∷ (codes "addu", and_literal (of1 name (λ s g. command.Addu s g)))

@@ -10,19 +10,14 @@ use Rattle.newt_spec_graph.specs.Lists.{Each, Pairs, Among}
 use Rattle.newt_spec_store.specs.Cost.{directory_bytes}
 use Rattle.newt_spec_store.specs.Image.{larges, entry_bytes}
 use Rattle.newt_spec_store.specs.Laid.{Named}
-use Rattle.newt_spec_store.specs.Reading.{whole, directory}
+use Rattle.newt_spec_store.specs.Reading.{whole, written, directory}
 use Rattle.newt_spec_store.specs.Store.{Entry, Soup, Store}
-use Rattle.newt_spec_store.specs.StoreOf.{LargeRow, EntryRow, entry_row, entry_of_row, fill, written, names_larges}
-use Rattle.newt_spec_store.specs.Valid.{valid_entry, well_formed}
+use Rattle.newt_spec_store.specs.StoreOf.{LargeRow, EntryRow, only, entry_row, entry_of_row, fill, names_larges}
+use Rattle.newt_spec_store.specs.Valid.{valid_entry, well_formed, keeps_version}
 
--- a value that passes a test, else none (a word of these definitions)
-abbrev pub only : {X : Type 0} → (X → Bool) → Option X → Option X
-only test None = None
-only test (Some x) = if test x then Some x else None
-
--- the directory that bytes are read as: a store without entries that is well formed (this project's own)
-abbrev pub directory_read : List ℕ → Option Store
-directory_read bytes = only well_formed (whole directory bytes)
+-- the directory that bytes of an image of this version are read as: a store without entries that is well formed (this project's own)
+abbrev pub directory_read : (List ℕ → Option RawGraph) → ℕ → List ℕ → Option Store
+directory_read graph_of version bytes = only well_formed (only (keeps_version version) (whole (directory graph_of) bytes))
 
 -- ---- one record
 
