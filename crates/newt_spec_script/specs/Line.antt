@@ -119,6 +119,13 @@ tags_row cs =
     (whole (of2 unit name command.Tags) cs)
     (whole (of4 unit name (word path_of) distinct command.SetTags) cs)
 
+-- the two rows of `info`: the first where nothing follows the soup's name (this project's own)
+abbrev pub info_row : List ℕ → Parsed
+info_row cs =
+    or_row
+    (whole (of2 unit name command.Info) cs)
+    (and_literal (of2 unit name (λ u s g. command.SetInfo u s g)) cs)
+
 -- the word that stands for all mounted stores (this project's own)
 abbrev pub star : List ℕ → Option ℕ
 star w = if bytes_eq w (codes "*") then Some 0 else None

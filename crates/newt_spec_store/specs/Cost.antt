@@ -48,9 +48,9 @@ part_bytes p = kind_byte p.kind ∷ direction_byte p.direction ∷ path_bytes p.
 abbrev pub table_bytes : TagTable → List ℕ
 table_bytes t = path_bytes t.path ++ counted text_bytes t.symbols
 
--- an info frame: the length of its written text in two bytes, and the text (this project's own)
+-- an info frame: the length of its flat text in two bytes, and the text (this project's own)
 abbrev pub info_bytes : RawGraph → List ℕ
-info_bytes g = be16 (length (nsof g)) ++ nsof g
+info_bytes g = be16 (length (flat g)) ++ flat g
 
 -- what a soup has of a tags declaration and an info frame: a byte that is odd where there is a declaration and 2 or 3 where there is an info frame, the one, and
 -- the other (this project's own)

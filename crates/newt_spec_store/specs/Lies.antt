@@ -1,5 +1,5 @@
 -- How a store lies in objects, and what one object is read as. All of it is this project's own.
-use Rattle.std.specs.Prelude.{◌≡◌, ◌≢◌, ◌⊎◌, ◌==◌, ◌&&◌, ℕ, ◌%◌, ◌<◌, nat_lt, Bool, List, length, fold, zip, replicate, map as list_map, Option, Some, None, if◌then◌else◌, option_and_then, option_map}
+use Rattle.std.specs.Prelude.{◌≡◌, ◌≢◌, ◌⊎◌, ◌==◌, ◌&&◌, ℕ, ◌%◌, ◌<◌, nat_lt, Bool, List, length, fold, zip, replicate, map as list_map, Option, Some, option_and_then, option_map}
 use Rattle.std.specs.List.{list_all}
 use Rattle.std.specs.FinMap as map
 use Rattle.newt_graph.specs.Graph.{RawGraph, IsGraph}
@@ -74,8 +74,8 @@ pub record AreLarges (objects : Objects) (g : RawGraph) (ids : List ℕ) : Type 
   pub apart : Pairs (λ a b. a ≢ b) ids
 
 -- How a store lies in objects: the directory is object 0; each entry's record is the object of its place, which has an odd id, and names the objects of the
--- entry's large binaries; no object is named by two records; and there are no other objects, no other places and no other names. Skeletons are in normal form, and a
--- minute fits in four bytes. `named` are the ids that the record of an object names. (this project's own)
+-- entry's large binaries; no object is named by two records; and there are no other objects, no other places and no other names. Info frames and skeletons are in
+-- normal form, and a minute fits in four bytes. `named` are the ids that the record of an object names. (this project's own)
 pub record LiesIn (objects : Objects) (place : Places) (s : Store) : Type 0 where
   pub named : ℕ → List ℕ
   pub directory : map.get objects 0 ≡ Some (directory_bytes s)
@@ -86,5 +86,6 @@ pub record LiesIn (objects : Objects) (place : Places) (s : Store) : Type 0 wher
       → ((sig : ℕ) × (e : Entry) × IsIn s sig e × (place sig e.uid ≡ Some id)) ⊎ ((r : ℕ) × Among (named r) id)
   pub names : (r o : ℕ) → Among (named r) o → (sig : ℕ) × (e : Entry) × IsIn s sig e × (place sig e.uid ≡ Some r)
   pub places : (sig uid id : ℕ) → place sig uid ≡ Some id → (e : Entry) × IsIn s sig e × (e.uid ≡ uid)
+  pub infos : (p : Soup) (g : RawGraph) → Among s.soups p → p.info ≡ Some g → IsGraph g
   pub skeletons : (sig : ℕ) (e : Entry) → IsIn s sig e → IsGraph (skeleton e.graph)
   pub times : (sig : ℕ) (e : Entry) → IsIn s sig e → e.time < 4294967296

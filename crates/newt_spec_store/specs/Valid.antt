@@ -9,7 +9,7 @@ use Rattle.newt_spec_graph.specs.Limits.{within_limits}
 use Rattle.newt_graph.specs.Graph.{RawGraph}
 use Rattle.newt_graph.specs.declared.node.Node.{Node}
 use Rattle.newt_graph.specs.declared.node.Node.TheVariants.{Large}
-use Rattle.newt_nsof.specs.Written.{nsof}
+use Rattle.newt_spec_nsof.specs.Flat.{flat}
 use Rattle.newt_spec_store.specs.Keys.{IndexSpec, paths_of, same_paths}
 use Rattle.newt_spec_store.specs.Store.{Entry, TagTable, Soup, Store}
 use Rattle.newt_spec_image.specs.Pages.{cap}
@@ -31,15 +31,15 @@ valid_entry e =
     is_frame (object e.graph.nodes e.graph.root) && within_limits e.graph && nat_le (skeleton_length e.graph) 64_000
 
 -- the node is no large binary (a word of these definitions)
-abbrev pub is_small : Node → Bool
-is_small (Large _ _) = false
-is_small node = true
+abbrev pub is_no_large : Node → Bool
+is_no_large (Large _ _) = false
+is_no_large node = true
 
--- no info, or a graph within the limits of one graph whose root is a frame, without large binaries, whose written text has at most 4,000 bytes
+-- no info, or a graph within the limits of one graph whose root is a frame, without large binaries, whose flat text has at most 4,000 bytes
 -- (this project's own)
 abbrev pub valid_info : Option RawGraph → Bool
 valid_info None = true
-valid_info (Some g) = is_frame (object g.nodes g.root) && list_all is_small g.nodes && within_limits g && nat_le (length (nsof g)) 4_000
+valid_info (Some g) = is_frame (object g.nodes g.root) && list_all is_no_large g.nodes && within_limits g && nat_le (length (flat g)) 4_000
 
 -- A soup: its name; ids that rise and are below the next one, which is at most 536,870,911; at most 16 indexes, no two with the same paths; its tags; its info;
 -- its entries. (this project's own)
