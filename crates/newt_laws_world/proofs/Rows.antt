@@ -1,4 +1,5 @@
 -- The table of changes, row by row: stores stay well formed, and fit.
+use Rattle.newt_spec_query.specs.Spec.{is_nil}
 use Rattle.newt_spec_nsof.specs.Flat.{flat}
 use Rattle.newt_spec_graph.specs.Limits.{within_limits}
 use Rattle.newt_spec_graph.specs.Graph.{is_frame, object}
@@ -18,7 +19,7 @@ use Rattle.newt_spec_world.specs.declared.command.Command.TheVariants as command
 use Rattle.newt_spec_world.specs.declared.command.PartWord.{PartWord}
 use Rattle.newt_spec_world.specs.World.{World, one, default_unit, mounted_store, soup_in, entry_in, change_soup_in}
 use Rattle.newt_spec_graph.specs.Larges.{large_at, large_bytes}
-use Rattle.newt_spec_world.specs.Changed.{changed, mark, spec_of_words, graph_after_set, copy_to, patched, is_nil, info_from}
+use Rattle.newt_spec_world.specs.Changed.{changed, mark, spec_of_words, graph_after_set, copy_to, patched, info_from}
 use Rattle.newt_spec_world.specs.Refused.{checks, on_some}
 use Rattle.newt_laws_world.specs.Worlds.{has_form, parts_fit}
 use Rattle.newt_laws_world.proofs.Units.{change-device, change-store, mounted-has, soup-has}
@@ -56,9 +57,9 @@ tags-good : (path : Path) (symbols : List (List ℕ)) → (valid_path path && li
 tags-good path symbols h k = grind (arith, h, k)
 
 -- the info frame that a literal gives is valid
-info-good : (g : RawGraph) → within_limits g ≡ true → not (is_nil g || (is_frame (object g.nodes g.root) && list_all is_no_large g.nodes)) ≡ false → nat_lt 4_000 (length (flat g)) ≡ false
+info-good : (g : RawGraph) → within_limits g ≡ true → not (is_nil g.root || (is_frame (object g.nodes g.root) && list_all is_no_large g.nodes)) ≡ false → nat_lt 4_000 (length (flat g)) ≡ false
     → valid_info (info_from g) ≡ true
-info-good g form frame size = go (is_nil g) frame
+info-good g form frame size = go (is_nil g.root) frame
   where
     go : (b : Bool) → not (b || (is_frame (object g.nodes g.root) && list_all is_no_large g.nodes)) ≡ false → valid_info (cond b None (Some g)) ≡ true
     go true h = refl

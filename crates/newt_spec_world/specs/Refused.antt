@@ -15,13 +15,13 @@ use Rattle.newt_spec_image.specs.Pages.{cap}
 use Rattle.newt_spec_store.specs.Cost.{cost, skeleton_length}
 use Rattle.newt_spec_store.specs.Valid.{is_no_large}
 use Rattle.newt_spec_nsof.specs.Flat.{flat}
-use Rattle.newt_spec_query.specs.Spec.{is_query, keys_fit}
+use Rattle.newt_spec_query.specs.Spec.{is_query, keys_fit, is_nil}
 use Rattle.newt_spec_world.specs.declared.command.Command.{Command}
 use Rattle.newt_spec_world.specs.declared.command.Command.TheVariants as command
 use Rattle.newt_spec_world.specs.declared.command.PartWord.{PartWord}
 use Rattle.newt_spec_world.specs.World.{World, default_unit, store_of, store_on_unit, device, mounted, mounted_store, mounted_stores, soup_in, entry_in, cursor, free_cursor}
 use Rattle.newt_spec_graph.specs.Larges.{large_at, large_bytes}
-use Rattle.newt_spec_world.specs.Changed.{changed, graph_after_set, index_of, hit_for, is_nil, key_from, sig_of}
+use Rattle.newt_spec_world.specs.Changed.{changed, graph_after_set, index_of, hit_for, key_from, sig_of}
 use Rattle.newt_spec_world.specs.Alias.{alias_of}
 
 -- a refusal with its test (a word of these definitions)
@@ -111,7 +111,7 @@ too_large g = (Size, nat_lt 64_000 (skeleton_length g))
 
 -- the literal is neither nil nor a frame without large binaries (this project's own)
 abbrev pub bad_info : RawGraph → Check
-bad_info g = (BadInfo, not (is_nil g || (is_frame (object g.nodes g.root) && list_all is_no_large g.nodes)))
+bad_info g = (BadInfo, not (is_nil g.root || (is_frame (object g.nodes g.root) && list_all is_no_large g.nodes)))
 
 -- the flat text of an info frame has more than 4,000 bytes (this project's own)
 abbrev pub info_too_large : RawGraph → Check

@@ -159,7 +159,7 @@ leaves-changed change now s unit img old new first leaves = Leaves-weaken (λ le
 
 pub leaves-before : (catalog : Catalog) (change : Change) (now blocks : ℕ) (s : Store) (unit : ℕ) (old new : Moment) → new ≡ old → StandsFor catalog s (image unit old) → IsDurable unit old → Leaves unit (IsBeforeOrChanged change blocks now s) old new
 leaves-before catalog change now blocks s unit old new same stands durable = subst (λ (m : Moment). Leaves unit (IsBeforeOrChanged change blocks now s) old m) (sym same) (Leaves-start (λ left may.
-    inl (ap readable (durable left may) ∙ read-back catalog.directory (place_of catalog.places) (names_of catalog.names) stands.texts s (image unit old) stands.holds stands.describes stands.fits)))
+    inl (ap readable (durable left may) ∙ read-back catalog.directory (place_of catalog.places) (names_of catalog.names) stands.texts s (image unit old) stands.holds stands.describes stands.fits stands.keeps)))
 
 -- ---- one call after another
 

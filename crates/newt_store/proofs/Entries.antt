@@ -19,8 +19,8 @@ use Rattle.newt_laws_changes.proofs.Fresh.{in_valid}
 use Rattle.newt_laws_changes.proofs.Members.{is_in_found}
 use Rattle.newt_laws_changes.proofs.Places.{place-there}
 use Rattle.newt_soupdir.specs.declared.rows.Directory.{Directory}
-use Rattle.newt_entries.specs.Entry.{stream_graph}
-use Rattle.newt_entries.proofs.Streams.{reads_graphs}
+use Rattle.newt_nsof_flat.specs.Stream.{stream_graph}
+use Rattle.newt_nsof_flat.proofs.Streams.{reads_graphs}
 use Rattle.newt_store_catalog.specs.Reading.{IsLaidAt}
 use Rattle.newt_store_catalog.specs.Stands.{Describes}
 use Rattle.newt_store.proofs.Found.{placed-entry, entry-placed}

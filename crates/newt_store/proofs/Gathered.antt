@@ -20,8 +20,8 @@ use Rattle.newt_objects_commit.specs.Names.{names_of}
 use Rattle.newt_objects_commit.specs.Places.{place_of}
 use Rattle.newt_soupdir.specs.Bare.{bare_store}
 use Rattle.newt_soupdir.specs.declared.rows.Directory.{Directory}
-use Rattle.newt_entries.specs.Entry.{stream_graph}
-use Rattle.newt_entries.proofs.Streams.{reads_graphs}
+use Rattle.newt_nsof_flat.specs.Stream.{stream_graph}
+use Rattle.newt_nsof_flat.proofs.Streams.{reads_graphs}
 use Rattle.newt_store_catalog.specs.Gathering.{Graphs, HasGathered, skeleton_read, skeleton_at}
 use Rattle.newt_store_catalog.specs.Reading.{IsLaidAt}
 use Rattle.newt_store_catalog.specs.Stands.{Describes, StandsFor}

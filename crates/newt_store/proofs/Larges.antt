@@ -37,10 +37,11 @@ use Rattle.newt_spec_store.specs.Lies.{only, is_record, record_read}
 use Rattle.newt_spec_store.specs.Store.{Soup, Store, Entry, entry_of, entry_at}
 use Rattle.newt_spec_store.specs.StoreOf.{EntryRow as PlainRow, written}
 use Rattle.newt_laws_images.proofs.Records.{record-back}
-use Rattle.newt_entries.specs.Entry.{stream_graph, said}
+use Rattle.newt_nsof_flat.specs.Stream.{stream_graph}
+use Rattle.newt_entries.specs.Entry.{said}
 use Rattle.newt_entries.specs.declared.row.EntryRow.{EntryRow}
 use Rattle.newt_entries.specs.declared.row.LargeAt.{LargeAt}
-use Rattle.newt_entries.proofs.Streams.{reads_graphs}
+use Rattle.newt_nsof_flat.proofs.Streams.{reads_graphs}
 use Rattle.newt_objects_commit.specs.Commit.{AreKept}
 use Rattle.newt_objects_commit.specs.Names.{names_of}
 use Rattle.newt_objects_commit.specs.Places.{place_of}

@@ -13,7 +13,7 @@ use Rattle.newt_laws_images.proofs.Assembled.{read-valid}
 use Rattle.newt_laws_images.proofs.Gathering.{image-sound}
 use Rattle.std.specs.FinMap as map
 use Rattle.newt_soupdir.specs.Bare.{bare_store}
-use Rattle.newt_entries.specs.Entry.{stream_graph}
+use Rattle.newt_nsof_flat.specs.Stream.{stream_graph}
 use Rattle.newt_objects_commit.specs.Places.{place_of}
 use Rattle.newt_objects_commit.specs.Names.{names_of}
 use Rattle.newt_store.proofs.Reading.{both, read-back}

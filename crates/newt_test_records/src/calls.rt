@@ -12,8 +12,10 @@ pub(crate) enum Record {
     /// A directory.
     Directory,
     /// The directory of the store `S` of signature 1 with the soup `A` alone, behind that soup's
-    /// next entry id: its indexes and tags.
+    /// next entry id: its indexes, tags and info frame.
     Soup,
+    /// The same of version 1.
+    OldSoup,
     /// An entry.
     Entry,
 }
@@ -22,8 +24,9 @@ impl Asks for Record {
     fn answer(&self, alloc: Global, text: &str) -> Result<String, Fail> {
         let bytes = bytes_of(alloc, text)?;
         match self {
-            Record::Directory => directory(alloc, &bytes),
-            Record::Soup => soup(alloc, &bytes),
+            Record::Directory => directory(alloc, &bytes, 2),
+            Record::Soup => soup(alloc, &bytes, 2),
+            Record::OldSoup => soup(alloc, &bytes, 1),
             Record::Entry => entry(alloc, &bytes),
         }
     }

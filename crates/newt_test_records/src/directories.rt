@@ -1,19 +1,23 @@
 //! Directories in bytes that were spelt by hand, with ample memory.
 use crate::calls::Record;
 use newt_base::{Name, Sig};
+use newt_graph::Graph;
 use newt_keys::{IndexSpec, Kind, Order};
 use newt_path::Path;
-use newt_soupdir::{Directory, read_directory, write_directory};
+use newt_soupdir::{
+    Directory, MOST_INFO, info_len, is_info, read_directory, write_directory,
+};
 use newt_tags::TagTable;
 use newt_test_tables::{bytes_of, expect_rows};
 use std::alloc::Global;
 use std::process::Abort;
 use std::test::*;
 
-/// The name, the signature and the next soup of a directory, and whether it is written as the same
-/// bytes; or that there is none.
-pub(crate) fn directory(alloc: Global, bytes: &[u8]) -> Result<String, Fail> {
-    match read_directory(alloc, bytes) {
+/// The name, the signature and the next soup of a directory of a version, and whether it is written
+/// as the same bytes; or that there is none. Another version than 1 is read as 2.
+pub(crate) fn directory(alloc: Global, bytes: &[u8], version: u16) -> Result<String, Fail> {
+    let version = if version == 1 { 1 } else { 2 };
+    match read_directory(alloc, bytes, version) {
         Ok(read) => described(alloc, &read, bytes),
         Err(fault) => Ok(format!(in alloc; "{fault:?}")?),
     }
@@ -26,8 +30,8 @@ fn described(alloc: Global, read: &Directory, bytes: &[u8]) -> Result<String, Fa
 }
 
 /// The same of the store `S` with the soup `A`, from the number of that soup's indexes on.
-pub(crate) fn soup(alloc: Global, tail: &[u8]) -> Result<String, Fail> {
-    directory(alloc, &with_tail(alloc, tail)?)
+pub(crate) fn soup(alloc: Global, tail: &[u8], version: u16) -> Result<String, Fail> {
+    directory(alloc, &with_tail(alloc, tail)?, version)
 }
 
 fn with_tail(alloc: Global, tail: &[u8]) -> Result<Vec<u8>, Fail> {
@@ -37,12 +41,12 @@ fn with_tail(alloc: Global, tail: &[u8]) -> Result<Vec<u8>, Fail> {
 }
 
 fn read_words(alloc: Global, words: &str) -> Result<Directory, Fail> {
-    Ok(read_directory(alloc, &bytes_of(alloc, words)?)?)
+    Ok(read_directory(alloc, &bytes_of(alloc, words)?, 2)?)
 }
 
 fn read_tail(alloc: Global, words: &str) -> Result<Directory, Fail> {
     let tail = bytes_of(alloc, words)?;
-    Ok(read_directory(alloc, &with_tail(alloc, &tail)?)?)
+    Ok(read_directory(alloc, &with_tail(alloc, &tail)?, 2)?)
 }
 
 fn copy_of(alloc: Global, words: &str) -> Result<Directory, Fail> {
@@ -60,7 +64,7 @@ fn is_written(alloc: Global, directory: &Directory, bytes: &[u8]) -> bool {
 }
 
 /// The name of the store, its signature, the next soup's signature, and the soups: the name of
-/// each, its signature, the next entry id, indexes and tags.
+/// each, its signature, the next entry id, indexes, tags and info frame.
 const DIRECTORIES: &str = "
 08 'Internal 00000007 0000 00 => Internal 7 0 true
 01 'S 00000001 0002 02 01 'A 0000 00000003 00 00 01 'a 0001 00000000 00 00 => S 1 2 true
@@ -94,6 +98,7 @@ const SOUPS: &str = "
 01 01 00 00 01 02 'a. 00 => Bad
 02 01 00 00 01 01 'a 01 01 01 01 01 'A 00 => Bad
 00 02 => Bad
+00 04 => Bad
 00 01 00 00 => Bad
 00 01 01 01 'l 02 01 'a 01 'A => Bad
 00 01 01 01 'l 01 02 'a- => Bad
@@ -101,10 +106,79 @@ const SOUPS: &str = "
 00 00 00 => Bad
 ";
 
+/// No indexes, and an info frame, alone or behind tags: the length of its text, and the text, which
+/// is the one that is written of a frame without large binaries, of at most 4,000 bytes.
+const INFOS: &str = "
+00 02 000A 02 06 01 07 03 'ver 00 08 => S 1 1 true
+00 03 01 06 'labels 01 08 'business 000A 02 06 01 07 03 'ver 00 08 => S 1 1 true
+00 01 01 06 'labels 01 08 'business 000A 02 06 01 07 03 'ver 00 08 => Bad
+00 02 000B 02 06 01 07 03 'ver 00 08 => Bad
+00 02 0009 02 06 01 07 03 'ver 00 08 => Bad
+00 02 0A => Bad
+00 02 000E 02 06 01 07 03 'ver 00 FF 00000008 => Bad
+00 02 0003 02 05 00 => Bad
+00 02 0002 02 0A => Bad
+00 02 001F 02 06 01 07 01 'b 0C 07 01 'x 00 00000004 00000000 00000000 00000000 00000000 => Bad
+00 02 0FA0 02 06 01 07 01 'b 03 FF 00000F91 07 01 'x ~00 *3985~ => S 1 1 true
+00 02 0FA1 02 06 01 07 01 'b 03 FF 00000F92 07 01 'x ~00 *3986~ => Bad
+";
+
+/// The same of version 1, which has no info frames.
+const OLD_SOUPS: &str = "
+00 00 => S 1 1 true
+00 01 01 06 'labels 02 08 'business 08 'personal => S 1 1 true
+00 02 000A 02 06 01 07 03 'ver 00 08 => Bad
+00 03 01 06 'labels 01 08 'business 000A 02 06 01 07 03 'ver 00 08 => Bad
+";
+
 #[test]
 fn directories_are_read_and_written(rt: HostRuntime) -> Result<(), Fail> {
     expect_rows(rt.alloc(), &Record::Directory, DIRECTORIES)?;
-    expect_rows(rt.alloc(), &Record::Soup, SOUPS)
+    expect_rows(rt.alloc(), &Record::Soup, SOUPS)?;
+    expect_rows(rt.alloc(), &Record::Soup, INFOS)?;
+    expect_rows(rt.alloc(), &Record::OldSoup, OLD_SOUPS)
+}
+
+/// A directory with so many soups, of which none has an info frame.
+fn with_soups(alloc: Global, count: u32) -> Result<Directory, Fail> {
+    let mut directory = read_words(alloc, "01 'S 00000001 0000 00")?;
+    for number in 0..count {
+        add_soup(alloc, &mut directory, number)?;
+    }
+    Ok(directory)
+}
+
+fn add_soup(alloc: Global, directory: &mut Directory, number: u32) -> Result<(), Fail> {
+    let name = Name::read(alloc, format!(in alloc; "{number}")?.as_bytes())?;
+    if !directory.is_well_formed() {
+        return Err(Fail::new("no form"));
+    }
+    directory.make_soup(name)?;
+    Ok(())
+}
+
+/// Whether a directory is written, and read again in each version.
+fn read_again(alloc: Global, directory: &Directory) -> Result<(bool, bool), Fail> {
+    if !directory.is_well_formed() {
+        return Ok((false, false));
+    }
+    let bytes = write_directory(alloc, directory)?;
+    Ok((
+        read_directory(alloc, &bytes, 1).is_ok(),
+        read_directory(alloc, &bytes, 2).is_ok(),
+    ))
+}
+
+#[test]
+fn versions_limit_the_number_of_soups(rt: HostRuntime) -> Result<(), Fail> {
+    let alloc = rt.alloc();
+    assert!(rt; read_again(alloc, &with_soups(alloc, 64)?)? == (true, true));
+    assert!(rt; read_again(alloc, &with_soups(alloc, 65)?)? == (false, true));
+    let full = with_soups(alloc, 250)?;
+    assert!(rt; full.is_full());
+    assert!(rt; read_again(alloc, &full)? == (false, true));
+    assert!(rt; read_again(alloc, &with_soups(alloc, 251)?)? == (false, false));
+    Ok(())
 }
 
 /// Takes an entry id of the soup 0, drops the soup 1 and makes another.
@@ -179,6 +253,15 @@ fn first_tags(directory: &Directory) -> Option<TagTable> {
     let row = directory.soups.list().first()?;
     match &row.tags {
         Some(tags) => tags.copy().ok(),
+        None => None,
+    }
+}
+
+/// The info frame of the first soup.
+fn first_info(directory: &Directory) -> Option<Graph> {
+    let row = directory.soups.list().first()?;
+    match &row.info {
+        Some(info) => info.copy().ok(),
         None => None,
     }
 }
@@ -261,4 +344,41 @@ fn indexes_and_tags_are_changed(rt: HostRuntime) -> Result<(), Fail> {
     let mut directory = read_tail(rt.alloc(), PARTS)?;
     change_indexes(&rt, rt.alloc(), &mut directory)?;
     change_tags(&rt, rt.alloc(), &mut directory)
+}
+
+/// No indexes and tags, and the info frame {ver: 2}.
+const INFO: &str = "00 02 000A 02 06 01 07 03 'ver 00 08";
+
+/// The info frame that words say.
+fn info_in(alloc: Global, words: &str) -> Result<Option<Graph>, Fail> {
+    Ok(first_info(&read_tail(alloc, words)?))
+}
+
+#[test]
+fn info_frames_are_changed(rt: HostRuntime) -> Result<(), Fail> {
+    let alloc = rt.alloc();
+    let mut directory = read_tail(alloc, "00 00")?;
+    directory.set_info(Sig(0), info_in(alloc, INFO)?);
+    let wanted = with_tail(alloc, &bytes_of(alloc, INFO)?)?;
+    assert!(rt; is_written(alloc, &directory, &wanted));
+    assert!(rt; is_written(alloc, &directory.copy()?, &wanted));
+    directory.set_info(Sig(0), None);
+    assert!(rt; first_info(&directory).is_none());
+    Ok(())
+}
+
+#[test]
+fn info_frames_are_told_from_others(rt: HostRuntime) -> Result<(), Fail> {
+    let info = info_in(rt.alloc(), INFO)?.ok_or("an info frame")?;
+    assert!(rt; is_info(&info) && MOST_INFO == 4_000);
+    assert!(rt; length_of(&info) == Some(10));
+    Ok(())
+}
+
+/// How many bytes the flat text of an info frame has.
+fn length_of(info: &Graph) -> Option<u64> {
+    if !is_info(info) {
+        return None;
+    }
+    Some(info_len(info))
 }

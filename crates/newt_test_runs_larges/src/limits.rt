@@ -66,6 +66,12 @@ vread 0 S 0 v 5000 60000 => ok ~7*120000~
 vwrite 0 S 0 v 250 ~8*100000~ => ok
 vread 0 S 0 v 5000 60000 => ok ~8*90500~~7*29500~
 vread 0 S 0 v 5001 60000 => error 39 range
+info 0 S {v: <<wave:00>>} => error 44 info
+info 0 S {v: <wave:~7*7966~>} => error 34 size
+info 0 S => ok nil
+info 0 S {v: <wave:~7*7964~>} => ok
+info 0 S {v: <wave:~7*7966~>} => error 34 size
+info 0 S => ok {v: <wave:~7*7964~>}
 ";
 
 #[test]

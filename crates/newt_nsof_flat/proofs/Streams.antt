@@ -14,9 +14,9 @@ use Rattle.newt_nsof_read.specs.declared.fault.NsofFault.{NsofFault}
 use Rattle.newt_nsof_read.specs.Reading.{decoded}
 use Rattle.newt_nsof_read.proofs.Decoded.{read_as_spelled, flat_is_read_again}
 use Rattle.newt_spec_store.specs.Lies.{ReadsGraphs}
-use Rattle.newt_spec_store.specs.StoreOf.{written}
-use Rattle.newt_entries.specs.Entry.{graph_in, are_bytes, stream_graph}
-use Rattle.newt_entries.proofs.Spelled.{written_fits}
+use Rattle.newt_spec_store.specs.Reading.{written}
+use Rattle.newt_nsof_flat.specs.Stream.{graph_in, are_bytes, stream_graph}
+use Rattle.newt_nsof_flat.proofs.Spelled.{written_fits}
 
 each_byte : (bytes : List ℕ) → are_bytes bytes ≡ true → AreBytes bytes
 each_byte bytes h = All-from_recursion (λ b. b < 256) bytes (go bytes h)

@@ -1,6 +1,6 @@
 use Rattle.std.proofs.Common.{sym, ◌∙◌}
-use Rattle.newt_entries.proofs.Streams.{written_is, same_text}
-use Rattle.newt_entries.proofs.read.graph_of.Goals as goal
+use Rattle.newt_nsof_flat.proofs.Streams.{written_is, same_text}
+use Rattle.newt_nsof_flat.proofs.read.read_flat.Goals as goal
 
 pub returns-clause-found : goal.returns-clause-found
 returns-clause-found c =

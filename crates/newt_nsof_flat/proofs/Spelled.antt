@@ -11,7 +11,7 @@ use Rattle.newt_graph.specs.declared.node.Ref.TheVariants as refs
 use Rattle.newt_graph.specs.Graph.{RawGraph, IsGraph, IsNode, IsName, IsText, IsData}
 use Rattle.newt_spec_nsof.specs.Text.{units_text, number_text, large_text}
 use Rattle.newt_spec_nsof.specs.Flat.{xlong_text, count_text, character_text, word_text, again_text, symbol_text, Text, each_text, new_label, label_text, frame_text, string_text, binary_text, plain_large_text, plain_array_text, array_text, any_array_text, new_node, text_at, value_text, flat}
-use Rattle.newt_entries.specs.Entry.{are_bytes}
+use Rattle.newt_nsof_flat.specs.Stream.{are_bytes}
 
 abbrev Fit : List ℕ → Type 0
 Fit xs = are_bytes xs ≡ true
