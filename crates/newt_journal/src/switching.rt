@@ -23,7 +23,8 @@ impl Switching {
     ghost use Rattle.std.specs.Prelude.{OnOk, IfOk, length, true};
     ghost use Rattle.newt_host.specs.Moments.{image};
     ghost use Rattle.newt_spec_image.specs.Records.{bank_blocks};
-    ghost use Rattle.newt_journal.specs.Journal.{Stands, VotesAgree, reading, ReadsAs, ReadsAsEither};
+    ghost use Rattle.newt_journal.specs.Journal.{Stands, VotesAgree};
+    ghost use Rattle.newt_journal.specs.Journal.{reading, ReadsAs, ReadsAsEither};
     ghost use Rattle.newt_journal.specs.Switch.{IsSwitchOf};
     ghost use Rattle.newt_journal.specs.Draft.{IsBegun, IsSameRecord, HasPut, IsFinished};
     ghost use Rattle.newt_journal.specs.Draft.{outcome_of};
