@@ -60,15 +60,15 @@ abbrev pub rest_of : Draft → ℕ
 rest_of (Append a) = limit_of a.journal.blocks a.journal.bank - (a.journal.end + 5 + a.len)
 rest_of (Switch s) = bank_size s.journal.blocks - (21 + s.len)
 
--- what is read once it is finished: in version 2, one payload more, or it alone
-abbrev pub outcome : Bool → Option (List (List ℕ)) → List ℕ → Reading
-outcome false before payload = (2, appended before payload)
-outcome true before payload = (2, Some (payload ∷ []))
+-- the payloads once it is finished: one more, or it alone
+abbrev pub outcome : Bool → Option (List (List ℕ)) → List ℕ → Option (List (List ℕ))
+outcome false before payload = appended before payload
+outcome true before payload = Some (payload ∷ [])
 
--- what its unit reads as once it is finished
+-- what its unit reads as once it is finished: these, in version 2
 abbrev pub outcome_of : Draft → Outside → Reading
-outcome_of draft outside = outcome (is_switch draft) (records (image (unit_of draft) outside.now))
-    (payload_of draft (image (unit_of draft) outside.now))
+outcome_of draft outside = (2, outcome (is_switch draft)
+    (records (image (unit_of draft) outside.now)) (payload_of draft (image (unit_of draft) outside.now)))
 
 -- what is done to commit it: the gate between two syncs, or a sync and the votes
 abbrev pub commit_work : Bool → Work

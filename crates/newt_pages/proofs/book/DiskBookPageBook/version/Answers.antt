@@ -1,0 +1,1 @@
+use Rattle.newt_pages.proofs.book.DiskBookPageBook.version.Goals as goal
