@@ -5,6 +5,7 @@ use Rattle.std.specs.Option.{option_map}
 use Rattle.newt_host.specs.Moments.{Moment, image, overwritten, IsDurable, Leaves}
 use Rattle.newt_host.proofs.Moments.{Leaves-weaken, Leaves-start}
 use Rattle.newt_spec_image.specs.Pages.{Pages, Change, pages}
+use Rattle.newt_spec_image.specs.Records.{version}
 use Rattle.newt_spec_image.specs.Objects.{Extent, IsTableOf, AreObjectsOf, joined, Objects}
 use Rattle.newt_pagebook.specs.Batch.{no_change}
 use Rattle.newt_objects.specs.Held.{Held, held, WouldHold}
@@ -26,7 +27,7 @@ patch-nothing live before after unit old of_image were durable = Leaves-start (�
     let same : left ≡ image unit old = durable left may in
     record {
       size = ap (λ (l : List ℕ). length l) same;
-      holds = inl (record { live = live; of_image = ap pages same ∙ of_image; are = were });
+      holds = inl (record { live = live; of_image = ap pages same ∙ of_image; are = were }, ap version same);
     })
 
 -- what a crash leaves within the commit

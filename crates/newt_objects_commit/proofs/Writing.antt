@@ -6,6 +6,7 @@ use Rattle.newt_host.specs.Outside.{Outside, Touches}
 use Rattle.newt_host.proofs.Moments.{Leaves-start, Leaves-weaken}
 use Rattle.newt_host.proofs.Outside.{NoFault-refl, Touches-refl, Wears-refl, Wears-widen}
 use Rattle.newt_spec_image.specs.Pages.{Change, cap, pages}
+use Rattle.newt_spec_image.specs.Records.{version}
 use Rattle.newt_pagebook.specs.Batch.{IsBatch}
 use Rattle.newt_pagebook.specs.Book.{Numbers, Shown, IsBeforeOrAfter, ReadsChanged, IsOpenFor, batch_bytes, changed_numbers}
 use Rattle.newt_pagebook.specs.Calls.{Commits}
@@ -65,7 +66,7 @@ module _ {B : Type 0} (place : B → ℕ) (numbers : B → Numbers) (shown : B �
     committed = λ tells. no-value r (Stop Memory) (λ x. ReadsChanged batch (image unit outside.now) (image unit outside.now)) fails;
     any_moment = λ tells. Leaves-start (λ left may.
         let same : left ≡ image unit outside.now = durable tells left may in
-        (ap (λ (l : List ℕ). length l) same, inl (ap pages same)));
+        (ap (λ (l : List ℕ). length l) same, inl (ap pages same, ap version same)));
     fits = no-value r (Stop Memory) (λ x. live_after batch was ≤ cap (outside.blocks unit)) fails;
     full = λ is. absurd (not-refused r IsFull fails is);
     only = by-fault r (Stop Memory) (RefusesOnly IsFull) fails tt;

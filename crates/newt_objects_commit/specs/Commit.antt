@@ -4,6 +4,7 @@ use Rattle.newt_base.specs.declared.Refusal.TheVariants.{Full}
 use Rattle.newt_host.specs.Moments.{image, Leaves}
 use Rattle.newt_host.specs.Outside.{Outside, Spends, Wears}
 use Rattle.newt_spec_image.specs.Pages.{Pages, Change, cap}
+use Rattle.newt_spec_image.specs.Records.{version}
 use Rattle.newt_spec_image.specs.Objects.{AreObjectsOf, Objects}
 use Rattle.newt_pagebook.specs.Book.{Numbers}
 use Rattle.newt_objects.specs.Headers.{ArePages}
@@ -31,10 +32,10 @@ pub record IsPlanned (told : Bool) (objects : Held) (change : Change) (numbers :
 abbrev pub Fit : Objects → List ℕ → Type 0
 Fit texts now = total_pages texts ≤ cap (blocks_of now)
 
--- What a crash may leave of an image within a commit: as many bytes, which hold the objects before it, or those after it where they fit.
+-- What a crash may leave of an image within a commit: as many bytes, which hold the objects before it, in the version before it, or those after it, in version 2, where they fit.
 pub record IsEither (now : List ℕ) (before after : Objects) (left : List ℕ) : Type 0 where
   pub size : length left ≡ length now
-  pub holds : HoldsObjects left before ⊎ (HoldsObjects left after × Fit after now)
+  pub holds : (HoldsObjects left before × (version left ≡ version now)) ⊎ (HoldsObjects left after × (version left ≡ 2) × Fit after now)
 
 -- what is claimed, where bytes are told, of all objects that the batch and the plans change
 abbrev pub ForPlanned : Bool → Held → Change → Numbers → List ℕ →

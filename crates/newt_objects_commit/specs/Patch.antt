@@ -5,6 +5,7 @@ use Rattle.std.specs.FinSet as set
 use Rattle.newt_host.specs.Moments.{image, overwritten, Leaves}
 use Rattle.newt_host.specs.Outside.{Outside, Spends, Wears}
 use Rattle.newt_spec_image.specs.Pages.{cap}
+use Rattle.newt_spec_image.specs.Records.{version}
 use Rattle.newt_pagebook.specs.Book.{Numbers}
 use Rattle.newt_base.specs.declared.Refusal.TheVariants.{Full, Range}
 use Rattle.newt_spec_image.specs.Objects.{Objects}
@@ -12,10 +13,10 @@ use Rattle.newt_objects.specs.Changing.{HoldsObjects}
 use Rattle.newt_store_change.specs.declared.fault.StoreFault.{StoreFault}
 use Rattle.newt_store_change.specs.declared.fault.StoreFault.TheVariants.{Refused, Stop}
 
--- What a crash may leave of an image within a patch: as many bytes, which hold the objects before it, or those after it.
+-- What a crash may leave of an image within a patch: as many bytes, which hold the objects before it, in the version before it, or those after it, in version 2.
 pub record IsBeforeOrPatched (now : List ℕ) (before after : Objects) (left : List ℕ) : Type 0 where
   pub size : length left ≡ length now
-  pub holds : HoldsObjects left before ⊎ HoldsObjects left after
+  pub holds : (HoldsObjects left before × (version left ≡ version now)) ⊎ (HoldsObjects left after × (version left ≡ 2))
 
 -- the only refusals are these two
 abbrev pub IsRangeOrFull : StoreFault → Type 0

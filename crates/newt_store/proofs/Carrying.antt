@@ -5,6 +5,7 @@ use Rattle.newt_pagebook.proofs.Tests.{some_inj, true_or_false}
 use Rattle.newt_host.specs.Moments.{Moment, image, IsDurable, Leaves}
 use Rattle.newt_host.proofs.Moments.{Leaves-start, Leaves-weaken}
 use Rattle.newt_spec_image.specs.Objects.{Extent, Table, Objects}
+use Rattle.newt_spec_image.specs.Records.{version}
 use Rattle.newt_spec_image.specs.Pages.{cap}
 use Rattle.newt_objects.specs.Held.{held}
 use Rattle.newt_objects.specs.Changing.{HoldsObjects, total_pages}
@@ -501,10 +502,10 @@ module _ (catalog : Catalog) (next : Next) (records : List ℕ) (places : AreSou
 
   either-store : (left : List ℕ) → HoldsEither now next ids stands.texts left → IsEitherStore now s t left
   either-store left e = ⊎_elim
-      (λ (was : HoldsObjects left stands.texts). inl (read-back catalog.directory (place_of catalog.places) (names_of catalog.names) stands.texts s left was stands.describes (same-cap now left (cost s) e.size stands.fits)))
+      (λ (was : HoldsObjects left stands.texts × (version left ≡ version now)). inl (read-back catalog.directory (place_of catalog.places) (names_of catalog.names) stands.texts s left was.0 stands.describes (same-cap now left (cost s) e.size stands.fits)))
       (λ w.
-      let low : cost t ≤ cap (blocks_of now) = subst (λ (n : ℕ). n ≤ cap (blocks_of now)) (cost-after w.0 w.2) w.3 in
-      inr (low, read-back next.directory (placed next (place_of catalog.places)) (renamed catalog next records places names is are) w.0 t left w.1 (described-after w.0 w.2) (same-cap now left (cost t) e.size low)))
+      let low : cost t ≤ cap (blocks_of now) = subst (λ (n : ℕ). n ≤ cap (blocks_of now)) (cost-after w.0 w.3) w.4 in
+      inr (low, read-back next.directory (placed next (place_of catalog.places)) (renamed catalog next records places names is are) w.0 t left w.1 (described-after w.0 w.3) (same-cap now left (cost t) e.size low)))
       e.holds
 
   pub leaves-store : (unit : ℕ) (old new : Moment) → Leaves unit (HoldsEither now next ids stands.texts) old new → Leaves unit (IsEitherStore now s t) old new

@@ -424,10 +424,10 @@ module _ (catalog : Catalog) (s : Store) (now : List ℕ) (stands : StandsFor ca
       -- what a crash leaves is read as the one store or the other
       pub read-either : (minute : ℕ) (left : List ℕ) → IsBeforeOrPatched now stands.texts texts-after left → IsBeforeOrChanged (Patch sig uid node at bytes) (blocks_of now) minute s left
       read-either minute left e = ⊎_elim
-          (λ was. inl (read-back catalog.directory (place_of catalog.places) (names_of catalog.names) stands.texts s left was stands.describes (same-cap now left (cost s) e.size stands.fits)))
+          (λ was. inl (read-back catalog.directory (place_of catalog.places) (names_of catalog.names) stands.texts s left was.0 stands.describes (same-cap now left (cost s) e.size stands.fits)))
           (λ is. inr (
             none-due (blocks_of now) minute,
-            read-back catalog.directory (place_of catalog.places) (names_of catalog.names) texts-after then left is described (same-cap now left (cost then) e.size still-fits) ∙ ap (λ (t : Store). Some t) (sym (is-then minute)),
+            read-back catalog.directory (place_of catalog.places) (names_of catalog.names) texts-after then left is.0 described (same-cap now left (cost then) e.size still-fits) ∙ ap (λ (t : Store). Some t) (sym (is-then minute)),
           ))
           e.holds
 

@@ -13,6 +13,7 @@ use Rattle.newt_soupdir.specs.Bare.{bare_store}
 use Rattle.newt_host.proofs.Moments.{Leaves-start, Leaves-weaken}
 use Rattle.newt_spec_image.specs.Pages.{Pages, Change}
 use Rattle.newt_spec_image.specs.Objects.{AreObjectsOf, joined, pages_for, Objects}
+use Rattle.newt_spec_image.specs.Records.{version}
 use Rattle.newt_pagebook.specs.Batch.{no_change}
 use Rattle.newt_pagebook.specs.Book.{Numbers, batch_bytes}
 use Rattle.newt_pagebook.proofs.Tests.{some_inj}
@@ -129,7 +130,7 @@ module _ (objects now : Held) (batch : Change) (live : Pages) (before after : Ob
 pub either-next : (now : List ℕ) (next : Next) (gone : List ℕ) (before after : Objects) (left : List ℕ) → WritesNext next gone before after → IsEither now before after left → HoldsEither now next gone before left
 either-next now next gone before after left wrote e = record {
   size = e.size;
-  holds = ⊎_elim (λ was. inl was) (λ is. inr (after, is.0, wrote, is.1)) e.holds;
+  holds = ⊎_elim (λ was. inl was) (λ is. inr (after, is.0, is.1, wrote, is.2)) e.holds;
 }
 
 pub leaves-next : (unit : ℕ) (now : List ℕ) (next : Next) (gone : List ℕ) (before after : Objects) (old new : Moment) → WritesNext next gone before after → Leaves unit (IsEither now before after) old new → Leaves unit (HoldsEither now next gone before) old new
@@ -139,7 +140,7 @@ leaves-next unit now next gone before after old new wrote leaves = Leaves-weaken
 pub leaves-none : (unit : ℕ) (next : Next) (gone : List ℕ) (before : Objects) (old : Moment) → HoldsObjects (image unit old) before → IsDurable unit old → Leaves unit (HoldsEither (image unit old) next gone before) old old
 leaves-none unit next gone before old holds durable = Leaves-start (λ left may.
     let same : left ≡ image unit old = durable left may in
-    record { size = ap (λ (l : List ℕ). length l) same; holds = inl (subst (λ (l : List ℕ). HoldsObjects l before) (sym same) holds) })
+    record { size = ap (λ (l : List ℕ). length l) same; holds = inl (subst (λ (l : List ℕ). HoldsObjects l before) (sym same) holds, ap version same) })
 
 -- ---- how many bytes
 

@@ -1,1 +1,0 @@
-use Rattle.newt_pages.proofs.book.DiskBookPageBook.version.Goals as goal
