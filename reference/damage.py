@@ -9,7 +9,7 @@ from random import Random
 from typing import Callable, Optional
 
 from graphs import Array, Binary, Frame, Large, Symbol, Walk
-from images import BLOCK, HEADER
+from images import BLOCK, HEADER, OLD_HEADER
 from layouts import BLANK, VOTES, objects_of, pages_of, record, records_of, tail_of
 from stores import Part, Soup, Store, Tags, capacity, cost, entry_of, tags_bytes
 from streams import Malformed, decode, encode, encode_flat, pages
@@ -353,7 +353,7 @@ def miscount(random: Random, records: list[bytes]) -> None:
 def image_of(random: Random, records: list[bytes], blocks: int) -> Optional[bytes]:
     """An image whose chosen bank has these records, or nothing where they have no room. Few have another header."""
     size = BLOCK * ((blocks - 3) // 2)
-    header = bytearray(HEADER)
+    header = bytearray(random.choice((HEADER, OLD_HEADER)))
     header[random.randrange(len(header))] ^= random.choice((0,) * 24 + (1, 32))
     used = bytes(header) + b"".join(records)
     if len(used) > size:

@@ -28,7 +28,9 @@ from stores import (
 from streams import Malformed, decode, encode_flat, pages
 
 BLOCK = 4096
-HEADER = b"NSTORE\x00\x01" + bytes(8)
+# A bank is read with either header, and written with version 2.
+OLD_HEADER = b"NSTORE\x00\x01" + bytes(8)
+HEADER = b"NSTORE\x00\x02" + bytes(8)
 
 
 class NoStore(Exception):
@@ -114,7 +116,7 @@ def bank_of(image: bytes) -> bytes:
 
 def payloads(image: bytes) -> list[bytes]:
     bank = Record(bank_of(image))
-    wants(bank.take(len(HEADER)) == HEADER)
+    wants(bank.take(len(HEADER)) in (OLD_HEADER, HEADER))
     found = []
     while bank.passes(b"\x00"):
         found.append(bank.take(bank.number(4)))

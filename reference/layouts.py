@@ -5,7 +5,7 @@ from random import Random
 from typing import Optional
 
 from graphs import Walk
-from images import BLOCK, HEADER
+from images import BLOCK, HEADER, OLD_HEADER
 from stores import Store, directory
 from streams import encode_flat, pages
 
@@ -119,7 +119,7 @@ def random_image(random: Random, store: Store, blocks: int) -> Optional[bytes]:
         damaged(random, objects)
     records = records_of(random, pages_of(random, objects))
     size = (blocks - 3) // 2
-    used = HEADER + b"".join(records)
+    used = random.choice((HEADER, OLD_HEADER)) + b"".join(records)
     if len(used) > BLOCK * size:
         return None
     bank = used + tail_of(random, BLOCK * size - len(used))

@@ -15,8 +15,8 @@ use std::alloc::Global;
 use std::process::Abort;
 use std::test::Fail;
 
-// The bank that the card votes for.
-fn vote_of(rt: &impl Abort, host: &MemHost) -> u8 {
+/// The bank that the card votes for.
+pub(crate) fn vote_of(rt: &impl Abort, host: &MemHost) -> u8 {
     assert!(rt; has_card(host));
     let bytes = host.bytes(CARD);
     assert!(rt; bytes.len() == 13 * 4096);
@@ -57,7 +57,7 @@ fn commit_between<P: PageBook>(
     book.reserve(batch.puts().len() as u32)?;
     let from = host.calls();
     book.commit(host, batch)?;
-    assert_either::<P>(rt, alloc, host, from, before, after)?;
+    assert_either::<P>(rt, alloc, host, from, 2, before, after)?;
     assert_pages(rt, alloc, host, book, after)
 }
 
