@@ -73,7 +73,7 @@ impl Names {
     }
 
     /// Gives the symbols among new nodes, which are to stand behind the old ones, their numbers.
-    pub(crate) fn note_all(
+    pub fn note_all(
         &mut self,
         alloc: Global,
         old: &[Node],
@@ -93,6 +93,15 @@ impl Names {
         }
         Ok(())
     }
+}
+
+/// The place of the first symbol of this name but for ASCII case. It looks at one node after
+/// another, which is quickest where there are few.
+#[tactic(auto, unfolding(crate::specs::Draft::find_alike))]
+pub fn find_alike(name: &[u8], nodes: &[Node]) -> Option<usize>
+    ensures { result ≡ find_alike name.now nodes.now }
+{
+    nodes.iter().position(|node| is_alike(name, node))
 }
 
 /// The number, where a symbol of this name but for ASCII case has it.
