@@ -73,12 +73,7 @@ impl Names {
     }
 
     /// Gives the symbols among new nodes, which are to stand behind the old ones, their numbers.
-    pub fn note_all(
-        &mut self,
-        alloc: Global,
-        old: &[Node],
-        new: &[Node],
-    ) -> Result<(), AllocError>
+    pub fn note_all(&mut self, alloc: Global, old: &[Node], new: &[Node]) -> Result<(), AllocError>
         requires known { Knows self.old.numbers old.now }
         requires once { AreFoldedOnce (old.now ++ new.now) }
         requires few { length old.now + length new.now < 4294967296 }
