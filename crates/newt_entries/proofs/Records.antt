@@ -4,9 +4,9 @@ use Rattle.std.proofs.lemmas.List.{drop-drop}
 use Rattle.newt_base.specs.Text.{be16_at, be32_at}
 use Rattle.newt_graph.specs.Graph.{RawGraph}
 use Rattle.newt_spec_nsof.specs.Flat.{flat}
-use Rattle.newt_spec_store.specs.Lies.{only, is_record, record_read}
+use Rattle.newt_spec_store.specs.Lies.{is_record, record_read}
 use Rattle.newt_spec_store.specs.Reading.{written}
-use Rattle.newt_spec_store.specs.StoreOf.{LargeRow, EntryRow}
+use Rattle.newt_spec_store.specs.StoreOf.{LargeRow, EntryRow, only}
 use Rattle.newt_nsof_flat.specs.Stream.{stream_graph}
 use Rattle.newt_entries.specs.Entry.{row_at, rows_in, fits}
 use Rattle.newt_entries.specs.declared.row.LargeAt.{LargeAt}

@@ -1,4 +1,4 @@
-pub mod Infos
+pub mod Frames
 pub mod Numbers
 pub mod Spelled
 pub mod Lists

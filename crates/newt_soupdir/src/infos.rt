@@ -44,7 +44,7 @@ pub fn is_info(graph: &Graph) -> bool
 }
 
 /// How many bytes the flat text of a graph without large binaries has.
-#[tactic(auto, using(crate::proofs::Infos::skeleton_same))]
+#[tactic(auto, using(crate::proofs::Frames::skeleton_same))]
 pub fn info_len(graph: &Graph) -> u64
     requires { list_all is_no_large graph.now.nodes ≡ true }
     ensures { result ≡ length (flat graph.now) }
@@ -53,7 +53,7 @@ pub fn info_len(graph: &Graph) -> u64
 }
 
 /// Whether there is no info frame, or one of at most 4,000 bytes.
-#[tactic(auto, using(newt_laws_images::proofs::Within::graph-within))]
+#[tactic(auto, using(crate::proofs::Frames::is_within))]
 pub(crate) fn is_valid_info(info: &Option<Graph>) -> bool
     ensures { result ≡ valid_info info.now }
 {

@@ -69,8 +69,8 @@ not-either true true e = (refl, refl)
 not-either true false e = absurd (cc)
 not-either false b e = absurd (cc)
 
-pub no-large : (g : RawGraph) → is_bad_info (Some g) ≡ false → list_all is_no_large g.nodes ≡ true
-no-large g good = (not-either (is_frame (object g.nodes g.root)) (list_all is_no_large g.nodes) good).1
+pub no_large : (g : RawGraph) → is_bad_info (Some g) ≡ false → list_all is_no_large g.nodes ≡ true
+no_large g good = (not-either (is_frame (object g.nodes g.root)) (list_all is_no_large g.nodes) good).1
 
 pub info-valid : (info : Option RawGraph) → IfSome info IsGraph → is_bad_info info ≡ false → is_large_info info ≡ false → valid_info info ≡ true
 info-valid None is good short = refl

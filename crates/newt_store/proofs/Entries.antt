@@ -7,9 +7,9 @@ use Rattle.newt_spec_nsof.specs.Lengths.{skeleton}
 use Rattle.newt_spec_graph.proofs.Lists.{each-more}
 use Rattle.newt_spec_store.specs.Image.{entry_bytes, larges}
 use Rattle.newt_spec_store.specs.Laid.{IsThere}
-use Rattle.newt_spec_store.specs.Lies.{Places, IsIn, AreLarges, only}
+use Rattle.newt_spec_store.specs.Lies.{Places, IsIn, AreLarges}
 use Rattle.newt_spec_store.specs.Store.{Soup, Store, Entry, entry_of, entry_at}
-use Rattle.newt_spec_store.specs.StoreOf.{entry_of_row}
+use Rattle.newt_spec_store.specs.StoreOf.{entry_of_row, only}
 use Rattle.newt_spec_store.specs.Valid.{valid_entry}
 use Rattle.newt_laws_images.proofs.Finite.{object-get}
 use Rattle.newt_laws_images.proofs.Placed.{entry-fits}

@@ -1,4 +1,5 @@
 -- What was gathered where the records of entries were read is gathered of the store.
+use Rattle.newt_spec_store.specs.Reading.{written}
 use Rattle.std.proofs.Common.{◌≡◌, ℕ, cond, List, Option, Some, None, option_map, option_and_then, refl, sym, ◌∙◌, ap, subst}
 use Rattle.std.specs.FinMap as map
 use Rattle.std.specs.Prelude.{bytes_eq}
@@ -11,7 +12,7 @@ use Rattle.newt_spec_store.specs.Image.{entry_bytes}
 use Rattle.newt_spec_store.specs.Laid.{row_of}
 use Rattle.newt_spec_store.specs.Lies.{Places, IsIn, record_read}
 use Rattle.newt_spec_store.specs.Store.{Store, Entry, entry_at}
-use Rattle.newt_spec_store.specs.StoreOf.{EntryRow as PlainRow, written}
+use Rattle.newt_spec_store.specs.StoreOf.{EntryRow as PlainRow}
 use Rattle.newt_laws_images.proofs.Alone.{alone, bad-alone}
 use Rattle.newt_laws_images.proofs.Records.{record-back, bytes-same}
 use Rattle.newt_laws_changes.specs.Written.{Names}

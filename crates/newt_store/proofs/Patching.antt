@@ -1,4 +1,5 @@
 -- A patch of a large binary: where it goes, and the store after it.
+use Rattle.newt_spec_store.specs.Reading.{written}
 use Rattle.newt_spec_image.specs.Records.{version}
 use Rattle.std.proofs.Common.{IsTrue, ◌≡◌, inl, inr, ℕ, zero, suc, ◌+◌, ◌*◌, ◌<◌, ◌≤◌, ◌==◌, Bool, true, false, cond, not, List, [], ◌∷◌, map as map_list, zip, length, sum, Option, Some, None, IsSome, Result, Err, refl, sym, ◌∙◌, ap, subst, arith, ⊎_elim}
 use Rattle.std.specs.Prelude.{slice_get}
@@ -31,10 +32,10 @@ use Rattle.newt_spec_graph.proofs.Lists.{each-at, get-among, some-same, none-som
 use Rattle.newt_spec_store.specs.Cost.{cost, large_lengths, patch_bytes}
 use Rattle.newt_spec_store.specs.Image.{larges, entry_bytes}
 use Rattle.newt_spec_store.specs.Laid.{bare, row_of, row_of_large, FitsRecord, bare_soup}
-use Rattle.newt_spec_store.specs.Lies.{AreLarges, HasLarge, only, is_record, record_read}
+use Rattle.newt_spec_store.specs.Lies.{AreLarges, HasLarge, is_record, record_read}
 use Rattle.newt_spec_store.specs.OfImage.{blocks_of}
 use Rattle.newt_spec_store.specs.Store.{Soup, Store, Entry, entry_of, soup_named, change_soup, change_entry, soup_of, entry_at}
-use Rattle.newt_spec_store.specs.StoreOf.{EntryRow as PlainRow, LargeRow, fill, written}
+use Rattle.newt_spec_store.specs.StoreOf.{EntryRow as PlainRow, LargeRow, fill, only}
 use Rattle.newt_laws_images.proofs.Made.{map-length}
 use Rattle.newt_laws_images.proofs.Records.{larges_from, record-back, entry-length}
 use Rattle.newt_laws_images.proofs.Chosen.{found_by_name}

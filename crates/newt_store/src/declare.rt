@@ -144,7 +144,7 @@ fn is_bad_info(info: &Option<Graph>) -> bool
 }
 
 // Whether an info frame's text is too long.
-#[tactic(auto, using(crate::proofs::Declaring::no-large))]
+#[tactic(auto, using(crate::proofs::Declaring::no_large))]
 fn is_large_info(info: &Option<Graph>) -> bool
     requires { bad_info info.now ≡ false }
     ensures { result ≡ large_info info.now }
