@@ -29,7 +29,7 @@ use Rattle.newt_laws_answers.specs.Bounds.{change_bytes, unless, listed, entries
 use Rattle.newt_laws_answers.specs.There.{OnUnit}
 use Rattle.newt_store_change.specs.Change.{refusals}
 use Rattle.newt_store_change.specs.declared.change.Change.TheVariants.{MakeSoup}
-use Rattle.newt_laws_answers.proofs.Tests.{add_tests, move_tests, moved_within, replace_tests, replaced, patch_tests, index_tests, tagged, tags_tests, with_added}
+use Rattle.newt_laws_answers.proofs.Tests.{add_tests, move_tests, moved_within, replace_tests, replaced, patch_tests, index_tests, tagged, tags_tests, with_added, info_tests, informed}
 use Rattle.newt_laws_answers.proofs.Firsts.{first-false}
 use Rattle.newt_laws_answers.proofs.Units.{is-there, on-changed, on-other, soup-named}
 use Rattle.newt_laws_answers.proofs.Answers.{all-pass, entry-named}
