@@ -50,11 +50,7 @@ pub fn set_info<C: Card, H: Host>(
 }
 
 /// The info frame of a soup, if it has one.
-pub fn info<C: Card>(
-    units: &Units<C>,
-    unit: Unit,
-    name: &Name,
-) -> Result<Option<Graph>, StoreFault>
+pub fn info<C: Card>(units: &Units<C>, unit: Unit, name: &Name) -> Result<Option<Graph>, StoreFault>
     ensures answered { (outside : Outside) → Eight outside
         → Stands C.place C.stands true units.now outside →
         Answers (world_of C.reads units.now outside) (world_of C.reads units.now outside)
