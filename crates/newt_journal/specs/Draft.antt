@@ -67,8 +67,11 @@ outcome true before payload = Some (payload ∷ [])
 
 -- what its unit reads as once it is finished: these, in version 2
 abbrev pub outcome_of : Draft → Outside → Reading
-outcome_of draft outside = (2, outcome (is_switch draft)
-    (records (image (unit_of draft) outside.now)) (payload_of draft (image (unit_of draft) outside.now)))
+outcome_of draft outside = (
+  2,
+  outcome (is_switch draft)
+      (records (image (unit_of draft) outside.now)) (payload_of draft (image (unit_of draft) outside.now)),
+)
 
 -- what is done to commit it: the gate between two syncs, or a sync and the votes
 abbrev pub commit_work : Bool → Work

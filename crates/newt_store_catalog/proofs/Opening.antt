@@ -416,11 +416,11 @@ pub directory-by : (told : Bool) (read_from bytes text : List ℕ) (number : ℕ
     → IfOk r (λ d. directory_read stream_graph number text ≡ Some (bare_store d)) → OnOk r (AreBytes text) → IfOk r (IsDirectory told read_from)
 directory-by told read_from bytes text number (Ok d) has same is read are = record {
   root = λ tells texts h. record {
-      bytes = text;
-      object = has tells texts h ∙ ap (λ (b : List ℕ). let o : Option (List ℕ) = Some b in o) (sym same);
-      read = ap (λ (n : ℕ). directory_read stream_graph n text) (sym (is tells)) ∙ read;
-      are_bytes = are;
-    };
+    bytes = text;
+    object = has tells texts h ∙ ap (λ (b : List ℕ). let o : Option (List ℕ) = Some b in o) (sym same);
+    read = ap (λ (n : ℕ). directory_read stream_graph n text) (sym (is tells)) ∙ read;
+    are_bytes = are;
+  };
   formed = now-formed number text (bare_store d) read;
 }
 directory-by told read_from bytes text number (Err e) has same is read are = tt

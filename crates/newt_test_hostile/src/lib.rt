@@ -12,3 +12,5 @@ mod lines;
 mod outputs;
 #[cfg(test)]
 mod pieces;
+#[cfg(test)]
+mod versions;

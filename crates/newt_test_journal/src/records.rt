@@ -21,11 +21,7 @@ pub(crate) struct Held {
 }
 
 /// What a journal holds.
-pub(crate) fn held_by<H: Host>(
-    alloc: Global,
-    journal: &Journal,
-    host: &mut H,
-) -> Result<Held, Halt>
+pub(crate) fn held_by<H: Host>(alloc: Global, journal: &Journal, host: &mut H) -> Result<Held, Halt>
     requires { Stands H.told journal.now (H.outside host.old) }
     ensures stands { Stands H.told journal.now (H.outside host.new) }
     ensures moment { (H.outside host.new).now ≡ (H.outside host.old).now }
@@ -39,11 +35,7 @@ pub(crate) fn held_by<H: Host>(
 }
 
 // The payloads of a journal, in order.
-fn payloads<H: Host>(
-    alloc: Global,
-    journal: &Journal,
-    host: &mut H,
-) -> Result<Records, Halt>
+fn payloads<H: Host>(alloc: Global, journal: &Journal, host: &mut H) -> Result<Records, Halt>
     requires { Stands H.told journal.now (H.outside host.old) }
     ensures stands { Stands H.told journal.now (H.outside host.new) }
     ensures moment { (H.outside host.new).now ≡ (H.outside host.old).now }

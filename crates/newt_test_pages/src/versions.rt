@@ -25,11 +25,7 @@ fn bytes_of(rt: &impl Abort, alloc: Global, host: &MemHost) -> Result<Vec<u8>, F
 }
 
 // Puts three pages.
-fn put_three<P: PageBook>(
-    alloc: Global,
-    host: &mut MemHost,
-    book: &mut P,
-) -> Result<(), Fail>
+fn put_three<P: PageBook>(alloc: Global, host: &mut MemHost, book: &mut P) -> Result<(), Fail>
     requires book { P.stands true book.old (outside_of host.old) × (P.place book.old ≡ 0) }
 {
     let batch = batch_of(alloc, 0, 0, 3, 7)?;

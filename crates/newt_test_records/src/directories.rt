@@ -4,9 +4,7 @@ use newt_base::{Name, Sig};
 use newt_graph::Graph;
 use newt_keys::{IndexSpec, Kind, Order};
 use newt_path::Path;
-use newt_soupdir::{
-    Directory, MOST_INFO, info_len, is_info, read_directory, write_directory,
-};
+use newt_soupdir::{Directory, MOST_INFO, info_len, is_info, read_directory, write_directory};
 use newt_tags::TagTable;
 use newt_test_tables::{bytes_of, expect_rows};
 use std::alloc::Global;

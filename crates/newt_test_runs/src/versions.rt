@@ -3,8 +3,9 @@
 
 use newt_host::Unit;
 use newt_memhost::Pick;
-use newt_test_scripts::{Counts, blocks, expect, expect_safe, image, looks_behind, over, run_on};
-use newt_test_scripts::run_table_on;
+use newt_test_scripts::{
+    Counts, blocks, expect, expect_safe, image, looks_behind, over, run_on, run_table_on,
+};
 use newt_test_tables::bytes_of;
 use newt_top::Status;
 use std::process::Abort;
@@ -267,7 +268,8 @@ const PICKS: [Pick; 6] = [
 /// A first change of an old image, and what is asked behind a stop.
 const FIRST: &[u8] = b"mount 0\ninfo 0 S {ver: 2}\n";
 
-const ASK: &[u8] = b"mount 0\nsoups 0\nindexes 0 S\ntags 0 S\ninfo 0 S\ngetx 0 S 0\ngetx 0 S 1\ngetx 0 \"To Do\" 0\n";
+const ASK: &[u8] =
+    b"mount 0\nsoups 0\nindexes 0 S\ntags 0 S\ninfo 0 S\ngetx 0 S 0\ngetx 0 S 1\ngetx 0 \"To Do\" 0\n";
 
 /// A stop at each device call of the first change leaves the store before it, in version 1, or the
 /// store behind it, in version 2.

@@ -53,8 +53,8 @@ returns g c =
     let r : Result Directory BookFault = c.root_of.result in
     let after : Outside = g.H.Host.outside c.read_object.new.host in
     let is : IsTrue g.H.Host.told → c.version.result ≡ version (image u o.now) = λ tells.
-        c.version.ensures.by_image g.H.Host.told after e.searches.book.stood tells
-        ∙ ap version (same-image _ _ _ _ e.searches.book.same_place e.searches.book.looks.moment) in
+    c.version.ensures.by_image g.H.Host.told after e.searches.book.stood tells
+    ∙ ap version (same-image _ _ _ _ e.searches.book.same_place e.searches.book.looks.moment) in
     record {
       root = directory-by g.H.Host.told (image u o.now) bytes text c.version.result r c.in_ok-bytes.ensures.bytes same is c.root_of.ensures.read c.root_of.ensures.are_bytes;
       searches = record {
