@@ -2,7 +2,7 @@
 ghost use Rattle.std.specs.Prelude.{IfOk, IsSome};
 ghost use Rattle.newt_memhost.specs.Outside.{outside_of};
 
-use crate::steps::{CARD, erase, host_of, print, read, sync};
+use crate::steps::{CARD, check, check_at, erase, host_of, print, read, sync, take};
 use newt_host::Host;
 use newt_memhost::MemHost;
 use std::alloc::{AllocError, Global};
@@ -46,20 +46,21 @@ fn take_all(rt: &impl Abort, host: &mut MemHost)
     requires { IsSome ((outside_of host.old).card 0) }
     ensures { IsSome ((outside_of host.new).card 0) }
 {
-    assert!(rt; takes(host, b"abc"));
-    assert!(rt; host.read_in(&mut [0; 8]).is_err());
-    assert!(rt; print(host, b"x") == Ok(1));
-    assert!(rt; takes(host, b"d"));
-    assert!(rt; host.read_in(&mut [0; 8]).is_err());
-    assert!(rt; takes(host, b""));
+    check(rt, takes(host, b"abc"), "the first piece");
+    check(rt, take(host).is_err(), "the call 1");
+    check(rt, print(host, b"x") == Ok(1), "the output");
+    check(rt, takes(host, b"d"), "the second piece");
+    check(rt, take(host).is_err(), "the call 4");
+    check(rt, takes(host, b""), "the end");
 }
 
 // How much of the input was taken when each call began.
 fn assert_taken(rt: &impl Abort, host: &MemHost, before: [u64; 6]) {
-    for (call, taken) in (0..6).zip(before) {
+    for call in 0..6u64 {
+        let taken = before[call as usize];
         assert!(rt; call < host.calls());
-        assert!(rt; host.in_before(call) == taken, "at {call}");
-        assert!(rt; host.unit_of(call).is_none(), "at {call}");
+        check_at(rt, host.in_before(call) == taken, call);
+        check_at(rt, host.unit_of(call).is_none(), call);
     }
 }
 
@@ -78,23 +79,35 @@ fn counts(host: &MemHost) -> [u64; 3]
     [host.erased(CARD), host.synced(CARD), host.fetched(CARD)]
 }
 
+fn assert_counts(rt: &impl Abort, host: &MemHost, wanted: [u64; 3])
+    requires { IsSome ((outside_of host.now).card 0) }
+{
+    assert!(rt; counts(host) == wanted, "{wanted:?}");
+}
+
 // Two erases and three syncs, of which one each fails.
 fn erase_and_sync(rt: &impl Abort, host: &mut MemHost)
     requires { IsSome ((outside_of host.old).card 0) }
     ensures { IsSome ((outside_of host.new).card 0) }
 {
-    assert!(rt; erase(rt, host, 0).is_ok() && counts(host) == [1, 0, 0]);
-    assert!(rt; erase(rt, host, 0).is_err() && counts(host) == [2, 0, 0]);
-    assert!(rt; sync(host).is_ok() && counts(host) == [2, 1, 0]);
-    assert!(rt; read(rt, host, 8).is_ok() && counts(host) == [2, 1, 8]);
-    assert!(rt; sync(host).is_err() && counts(host) == [2, 2, 8]);
-    assert!(rt; sync(host).is_ok() && counts(host) == [2, 3, 8]);
+    check(rt, erase(rt, host, 0).is_ok(), "the call 0");
+    assert_counts(rt, host, [1, 0, 0]);
+    check(rt, erase(rt, host, 0).is_err(), "the call 1");
+    assert_counts(rt, host, [2, 0, 0]);
+    check(rt, sync(host).is_ok(), "the call 2");
+    assert_counts(rt, host, [2, 1, 0]);
+    check(rt, read(rt, host, 8).is_ok(), "the call 3");
+    assert_counts(rt, host, [2, 1, 8]);
+    check(rt, sync(host).is_err(), "the call 4");
+    assert_counts(rt, host, [2, 2, 8]);
+    check(rt, sync(host).is_ok(), "the call 5");
+    assert_counts(rt, host, [2, 3, 8]);
 }
 
 #[test]
 fn each_erase_and_sync_is_counted_and_so_is_one_that_fails(rt: HostRuntime) -> Result<(), Fail> {
     let mut host = prepared(&rt, rt.alloc())?;
     erase_and_sync(&rt, &mut host);
-    assert!(rt; host.programmed(CARD) == 0);
+    check(&rt, host.programmed(CARD) == 0, "no program");
     Ok(())
 }

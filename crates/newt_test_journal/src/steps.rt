@@ -11,6 +11,16 @@ use std::test::Fail;
 /// The unit of the card.
 pub(crate) const CARD: Unit = Unit(0);
 
+/// What is wanted holds, of this call or count.
+pub(crate) fn check(rt: &impl Abort, holds: bool, what: &str) {
+    assert!(rt; holds, "{what}");
+}
+
+/// The same of the call of a number.
+pub(crate) fn check_at(rt: &impl Abort, holds: bool, call: u64) {
+    assert!(rt; holds, "at {call}");
+}
+
 /// A host with one card of these bytes.
 pub(crate) fn host_of(rt: &impl Abort, alloc: Global, bytes: &[u8]) -> Result<MemHost, Fail>
     ensures { IfOk result (λ host. IsSome ((outside_of host).card 0)) }

@@ -3,7 +3,7 @@
 ghost use Rattle.std.specs.Prelude.{IfOk, IsSome};
 ghost use Rattle.newt_memhost.specs.Outside.{outside_of};
 
-use crate::steps::{CARD, erase, host_of, print, read, sync, take};
+use crate::steps::{CARD, check, check_at, erase, host_of, print, read, sync, take};
 use newt_host::{Host, Unit};
 use newt_memhost::{MemHost, Pick};
 use std::alloc::{AllocError, Global};
@@ -44,7 +44,7 @@ fn prepared(rt: &impl Abort, alloc: Global) -> Result<MemHost, Fail>
     ensures { IfOk result (λ host. IsSome ((outside_of host).card 0)) }
 {
     let mut host = host_of(rt, alloc, &two_blocks(alloc)?)?;
-    assert!(rt; host.blocks(CARD) == 2);
+    check(rt, host.blocks(CARD) == 2, "two blocks");
     prepare(&mut host)?;
     Ok(host)
 }
@@ -54,11 +54,11 @@ fn first_calls(rt: &impl Abort, host: &mut MemHost)
     requires { IsSome ((outside_of host.old).card 0) }
     ensures { IsSome ((outside_of host.new).card 0) }
 {
-    assert!(rt; take(host) == Ok(2));
-    assert!(rt; erase(rt, host, 0).is_ok());
-    assert!(rt; print(host, b"x") == Ok(1));
-    assert!(rt; erase(rt, host, 1).is_err());
-    assert!(rt; sync(host).is_ok());
+    check(rt, take(host) == Ok(2), "the call 0");
+    check(rt, erase(rt, host, 0).is_ok(), "the call 1");
+    check(rt, print(host, b"x") == Ok(1), "the call 2");
+    check(rt, erase(rt, host, 1).is_err(), "the call 3");
+    check(rt, sync(host).is_ok(), "the call 4");
 }
 
 // The second block is erased, and is to be made sure of.
@@ -66,16 +66,16 @@ fn later_calls(rt: &impl Abort, host: &mut MemHost)
     requires { IsSome ((outside_of host.old).card 0) }
     ensures { IsSome ((outside_of host.new).card 0) }
 {
-    assert!(rt; read(rt, host, 8000).is_ok());
-    assert!(rt; erase(rt, host, 1).is_ok());
-    assert!(rt; sync(host).is_err());
-    assert!(rt; print(host, b"yz") == Ok(2));
+    check(rt, read(rt, host, 8000).is_ok(), "the call 5");
+    check(rt, erase(rt, host, 1).is_ok(), "the call 6");
+    check(rt, sync(host).is_err(), "the call 7");
+    check(rt, print(host, b"yz") == Ok(2), "the call 8");
 }
 
 // The byte that stands at both of these places.
 fn byte_at(rt: &impl Abort, image: &[u8], first: usize, last: usize) -> u8 {
     assert!(rt; first < image.len() && last < image.len());
-    assert!(rt; image[first] == image[last]);
+    check(rt, image[first] == image[last], "one byte at both ends");
     image[first]
 }
 
@@ -95,12 +95,12 @@ fn assert_row(rt: &impl Abort, host: &MemHost, call: u64, row: &Row) -> Result<(
     requires { IsSome ((outside_of host.now).card 0) }
 {
     assert!(rt; call < host.calls());
-    assert!(rt; host.unit_of(call) == row.unit, "at {call}");
-    assert!(rt; host.out_before(call) == row.before, "at {call}");
-    for (pick, image) in PICKS.iter().zip(row.images) {
-        let crash = host.images(CARD, call, *pick)?;
-        assert!(rt; shown(rt, &crash.image) == image, "at {call} {pick:?}");
-        assert!(rt; crash.out == row.out, "at {call}");
+    check_at(rt, host.unit_of(call) == row.unit, call);
+    check_at(rt, host.out_before(call) == row.before, call);
+    for i in 0..4usize {
+        let crash = host.images(CARD, call, PICKS[i])?;
+        let wanted = shown(rt, &crash.image) == row.images[i] && crash.out == row.out;
+        check_at(rt, wanted, call);
     }
     Ok(())
 }
@@ -120,7 +120,7 @@ fn each_pick_at_each_call(rt: HostRuntime) -> Result<(), Fail> {
     let mut host = prepared(&rt, rt.alloc())?;
     first_calls(&rt, &mut host);
     later_calls(&rt, &mut host);
-    assert!(rt; host.calls() == 9);
+    check(&rt, host.calls() == 9, "nine calls");
     let none = [[7, 7, 7, 7]; 4];
     let first = [[7, 7, 7, 7], [255, 255, 7, 7], [255, 7, 7, 7], [9, 9, 7, 7]];
     let both = [[7, 7, 7, 7], [255, 255, 7, 7], [255, 7, 7, 7], [9, 9, 9, 9]];
