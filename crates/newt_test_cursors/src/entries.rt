@@ -41,7 +41,7 @@ pub(crate) fn number_paths(alloc: Global) -> Result<Vec<Path>, Fail> {
 }
 
 /// A graph, its place by number and its place by name; none where it has no key.
-#[derive(Clone, Copy, Debug)]
+#[derive(Clone, Copy)]
 pub(crate) struct KnownGraph {
     pub(crate) text: &'static str,
     pub(crate) number: Option<i32>,
@@ -79,7 +79,7 @@ pub(crate) fn graph(alloc: Global, uid: u32, changed: bool) -> Result<Graph, Fai
 }
 
 /// Which range of a soup.
-#[derive(Clone, Copy, Debug, PartialEq, Eq)]
+#[derive(Clone, Copy)]
 pub(crate) enum By {
     Id,
     Number,
@@ -96,7 +96,7 @@ fn place(by: By, known: &KnownGraph) -> Option<i32> {
 }
 
 /// What is left of 200 entries after some were changed and some removed.
-#[derive(Clone, Copy, Debug, PartialEq, Eq)]
+#[derive(Clone, Copy, Debug)]
 pub(crate) struct Left {
     pub(crate) changed: bool,
     pub(crate) removed: bool,

@@ -4,23 +4,11 @@ ghost use Rattle.std.specs.Prelude.{IfOk, IsSome};
 ghost use Rattle.newt_memhost.specs.Outside.{outside_of};
 
 use crate::steps::{CARD, check, check_at, erase, host_of, print, read, sync, take};
-use newt_host::{Host, Unit};
+use newt_host::Host;
 use newt_memhost::{MemHost, Pick};
 use std::alloc::{AllocError, Global};
 use std::process::Abort;
 use std::test::Fail;
-
-const PICKS: [Pick; 4] = [Pick::Old, Pick::New, Pick::Half, Pick::Fill(9)];
-
-// What is told of one call: its unit, the length of the output at its begin and at its crash, and
-// what each pick leaves.
-#[derive(Clone, Copy)]
-struct Row {
-    unit: Option<Unit>,
-    before: u64,
-    out: u64,
-    images: [[u8; 4]; 4],
-}
 
 // The bytes of two blocks.
 fn two_blocks(alloc: Global) -> Result<Vec<u8>, AllocError> {
@@ -90,29 +78,74 @@ fn shown(rt: &impl Abort, image: &[u8]) -> [u8; 4] {
     ]
 }
 
-// One call is told as its row says.
-fn assert_row(rt: &impl Abort, host: &MemHost, call: u64, row: &Row) -> Result<(), Fail>
+// What a crash within a call leaves by one pick: the length of the output, and the bytes of the
+// image.
+fn left(rt: &impl Abort, host: &MemHost, call: u64, pick: Pick) -> Result<(u64, [u8; 4]), Fail>
     requires { IsSome ((outside_of host.now).card 0) }
 {
     assert!(rt; call < host.calls());
-    check_at(rt, host.unit_of(call) == row.unit, call);
-    check_at(rt, host.out_before(call) == row.before, call);
-    for i in 0..4usize {
-        let crash = host.images(CARD, call, PICKS[i])?;
-        let wanted = shown(rt, &crash.image) == row.images[i] && crash.out == row.out;
-        check_at(rt, wanted, call);
-    }
+    let crash = host.images(CARD, call, pick)?;
+    Ok((crash.out, shown(rt, &crash.image)))
+}
+
+// The same by each pick.
+fn all_left(rt: &impl Abort, host: &MemHost, call: u64) -> Result<[(u64, [u8; 4]); 4], Fail>
+    requires { IsSome ((outside_of host.now).card 0) }
+{
+    Ok([
+        left(rt, host, call, Pick::Old)?,
+        left(rt, host, call, Pick::New)?,
+        left(rt, host, call, Pick::Half)?,
+        left(rt, host, call, Pick::Fill(9))?,
+    ])
+}
+
+// What is told of one call: its unit, the length of the output at its begin, and what each pick
+// leaves.
+fn told(rt: &impl Abort, alloc: Global, host: &MemHost, call: u64) -> Result<String, Fail>
+    requires { IsSome ((outside_of host.now).card 0) }
+{
+    assert!(rt; call < host.calls());
+    let unit = host.unit_of(call);
+    let before = host.out_before(call);
+    let left = all_left(rt, host, call)?;
+    Ok(format!(in alloc; "{unit:?} {before} {left:?}")?)
+}
+
+// What is told of each call, and what each pick leaves: the old bytes, the new ones, half of what
+// is new, and bytes of 9 in its place.
+const CALLS: &str =
+    "None 0 [(0, [7, 7, 7, 7]), (0, [7, 7, 7, 7]), (0, [7, 7, 7, 7]), (0, [7, 7, 7, 7])]
+Some(Unit(0)) 0 [(0, [7, 7, 7, 7]), (0, [255, 255, 7, 7]), (0, [255, 7, 7, 7]), (0, [9, 9, 7, 7])]
+None 0 [(1, [7, 7, 7, 7]), (1, [255, 255, 7, 7]), (1, [255, 7, 7, 7]), (1, [9, 9, 7, 7])]
+Some(Unit(0)) 1 [(1, [7, 7, 7, 7]), (1, [255, 255, 7, 7]), (1, [255, 7, 7, 7]), (1, [9, 9, 9, 9])]
+Some(Unit(0)) 1 [(1, [7, 7, 7, 7]), (1, [255, 255, 7, 7]), (1, [255, 7, 7, 7]), (1, [9, 9, 9, 9])]
+Some(Unit(0)) 1 [(1, [255, 255, 7, 7]), (1, [255, 255, 7, 7]), (1, [255, 255, 7, 7]), (1, [255, 255, 7, 7])]
+Some(Unit(0)) 1 [(1, [255, 255, 7, 7]), (1, [255, 255, 255, 255]), (1, [255, 255, 255, 7]), (1, [255, 255, 9, 9])]
+Some(Unit(0)) 1 [(1, [255, 255, 7, 7]), (1, [255, 255, 255, 255]), (1, [255, 255, 255, 7]), (1, [255, 255, 9, 9])]
+None 1 [(3, [255, 255, 7, 7]), (3, [255, 255, 255, 255]), (3, [255, 255, 255, 7]), (3, [255, 255, 9, 9])]";
+
+fn expect_told(
+    rt: &impl Abort,
+    alloc: Global,
+    host: &MemHost,
+    call: u64,
+    row: &str,
+) -> Result<(), Fail>
+    requires { IsSome ((outside_of host.now).card 0) }
+{
+    let told = told(rt, alloc, host, call)?;
+    check_at(rt, told.as_str() == row, call);
     Ok(())
 }
 
-// A row for a call on the card, or on the input or the output.
-fn told(unit: Option<Unit>, before: u64, out: u64, images: [[u8; 4]; 4]) -> Row {
-    Row {
-        unit,
-        before,
-        out,
-        images,
+fn expect_calls(rt: &impl Abort, alloc: Global, host: &MemHost) -> Result<(), Fail>
+    requires { IsSome ((outside_of host.now).card 0) }
+{
+    for (call, row) in CALLS.lines().enumerate() {
+        expect_told(rt, alloc, host, call as u64, row)?;
     }
+    Ok(())
 }
 
 #[test]
@@ -121,23 +154,5 @@ fn each_pick_at_each_call(rt: HostRuntime) -> Result<(), Fail> {
     first_calls(&rt, &mut host);
     later_calls(&rt, &mut host);
     check(&rt, host.calls() == 9, "nine calls");
-    let none = [[7, 7, 7, 7]; 4];
-    let first = [[7, 7, 7, 7], [255, 255, 7, 7], [255, 7, 7, 7], [9, 9, 7, 7]];
-    let both = [[7, 7, 7, 7], [255, 255, 7, 7], [255, 7, 7, 7], [9, 9, 9, 9]];
-    let sure = [[255, 255, 7, 7]; 4];
-    let second = [
-        [255, 255, 7, 7],
-        [255, 255, 255, 255],
-        [255, 255, 255, 7],
-        [255, 255, 9, 9],
-    ];
-    assert_row(&rt, &host, 0, &told(None, 0, 0, none))?;
-    assert_row(&rt, &host, 1, &told(Some(CARD), 0, 0, first))?;
-    assert_row(&rt, &host, 2, &told(None, 0, 1, first))?;
-    assert_row(&rt, &host, 3, &told(Some(CARD), 1, 1, both))?;
-    assert_row(&rt, &host, 4, &told(Some(CARD), 1, 1, both))?;
-    assert_row(&rt, &host, 5, &told(Some(CARD), 1, 1, sure))?;
-    assert_row(&rt, &host, 6, &told(Some(CARD), 1, 1, second))?;
-    assert_row(&rt, &host, 7, &told(Some(CARD), 1, 1, second))?;
-    assert_row(&rt, &host, 8, &told(None, 1, 3, second))
+    expect_calls(&rt, rt.alloc(), &host)
 }
