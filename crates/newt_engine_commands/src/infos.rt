@@ -2,6 +2,7 @@
 ghost use Rattle.std.specs.Prelude.{◌≡◌, Some, None, IfErr, option_map, option_and_then};
 ghost use Rattle.std.specs.Prelude.{true};
 ghost use Rattle.newt_host.specs.Outside.{Outside};
+ghost use Rattle.newt_spec_query.specs.Spec.{is_nil};
 ghost use Rattle.newt_spec_world.specs.Answer.{or_nil};
 ghost use Rattle.newt_spec_world.specs.Changed.{info_from};
 ghost use Rattle.newt_spec_world.specs.Reply.{Reply};
@@ -24,11 +25,17 @@ use newt_store_change::{Change, StoreFault};
 fn info_of(literal: Graph) -> Option<Graph>
     ensures { result ≡ info_from literal }
 {
-    if matches!(literal.root(), Ref::Imm(2)) {
+    if is_nil(literal.root()) {
         None
     } else {
         Some(literal)
     }
+}
+
+fn is_nil(value: Ref) -> bool
+    ensures { result ≡ is_nil value }
+{
+    matches!(value, Ref::Imm(2))
 }
 
 /// Gives a soup an info frame, or none where the literal is nil.

@@ -92,9 +92,10 @@ module _ {B : Type 0} (place : B → ℕ) (numbers : B → Numbers) (standing : 
           still = settles.still;
           only = c.only;
           holds = λ tells was will p. ok-both _ _ r
+              (ok-both _ _ r
               (ok-map _ _ r (λ changed. holds-after told objects batch (numbers old) now was will tells c.sound p (image unit after.now) changed) (c.committed tells))
-              (ok-both _ _ r (ok-map _ _ r (λ low. planned-fits told objects batch (numbers old) now was will tells c.sound p blocks (size tells) low) c.fits)
-              (ok-map _ _ r (λ ready. ready.is_open.new) (c.open_after tells)));
+              (ok-map _ _ r (λ low. planned-fits told objects batch (numbers old) now was will tells c.sound p blocks (size tells) low) c.fits))
+              (ok-map _ _ r (λ ready. ready.is_open.new) (c.open_after tells));
           full = λ is tells was will p. planned-full told objects batch (numbers old) now was will tells c.sound p blocks (size tells) (c.full is);
           any_moment = λ tells was will p. ⊎_elim
               (λ more. subst (λ (m : Moment). Leaves unit (IsEither now was will) before.now m) (sym (c.idle more).0)

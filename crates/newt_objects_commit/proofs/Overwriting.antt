@@ -158,9 +158,11 @@ module _ {B : Type 0} (place : B → ℕ) (numbers : B → Numbers) (spare : B �
             (patch tells holds.live holds.of_image) was text holds.are here in
             record {
               patched = λ tells was text holds here. ok-both _ _ r
+                  (ok-both _ _ r
                   (ok-map _ _ r (λ changed. changed_holds objects batch holds.live (patched_text id at bytes was text) (image unit between.now) (image unit after.now) (ap pages still ∙ holds.of_image) (would tells was text holds here) changed)
                   (c.committed tells))
-                  (ok-both _ _ r (is-ok r (fits-text tells was text holds here)) (ok-map _ _ r (λ ready. ready.is_open.new) (c.open_after tells)));
+                  (is-ok r (fits-text tells was text holds here)))
+                  (ok-map _ _ r (λ ready. ready.is_open.new) (c.open_after tells));
               range = λ is. absurd (never-range r c.only is);
               past = λ tells was text holds here more. never-past _ (length text) (fits-text tells was text holds here) more;
               any_moment = λ tells was text holds here. subst (λ (m : Moment). Leaves unit (IsBeforeOrPatched (image unit m) was (patched_text id at bytes was text)) m after.now) look.looks.moment

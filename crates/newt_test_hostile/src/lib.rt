@@ -25,3 +25,5 @@ mod script;
 mod stops;
 #[cfg(test)]
 mod twice;
+#[cfg(test)]
+mod versions;

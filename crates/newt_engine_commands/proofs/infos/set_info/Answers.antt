@@ -41,13 +41,13 @@ returns g c =
       stands = λ goes. e.stands (done-goes c.change.result is goes);
       answered = λ t.
           let h = has-soup at t c.args.unit c.args.name.now c.in_ok-soup.soup c.in_ok-soup.ensures in
-          info-answers w _ c.args.unit h.blocks h.store h.on refl c.args.name.now h.soup h.named h.name_is c.args.literal c.info.result c.info.ensures _ (said-done e t h.on (info-said h.blocks w.minute c.in_ok-soup.soup h.store h.soup h.by_sig c.info.result) _ is);
+          info-answers w _ c.args.unit h.blocks h.store h.on refl c.args.name.now h.soup h.named h.name_is c.args.literal c.info_of-info.result c.info_of-info.ensures _ (said-done e t h.on (info-said h.blocks w.minute c.in_ok-soup.soup h.store h.soup h.by_sig c.info_of-info.result) _ is);
       moments = λ t.
           let h = has-soup at t c.args.unit c.args.name.now c.in_ok-soup.soup c.in_ok-soup.ensures in
-          said-moments e t h.on (info-said h.blocks w.minute c.in_ok-soup.soup h.store h.soup h.by_sig c.info.result) _ (info-makes w w c.args.unit h.blocks h.store h.on refl c.args.name.now h.soup h.named h.name_is c.args.literal c.info.result c.info.ensures);
+          said-moments e t h.on (info-said h.blocks w.minute c.in_ok-soup.soup h.store h.soup h.by_sig c.info_of-info.result) _ (info-makes w w c.args.unit h.blocks h.store h.on refl c.args.name.now h.soup h.named h.name_is c.args.literal c.info_of-info.result c.info_of-info.ensures);
       costs = λ t.
           let h = has-soup at t c.args.unit c.args.name.now c.in_ok-soup.soup c.in_ok-soup.ensures in
-          info-costs h c.args.literal c.info.result c.info.ensures (done-costs c.change.result is (said-costs e t h.on (info-said h.blocks w.minute c.in_ok-soup.soup h.store h.soup h.by_sig c.info.result)));
+          info-costs h c.args.literal c.info_of-info.result c.info_of-info.ensures (done-costs c.change.result is (said-costs e t h.on (info-said h.blocks w.minute c.in_ok-soup.soup h.store h.soup h.by_sig c.info_of-info.result)));
       alone = e.alone;
       cause = done-cause c.change.result is _ e.cause;
       no_fault = λ goes. e.no_fault (done-goes c.change.result is goes);
