@@ -2,7 +2,7 @@
 ghost use Rattle.std.specs.Prelude.{◌≡◌, true, map};
 ghost use Rattle.newt_entries.specs.Entry.{row_at, fits};
 
-use crate::calls::Record;
+use crate::records::Record;
 use newt_entries::{EntryRow, filled, larges_of, read_entry, row_of, skeleton, write_entry};
 use newt_graph::Graph;
 use newt_test_tables::{bytes_of, expect_rows};

@@ -1,5 +1,5 @@
 //! Directories in bytes that were spelt by hand, with ample memory.
-use crate::calls::{Record, check};
+use crate::records::{Record, check};
 use newt_base::{Name, Sig};
 use newt_graph::Graph;
 use newt_keys::{IndexSpec, Kind, Order};

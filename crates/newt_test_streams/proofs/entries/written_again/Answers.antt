@@ -1,7 +1,7 @@
 use Rattle.std.proofs.Common.{arith, ℕ, List, ap, length, Vec, Global}
 use Rattle.std.proofs.lemmas.List.{length-map}
 use Rattle.newt_spec_store.specs.Image.{larges}
-use Rattle.newt_test_records.proofs.entries.written_again.Goals as goal
+use Rattle.newt_test_streams.proofs.entries.written_again.Goals as goal
 
 pub row_of-requires : goal.row_of-requires
 row_of-requires c =
