@@ -169,12 +169,11 @@ fn a_value_of_a_query_is_a_key_of_the_types(rt: HostRuntime) -> Result<(), Fail>
 
 #[test]
 fn each_type_takes_its_values(rt: HostRuntime) -> Result<(), Fail> {
-    for (kind, row) in [
-        (Kind::Int, "{a: -536870912} => -536870912"),
-        (Kind::Char, "{a: $Z} => $90"),
-        (Kind::Symbol, "{a: 'ABC} => 'abc"),
-    ] {
-        expect_rows(rt.alloc(), &Call::Key(Declared::One(kind)), row)?;
-    }
-    Ok(())
+    let alloc = rt.alloc();
+    let integer = Call::Key(Declared::One(Kind::Int));
+    expect_rows(alloc, &integer, "{a: -536870912} => -536870912")?;
+    let character = Call::Key(Declared::One(Kind::Char));
+    expect_rows(alloc, &character, "{a: $Z} => $90")?;
+    let symbol = Call::Key(Declared::One(Kind::Symbol));
+    expect_rows(alloc, &symbol, "{a: 'ABC} => 'abc")
 }

@@ -3,7 +3,13 @@ use crate::directories::{directory, soup};
 use crate::entries::entry;
 use newt_test_tables::{Asks, bytes_of};
 use std::alloc::Global;
+use std::process::Abort;
 use std::test::Fail;
+
+/// What is wanted holds.
+pub(crate) fn check(rt: &impl Abort, holds: bool, what: &str) {
+    assert!(rt; holds, "{what}");
+}
 
 /// What bytes are read as. They stand in words: `'foo` for its letters, and others are hexadecimal
 /// digits.

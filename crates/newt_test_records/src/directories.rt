@@ -1,5 +1,5 @@
 //! Directories in bytes that were spelt by hand, with ample memory.
-use crate::calls::Record;
+use crate::calls::{Record, check};
 use newt_base::{Name, Sig};
 use newt_graph::Graph;
 use newt_keys::{IndexSpec, Kind, Order};
@@ -167,15 +167,26 @@ fn read_again(alloc: Global, directory: &Directory) -> Result<(bool, bool), Fail
     ))
 }
 
+/// The same of a directory with so many soups.
+fn versions_of(alloc: Global, count: u32) -> Result<(bool, bool), Fail> {
+    let directory = with_soups(alloc, count)?;
+    read_again(alloc, &directory)
+}
+
+/// Whether a directory with so many soups takes no more.
+fn is_full_of(alloc: Global, count: u32) -> Result<bool, Fail> {
+    let directory = with_soups(alloc, count)?;
+    Ok(directory.is_full())
+}
+
 #[test]
 fn versions_limit_the_number_of_soups(rt: HostRuntime) -> Result<(), Fail> {
     let alloc = rt.alloc();
-    assert!(rt; read_again(alloc, &with_soups(alloc, 64)?)? == (true, true));
-    assert!(rt; read_again(alloc, &with_soups(alloc, 65)?)? == (false, true));
-    let full = with_soups(alloc, 250)?;
-    assert!(rt; full.is_full());
-    assert!(rt; read_again(alloc, &full)? == (false, true));
-    assert!(rt; read_again(alloc, &with_soups(alloc, 251)?)? == (false, false));
+    check(&rt, versions_of(alloc, 64)? == (true, true), "64 soups");
+    check(&rt, versions_of(alloc, 65)? == (false, true), "65 soups");
+    check(&rt, is_full_of(alloc, 250)?, "no more than 250 soups");
+    check(&rt, versions_of(alloc, 250)? == (false, true), "250 soups");
+    check(&rt, versions_of(alloc, 251)? == (false, false), "251 soups");
     Ok(())
 }
 
@@ -202,10 +213,18 @@ const CHANGED: &str = "01 'S 00000001 0003 02 01 'A 0000 00000004 00 00 01 'B 00
 
 /// The soups of `TWO_SOUPS` are found, and no other.
 fn assert_two(rt: &impl Abort, directory: &Directory) {
-    assert!(rt; directory.soup_named(b"a").map(|row| row.sig.0) == Some(1));
-    assert!(rt; directory.soup_of(Sig(0)).map(|row| row.next_uid) == Some(3));
-    assert!(rt; directory.soup_named(b"B").is_none());
-    assert!(rt; !directory.is_full());
+    check(
+        rt,
+        directory.soup_named(b"a").map(|row| row.sig.0) == Some(1),
+        "the soup a",
+    );
+    check(
+        rt,
+        directory.soup_of(Sig(0)).map(|row| row.next_uid) == Some(3),
+        "the soup 0",
+    );
+    check(rt, directory.soup_named(b"B").is_none(), "no soup B");
+    check(rt, !directory.is_full(), "room for a soup");
 }
 
 /// How many soups a directory had.
@@ -216,8 +235,16 @@ fn count_of(directory: Directory) -> usize {
 /// An entry id is taken, a soup goes and another comes, which makes the directory what was wanted.
 fn change_soups(rt: &impl Abort, alloc: Global, directory: &mut Directory) -> Result<(), Fail> {
     let name = Name::read(alloc, b"B")?;
-    assert!(rt; change(directory, name) == Some((3, 2)));
-    assert!(rt; is_written(alloc, directory, &bytes_of(alloc, CHANGED)?));
+    check(
+        rt,
+        change(directory, name) == Some((3, 2)),
+        "the id and the soup",
+    );
+    check(
+        rt,
+        is_written(alloc, directory, &bytes_of(alloc, CHANGED)?),
+        "the changed soups",
+    );
     Ok(())
 }
 
@@ -226,7 +253,7 @@ fn soups_are_found_and_changed(rt: HostRuntime) -> Result<(), Fail> {
     let mut directory = copy_of(rt.alloc(), TWO_SOUPS)?;
     assert_two(&rt, &directory);
     change_soups(&rt, rt.alloc(), &mut directory)?;
-    assert!(rt; count_of(directory) == 2);
+    check(&rt, count_of(directory) == 2, "two soups");
     Ok(())
 }
 
@@ -277,7 +304,7 @@ fn parts_keep_their_types_and_orders(rt: HostRuntime) -> Result<(), Fail> {
     let alloc = rt.alloc();
     let path = Path::read(alloc, b"b.c")?;
     let directory = read_tail(alloc, PARTS)?;
-    assert!(rt; has_part(&directory, &path) == Some(true));
+    check(&rt, has_part(&directory, &path) == Some(true), "the part");
     Ok(())
 }
 
@@ -304,11 +331,19 @@ fn change_with(
     spec: &IndexSpec,
     paths: &[Path],
 ) -> Result<(), Fail> {
-    assert!(rt; directory.index_of(Sig(0), spec) == None);
+    check(
+        rt,
+        directory.index_of(Sig(0), spec) == None,
+        "no such index",
+    );
     directory.add_spec(Sig(0), spec.copy()?)?;
-    assert!(rt; directory.index_with_paths(Sig(0), paths) == Some(1));
+    check(
+        rt,
+        directory.index_with_paths(Sig(0), paths) == Some(1),
+        "the paths",
+    );
     directory.drop_spec(Sig(0), paths);
-    assert!(rt; directory.index_of(Sig(0), spec) == Some(1));
+    check(rt, directory.index_of(Sig(0), spec) == Some(1), "the index");
     Ok(())
 }
 
@@ -331,9 +366,13 @@ fn tags_in(alloc: Global, words: &str) -> Result<Option<TagTable>, Fail> {
 /// The tags are set, which makes the directory what was wanted, and taken away.
 fn change_tags(rt: &impl Abort, alloc: Global, directory: &mut Directory) -> Result<(), Fail> {
     directory.set_tags(Sig(0), tags_in(alloc, TAGS)?);
-    assert!(rt; is_written(alloc, directory, &changed_parts(alloc)?));
+    check(
+        rt,
+        is_written(alloc, directory, &changed_parts(alloc)?),
+        "the changed parts",
+    );
     directory.set_tags(Sig(0), None);
-    assert!(rt; first_tags(directory).is_none());
+    check(rt, first_tags(directory).is_none(), "no tags");
     Ok(())
 }
 
@@ -358,18 +397,26 @@ fn info_frames_are_changed(rt: HostRuntime) -> Result<(), Fail> {
     let mut directory = read_tail(alloc, "00 00")?;
     directory.set_info(Sig(0), info_in(alloc, INFO)?);
     let wanted = with_tail(alloc, &bytes_of(alloc, INFO)?)?;
-    assert!(rt; is_written(alloc, &directory, &wanted));
-    assert!(rt; is_written(alloc, &directory.copy()?, &wanted));
+    check(
+        &rt,
+        is_written(alloc, &directory, &wanted),
+        "the info frame",
+    );
+    check(
+        &rt,
+        is_written(alloc, &directory.copy()?, &wanted),
+        "the copy",
+    );
     directory.set_info(Sig(0), None);
-    assert!(rt; first_info(&directory).is_none());
+    check(&rt, first_info(&directory).is_none(), "no info frame");
     Ok(())
 }
 
 #[test]
 fn info_frames_are_told_from_others(rt: HostRuntime) -> Result<(), Fail> {
     let info = info_in(rt.alloc(), INFO)?.ok_or("an info frame")?;
-    assert!(rt; is_info(&info) && MOST_INFO == 4_000);
-    assert!(rt; length_of(&info) == Some(10));
+    check(&rt, is_info(&info) && MOST_INFO == 4_000, "an info frame");
+    check(&rt, length_of(&info) == Some(10), "its length");
     Ok(())
 }
 
