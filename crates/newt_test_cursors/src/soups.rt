@@ -155,7 +155,10 @@ fn a_declaration_goes_by_its_paths(rt: HostRuntime) -> Result<(), Fail> {
 
 /// How many entries the soup has, if it is there.
 fn count_of(ranges: &Ranges, soup: u32) -> Option<usize> {
-    ranges.range_of(Sig(soup), None).map(|ids| ids.len())
+    match ranges.range_of(Sig(soup), None) {
+        Some(ids) => Some(ids.len()),
+        None => None,
+    }
 }
 
 fn drop_and_make(rt: &impl Abort, alloc: Global, ranges: &mut Ranges) -> Result<(), Fail> {

@@ -56,15 +56,24 @@ fn steps(
     Ok(id_of(&range.after(&mut at, id(uid))) == next)
 }
 
+/// The id of an element of the list.
+fn uid_at(list: &[(i32, u32)], place: usize) -> Option<u32> {
+    match list.get(place) {
+        Some(pair) => Some(pair.1),
+        None => None,
+    }
+}
+
 /// Whether a range has exactly the ids of the list, in order.
 pub(crate) fn is_list(alloc: Global, range: &Index, by: By, left: Left) -> Result<bool, Fail> {
     let list = sorted(alloc, by, left)?;
-    if range.len() != list.len() || id_of(&range.first()) != list.first().map(|pair| pair.1) {
+    if range.len() != list.len() || id_of(&range.first()) != uid_at(&list, 0) {
         return Ok(false);
     }
-    for (i, pair) in list.iter().enumerate() {
-        let next = list.get(i.wrapping_add(1)).map(|pair| pair.1);
-        if !steps(alloc, range, by, left, pair.1, next)? {
+    let mut place: usize = 0;
+    for pair in &list {
+        place = place.wrapping_add(1);
+        if !steps(alloc, range, by, left, pair.1, uid_at(&list, place))? {
             return Ok(false);
         }
     }

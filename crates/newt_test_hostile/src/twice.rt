@@ -25,13 +25,19 @@ fn stop_second(alloc: Global, left: &[u8], plain: &[u8]) -> Result<Counts, Fail>
     expect_safe(alloc, &host, UNIT, Pick::Fill(1), LISTING, &looks)
 }
 
+fn another_store(replies: usize) -> Fail {
+    Fail::new(format_args!("another store after {replies} replies"))
+}
+
 /// The second run over what a stop left, where so many replies had begun.
 fn stop_after(alloc: Global, left: &[u8], replies: usize, looks: &Looks) -> Result<Counts, Fail> {
     let found = look(alloc, LISTING, left)?;
-    let lines = looks.lines_before(&found, replies);
-    match lines.and_then(|lines| looks.images.get(lines)) {
+    let Some(lines) = looks.lines_before(&found, replies) else {
+        return Err(another_store(replies));
+    };
+    match looks.images.get(lines) {
         Some(plain) => stop_second(alloc, left, plain),
-        None => Err(Fail::new(format_args!("another store after {replies} replies"))),
+        None => Err(another_store(replies)),
     }
 }
 

@@ -68,11 +68,11 @@ fn told_part(alloc: Global, part: &Part) -> Result<String, Fail> {
 }
 
 fn push_parts(alloc: Global, to: &mut String, key: &Key) -> Result<(), Fail> {
-    for (i, part) in key.list().iter().enumerate() {
-        if i > 0 {
-            to.push(' ')?;
-        }
+    let mut mark = "";
+    for part in key.list() {
+        to.push_str(mark)?;
         to.push_str(&told_part(alloc, part)?)?;
+        mark = " ";
     }
     Ok(())
 }

@@ -4,7 +4,9 @@ use newt_base::{Name, Sig};
 use newt_graph::Graph;
 use newt_keys::{IndexSpec, Kind, Order};
 use newt_path::Path;
-use newt_soupdir::{Directory, MOST_INFO, info_len, is_info, read_directory, write_directory};
+use newt_soupdir::{
+    Directory, MOST_INFO, SoupRow, info_len, is_info, read_directory, write_directory,
+};
 use newt_tags::TagTable;
 use newt_test_tables::{bytes_of, expect_rows};
 use std::alloc::Global;
@@ -211,16 +213,24 @@ const TWO_SOUPS: &str =
 /// The same when `a` is gone, `A` has one entry more, and `B` was made.
 const CHANGED: &str = "01 'S 00000001 0003 02 01 'A 0000 00000004 00 00 01 'B 0002 00000000 00 00";
 
+/// The signature of a soup, and its next entry id.
+fn numbers_of(row: Option<&SoupRow>) -> Option<(u32, u32)> {
+    match row {
+        Some(row) => Some((row.sig.0, row.next_uid)),
+        None => None,
+    }
+}
+
 /// The soups of `TWO_SOUPS` are found, and no other.
 fn assert_two(rt: &impl Abort, directory: &Directory) {
     check(
         rt,
-        directory.soup_named(b"a").map(|row| row.sig.0) == Some(1),
+        numbers_of(directory.soup_named(b"a")) == Some((1, 0)),
         "the soup a",
     );
     check(
         rt,
-        directory.soup_of(Sig(0)).map(|row| row.next_uid) == Some(3),
+        numbers_of(directory.soup_of(Sig(0))) == Some((0, 3)),
         "the soup 0",
     );
     check(rt, directory.soup_named(b"B").is_none(), "no soup B");

@@ -87,7 +87,10 @@ fn filled_by(alloc: Global, row: &EntryRow, bytes: &[u8]) -> Result<Option<Graph
 }
 
 fn has_bytes(alloc: Global, graph: &Graph, bytes: &[u8]) -> bool {
-    larges_of(alloc, graph).is_ok_and(|larges| larges.len() == 1 && larges[0].as_slice() == bytes)
+    match larges_of(alloc, graph) {
+        Ok(larges) => larges.len() == 1 && larges[0].as_slice() == bytes,
+        Err(_) => false,
+    }
 }
 
 /// Whether the graph's skeleton has no bytes.
