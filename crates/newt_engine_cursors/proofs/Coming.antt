@@ -11,14 +11,14 @@ use Rattle.newt_spec_query.specs.Hits.{Query, Hit}
 use Rattle.newt_spec_query.specs.Cursor.{Cursor, Place, start, finish, on, on_or, first_place, is_after, is_before, last_place, same_identity}
 use Rattle.newt_spec_world.specs.Alias.{Spot}
 use Rattle.newt_spec_world.specs.Answer.{spot_of}
-use Rattle.newt_spec_world.specs.World.{World, cursor, flat, hits_of, mounted_stores}
+use Rattle.newt_spec_world.specs.World.{World, change_at, cursor, flat, hits_of, mounted_stores}
 use Rattle.newt_laws_world.specs.Cursors.{with_cursors}
 use Rattle.newt_laws_world.specs.Settled.{MountedApart}
 use Rattle.newt_laws_images.proofs.Chosen.{find-passes}
 use Rattle.newt_engine_hits.specs.Present.{Present, identity, present_in}
 use Rattle.newt_engine_hits.specs.declared.ways.Way.TheVariants.{On, Back}
 use Rattle.newt_engine_cursors.specs.Keyed.{stands_on}
-use Rattle.newt_cursor.specs.Desk.{change_at, put_on}
+use Rattle.newt_cursor.specs.Desk.{put_on}
 use Rattle.newt_engine_cursors.specs.Motions.{ComesAmong, IsAmong, StandsAmong, leads_to_hits, step_of}
 use Rattle.newt_engine_cursors.specs.declared.stepping.Motion.{Motion}
 use Rattle.newt_engine_cursors.specs.declared.stepping.Motion.TheVariants as motion
