@@ -2,9 +2,9 @@
 use Rattle.std.proofs.Common.{◌≡◌, refl, ap, sym, ◌∙◌, subst, ℕ, zero, suc, Bool, true, false, ◌&&◌, ◌==◌, cond, ◌⊎◌, inl, inr, List, [], ◌∷◌, find, filter, Option, Some, None, option_map, option_and_then, IsTrue}
 use Rattle.std.specs.Prelude.{slice_get}
 use Rattle.std.specs.List.{last_or}
-use Rattle.std.proofs.lemmas.Bool.{both-ways, eq-eqb}
+use Rattle.std.proofs.lemmas.Bool.{eq-eqb}
 use Rattle.newt_spec_graph.specs.Lists.{Among, Each}
-use Rattle.newt_spec_graph.proofs.Lists.{among-filter, some-same, none-some}
+use Rattle.newt_spec_graph.proofs.Lists.{among-filter, both-ways, some-same, none-some}
 use Rattle.newt_spec_store.specs.Keys.{IndexSpec}
 use Rattle.newt_spec_store.specs.Valid.{well_formed}
 use Rattle.newt_spec_query.specs.Hits.{Query, Hit}

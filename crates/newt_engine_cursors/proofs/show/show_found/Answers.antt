@@ -3,6 +3,7 @@ use Rattle.std.proofs.Common.{arith, ◌≡◌, ◌∙◌, ◌*◌, ap, sym, sub
 use Rattle.std.specs.Prelude.{slice_get}
 use Rattle.std.proofs.lemmas.Result.{IfOk-weaker}
 use Rattle.newt_host.proofs.Outside.{NoFault-refl}
+use Rattle.newt_cursor.specs.Seen.{query_of}
 use Rattle.newt_spec_graph.proofs.Lists.{some-same, none-some}
 use Rattle.newt_spec_store.specs.Store.{Store}
 use Rattle.newt_spec_world.specs.World.{World, flat}
@@ -24,8 +25,8 @@ use Rattle.newt_engine_cursors.proofs.show.show_found.Goals as goal
 pub returns-in_default-clause-fetches : goal.returns-in_default-clause-fetches
 returns-in_default-clause-fetches g c t apart among u = omega Rattle.std.proofs.Common.arith
 
-pub returns-in-Some-2-clause-shown : goal.returns-in-Some-2-clause-shown
-returns-in-Some-2-clause-shown g c t apart among =
+pub returns-in-Some-unit_of-clause-shown : goal.returns-in-Some-unit_of-clause-shown
+returns-in-Some-unit_of-clause-shown g c t apart among =
     let laws : Laws g.C.Card.reads g.C.Card.place g.C.Card.soups g.C.Card.stands = record { formed = g.met.C.Card.formed; plain = g.met.C.Card.plain; durable = g.met.C.Card.durable; banks = g.met.C.Card.banks; kept = g.met.C.Card.kept } in
     let o = g.H.Host.outside c.args.host.now in
     let eight : Eight (g.H.Host.outside c.args.host.now) = record { eight = g.met.H.Host.eight c.args.host.now; none = g.met.H.Host.none c.args.host.now } in
@@ -33,15 +34,15 @@ returns-in-Some-2-clause-shown g c t apart among =
     let w = world_with g.C.Card.reads c.args.units.now c.args.desk.now o in
     let x = standing-present w apart (stores-formed laws c.args.units.now o eight stand) (flat (slice_get c.args.desk.now c.args.cursor)) _ _ c.in-Some.ensures among in
     let there = found-shown w (flat (slice_get c.args.desk.now c.args.cursor)) _ _ c.in-Some.ensures x.0 x.1 in
-    let k = shows-some laws c.args.units.now o eight stand c.in-Some.spot.now.store c.in-Some-2.unit (sym c.in-Some-2.ensures) in
-    let at = present-at w _ c.in-Some.spot.now.store c.in-Some.spot.now.soup c.in-Some.spot.now.uid x.0 x.1 in
-    let unit : c.in-Some-2.unit ≡ x.0.unit = ap (λ (m : ℕ × Store). m.0) (some-same (c.in-Some-2.unit, k.store) at.0 (sym k.found_with ∙ at.1)) ∙ at.2 in
-    IfOk-weaker c.read_and_show.result (λ (shown : Shown). shown_reply shown ≡ entry_reply c.in-Some-2.unit x.0.entry) (λ (shown : Shown). shown_reply shown ≡ shown_at w c.args.cursor)
-    (λ shown e. e ∙ ap (λ (u : ℕ). entry_reply u x.0.entry) unit ∙ there.reply_is)
-    (c.read_and_show.ensures.shown t x.0.entry there.there)
+    let k = shows-some laws c.args.units.now o eight stand c.in-Some.spot.now.store c.in-Some-unit_of.unit (sym c.in-Some-unit_of.ensures) in
+    let at = present-at w (query_of c.in-Some.field-0-0.now) c.in-Some.spot.now.store c.in-Some.spot.now.soup c.in-Some.spot.now.uid there.present there.here in
+    let unit : c.in-Some-unit_of.unit ≡ there.present.unit = ap (λ (m : ℕ × Store). m.0) (some-same (c.in-Some-unit_of.unit, k.store) at.0 (sym k.found_with ∙ at.1)) ∙ at.2 in
+    IfOk-weaker c.read_and_show.result (λ (shown : Shown). shown_reply shown ≡ entry_reply c.in-Some-unit_of.unit there.present.entry) (λ (shown : Shown). shown_reply shown ≡ shown_at w c.args.cursor)
+    (λ shown e. e ∙ ap (λ (u : ℕ). entry_reply u there.present.entry) unit ∙ there.reply_is)
+    (c.read_and_show.ensures.shown t there.present.entry there.there)
 
-pub returns-in-Some-2-clause-fetches : goal.returns-in-Some-2-clause-fetches
-returns-in-Some-2-clause-fetches g c t apart among =
+pub returns-in-Some-unit_of-clause-fetches : goal.returns-in-Some-unit_of-clause-fetches
+returns-in-Some-unit_of-clause-fetches g c t apart among =
     let laws : Laws g.C.Card.reads g.C.Card.place g.C.Card.soups g.C.Card.stands = record { formed = g.met.C.Card.formed; plain = g.met.C.Card.plain; durable = g.met.C.Card.durable; banks = g.met.C.Card.banks; kept = g.met.C.Card.kept } in
     let o = g.H.Host.outside c.args.host.now in
     let eight : Eight (g.H.Host.outside c.args.host.now) = record { eight = g.met.H.Host.eight c.args.host.now; none = g.met.H.Host.none c.args.host.now } in
@@ -62,7 +63,7 @@ returns-in-None-clause-shown g c t apart among =
     let stand : Stands g.C.Card.place g.C.Card.stands true c.args.units.now o = subst (λ b. Stands g.C.Card.place g.C.Card.stands b c.args.units.now o) t c.requires in
     let w = world_with g.C.Card.reads c.args.units.now c.args.desk.now o in
     let x = standing-present w apart (stores-formed laws c.args.units.now o eight stand) (flat (slice_get c.args.desk.now c.args.cursor)) _ _ c.in-Some.ensures among in
-    let at = present-at w _ c.in-Some.spot.now.store c.in-Some.spot.now.soup c.in-Some.spot.now.uid x.0 x.1 in
+    let at = present-at w (query_of c.in-Some.field-0-0.now) c.in-Some.spot.now.store c.in-Some.spot.now.soup c.in-Some.spot.now.uid x.0 x.1 in
     absurd (none-some at.0 (sym (shows-none laws c.args.units.now o eight stand c.in-Some.spot.now.store (sym c.in-None.ensures)).1 ∙ at.1))
 
 pub returns-in-None-clause-fetches : goal.returns-in-None-clause-fetches

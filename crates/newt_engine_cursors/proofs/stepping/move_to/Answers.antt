@@ -1,5 +1,5 @@
 -- Nothing is known of the place.
-use Rattle.std.proofs.lemmas.Bool.{both-ways}
+use Rattle.newt_spec_graph.proofs.Lists.{both-ways}
 use Rattle.newt_engine_cursors.proofs.Calls.{settles-as}
 use Rattle.newt_engine_cursors.proofs.stepping.move_to.Goals as goal
 

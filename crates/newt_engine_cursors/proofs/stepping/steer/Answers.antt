@@ -51,7 +51,7 @@ returns-in_err-come_to-clause-fetches g c t apart un =
     (λ u. let x = (read.unread (unread-query (flat (slice_get c.args.desk.now c.args.cursor)) k c.in-Some.ensures un)) u in let y = (subst (λ (x : World). FetchesAtMost (λ u. 512 * pages_shown (shown_at x c.args.cursor) u) (g.H.Host.outside c.target.new.host) (g.H.Host.outside c.come_to.new.host))
     (ap (λ (x : World). set_place x c.args.cursor (place_of c.in_ok-place.place)) same ∙ there-stepped w c.args.cursor (step_of c.args.motion) k (place_of c.in_ok-place.place) c.in-Some.ensures (c.in_ok-place.ensures.place t apart))
     (c.in_err-come_to.ensures.fetches t (subst MountedApart (sym same) apart) (λ is. subst (λ (x : World). ComesAmong x c.args.cursor (place_of c.in_ok-place.place)) (sym same)
-    (comes-among w c.args.cursor c.args.motion k (place_of c.in_ok-place.place) c.in-Some.ensures (c.in_ok-place.ensures.place t apart) (sym c.finds.ensures ∙ is))) un)) u in omega (arith, x, y))
+    (comes-among w c.args.cursor c.args.motion k (place_of c.in_ok-place.place) c.in-Some.ensures (c.in_ok-place.ensures.place t apart) (sym c.finds-is_found.ensures ∙ is))) un)) u in omega (arith, x, y))
 
 pub returns-clause-turns : goal.returns-clause-turns
 returns-clause-turns g c =
@@ -60,7 +60,7 @@ returns-clause-turns g c =
     steers-there _ _ c.args.cursor (step_of c.args.motion) (seen_cursor (c.in-Some.query, c.in-Some.place)) (place_of c.in_ok-place.place) c.in_ok-come_to.field-0
     c.in-Some.ensures (c.in_ok-place.ensures.place t apart)
     (s (λ is. comes-among (world_with g.C.Card.reads c.args.units.now c.args.desk.now (g.H.Host.outside c.args.host.now)) c.args.cursor c.args.motion (seen_cursor (c.in-Some.query, c.in-Some.place))
-    (place_of c.in_ok-place.place) c.in-Some.ensures (c.in_ok-place.ensures.place t apart) (sym c.finds.ensures ∙ is))))
+    (place_of c.in_ok-place.place) c.in-Some.ensures (c.in_ok-place.ensures.place t apart) (sym c.finds-is_found.ensures ∙ is))))
 
 pub returns-clause-fetches : goal.returns-clause-fetches
 returns-clause-fetches g c t apart un =
@@ -71,4 +71,4 @@ returns-clause-fetches g c t apart un =
     (λ u. let x = (read.unread (unread-query (flat (slice_get c.args.desk.now c.args.cursor)) k c.in-Some.ensures un)) u in let y = (subst (λ (x : World). FetchesAtMost (λ u. 512 * pages_shown (shown_at x c.args.cursor) u) (g.H.Host.outside c.target.new.host) (g.H.Host.outside c.come_to.new.host))
     (ap (λ (x : World). set_place x c.args.cursor (place_of c.in_ok-place.place)) same ∙ there-stepped w c.args.cursor (step_of c.args.motion) k (place_of c.in_ok-place.place) c.in-Some.ensures (c.in_ok-place.ensures.place t apart))
     (c.in_ok-come_to.ensures.fetches t (subst MountedApart (sym same) apart) (λ is. subst (λ (x : World). ComesAmong x c.args.cursor (place_of c.in_ok-place.place)) (sym same)
-    (comes-among w c.args.cursor c.args.motion k (place_of c.in_ok-place.place) c.in-Some.ensures (c.in_ok-place.ensures.place t apart) (sym c.finds.ensures ∙ is))) un)) u in omega (arith, x, y))
+    (comes-among w c.args.cursor c.args.motion k (place_of c.in_ok-place.place) c.in-Some.ensures (c.in_ok-place.ensures.place t apart) (sym c.finds-is_found.ensures ∙ is))) un)) u in omega (arith, x, y))
