@@ -1,5 +1,5 @@
 -- A cursor that stands on a hit.
-use Rattle.std.proofs.Common.{◌≡◌, refl, ap, sym, ◌∙◌, ◌*◌, ℕ, Bool, true, false, find, Option, Some, None, option_map, option_and_then, ◌==◌, IsTrue, if◌then◌else◌}
+use Rattle.std.proofs.Common.{◌≡◌, refl, ap, sym, ◌∙◌, ◌*◌, ℕ, Bool, true, false, find, Option, Some, None, subst, option_map, option_and_then, ◌==◌, IsTrue, if◌then◌else◌}
 use Rattle.newt_spec_graph.specs.Lists.{Each}
 use Rattle.newt_spec_graph.proofs.Lists.{some-same, none-some}
 use Rattle.newt_spec_store.specs.Store.{Store, Soup, Entry, entry_of, soup_of}
@@ -51,7 +51,7 @@ spot-there w h f e = go (find (λ m. m.1.sig == h.store) (mounted w)) refl (sym 
 
 module _ (w : World) (apart : MountedApart w) (formed : Each (λ s. IsTrue (well_formed s)) (mounted_stores w)) where
   -- a hit that is found has its entry
-  hit-there : (q : Query) (at h : Hit) → find (same_identity at) (hits_of w q) ≡ Some h → (s : Spot) × (spot_of w h ≡ Some s)
+  pub hit-there : (q : Query) (at h : Hit) → find (same_identity at) (hits_of w q) ≡ Some h → (s : Spot) × (spot_of w h ≡ Some s)
   hit-there q at h e =
       let r = origin (mounted_stores w) q h (find-passes (same_identity at) (hits_of w q) h e).1 in
       spot-there w h r.at (hit-located (mounted_stores w) apart formed q h r)
@@ -141,6 +141,13 @@ shown-there w o q at e hit is = go (present_in w q (identity at.store at.soup at
           reply_is = reply_is;
           pages = λ u. present-fetched w q at.store at.soup at.uid x f u ∙ times (x.unit == u) (entry_pages x.entry) ∙ ap (λ (r : Reply). 512 * pages_shown r u) reply_is;
         }
+
+-- the same of a hit that is known without the code
+pub found-shown : (w : World) (o : Option Cursor) (q : Query) (at : Hit) → Some (q, at) ≡ option_and_then stands_on o → (x : Present) → present_in w q (identity at.store at.soup at.uid) ≡ Some x
+    → ShownThere w q at (record { unit = x.unit; key = x.key; entry = None }) o
+found-shown w o q at e x is =
+    shown-there w o q at e (record { unit = x.unit; key = x.key; entry = None })
+    (subst (λ (f : Option Present). IsPresent (Some (record { unit = x.unit; key = x.key; entry = None })) f) (sym is) (refl, refl, tt))
 
 -- nothing is shown of what is no hit
 pub absent-shown : (w : World) (o : Option Cursor) (q : Query) (at : Hit) → Some (q, at) ≡ option_and_then stands_on o

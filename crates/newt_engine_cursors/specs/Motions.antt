@@ -1,10 +1,12 @@
 -- How a cursor is moved. All of it is this project's own.
-use Rattle.std.specs.Prelude.{◌≡◌, ℕ, true, false, is_none, Result, Ok, Err}
+use Rattle.std.specs.Prelude.{◌≡◌, ℕ, Bool, true, false, List, Option, Some, is_none, Result, Ok, Err}
 use Rattle.newt_base.specs.declared.Refusal.TheVariants.{Cursor as NoCursor}
 use Rattle.newt_spec_store.specs.Keys.{IndexSpec}
-use Rattle.newt_spec_query.specs.Cursor.{Place, moved, place_at_key}
+use Rattle.newt_spec_graph.specs.Lists.{Among}
+use Rattle.newt_spec_query.specs.Hits.{Hit}
+use Rattle.newt_spec_query.specs.Cursor.{Cursor, Place, on, moved, place_at_key}
 use Rattle.newt_spec_world.specs.Changed.{Step, stepped}
-use Rattle.newt_spec_world.specs.World.{World, cursor}
+use Rattle.newt_spec_world.specs.World.{World, cursor, hits_of}
 use Rattle.newt_keys.specs.KeyForm.{IsKeyOf}
 use Rattle.newt_store_change.specs.declared.fault.StoreFault.{StoreFault}
 use Rattle.newt_store_change.specs.declared.fault.StoreFault.TheVariants.{Refused, Stop}
@@ -26,6 +28,24 @@ step_of (motion.Key key) hs index place = place_at_key hs index key
 abbrev pub MotionFits : IndexSpec → Motion → Type 0
 MotionFits index (motion.Key key) = IsKeyOf index key
 MotionFits index _ = Unit {0}
+
+-- a cursor that is moved so comes to a hit or to a side, and does not stay where it is (this project's own)
+abbrev pub leads_to_hits : Motion → Bool
+leads_to_hits (motion.By n) = false
+leads_to_hits _ = true
+
+-- a place is on one of these hits, or on none (this project's own)
+abbrev pub IsAmong : List Hit → Place → Type 0
+IsAmong hs (on h) = Among hs h
+IsAmong hs _ = Unit {0}
+
+-- a cursor that is open stands on a hit of its query, or on no entry (this project's own)
+abbrev pub StandsAmong : World → ℕ → Type 0
+StandsAmong w n = (k : Cursor) → cursor w n ≡ Some k → IsAmong (hits_of w k.query) k.place
+
+-- the place is on a hit of the query of a cursor that is open, or on no entry (this project's own)
+abbrev pub ComesAmong : World → ℕ → Place → Type 0
+ComesAmong w n place = (k : Cursor) → cursor w n ≡ Some k → IsAmong (hits_of w k.query) place
 
 -- A cursor of the index may be moved so from this place. (this project's own)
 pub record CanMove (index : IndexSpec) (from : Place) (by : Motion) : Type 0 where

@@ -9,6 +9,7 @@ ghost use Rattle.newt_engine_units.specs.Stands.{Stands, world_of};
 ghost use Rattle.newt_engine_hits.specs.Calls.{IsReading};
 ghost use Rattle.newt_engine_hits.specs.Present.{IsPresent, entry_there, fetched_there};
 ghost use Rattle.newt_engine_hits.specs.Present.{Present as Hit};
+ghost use Rattle.newt_engine_cursors.specs.Motions.{StandsAmong};
 ghost use Rattle.newt_engine_cursors.specs.Replies.{entry_reply, hit_reply, shown_at, shown_reply};
 ghost use Rattle.newt_engine_cursors.specs.Unread.{is_unread};
 ghost use Rattle.newt_engine_cursors.specs.World.{world_with};
@@ -70,6 +71,63 @@ pub(crate) fn show<C: Card, H: Host>(
     match find_hit(units, host, query, spot.store, spot.soup, spot.uid)? {
         Some(hit) => show_hit(units, host, hit, spot),
         None => Ok(Shown::Deleted),
+    }
+}
+
+/// What a cursor shows that was moved to a hit of its query, if it is on an entry at all: it is not
+/// searched once more.
+fn show_found<C: Card, H: Host>(
+    units: &mut Units<C>,
+    desk: &Desk,
+    host: &mut H,
+    cursor: u8,
+) -> Result<Shown, Stop>
+    requires { Stands C.place C.stands H.told units.old (H.outside host.old) }
+    ensures reading { IsReading C.reads C.place C.stands true H.told units.old units.new
+        (H.outside host.old) (H.outside host.new) result }
+    ensures shown { IsTrue H.told
+        → let w = world_with C.reads units.old desk.now (H.outside host.old) in MountedApart w
+        → StandsAmong w cursor → IfOk result (λ shown. shown_reply shown ≡ shown_at w cursor) }
+    ensures fetches { IsTrue H.told
+        → let w = world_with C.reads units.old desk.now (H.outside host.old) in MountedApart w
+        → StandsAmong w cursor → FetchesAtMost
+        (λ u. 512 * pages_shown (shown_at w cursor) u) (H.outside host.old) (H.outside host.new) }
+{
+    let Some((_, spot)) = standing(desk, cursor) else {
+        return Ok(Shown::Nil);
+    };
+    match units.unit_of(spot.store) {
+        Some(unit) => read_and_show(units, host, unit, spot),
+        None => Ok(Shown::Deleted),
+    }
+}
+
+/// What a cursor shows. Where it is known to stand on a hit, if on an entry at all, that is not
+/// searched.
+pub(crate) fn show_moved<C: Card, H: Host>(
+    units: &mut Units<C>,
+    desk: &Desk,
+    host: &mut H,
+    cursor: u8,
+    is_found: bool,
+) -> Result<Shown, Stop>
+    requires { Stands C.place C.stands H.told units.old (H.outside host.old) }
+    ensures reading { IsReading C.reads C.place C.stands true H.told units.old units.new
+        (H.outside host.old) (H.outside host.new) result }
+    ensures shown { IsTrue H.told
+        → let w = world_with C.reads units.old desk.now (H.outside host.old) in MountedApart w
+        → (is_found ≡ true → StandsAmong w cursor)
+        → IfOk result (λ shown. shown_reply shown ≡ shown_at w cursor) }
+    ensures fetches { IsTrue H.told
+        → let w = world_with C.reads units.old desk.now (H.outside host.old) in MountedApart w
+        → (is_found ≡ true → StandsAmong w cursor)
+        → is_unread (flat (slice_get desk.now cursor)) ≡ true → FetchesAtMost
+        (λ u. 512 * pages_shown (shown_at w cursor) u) (H.outside host.old) (H.outside host.new) }
+{
+    if is_found {
+        show_found(units, desk, host, cursor)
+    } else {
+        show(units, desk, host, cursor)
     }
 }
 

@@ -18,7 +18,8 @@ ghost use Rattle.newt_engine_units.specs.Stands.{Eight, Stands, world_of};
 ghost use Rattle.newt_index.specs.Spots.{spot_hit};
 ghost use Rattle.newt_engine_cursors.specs.Fits.{DeskFits};
 ghost use Rattle.newt_engine_hits.specs.Fits.{PlaceFits};
-ghost use Rattle.newt_engine_cursors.specs.Motions.{CanMove, MotionFits, Steers, step_of};
+ghost use Rattle.newt_engine_cursors.specs.Motions.{CanMove, ComesAmong, MotionFits, Steers};
+ghost use Rattle.newt_engine_cursors.specs.Motions.{leads_to_hits, step_of};
 ghost use Rattle.newt_engine_cursors.specs.Replies.{shown_at, shown_reply};
 ghost use Rattle.newt_engine_cursors.specs.Unread.{is_unread};
 ghost use Rattle.newt_engine_cursors.specs.World.{world_with};
@@ -26,7 +27,7 @@ ghost use Rattle.newt_engine_hits.specs.Calls.{IsReading};
 ghost use Rattle.newt_engine_cursors.specs.Calls.{Settles, Shows, Turns, Walks};
 
 use crate::desks::open_cursor;
-use crate::show::{Shown, show};
+use crate::show::{Shown, show_moved};
 use newt_base::{Name, Refusal, Sig, Uid};
 use newt_cursor::{Desk, Place, Query};
 use newt_engine_card::Card;
@@ -203,8 +204,17 @@ fn steer<C: Card, H: Host>(
     let Some((query, place)) = open_cursor(desk, cursor) else {
         return Err(StoreFault::Refused(Refusal::Cursor));
     };
+    let is_found = finds(&motion);
     let place = target(units, host, query, place, motion)?;
-    Ok(move_to(units, desk, host, cursor, place)?)
+    Ok(come_to(units, desk, host, cursor, place, is_found)?)
+}
+
+/// Whether a cursor that is moved so comes to a hit or to a side. One that goes on by no hit stays
+/// where it is.
+fn finds(motion: &Motion) -> bool
+    ensures { result ≡ leads_to_hits motion.now }
+{
+    !matches!(motion, Motion::By(_))
 }
 
 /// Where a cursor of a query comes to from a place.
@@ -257,8 +267,35 @@ fn move_to<C: Card, H: Host>(
         (λ u. 512 * pages_shown (shown_at (set_place w cursor (place_of place)) cursor) u)
         (H.outside host.old) (H.outside host.new) }
 {
+    come_to(units, desk, host, cursor, place, false)
+}
+
+/// Puts a cursor at a place, and shows it. Where that is known to be a hit of its query, or a side,
+/// the hit is not searched.
+fn come_to<C: Card, H: Host>(
+    units: &mut Units<C>,
+    desk: &mut Desk,
+    host: &mut H,
+    cursor: u8,
+    place: Place,
+    is_found: bool,
+) -> Result<Shown, Stop>
+    requires stands { Stands C.place C.stands H.told units.old (H.outside host.old) }
+    requires desk { DeskFits desk.old }
+    requires fits { (k : Cursor) → flat (slice_get desk.old cursor) ≡ Some k
+        → PlaceFits k.query.spec.index (place_of place) }
+    ensures moved { Settles C.reads C.place C.stands H.told
+        (λ w v. (is_found ≡ true → ComesAmong w cursor (place_of place))
+        → IfOk result (Shows (set_place w cursor (place_of place)) v cursor))
+        units.old units.new desk.old desk.new (H.outside host.old) (H.outside host.new) result }
+    ensures fetches { IsTrue H.told
+        → let w = world_with C.reads units.old desk.old (H.outside host.old) in MountedApart w
+        → (is_found ≡ true → ComesAmong w cursor (place_of place)) → is_unread (flat (slice_get desk.old cursor)) ≡ true → FetchesAtMost
+        (λ u. 512 * pages_shown (shown_at (set_place w cursor (place_of place)) cursor) u)
+        (H.outside host.old) (H.outside host.new) }
+{
     desk.step(cursor, place);
-    show(units, desk, host, cursor)
+    show_moved(units, desk, host, cursor, is_found)
 }
 
 /// The key that a literal writes down, if it is one of the query's index.

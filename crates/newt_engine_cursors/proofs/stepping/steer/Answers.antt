@@ -11,11 +11,12 @@ use Rattle.newt_store_change.specs.declared.fault.StoreFault.{StoreFault}
 use Rattle.newt_engine_card.specs.Bounds.{FetchesAtMost}
 use Rattle.newt_engine_hits.proofs.Reading.{asked-read, read-more}
 use Rattle.newt_engine_cursors.specs.Keyed.{seen_cursor}
-use Rattle.newt_engine_cursors.specs.Motions.{Steers, step_of}
+use Rattle.newt_engine_cursors.specs.Motions.{ComesAmong, Steers, step_of}
 use Rattle.newt_engine_cursors.specs.Replies.{shown_at}
 use Rattle.newt_engine_cursors.specs.World.{world_with}
 use Rattle.newt_engine_cursors.specs.declared.show.Shown.{Shown}
 use Rattle.newt_engine_cursors.proofs.Answering.{steers-there, there-stepped}
+use Rattle.newt_engine_cursors.proofs.Coming.{comes-among}
 use Rattle.newt_engine_cursors.proofs.Calls.{stays-turn, turns-end, turns-settled, settles-reads, settles-after, unread-query}
 use Rattle.newt_engine_cursors.proofs.stepping.steer.Goals as goal
 
@@ -34,29 +35,32 @@ pub returns-in_err-place-clause-fetches : goal.returns-in_err-place-clause-fetch
 returns-in_err-place-clause-fetches g c t apart un =
     (λ u. let z = (c.in_err-place.ensures.reading.unread (unread-query (flat (slice_get c.args.desk.now c.args.cursor)) (seen_cursor (c.in-Some.query, c.in-Some.place)) c.in-Some.ensures un)) u in omega (arith, z))
 
-pub returns-in_err-move_to-clause-turns : goal.returns-in_err-move_to-clause-turns
-returns-in_err-move_to-clause-turns g c =
-    let r = c.from_residual-in_err-move_to.result in
+pub returns-in_err-come_to-clause-turns : goal.returns-in_err-come_to-clause-turns
+returns-in_err-come_to-clause-turns g c =
+    let r = c.from_residual-in_err-come_to.result in
     let read = c.in_ok-place.ensures.reading in
     turns-end (λ (r : Result Shown StoreFault) (w v : World). Steers w v c.args.cursor (step_of c.args.motion) r)
-    (read-more {asks = true} read.read read.no_fault (asked-read refl) (settles-reads c.in_err-move_to.ensures.moved)) c.in_err-move_to.ensures.moved.desk r (err_from_is_err_and r c.from_residual-in_err-move_to.ensures.1) (λ w v. tt)
+    (read-more {asks = true} read.read read.no_fault (asked-read refl) (settles-reads c.in_err-come_to.ensures.moved)) c.in_err-come_to.ensures.moved.desk r (err_from_is_err_and r c.from_residual-in_err-come_to.ensures.1) (λ w v. tt)
 
-pub returns-in_err-move_to-clause-fetches : goal.returns-in_err-move_to-clause-fetches
-returns-in_err-move_to-clause-fetches g c t apart un =
+pub returns-in_err-come_to-clause-fetches : goal.returns-in_err-come_to-clause-fetches
+returns-in_err-come_to-clause-fetches g c t apart un =
     let read = c.in_ok-place.ensures.reading in
     let w = world_with g.C.Card.reads c.args.units.now c.args.desk.now (g.H.Host.outside c.args.host.now) in
     let same : world_with g.C.Card.reads c.target.new.units c.args.desk.now (g.H.Host.outside c.target.new.host) ≡ w = ap (with_cursors c.args.desk.now) (read.read.world t) in
     let k = seen_cursor (c.in-Some.query, c.in-Some.place) in
-    (λ u. let x = (read.unread (unread-query (flat (slice_get c.args.desk.now c.args.cursor)) k c.in-Some.ensures un)) u in let y = (subst (λ (x : World). FetchesAtMost (λ u. 512 * pages_shown (shown_at x c.args.cursor) u) (g.H.Host.outside c.target.new.host) (g.H.Host.outside c.move_to.new.host))
+    (λ u. let x = (read.unread (unread-query (flat (slice_get c.args.desk.now c.args.cursor)) k c.in-Some.ensures un)) u in let y = (subst (λ (x : World). FetchesAtMost (λ u. 512 * pages_shown (shown_at x c.args.cursor) u) (g.H.Host.outside c.target.new.host) (g.H.Host.outside c.come_to.new.host))
     (ap (λ (x : World). set_place x c.args.cursor (place_of c.in_ok-place.place)) same ∙ there-stepped w c.args.cursor (step_of c.args.motion) k (place_of c.in_ok-place.place) c.in-Some.ensures (c.in_ok-place.ensures.place t apart))
-    (c.in_err-move_to.ensures.fetches t (subst MountedApart (sym same) apart) un)) u in omega (arith, x, y))
+    (c.in_err-come_to.ensures.fetches t (subst MountedApart (sym same) apart) (λ is. subst (λ (x : World). ComesAmong x c.args.cursor (place_of c.in_ok-place.place)) (sym same)
+    (comes-among w c.args.cursor c.args.motion k (place_of c.in_ok-place.place) c.in-Some.ensures (c.in_ok-place.ensures.place t apart) (sym c.finds-is_found.ensures ∙ is))) un)) u in omega (arith, x, y))
 
 pub returns-clause-turns : goal.returns-clause-turns
 returns-clause-turns g c =
     let read = c.in_ok-place.ensures.reading in
-    turns-settled (settles-after read.read read.no_fault c.in_ok-move_to.ensures.moved) (λ t apart s.
-    steers-there _ _ c.args.cursor (step_of c.args.motion) (seen_cursor (c.in-Some.query, c.in-Some.place)) (place_of c.in_ok-place.place) c.in_ok-move_to.field-0
-    c.in-Some.ensures (c.in_ok-place.ensures.place t apart) s)
+    turns-settled (settles-after read.read read.no_fault c.in_ok-come_to.ensures.moved) (λ t apart s.
+    steers-there _ _ c.args.cursor (step_of c.args.motion) (seen_cursor (c.in-Some.query, c.in-Some.place)) (place_of c.in_ok-place.place) c.in_ok-come_to.field-0
+    c.in-Some.ensures (c.in_ok-place.ensures.place t apart)
+    (s (λ is. comes-among (world_with g.C.Card.reads c.args.units.now c.args.desk.now (g.H.Host.outside c.args.host.now)) c.args.cursor c.args.motion (seen_cursor (c.in-Some.query, c.in-Some.place))
+    (place_of c.in_ok-place.place) c.in-Some.ensures (c.in_ok-place.ensures.place t apart) (sym c.finds-is_found.ensures ∙ is))))
 
 pub returns-clause-fetches : goal.returns-clause-fetches
 returns-clause-fetches g c t apart un =
@@ -64,6 +68,7 @@ returns-clause-fetches g c t apart un =
     let w = world_with g.C.Card.reads c.args.units.now c.args.desk.now (g.H.Host.outside c.args.host.now) in
     let same : world_with g.C.Card.reads c.target.new.units c.args.desk.now (g.H.Host.outside c.target.new.host) ≡ w = ap (with_cursors c.args.desk.now) (read.read.world t) in
     let k = seen_cursor (c.in-Some.query, c.in-Some.place) in
-    (λ u. let x = (read.unread (unread-query (flat (slice_get c.args.desk.now c.args.cursor)) k c.in-Some.ensures un)) u in let y = (subst (λ (x : World). FetchesAtMost (λ u. 512 * pages_shown (shown_at x c.args.cursor) u) (g.H.Host.outside c.target.new.host) (g.H.Host.outside c.move_to.new.host))
+    (λ u. let x = (read.unread (unread-query (flat (slice_get c.args.desk.now c.args.cursor)) k c.in-Some.ensures un)) u in let y = (subst (λ (x : World). FetchesAtMost (λ u. 512 * pages_shown (shown_at x c.args.cursor) u) (g.H.Host.outside c.target.new.host) (g.H.Host.outside c.come_to.new.host))
     (ap (λ (x : World). set_place x c.args.cursor (place_of c.in_ok-place.place)) same ∙ there-stepped w c.args.cursor (step_of c.args.motion) k (place_of c.in_ok-place.place) c.in-Some.ensures (c.in_ok-place.ensures.place t apart))
-    (c.in_ok-move_to.ensures.fetches t (subst MountedApart (sym same) apart) un)) u in omega (arith, x, y))
+    (c.in_ok-come_to.ensures.fetches t (subst MountedApart (sym same) apart) (λ is. subst (λ (x : World). ComesAmong x c.args.cursor (place_of c.in_ok-place.place)) (sym same)
+    (comes-among w c.args.cursor c.args.motion k (place_of c.in_ok-place.place) c.in-Some.ensures (c.in_ok-place.ensures.place t apart) (sym c.finds-is_found.ensures ∙ is))) un)) u in omega (arith, x, y))
