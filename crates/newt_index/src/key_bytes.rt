@@ -1,5 +1,5 @@
 //! The bytes of a key, with a number by which they are compared first.
-ghost use Rattle.std.specs.Prelude.{◌≡◌, ◌<◌, get_or, nat_eq, IfOk, Some, refl};
+ghost use Rattle.std.specs.Prelude.{◌≡◌, ◌<◌, ◌↔◌, [], IsTrue, get_or, nat_eq, IfOk, Some, refl};
 ghost use Rattle.std.specs.Ordering.{nat_cmp};
 ghost use Rattle.std.specs.Cmp.{partial_equiv_from_equiv};
 ghost use Rattle.std.specs.Cmp.Lexicographic.{pointwise, slice_cmp, texts_ties, texts_po};
@@ -38,6 +38,13 @@ impl KeyBytes {
             front: front_of(&items),
             items,
         }
+    }
+
+    /// Whether there are none.
+    pub(crate) fn is_empty(&self) -> bool
+        ensures { IsTrue result ↔ self.now ≡ [] }
+    {
+        self.items.is_empty()
     }
 
     /// Equal bytes.

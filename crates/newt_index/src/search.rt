@@ -25,6 +25,17 @@ pub struct Probe {
 }
 
 impl Slot {
+    /// The slot of an id with no key bytes. It takes no memory.
+    pub(crate) fn plain(alloc: Global, uid: u32) -> Slot
+        ensures bytes { result.bytes ≡ [] }
+        ensures uid { result.uid ≡ uid }
+    {
+        Slot {
+            bytes: KeyBytes::of(Vec::new(alloc)),
+            uid,
+        }
+    }
+
     /// An equal slot.
     pub(crate) fn copy(&self) -> Result<Slot, AllocError>
         ensures bytes { IfOk result (λ slot. slot.bytes ≡ self.now.bytes) }
@@ -65,10 +76,7 @@ impl Probe {
         ensures { IsProbeOf None [] result }
     {
         Probe {
-            slot: Slot {
-                bytes: KeyBytes::of(Vec::new(alloc)),
-                uid: 0,
-            },
+            slot: Slot::plain(alloc, 0),
         }
     }
 }

@@ -1,11 +1,11 @@
 //! Keys by their slots, and the slot of each id, so that an id finds its pair without a walk.
 ghost use Rattle.std.specs.Prelude.{◌≡◌, ◌==◌, List, [], not, map, filter, option_map, IfOk, OnOk};
-ghost use Rattle.std.specs.Prelude.{OnErr};
-ghost use Rattle.std.specs.BTreeMap.{insert_entry, is_at};
+ghost use Rattle.std.specs.Prelude.{OnErr, IsTrue};
+ghost use Rattle.std.specs.BTreeMap.{insert_entry, is_at, IsUnchanged};
 ghost use Rattle.std.specs.Map.{remove_entry};
 ghost use Rattle.newt_index.specs.Pairs.{key_at};
 ghost use Rattle.newt_index.specs.Kept.{Entry, pair_of, slot_cmp};
-ghost use Rattle.newt_index.specs.Noted.{AreNotes, AreNoted, HasNote};
+ghost use Rattle.newt_index.specs.Noted.{ArePlain, AreNotes, AreNoted, IsNoted, HasNote};
 
 use crate::search::Slot;
 use newt_keys::Key;
@@ -13,15 +13,23 @@ use std::alloc::{AllocError, Global};
 use std::collections::BTreeMap;
 use std::marker::Model;
 
-/// The slot of each id, so that an id finds its pair without a walk. None once an id has been given
-/// two.
-type Notes = Option<BTreeMap<u32, Slot>>;
+/// How the slot of an id is found.
+#[derive(Drop)]
+enum Notes {
+    /// Each id's slot is noted.
+    OfIds(BTreeMap<u32, Slot>),
+    /// All key bytes are empty, so an id's slot is made of it.
+    Plain,
+    /// An id was given two slots: a walk finds them.
+    Lost,
+}
 
 /// Keys by their slots.
 #[derive(Drop)]
 pub(crate) struct Slots {
     keys: BTreeMap<Slot, Key>,
     notes: Notes,
+    alloc: Global,
 }
 
 impl Model for Slots {
@@ -43,7 +51,19 @@ impl Slots {
     {
         Slots {
             keys: BTreeMap::new(alloc),
-            notes: Some(BTreeMap::new(alloc)),
+            notes: Notes::OfIds(BTreeMap::new(alloc)),
+            alloc,
+        }
+    }
+
+    /// No slots, for keys without bytes, of which no ids are noted. It takes no memory.
+    pub(crate) fn plain(alloc: Global) -> Slots
+        ensures { result ≡ [] }
+    {
+        Slots {
+            keys: BTreeMap::new(alloc),
+            notes: Notes::Plain,
+            alloc,
         }
     }
 
@@ -69,7 +89,7 @@ impl Slots {
         ensures { self.new ≡ remove_entry (is_at (slot_cmp slot.now)) self.old }
     {
         if self.keys.remove(slot).is_some() {
-            if let Some(notes) = &mut self.notes {
+            if let Notes::OfIds(notes) = &mut self.notes {
                 notes.remove(&slot.uid);
             }
         }
@@ -80,8 +100,9 @@ impl Slots {
         ensures { self.new ≡ filter (λ e. not (e.0.uid == uid)) self.old }
     {
         match &mut self.notes {
-            Some(notes) => take_out(&mut self.keys, notes, uid),
-            None => self.keys.retain(|slot, _key| slot.uid != uid),
+            Notes::OfIds(notes) => take_out(&mut self.keys, notes, uid),
+            Notes::Plain => take_plain(&mut self.keys, Slot::plain(self.alloc, uid)),
+            Notes::Lost => self.keys.retain(|slot, _key| slot.uid != uid),
         }
     }
 
@@ -90,31 +111,46 @@ impl Slots {
         ensures { option_map (λ k. k.now) result ≡ key_at (map pair_of self.now) uid }
     {
         match &self.notes {
-            Some(notes) => self.keys.get(notes.get(&uid)?),
-            None => first_of(&self.keys, uid),
+            Notes::OfIds(notes) => self.keys.get(notes.get(&uid)?),
+            Notes::Plain => self.keys.get(&Slot::plain(self.alloc, uid)),
+            Notes::Lost => first_of(&self.keys, uid),
         }
     }
 }
 
-/// Notes a slot under its id. Where another is noted there, all notes are given up.
+/// Notes a slot. Where another of its id is known, or the slots are no longer plain, all notes are
+/// given up.
 fn note(notes: &mut Notes, slot: &Slot) -> Result<(), AllocError>
     ensures kept { (es : List Entry) → AreNoted notes.old es → AreNoted notes.new es }
     ensures noted { IfOk result (λ _. HasNote notes.new slot.now) }
 {
-    let Some(of_ids) = notes else {
-        return Ok(());
-    };
-    match of_ids.get(&slot.uid) {
-        None => {
-            of_ids.insert(slot.uid, slot.copy()?)?;
-        }
-        Some(noted) => {
-            if noted != slot {
-                *notes = None;
+    match notes {
+        Notes::OfIds(of_ids) => {
+            if !note_of_id(of_ids, slot)? {
+                *notes = Notes::Lost;
             }
         }
+        Notes::Plain => {
+            if !slot.bytes.is_empty() {
+                *notes = Notes::Lost;
+            }
+        }
+        Notes::Lost => {}
     }
     Ok(())
+}
+
+/// Notes a slot under its id. Whether no other was noted there.
+fn note_of_id(of_ids: &mut BTreeMap<u32, Slot>, slot: &Slot) -> Result<bool, AllocError>
+    ensures kept { IfOk result (λ fits. IsTrue fits → (es : List Entry) → AreNotes of_ids.old es
+        → AreNotes of_ids.new es) }
+    ensures noted { IfOk result (λ _. IsNoted of_ids.new slot.now) }
+    ensures err { OnErr result (IsUnchanged of_ids.old of_ids.new) }
+{
+    match of_ids.insert(slot.uid, slot.copy()?)? {
+        Some(old) => Ok(old == *slot),
+        None => Ok(true),
+    }
 }
 
 /// Takes the one key of an id out, by its note.
@@ -126,6 +162,16 @@ fn take_out(keys: &mut BTreeMap<Slot, Key>, notes: &mut BTreeMap<u32, Slot>, uid
     if let Some(slot) = notes.remove(&uid) {
         keys.remove(&slot);
     }
+}
+
+/// Takes the one key of an id out, where all key bytes are empty.
+fn take_plain(keys: &mut BTreeMap<Slot, Key>, slot: Slot)
+    requires plain { ArePlain keys.old.entries }
+    requires empty { slot.bytes ≡ [] }
+    ensures keys { keys.new.entries ≡ filter (λ e. not (e.0.uid == slot.uid)) keys.old.entries }
+    ensures plain { ArePlain keys.new.entries }
+{
+    keys.remove(&slot);
 }
 
 /// The first key of an id, which a walk over all finds.

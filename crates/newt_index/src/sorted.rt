@@ -41,11 +41,11 @@ impl Index {
     pub fn new(alloc: Global, spec: Option<IndexSpec>) -> Index
         ensures { result ≡ record { spec = spec; pairs = [] } }
     {
-        Index {
-            spec,
-            slots: Slots::new(alloc),
-            alloc,
-        }
+        let slots = match &spec {
+            Some(_) => Slots::new(alloc),
+            None => Slots::plain(alloc),
+        };
+        Index { spec, slots, alloc }
     }
 
     /// Adds a pair. Where it is there nothing changes.
