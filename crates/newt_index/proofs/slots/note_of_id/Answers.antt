@@ -5,7 +5,7 @@ use Rattle.newt_index.proofs.slots.note_of_id.Goals as goal
 pub returns-in-Some-clause-kept : goal.returns-in-Some-clause-kept
 returns-in-Some-clause-kept c = λ yes es was.
     let old = c.in-Some.old in
-    let equal : old.bytes ≡ c.args.slot.now.bytes = search (rules, yes, c.eq.ensures) in
+    let equal : old.bytes ≡ c.args.slot.now.bytes = search rules in
     written c.args.of_ids.now c.insert.new.self c.args.slot.now c.in_ok-copy.field-0
     (λ bytes here. (let both : Some old.bytes ≡ Some bytes = sym (ap bytes_found (sym c.in_ok-old.ensures.old ∙ c.in-Some.is)) ∙ here in
     c.in_ok-copy.ensures.bytes ∙ sym equal ∙ cc both))
