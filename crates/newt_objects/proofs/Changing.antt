@@ -8,9 +8,8 @@ use Rattle.std.specs.FinSet as set
 use Rattle.std.specs.Option.{option_map}
 use Rattle.std.proofs.lemmas.List.{map-append, append-nil}
 use Rattle.std.proofs.lemmas.List.Folds.{list_any-append}
-use Rattle.newt_host.specs.Moments.{Moment, bytes_after, changes, image, Leaves}
+use Rattle.newt_host.specs.Moments.{bytes_after, changes, image}
 use Rattle.newt_host.specs.Outside.{Outside}
-use Rattle.newt_host.proofs.Moments.{Leaves-weaken}
 use Rattle.newt_spec_image.specs.Pages.{Pages, Change, pages, after}
 use Rattle.newt_spec_image.specs.Objects.{Extent, Table, IsTableOf, AreObjectsOf, joined, pages_for, written_parts, Objects}
 use Rattle.newt_pagebook.specs.Batch.{names, no_change}

@@ -23,7 +23,7 @@ use Rattle.newt_objects.proofs.Changing.{would_be_objects}
 use Rattle.newt_objects.proofs.Whole.{whole_after}
 
 -- each number that goes is one less
-len_without : (ns : List ℕ) (s : Numbers) → ((k n : ℕ) → slice_get ns k ≡ Some n → set.contains s n ≡ true) → ((k l n : ℕ) → slice_get ns k ≡ Some n → slice_get ns l ≡ Some n → k ≡ l)
+pub len_without : (ns : List ℕ) (s : Numbers) → ((k n : ℕ) → slice_get ns k ≡ Some n → set.contains s n ≡ true) → ((k l n : ℕ) → slice_get ns k ≡ Some n → slice_get ns l ≡ Some n → k ≡ l)
     → set.len (without_deleted ns s) + length ns ≡ set.len s
 len_without [] s there once = omega arith
 len_without (n ∷ ns) s there once =

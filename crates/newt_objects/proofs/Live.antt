@@ -1,12 +1,12 @@
 -- The flags of the numbers that objects have.
-use Rattle.std.proofs.Common.{◌≡◌, ◌≢◌, ℕ, zero, suc, ◌<◌, ◌==◌, ◌||◌, ◌&&◌, Bool, true, false, not, cond, List, [], ◌∷◌, ◌++◌, length, slice_get, replicate, Option, Some, None, refl, sym, ◌∙◌, ap, subst, arith, ⊎_elim}
+use Rattle.std.proofs.Common.{◌≡◌, ◌≢◌, ℕ, zero, suc, ◌<◌, ◌≤◌, ◌==◌, ◌||◌, ◌&&◌, Bool, true, false, not, cond, List, [], ◌∷◌, ◌++◌, length, slice_get, replicate, Option, Some, None, refl, sym, ◌∙◌, ap, subst, arith, ⊎_elim}
 use Rattle.std.specs.List.{list_any}
 use Rattle.std.specs.Map.{values_of}
 use Rattle.std.specs.Ordering.{nat_cmp}
 use Rattle.std.specs.Option.{option_flatten}
 use Rattle.std.specs.BTreeMap as tree
 use Rattle.std.specs.Cmp.{nat_cmp_total}
-use Rattle.std.proofs.lemmas.Bool.{cases_eq}
+use Rattle.std.proofs.lemmas.Bool.{cases_eq, cases_lt}
 use Rattle.std.proofs.lemmas.List.{length-replicate}
 use Rattle.std.proofs.lemmas.Option.{slice_get_within}
 use Rattle.std.proofs.lemmas.Map.Entries.{place_from_lookup, btree_map_get_place}
@@ -15,7 +15,8 @@ use Rattle.newt_spec_image.specs.Objects.{Extent, Table}
 use Rattle.newt_pagebook.proofs.Tests.{some_inj, true_or_false, is_equal, equal_true, equal_false}
 use Rattle.newt_objects.specs.Headers.{Rows, held_in}
 use Rattle.newt_objects.specs.Extents.{has_number, AreFlags, MarksAlso}
-use Rattle.newt_objects.specs.Taken.{ClearsAlso, IsLive, IsFull, AreSameBut, row_at, group_of}
+use Rattle.newt_objects.specs.Taken.{ClearsAlso, IsLive, IsFull, AreFull, AreSameBut, row_at, group_of}
+use Rattle.newt_objects.specs.declared.taken.Taken.{Taken}
 use Rattle.newt_objects.proofs.Plans.{slice_get-among}
 use Rattle.newt_objects.proofs.Pushed.{push_last}
 
@@ -172,6 +173,26 @@ clears-full flags flags' full full' numbers clears groups sound group marked num
     (λ (t : list_any (λ n. number == n) numbers ≡ true). absurd (let here : test ≡ true = any_group numbers number group is t in cc))
     (λ (f : list_any (λ n. number == n) numbers ≡ false). clears.each number true (sound group (w.1 ∙ ap Some parts.0) number is) ∙ ap (λ (b : Bool). Some (true && not b)) f)
     (true_or_false (list_any (λ n. number == n) numbers))
+
+-- so does each group below a bound that is not above one of them
+pub lowered-full : (flags flags' : List Bool) (numbers : List ℕ) (low low' : ℕ) → ClearsAlso (λ q. list_any (λ n. q == n) numbers) flags flags'
+    → low' ≤ low → ((k number : ℕ) → slice_get numbers k ≡ Some number → low' ≤ group_of number)
+    → ((group : ℕ) → group < low → IsFull flags group) → (group : ℕ) → group < low' → IsFull flags' group
+lowered-full flags flags' numbers low low' clears less each sound group under number is = ⊎_elim
+    (λ (t : list_any (λ n. number == n) numbers ≡ true).
+    let w = slice_get-among numbers number t in
+    let above : low' ≤ group_of number = each w.0 number w.1 in
+    absurd (omega (arith, is, above, under)))
+    (λ (f : list_any (λ n. number == n) numbers ≡ false). clears.each number true (sound group (omega arith) number is) ∙ ap (λ (b : Bool). Some (true && not b)) f)
+    (true_or_false (list_any (λ n. number == n) numbers))
+
+-- no group behind the last one is full
+pub low_within : (taken : Taken) → length taken.flags.items ≡ 65536 → AreFull taken → taken.low ≤ 512
+low_within taken size full = ⊎_elim
+    (λ (over : 512 < taken.low). absurd (
+    let there : 65536 < length taken.flags.items = slice_get_within taken.flags.items 65536 true (full.below 512 over 65536 refl) in omega arith))
+    (λ (within : taken.low ≤ 512). within)
+    (cases_lt 512 taken.low)
 
 -- a group more is known to be full
 pub marks-full : (flags full full' : List Bool) (group : ℕ) → MarksAlso (λ q. q == group) full full' → IsFull flags group

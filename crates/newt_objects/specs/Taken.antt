@@ -1,5 +1,5 @@
 -- Which page numbers the objects have, as flags that are kept from one plan to the next.
-use Rattle.std.specs.Prelude.{◌≡◌, ◌≢◌, ℕ, ◌/◌, ◌&&◌, Bool, true, not, List, length, slice_get, Option, Some, IfSome}
+use Rattle.std.specs.Prelude.{◌≡◌, ◌≢◌, ℕ, ◌/◌, ◌<◌, ◌&&◌, Bool, true, not, List, length, slice_get, Option, Some, IfSome}
 use Rattle.std.specs.Option.{option_flatten}
 use Rattle.newt_spec_image.specs.Objects.{Extent, Table}
 use Rattle.newt_objects.specs.Extents.{has_number}
@@ -28,10 +28,10 @@ group_of number = number / 128
 abbrev pub IsFull : List Bool → ℕ → Type 0
 IsFull flags group = (number : ℕ) → group_of number ≡ group → slice_get flags number ≡ Some true
 
--- each group that is said to be full is
-abbrev pub AreFull : Taken → Type 0
-AreFull taken = (group : ℕ) → slice_get taken.full.items group ≡ Some true
-    → IsFull taken.flags.items group
+-- each group that is said to be full is: it is below the bound, or has a flag
+pub record AreFull (taken : Taken) : Type 0 where
+  pub below : (group : ℕ) → group < taken.low → IsFull taken.flags.items group
+  pub marked : (group : ℕ) → slice_get taken.full.items group ≡ Some true → IsFull taken.flags.items group
 
 -- what is known of the numbers that objects have: the flags, and groups of which all are had
 pub record IsTaken (table : Table) (taken : Taken) : Type 0 where

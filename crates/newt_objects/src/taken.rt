@@ -1,5 +1,5 @@
 // Which page numbers the objects have, kept from one plan to the next.
-ghost use Rattle.std.specs.Prelude.{◌≡◌, ℕ, [], ◌==◌, ◌<◌, true, false, IsTrue, IfOk, None, Some};
+ghost use Rattle.std.specs.Prelude.{◌≡◌, ℕ, [], ◌==◌, ◌<◌, ◌≤◌, true, false, IsTrue, IfOk, None, Some};
 ghost use Rattle.std.specs.Prelude.{length, slice_get};
 ghost use Rattle.std.specs.List.{list_any};
 ghost use Rattle.std.specs.Option.{option_copied};
@@ -26,6 +26,8 @@ pub(crate) struct Taken {
     pub(crate) flags: Vec<bool>,
     /// For each group of page numbers whether all of them are known to be had.
     pub(crate) full: Vec<bool>,
+    /// All numbers of each group below this one are had.
+    pub(crate) low: u32,
 }
 
 // Clears the flag of a number, if it has one.
@@ -54,6 +56,17 @@ fn clear_groups(full: &mut Vec<bool>, numbers: &[u32])
 {
     for number in numbers {
         clear_flag(full, *number / GROUP);
+    }
+}
+
+// Lowers a bound to the groups of some numbers.
+fn lower(low: &mut u32, numbers: &[u32])
+    ensures bound { low.new ≤ low.old }
+    ensures each { (k number : ℕ) → slice_get numbers.now k ≡ Some number
+        → low.new ≤ group_of number }
+{
+    for number in numbers {
+        *low = (*low).min(*number / GROUP);
     }
 }
 
@@ -97,6 +110,7 @@ fn give_row(taken: &mut Taken, was: Option<&Extent>)
     if let Some(extent) = was {
         clear_numbers(&mut taken.flags, &extent.numbers);
         clear_groups(&mut taken.full, &extent.numbers);
+        lower(&mut taken.low, &extent.numbers);
     }
 }
 
@@ -146,7 +160,11 @@ pub(crate) fn taken_by(
     let mut flags = vec![in alloc; false; PAGE_NUMBERS as usize]?;
     let full = vec![in alloc; false; GROUPS as usize]?;
     if take_rows(&mut flags, rows) {
-        return Ok(Some(Taken { flags, full }));
+        return Ok(Some(Taken {
+            flags,
+            full,
+            low: 0,
+        }));
     }
     Ok(None)
 }
@@ -174,6 +192,20 @@ fn are_set(flags: &[bool], group: u32) -> bool
     true
 }
 
+// Makes known that all numbers of a group are had.
+fn make_full(taken: &mut Taken, group: u32)
+    requires inside { group < 512 }
+    requires it { IsFull taken.old.flags.items group }
+    requires full { AreFull taken.old }
+    ensures flags { taken.new.flags.items ≡ taken.old.flags.items }
+    ensures full { AreFull taken.new }
+{
+    mark(&mut taken.full, group);
+    if taken.low == group {
+        taken.low = group + 1;
+    }
+}
+
 /// Whether all page numbers of a group are had. Where they are, this is known from then on.
 pub(crate) fn is_full(taken: &mut Taken, group: u32) -> bool
     requires inside { group < 512 }
@@ -183,12 +215,9 @@ pub(crate) fn is_full(taken: &mut Taken, group: u32) -> bool
     ensures full { AreFull taken.new }
     ensures yes { IsTrue result → IsFull taken.old.flags.items group }
 {
-    if has_flag(&taken.full, group) {
-        return true;
-    }
-    let full = are_set(&taken.flags, group);
+    let full = has_flag(&taken.full, group) || are_set(&taken.flags, group);
     if full {
-        mark(&mut taken.full, group);
+        make_full(taken, group);
     }
     full
 }

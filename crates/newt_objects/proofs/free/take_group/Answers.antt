@@ -1,8 +1,7 @@
-use Rattle.std.proofs.Common.{◌≡◌, ℕ, ◌+◌, ◌*◌, ◌∙◌, Bool, sym, ap, subst, take, slice_get, Vec, Global, List, Option, arith}
+use Rattle.std.proofs.Common.{◌≡◌, ℕ, ◌+◌, ◌*◌, ◌∙◌, sym, subst, take, Vec, Global, arith}
 use Rattle.std.specs.List.{list_any}
 use Rattle.std.specs.Map.{values_of}
-use Rattle.newt_spec_image.specs.Objects.{Extent}
-use Rattle.newt_objects.specs.Extents.{free_below, is_taken, has_number, AreFlagsOf}
+use Rattle.newt_objects.specs.Extents.{free_below, is_taken, has_number}
 use Rattle.newt_objects.proofs.Numbers.{keep-taken, keep-more, keep-enough}
 use Rattle.newt_objects.proofs.free.take_group.Goals as goal
 use Rattle.newt_objects.proofs.free.take_group.Goals.{then-not-is_set+in_ok-push, else-not-is_set}

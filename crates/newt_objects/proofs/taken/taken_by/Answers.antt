@@ -1,4 +1,4 @@
-use Rattle.std.proofs.Common.{◌≡◌, ◌∙◌, Bool, true, false, List, [], replicate, slice_get, sym, ap, subst, rules}
+use Rattle.std.proofs.Common.{◌≡◌, ◌∙◌, Bool, true, false, List, [], replicate, slice_get, sym, ap, subst, rules, arith}
 use Rattle.newt_objects.specs.Taken.{IsLive, row_at}
 use Rattle.newt_objects.proofs.Live.{live-none, live-held, all_false}
 use Rattle.newt_objects.proofs.taken.taken_by.Goals as goal
@@ -9,7 +9,10 @@ returns-then-take_rows c =
     record {
       live = live-held c.args.rows.now c.len-count.ensures.ordered c.take_rows.new.flags.items
           (c.take_rows.ensures c.if-take_rows.true (subst (λ (flags : List Bool). IsLive (row_at []) flags) (sym unset) live-none));
-      full = λ group yes number is. absurd (
-          let none : c.in_ok-full.full.items ≡ replicate 512 false = c.in_ok-full.ensures.items_if_clones_equal (search rules) in
-          let f : true ≡ false = all_false 512 group true (ap (λ (l : List Bool). slice_get l group) (sym none) ∙ yes) in cc);
+      full = record {
+        below = λ group under number is. absurd (omega (arith, under));
+        marked = λ group yes number is. absurd (
+            let none : c.in_ok-full.full.items ≡ replicate 512 false = c.in_ok-full.ensures.items_if_clones_equal (search rules) in
+            let f : true ≡ false = all_false 512 group true (ap (λ (l : List Bool). slice_get l group) (sym none) ∙ yes) in cc);
+      };
     }
