@@ -5,7 +5,7 @@ ghost use Rattle.newt_spec_literal.specs.Spelling.{plain, spelled};
 ghost use Rattle.newt_spec_literal.specs.Printed as printed;
 
 use crate::tokens;
-use std::alloc::{AllocError, Global};
+use std::alloc::AllocError;
 use std::marker::Model;
 
 /// What is printed so far, and below which number all objects have been met.
@@ -58,10 +58,10 @@ impl Page {
         Ok(())
     }
 
-    pub fn word(&mut self, alloc: Global, word: i32) -> Result<(), AllocError>
+    pub fn word(&mut self, word: i32) -> Result<(), AllocError>
         ensures { OnOk result (self.new ≡ spelled self.old (plain (printed.word_text word))) }
     {
-        tokens::word(alloc, &mut self.text, word)
+        tokens::word(&mut self.text, word)
     }
 
     pub fn name(&mut self, name: &[u8]) -> Result<(), AllocError>
@@ -84,13 +84,13 @@ impl Page {
     }
 
     /// A label and the mark behind it, or nothing.
-    pub fn label(&mut self, alloc: Global, label: Option<u32>, mark: u8) -> Result<(), AllocError>
+    pub fn label(&mut self, label: Option<u32>, mark: u8) -> Result<(), AllocError>
         ensures { OnOk result (self.new ≡ spelled self.old (plain
             (printed.label_text label mark))) }
     {
         if let Some(n) = label {
             self.text.push(b'#')?;
-            tokens::decimal(alloc, &mut self.text, n)?;
+            tokens::decimal(&mut self.text, n)?;
             self.text.push(mark)?;
         }
         Ok(())

@@ -5,8 +5,9 @@ ghost use Rattle.newt_base.specs.Text as text;
 ghost use Rattle.newt_spec_literal.specs.Printed as printed;
 ghost use Rattle.std.specs.Fmt.{signed_decimal};
 
+use itoa::Buffer;
 use newt_base::is_identifier;
-use std::alloc::{AllocError, Global};
+use std::alloc::AllocError;
 
 /// The word of nil.
 const NIL: u32 = 2;
@@ -105,30 +106,28 @@ fn character(out: &mut Vec<u8>, c: u16) -> Result<(), AllocError>
 }
 
 /// A number in decimal.
-pub fn decimal(alloc: Global, out: &mut Vec<u8>, n: u32) -> Result<(), AllocError>
+pub fn decimal(out: &mut Vec<u8>, n: u32) -> Result<(), AllocError>
     ensures { OnOk result (out.new.items ≡ out.old.items ++ decimal n) }
 {
-    let digits = format!(in alloc; "{n}")?;
-    out.extend_from_slice(digits.as_bytes())?;
+    out.extend_from_slice(Buffer::new().format(n).as_bytes())?;
     Ok(())
 }
 
 /// An integer in decimal.
-fn integer(alloc: Global, out: &mut Vec<u8>, n: i32) -> Result<(), AllocError>
+fn integer(out: &mut Vec<u8>, n: i32) -> Result<(), AllocError>
     ensures { OnOk result (out.new.items ≡ out.old.items ++ signed_decimal n) }
 {
-    let digits = format!(in alloc; "{n}")?;
-    out.extend_from_slice(digits.as_bytes())?;
+    out.extend_from_slice(Buffer::new().format(n).as_bytes())?;
     Ok(())
 }
 
 /// An immediate word in the first form that fits.
-pub fn word(alloc: Global, out: &mut Vec<u8>, word: i32) -> Result<(), AllocError>
+pub fn word(out: &mut Vec<u8>, word: i32) -> Result<(), AllocError>
     ensures { OnOk result (out.new.items ≡ out.old.items ++ printed.word_text word) }
 {
     let bits = word.cast_unsigned();
     if bits % 4 == 0 {
-        return integer(alloc, out, word.div_euclid(4));
+        return integer(out, word.div_euclid(4));
     }
     if bits == NIL {
         out.extend_from_slice(b"nil")?;

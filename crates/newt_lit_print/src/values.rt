@@ -16,7 +16,6 @@ const LEVELS: u8 = MOST_OPEN + 1;
 /// The objects that are printed, and their labels.
 #[derive(Clone, Copy)]
 struct Source<'a> {
-    alloc: Global,
     nodes: &'a [Node],
     labels: &'a [Option<u32>],
 }
@@ -87,7 +86,7 @@ impl Source<'_> {
             self.now.labels.now levels value)) }
     {
         match value {
-            Ref::Imm(word) => page.word(self.alloc, word),
+            Ref::Imm(word) => page.word(word),
             Ref::Node(n) => self.found(page, n, levels),
         }
     }
@@ -105,9 +104,9 @@ impl Source<'_> {
         let node = self.node(n);
         if !is_symbol(node) {
             if page.has_met(n) {
-                return page.label(self.alloc, self.label(n), b'#');
+                return page.label(self.label(n), b'#');
             }
-            page.label(self.alloc, self.label(n), b'=')?;
+            page.label(self.label(n), b'=')?;
             page.meet(n);
         }
         self.object(page, node, levels - 1)
@@ -220,7 +219,6 @@ pub fn print(alloc: Global, text: Vec<u8>, nodes: &[Node], root: Ref) -> Result<
 {
     let labels = labels(alloc, nodes, root)?;
     let source = Source {
-        alloc,
         nodes,
         labels: &labels,
     };

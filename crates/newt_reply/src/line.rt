@@ -19,11 +19,15 @@ pub fn push_field(line: &mut Vec<u8>, field: &[u8]) -> Result<(), AllocError>
     Ok(())
 }
 
+/// How many bytes have room at once: most replies of numbers and names are shorter.
+const ROOM: usize = 48;
+
 /// `ok` and the fields.
 fn ok_front(alloc: Global, fields: &[&[u8]]) -> Result<Vec<u8>, AllocError>
     ensures { IfOk result (λ line. line.items ≡ spec.ok (map (λ part. part.now) fields.now)) }
 {
-    let mut line = Vec::from_slice(alloc, b"ok")?;
+    let mut line = Vec::with_capacity(alloc, ROOM)?;
+    line.extend_from_slice(b"ok")?;
     for field in fields {
         push_field(&mut line, field)?;
     }

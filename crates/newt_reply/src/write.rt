@@ -10,6 +10,7 @@ use crate::items::{soups_text, specs_text, stores_text};
 use crate::line::{literal_line, ok_line};
 use crate::reply::Reply;
 use crate::rows::TagRow;
+use itoa::Buffer;
 use newt_base::{Name, Refusal, Sig, Uid, hex_text};
 use newt_graph::Graph;
 use newt_host::Unit;
@@ -30,9 +31,10 @@ fn error_line(alloc: Global, refusal: Refusal) -> Result<Vec<u8>, AllocError>
 fn added_line(alloc: Global, unit: Unit, uid: Uid) -> Result<Vec<u8>, AllocError>
     ensures { IfOk result (λ line. line.items ≡ written (spec.added unit uid)) }
 {
-    let unit = number_text(alloc, u32::from(unit.0))?;
-    let uid = number_text(alloc, uid.0)?;
-    ok_line(alloc, &[unit.as_slice(), uid.as_slice()])
+    let (mut of_unit, mut of_uid) = (Buffer::new(), Buffer::new());
+    let unit = of_unit.format(u32::from(unit.0)).as_bytes();
+    let uid = of_uid.format(uid.0).as_bytes();
+    ok_line(alloc, &[unit, uid])
 }
 
 /// The signature and the name of a store.
@@ -50,8 +52,8 @@ fn store_line(alloc: Global, sig: Sig, name: &Name) -> Result<Vec<u8>, AllocErro
 fn timed_line(alloc: Global, time: u32, graph: &Graph) -> Result<Vec<u8>, AllocError>
     ensures { IfOk result (λ line. line.items ≡ written (spec.timed time graph.now)) }
 {
-    let time = number_text(alloc, time)?;
-    literal_line(alloc, &[time.as_slice()], graph)
+    let mut of_time = Buffer::new();
+    literal_line(alloc, &[of_time.format(time).as_bytes()], graph)
 }
 
 /// The minute of an entry, and the hexadecimal digits of its graph.
@@ -86,14 +88,11 @@ fn current_line(
 ) -> Result<Vec<u8>, AllocError>
     ensures { IfOk result (λ line. line.items ≡ written (spec.current unit uid time graph.now)) }
 {
-    let unit = number_text(alloc, u32::from(unit.0))?;
-    let uid = number_text(alloc, uid.0)?;
-    let time = number_text(alloc, time)?;
-    literal_line(
-        alloc,
-        &[unit.as_slice(), uid.as_slice(), time.as_slice()],
-        graph,
-    )
+    let (mut of_unit, mut of_uid, mut of_time) = (Buffer::new(), Buffer::new(), Buffer::new());
+    let unit = of_unit.format(u32::from(unit.0)).as_bytes();
+    let uid = of_uid.format(uid.0).as_bytes();
+    let time = of_time.format(time).as_bytes();
+    literal_line(alloc, &[unit, uid, time], graph)
 }
 
 /// `ok` and one field.
