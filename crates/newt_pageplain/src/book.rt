@@ -9,7 +9,7 @@ use crate::change::commit_with;
 use crate::open::read_pages;
 use newt_host::{Failed, Host, Unit};
 use newt_journal::Journal;
-use newt_pagebook::{Batch, BookFault, CommitFault, Page, PageBook, Stop, cap};
+use newt_pagebook::{Batch, BookFault, CommitFault, Page, PageBook, Stop, Use, cap};
 use newt_pagelog::{live_after, open_journal};
 use std::alloc::{AllocError, Global};
 
@@ -65,7 +65,7 @@ impl PageBook for PlainBook {
         })
     }
 
-    fn load<H: Host>(&mut self, _host: &mut H, number: u32) -> Result<(), Failed> {
+    fn load<H: Host>(&mut self, _host: &mut H, number: u32, _usage: Use) -> Result<(), Failed> {
         self.at = Some(number);
         Ok(())
     }

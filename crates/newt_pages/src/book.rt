@@ -9,7 +9,7 @@ use crate::hand::{AtHand, Cache, bring};
 use lru::LruCache;
 use newt_host::{Failed, Host, Unit};
 use newt_journal::Journal;
-use newt_pagebook::{Batch, BookFault, CommitFault, Page, PageBook, Stop, cap};
+use newt_pagebook::{Batch, BookFault, CommitFault, Page, PageBook, Stop, Use, cap};
 use newt_pagelog::{Table, live_after, open_journal, replay};
 use std::alloc::{AllocError, Global};
 use std::num::NonZeroUsize;
@@ -78,7 +78,7 @@ impl PageBook for DiskBook {
         })
     }
 
-    fn load<H: Host>(&mut self, host: &mut H, number: u32) -> Result<(), Failed> {
+    fn load<H: Host>(&mut self, host: &mut H, number: u32, usage: Use) -> Result<(), Failed> {
         let place = match self.places.get(&number) {
             Some(place) => *place,
             None => unreachable!(),
@@ -86,7 +86,7 @@ impl PageBook for DiskBook {
         self.at = AtHand::Nothing;
         match &self.journal {
             Some(journal) => {
-                self.at = bring(journal, host, place, &mut self.cache, &mut self.spare)?;
+                self.at = bring(journal, host, place, usage, &mut self.cache, &mut self.spare)?;
                 Ok(())
             }
             None => unreachable!(),

@@ -8,7 +8,7 @@ ghost use Rattle.newt_pages.specs.Disk.{Brings, EachIsPageAtPlace, LiesAt, bytes
 use lru::LruCache;
 use newt_host::{Failed, Host};
 use newt_journal::Journal;
-use newt_pagebook::Page;
+use newt_pagebook::{Page, Use};
 
 /// Pages that were read last, by their places on the device.
 pub(crate) type Cache = LruCache<u32, Page>;
@@ -24,11 +24,13 @@ pub(crate) enum AtHand {
 }
 
 /// Brings the page at a place of the records to hand. One that is cached is not read again; another
-/// one is read into the cache, or where there is no memory for it there, into the spare page.
+/// one is read into the cache, or where it is used once or there is no memory for it there, into
+/// the spare page.
 pub(crate) fn bring<H: Host>(
     journal: &Journal,
     host: &mut H,
     at: u32,
+    usage: Use,
     cache: &mut Cache,
     spare: &mut Page,
 ) -> Result<AtHand, Failed>
@@ -48,6 +50,9 @@ pub(crate) fn bring<H: Host>(
         return Ok(AtHand::Cached(at));
     }
     journal.read_at(host, at, spare)?;
+    if matches!(usage, Use::Once) {
+        return Ok(AtHand::Spare);
+    }
     match cache.put(at, *spare) {
         Ok(_) => Ok(AtHand::Cached(at)),
         Err(_) => Ok(AtHand::Spare),

@@ -7,7 +7,7 @@ use crate::batches::{batch_of, changed};
 use crate::card::{CARD, Pages, assert_pages, fresh, has_card, held_on, opened, pages_in};
 use newt_host::Host;
 use newt_memhost::MemHost;
-use newt_pagebook::{Batch, Page, PageBook};
+use newt_pagebook::{Batch, Page, PageBook, Use};
 use newt_pageplain::PlainBook;
 use newt_pages::DiskBook;
 use std::alloc::Global;
@@ -24,7 +24,7 @@ fn first_page<P: PageBook>(rt: &impl Abort, host: &mut MemHost, book: &mut P) ->
     let Some(number) = book.next_page(0) else {
         panic!(rt; "the book has no page");
     };
-    book.load(host, number)?;
+    book.load(host, number, Use::Again)?;
     Ok(*book.page())
 }
 

@@ -14,7 +14,7 @@ use crate::RangeFault;
 use crate::range::{check_range, parts_met, piece_in};
 use newt_host::Host;
 use newt_objects::Objects;
-use newt_pagebook::{Batch, Page, PageBook};
+use newt_pagebook::{Batch, Page, PageBook, Use};
 
 // A page with bytes of its part replaced, from a place on.
 fn patched(page: &Page, from: usize, bytes: &[u8]) -> Page
@@ -47,7 +47,7 @@ fn put_patched<P: PageBook, H: Host>(
     ensures reads { ReadsPart P.place P.numbers P.spare P.stands H.told book.old book.new
         (H.outside host.old) (H.outside host.new) result }
 {
-    book.load(host, number)?;
+    book.load(host, number, Use::Again)?;
     batch.put(number, &patched(book.page(), from, bytes))?;
     Ok(())
 }

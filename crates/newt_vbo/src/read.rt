@@ -12,7 +12,7 @@ use crate::RangeFault;
 use crate::range::{Piece, check_range, parts_met, piece_in};
 use newt_host::Host;
 use newt_objects::Objects;
-use newt_pagebook::{Page, PageBook};
+use newt_pagebook::{Page, PageBook, Use};
 use std::alloc::Global;
 
 // So many bytes of a page's part, from a place on.
@@ -44,7 +44,7 @@ fn append_piece<P: PageBook, H: Host>(
     ensures reads { ReadsPart P.place P.numbers P.spare P.stands H.told book.old book.new
         (H.outside host.old) (H.outside host.new) result }
 {
-    book.load(host, number)?;
+    book.load(host, number, Use::Again)?;
     bytes.extend_from_slice(bytes_in(book.page(), piece.from, piece.count))?;
     Ok(())
 }
