@@ -1,14 +1,14 @@
 //! Folding of texts, and search in folded texts.
 //!
-//! It stands on `caseless` for the tables of folding, on `memchr` for the search, and on the
-//! definition of words. It carries this promise: units are read as UTF-16 with each lone surrogate
-//! as U+FFFD, case is folded by Unicode's default table, and a word or a part is found exactly
-//! where the definition has it, character by character.
+//! It stands on `caseless` for the tables of folding, on `ucd_case` for what they hold of ASCII, on
+//! `memchr` for the search, and on the definition of words. It carries this promise: units are read
+//! as UTF-16 with each lone surrogate as U+FFFD, case is folded by Unicode's default table, and a
+//! word or a part is found exactly where the definition has it, character by character.
 #![tactic(auto)]
 
 ghost use Rattle.std.specs.Prelude.{◌≡◌, ◌∷◌, [], IfOk, IfSome, MatchOption, not, ◌&&◌, chars};
 ghost use Rattle.std.specs.Prelude.{string_bytes, encode_utf8_all};
-ghost use Rattle.std.specs.Str.{IsUtf8};
+ghost use Rattle.std.specs.Str.{IsUtf8, IsAscii, str_to_ascii_lowercase};
 ghost use Rattle.std.specs.Char.Utf16.{utf16_lossy_chars};
 ghost use Rattle.caseless.specs.Caseless.{default_case_fold};
 ghost use Rattle.newt_base.specs.Words as spec;
@@ -23,8 +23,26 @@ pub fn units_to_text(alloc: Global, units: &[u16]) -> Result<String, AllocError>
         (utf16_lossy_chars units.now)) }
     ensures chars { IfOk result (λ text. chars (string_bytes text) ≡ utf16_lossy_chars units.now) }
 {
+    if let Some(text) = ascii_text(alloc, units)? {
+        return Ok(text);
+    }
     let text = String::from_utf16_lossy(alloc, units)?;
     Ok(text)
+}
+
+/// The text of units that are all ASCII.
+fn ascii_text(alloc: Global, units: &[u16]) -> Result<Option<String>, AllocError>
+    ensures bytes { IfOk result (λ found. IfSome found (λ text. string_bytes text ≡ units.now)) }
+    ensures ascii { IfOk result (λ found. IfSome found (λ text. IsAscii (string_bytes text))) }
+{
+    let mut bytes = Vec::with_capacity(alloc, units.len())?;
+    for &unit in units {
+        if unit >= 128 {
+            return Ok(None);
+        }
+        bytes.push(unit as u8)?;
+    }
+    Ok(String::from_utf8(bytes).ok())
 }
 
 /// The text with its case folded by Unicode's default table.
@@ -34,8 +52,21 @@ pub fn folded(alloc: Global, text: &str) -> Result<String, AllocError>
     ensures chars { IfOk result (λ folded. chars (string_bytes folded) ≡ default_case_fold
         (chars text.now)) }
 {
+    if text.is_ascii() {
+        let lower = lower_case(alloc, text)?;
+        return Ok(lower);
+    }
     let folded = default_case_fold_str(alloc, text)?;
     Ok(folded)
+}
+
+/// The text in ASCII lower case.
+fn lower_case(alloc: Global, text: &str) -> Result<String, AllocError>
+    ensures { IfOk result (λ lower. string_bytes lower ≡ str_to_ascii_lowercase text.now) }
+{
+    let mut lower = String::from_str(alloc, text)?;
+    lower.make_ascii_lowercase();
+    Ok(lower)
 }
 
 /// Whether the part stands anywhere in the text. Both are folded.

@@ -1,5 +1,7 @@
 -- Bytes turned to a direction order as the direction asks.
-use Rattle.std.proofs.Common.{◌≡◌, ℕ, suc, zero, ◌+◌, ◌-◌, ◌<◌, List, [], ◌∷◌, ◌++◌, map, refl, sym, ◌∙◌, ap, arith, length, ◌⊎◌, inl, inr, subst, ◌*◌}
+use Rattle.std.proofs.Common.{◌≡◌, ℕ, suc, zero, ◌+◌, ◌-◌, ◌<◌, List, [], ◌∷◌, ◌++◌, map, refl, sym, ◌∙◌, ap, arith, length, ◌⊎◌, inl, inr, subst, ◌*◌, Bool, true, false, ◌||◌, ◌==◌, append_assoc}
+use Rattle.std.proofs.lemmas.List.{map-id}
+use Rattle.std.specs.List.{list_any}
 use Rattle.std.proofs.lemmas.List.Elements.{All-head, All-tail}
 use Rattle.std.specs.List.{All}
 use Rattle.std.specs.declared.cmp.Ordering.{Ordering}
@@ -127,3 +129,25 @@ two_digits m n a b ha hb =
     (λ f g. let P : Ordering → Type 0 = λ o. MatchOrdering o (m * 256 + a < n * 256 + b) (m * 256 + a ≡ n * 256 + b) (n * 256 + b < m * 256 + a) in subst P (sym f) (omega arith))
     (λ f g. let P : Ordering → Type 0 = λ o. MatchOrdering o (m * 256 + a < n * 256 + b) (m * 256 + a ≡ n * 256 + b) (n * 256 + b < m * 256 + a) in subst P (sym f) (omega arith))))
     (λ e h. ap (λ o. ordering_then o (nat_cmp a b)) e ∙ sym (greater (m * 256 + a) (n * 256 + b) (omega arith)))
+
+-- ---- what is written at once
+
+pub ascended : (bytes : List ℕ) → map (turned order.Ascend) bytes ≡ bytes
+ascended bytes = map-id bytes
+
+second_is_false : (a b : Bool) → (a || b) ≡ false → b ≡ false
+second_is_false true b e = absurd (cc)
+second_is_false false b e = e
+
+-- a text in which no byte is 0 stands as it is before its end
+text_without_zeros : (d : Order) (text : List ℕ) → list_any (λ y. y == 0) text ≡ false → map (turned d) text ++ map (turned d) (0 ∷ 0 ∷ []) ≡ map (turned d) (text_bytes text)
+text_without_zeros d [] none = refl
+text_without_zeros d (zero ∷ bs) none = absurd (cc)
+text_without_zeros d (suc b ∷ bs) none = ap (λ (l : List ℕ). turned d (suc b) ∷ l) (text_without_zeros d bs (second_is_false (suc b == 0) (list_any (λ y. y == 0) bs) none))
+
+-- so it may be written at once, and then its end
+pub text_written : (d : Order) (old text made : List ℕ) → list_any (λ y. y == 0) text ≡ false → made ≡ old ++ map (turned d) text
+    → made ++ map (turned d) (0 ∷ 0 ∷ []) ≡ old ++ map (turned d) (text_bytes text)
+text_written d old text made none is =
+    ap (λ (l : List ℕ). l ++ map (turned d) (0 ∷ 0 ∷ [])) is ∙ append_assoc old (map (turned d) text) (map (turned d) (0 ∷ 0 ∷ []))
+    ∙ ap (λ (l : List ℕ). old ++ l) (text_without_zeros d text none)
