@@ -68,7 +68,7 @@ module _ (store_of_image : List ℕ → Option Store) where
 
   -- A command turned the world w into the next one, with this reply: that is a step; and where no
   -- device failed, it is the answer in the world as the command saw it at the start.
-  pub record Goes (w : World) (c : Command) (old : Moment) (next : World) (reply : Reply) : Type 0 where
+  pub record Turned (w : World) (c : Command) (old : Moment) (next : World) (reply : Reply) : Type 0 where
     pub step : Step w c next reply
     pub is_plain : IsQuiet reply → answer (seen w old c) c ≡ (next, reply)
 
@@ -77,7 +77,7 @@ module _ (store_of_image : List ℕ → Option Store) where
   -- memory was refused, the other one is that of the answer in the world as the command saw it.
   abbrev pub Obeys : {R E : Type 0} → (R → Reply) → (World → Type 0) → World → Command → Result R E
       → (old new : Moment) → Type 0
-  Obeys said stands_for w c (Ok reply) old new = (next : World) × Goes w c old next (said reply)
+  Obeys said stands_for w c (Ok reply) old new = (next : World) × Turned w c old next (said reply)
       × stands_for next × Always (Answering store_of_image w c next old) old new
   Obeys said stands_for w c (Err error) old new =
       Always (Answering store_of_image w c (answer (seen w old c) c).0 old) old new
