@@ -1,13 +1,13 @@
 -- What a value stands for is told by what has happened to its devices.
-use Rattle.std.proofs.Common.{◌≡◌, ◌⊎◌, inl, inr, refl, ap, sym, ◌∙◌, subst, ℕ, Bool, true, false, List, [], Option, Some, None}
-use Rattle.newt_host.specs.Moments.{Change, Moment, MayLeave, LeftBy, IsDurable, bytes_after, changes, image}
+use Rattle.std.proofs.Common.{◌≡◌, ◌⊎◌, inl, inr, refl, ap, sym, ◌∙◌, subst, ℕ, List, [], Option, Some, None}
+use Rattle.newt_host.specs.Moments.{Change, Moment, MayLeave, LeftBy, IsDurable, bytes_after, changes}
 use Rattle.newt_host.specs.Outside.{Outside, SameCards}
 use Rattle.newt_spec_graph.specs.Lists.{Among}
 use Rattle.newt_spec_store.specs.Store.{Store}
 use Rattle.newt_spec_world.specs.World.{World, Device, Media, blank, one, two, lost, stores_of, is_unsure, device, stores_on, IsBlankOn}
 use Rattle.newt_laws_steps.specs.Answering.{ReadsOneOf}
 use Rattle.newt_laws_steps.specs.Meant.{MountedSure}
-use Rattle.newt_laws_steps.specs.StandsFor.{Holds, IsDeviceOf, Marks, StandsFor}
+use Rattle.newt_laws_steps.specs.StandsFor.{Holds, Marks, StandsFor}
 
 module _ (reads : List ℕ → Option Store) where
   holds-same : (old new : Moment) (u : ℕ) (m : Media) → changes u new ≡ changes u old → Holds reads old u m → Holds reads new u m

@@ -8,3 +8,4 @@ pub mod MeantRows
 pub mod MeantAnswer
 pub mod MeantSteps
 pub mod Held
+pub mod Seen

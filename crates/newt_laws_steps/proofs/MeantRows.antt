@@ -4,7 +4,7 @@ use Rattle.std.specs.Prelude.{filter_map, is_some}
 use Rattle.std.specs.List.{list_any}
 use Rattle.newt_base.specs.Refusals.{Checks, first_of}
 use Rattle.newt_base.specs.declared.Refusal.{Refusal}
-use Rattle.newt_base.specs.declared.Refusal.TheVariants.{Unit as NoUnit, Blocks, Mounted, Notmounted, Nostore, Store as HasStore, Stores as ManyStores, Signature, Soup as NoSoup, Exists, Entry as NoEntry, Path as NoPath, Range, Spec as BadSpec, Index as BadIndex, Key as BadKey, Limit, Size, Ids, Full}
+use Rattle.newt_base.specs.declared.Refusal.TheVariants.{Unit as NoUnit, Blocks, Mounted, Notmounted, Nostore, Store as HasStore, Stores as ManyStores, Signature, Soup as NoSoup, Exists, Entry as NoEntry, Path as NoPath, Range, Index as BadIndex, Key as BadKey, Limit, Size, Ids, Full}
 use Rattle.newt_graph.specs.Graph.{RawGraph}
 use Rattle.newt_graph.specs.Meeting.{normal_form}
 use Rattle.newt_spec_graph.specs.Limits.{is_within}
@@ -21,8 +21,8 @@ use Rattle.newt_spec_world.specs.declared.command.Command.{Command}
 use Rattle.newt_spec_world.specs.declared.command.Command.TheVariants as command
 use Rattle.newt_spec_world.specs.World.{World, Device, Media, blank, one, two, lost, is_unsure, default_unit, flat, device, on_unit, store_of, store_on_unit, mounted, mounted_store, mounted_stores, soup_in, entry_in, cursor, free_cursor, hits_of, unsure_on, change_device, change_store, change_media, change_soup_in, settle, settle_cursor}
 use Rattle.newt_spec_world.specs.Changed.{changed, mark, default_without, first_of_list, copy_to, sig_of, index_in_soup, index_for, index_of, query_of, open_at, open_cursor, opened, Step as Stepped, step_from, stepped, hit_in, hit_for, put_on, go_to, cloned, go_to_key, graph_after_set, info_from, spec_of_words, patched}
-use Rattle.newt_spec_world.specs.Refused.{Check, checks, on_some, either, no_unit, bad_blocks, is_mounted, not_mounted, no_store, has_store, four_mounted, same_signature, no_soup, soup_exists, no_entry, no_more_ids, no_more_soups, soup_limit, full, not_frame, too_large, no_path, past_limits, set_too_large, no_large, out_of_range, index_exists, no_index, real_part, index_limit, bad_info, info_too_large, no_soup_anywhere, bad_query, no_query_index, bad_keys, no_free_cursor, no_cursor, not_a_hit, bad_key}
-use Rattle.newt_spec_world.specs.Alias.{Alias, Spot, alias_of, resolved}
+use Rattle.newt_spec_world.specs.Refused.{Check, checks, on_some, either, no_unit, bad_blocks, is_mounted, not_mounted, no_store, has_store, four_mounted, same_signature, no_soup, soup_exists, no_entry, no_more_ids, no_more_soups, soup_limit, full, not_frame, too_large, no_path, past_limits, set_too_large, no_large, out_of_range, index_exists, no_index, real_part, index_limit, bad_info, info_too_large, no_soup_anywhere, bad_query, no_query_index, bad_keys, no_free_cursor, no_cursor, not_a_hit}
+use Rattle.newt_spec_world.specs.Alias.{Alias, Spot, resolved}
 use Rattle.newt_spec_world.specs.Answer.{spot_of}
 use Rattle.newt_spec_world.specs.Step.{look_checks, unsure_look, looks_anew}
 use Rattle.newt_laws_world.proofs.Kept.{AllFalse, all-false}

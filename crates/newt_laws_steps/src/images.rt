@@ -1,13 +1,17 @@
 //! Laws of what a value with its devices stands for.
-ghost use Rattle.std.specs.Prelude.{ℕ, ◌≡◌, List, Option};
-ghost use Rattle.newt_host.specs.Moments.{MayLeave, IsDurable, changes};
+ghost use Rattle.std.specs.Prelude.{ℕ, ◌≡◌, IsSome, IsTrue, List, Option, Some};
+ghost use Rattle.newt_host.specs.Moments.{MayLeave, IsDurable, changes, image};
 ghost use Rattle.newt_host.specs.Outside.{Outside, SameCards};
 ghost use Rattle.newt_laws_steps.specs.Answering.{ReadsOneOf};
 ghost use Rattle.newt_laws_steps.specs.Meant.{MountedSure};
-ghost use Rattle.newt_laws_steps.specs.StandsFor.{Marks, StandsFor};
+ghost use Rattle.newt_laws_steps.specs.StandsFor.{Marks, StandsFor, seen};
 ghost use Rattle.newt_spec_graph.specs.Lists.{Among};
 ghost use Rattle.newt_spec_store.specs.Store.{Store};
+ghost use Rattle.newt_spec_store.specs.Valid.{valid};
+ghost use Rattle.newt_spec_world.specs.Answer.{answer};
+ghost use Rattle.newt_spec_world.specs.Step.{Step};
 ghost use Rattle.newt_spec_world.specs.World.{World, IsBlankOn, stores_on};
+ghost use Rattle.newt_spec_world.specs.declared.command.Command.{Command as IsCommand};
 
 /// What a value stands for goes by what has happened to its devices. A crash then leaves each unit
 /// that has a store, or one of two, as one of these, and of one that has none its image; and of each
@@ -24,4 +28,15 @@ pub fn images_tell_worlds()
         → StandsFor reads marks outside w → (u : ℕ) → IsBlankOn w u → IsDurable u outside.now }
     ensures sure { (reads : List ℕ → Option Store) (marks : Marks) (outside : Outside) (w : World)
         → StandsFor reads marks outside w → MountedSure w }
+{}
+
+/// A command that looks at a unit anew sees what its image is read as, and may find that there:
+/// where no device fails, the answer in the world as the command sees it is a step.
+pub fn commands_see_images()
+    ensures { (reads : List ℕ → Option Store) (marks : Marks) (outside : Outside) (w : World)
+        (c : IsCommand) → StandsFor reads marks outside w
+        → ((u : ℕ) → IsSome (outside.card u) → MayLeave u outside.now (image u outside.now))
+        → ((u : ℕ) (s : Store) → IsSome (outside.card u)
+        → reads (image u outside.now) ≡ Some s → IsTrue (valid (outside.blocks u) s))
+        → let a = answer (seen reads w outside.now c) c in Step w c a.0 a.1 }
 {}
