@@ -9,3 +9,4 @@ pub mod MeantAnswer
 pub mod MeantSteps
 pub mod Held
 pub mod Seen
+pub mod StoodFor

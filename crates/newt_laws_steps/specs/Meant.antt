@@ -1,6 +1,6 @@
 -- Worlds in which it is known what a unit holds, for a world in which it is not. All of it is this project's own.
-use Rattle.std.specs.Prelude.{◌≡◌, ℕ, zero, suc, true, false, List, [], ◌∷◌, Option, Some, option_map}
-use Rattle.newt_spec_world.specs.World.{World, Device, Media, lost, is_unsure, device}
+use Rattle.std.specs.Prelude.{◌≡◌, ℕ, zero, suc, true, false, List, [], ◌∷◌, Option, Some, None, option_map}
+use Rattle.newt_spec_world.specs.World.{World, Device, Media, blank, lost, is_unsure, device}
 
 -- what is held, or what is meant where nothing is known of it
 abbrev pub over : Media → Media → Media
@@ -30,3 +30,7 @@ put_at zero m meant zero = m
 put_at zero m meant (suc n) = meant (suc n)
 put_at (suc u) m meant zero = meant 0
 put_at (suc u) m meant (suc n) = put_at u m (λ k. meant (suc k)) n
+
+-- what a unit holds in a world, and nothing where it has no device
+abbrev pub media_on : World → ℕ → Media
+media_on w u = elim (device w u) [ None ↦ blank | Some d ↦ d.media ]

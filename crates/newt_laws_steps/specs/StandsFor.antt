@@ -1,12 +1,12 @@
 -- Which worlds a value with its devices stands for, where devices may fail, and what a command makes
 -- of each of them. All of it is this project's own.
-use Rattle.std.specs.Prelude.{◌≡◌, ◌⊎◌, ℕ, Bool, true, List, length, Option, Some, None, is_some, Result, Ok, Err}
+use Rattle.std.specs.Prelude.{◌≡◌, ◌⊎◌, ℕ, ◌≤◌, Bool, true, false, List, length, map, Option, Some, None, is_some, IsSome, option_map, Result, Ok, Err, if◌then◌else◌}
 use Rattle.newt_host.specs.Moments.{Moment, MayLeave, IsDurable, Always, image}
 use Rattle.newt_host.specs.Outside.{Outside}
 use Rattle.newt_spec_query.specs.Cursor.{Cursor}
 use Rattle.newt_spec_store.specs.Store.{Store}
 use Rattle.newt_spec_world.specs.Answer.{answer}
-use Rattle.newt_spec_world.specs.First.{media_of}
+use Rattle.newt_spec_world.specs.First.{media_of, unit_numbers}
 use Rattle.newt_spec_world.specs.Reply.{Reply}
 use Rattle.newt_spec_world.specs.Step.{Step, looks_anew, with_media}
 use Rattle.newt_spec_world.specs.World.{World, Device, Media, blank, one, two, lost, is_unsure, device, settle}
@@ -55,6 +55,35 @@ module _ (store_of_image : List ℕ → Option Store) where
     pub cursors : w.cursors ≡ marks.cursors
     pub attached : (u : ℕ) → is_some (device w u) ≡ is_some (outside.card u)
     pub devices : (u : ℕ) (d : Device) → device w u ≡ Some d → IsDeviceOf marks outside u d
+
+  -- the device of a unit, of which nothing is known where a sync is due, and else that it holds what
+  -- its image is read as
+  abbrev pub known_device : Marks → Outside → ℕ → Option Device
+  known_device marks outside u = option_map (λ name. record {
+    blocks = outside.blocks u;
+    media = if marks.due u then lost else media_of (store_of_image (image u outside.now));
+    mounted = marks.mounted u;
+  }) (outside.card u)
+
+  -- the world of these devices
+  abbrev pub known : Marks → Outside → World
+  known marks outside = record {
+    units = map (known_device marks outside) unit_numbers;
+    default = marks.default;
+    minute = marks.minute;
+    cursors = marks.cursors;
+  }
+
+  -- What a value keeps so that it stands for some world: where no sync is due nothing is pending; a
+  -- mounted unit is one of these, and is read as a store; and no cursor has another key than its
+  -- hit.
+  pub record IsKept (marks : Marks) (outside : Outside) : Type 0 where
+    pub durable : (u : ℕ) → IsSome (outside.card u) → marks.due u ≡ false → IsDurable u outside.now
+    pub sure : (u : ℕ) → marks.mounted u ≡ true → marks.due u ≡ false
+    pub stores : (u : ℕ) → marks.mounted u ≡ true
+        → (s : Store) × (store_of_image (image u outside.now) ≡ Some s)
+    pub eight : (u : ℕ) → 8 ≤ u → outside.card u ≡ None
+    pub settled : settle (known marks outside) ≡ known marks outside
 
   -- the world in which it is known what a unit holds that is looked at anew: what its image is read
   -- as

@@ -1,16 +1,16 @@
 //! Laws of what a value with its devices stands for.
-ghost use Rattle.std.specs.Prelude.{ℕ, ◌≡◌, IsSome, IsTrue, List, Option, Some};
+ghost use Rattle.std.specs.Prelude.{ℕ, ◌≡◌, true, IsSome, IsTrue, List, Option, Some};
 ghost use Rattle.newt_host.specs.Moments.{MayLeave, IsDurable, changes, image};
 ghost use Rattle.newt_host.specs.Outside.{Outside, SameCards};
 ghost use Rattle.newt_laws_steps.specs.Answering.{ReadsOneOf};
-ghost use Rattle.newt_laws_steps.specs.Meant.{MountedSure};
-ghost use Rattle.newt_laws_steps.specs.StandsFor.{Marks, StandsFor, seen};
+ghost use Rattle.newt_laws_steps.specs.Meant.{MountedSure, meant_by, media_on};
+ghost use Rattle.newt_laws_steps.specs.StandsFor.{Holds, IsKept, Marks, StandsFor, known, seen};
 ghost use Rattle.newt_spec_graph.specs.Lists.{Among};
 ghost use Rattle.newt_spec_store.specs.Store.{Store};
 ghost use Rattle.newt_spec_store.specs.Valid.{valid};
 ghost use Rattle.newt_spec_world.specs.Answer.{answer};
 ghost use Rattle.newt_spec_world.specs.Step.{Step};
-ghost use Rattle.newt_spec_world.specs.World.{World, IsBlankOn, stores_on};
+ghost use Rattle.newt_spec_world.specs.World.{Media, World, IsBlankOn, stores_on};
 ghost use Rattle.newt_spec_world.specs.declared.command.Command.{Command as IsCommand};
 
 /// What a value stands for goes by what has happened to its devices. A crash then leaves each unit
@@ -39,4 +39,18 @@ pub fn commands_see_images()
         → ((u : ℕ) (s : Store) → IsSome (outside.card u)
         → reads (image u outside.now) ≡ Some s → IsTrue (valid (outside.blocks u) s))
         → let a = answer (seen reads w outside.now c) c in Step w c a.0 a.1 }
+{}
+
+/// A value stands for the world in which nothing is known of the units of which a sync is due, and
+/// for those in which anything is meant of them that they may hold, and for no other.
+pub fn values_stand_for_what_is_meant()
+    ensures known { (reads : List ℕ → Option Store) (marks : Marks) (outside : Outside)
+        → IsKept reads marks outside → StandsFor reads marks outside (known reads marks outside) }
+    ensures meant { (reads : List ℕ → Option Store) (marks : Marks) (outside : Outside)
+        → IsKept reads marks outside → (meant : ℕ → Media)
+        → ((u : ℕ) → marks.due u ≡ true → Holds reads outside.now u (meant u))
+        → StandsFor reads marks outside (meant_by meant (known reads marks outside)) }
+    ensures others { (reads : List ℕ → Option Store) (marks : Marks) (outside : Outside)
+        (w : World) → StandsFor reads marks outside w
+        → w ≡ meant_by (media_on w) (known reads marks outside) }
 {}
