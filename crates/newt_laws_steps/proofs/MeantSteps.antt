@@ -1,5 +1,5 @@
 -- The other steps, whatever is meant of units of which nothing is known.
-use Rattle.std.proofs.Common.{◌≡◌, refl, ap, sym, ◌∙◌, ℕ, zero, suc, List, [], ◌∷◌, false, Option, Some, None, option_map}
+use Rattle.std.proofs.Common.{◌≡◌, ◌≢◌, refl, ap, sym, ◌∙◌, ℕ, zero, suc, List, [], ◌∷◌, false, Option, Some, None, option_map}
 use Rattle.std.specs.Prelude.{slice_get}
 use Rattle.newt_spec_world.specs.World.{World, Device, Media, lost, is_unsure, flat, device, change_at, change_device, settle}
 use Rattle.newt_spec_world.specs.Changed.{default_without}
@@ -17,9 +17,15 @@ found-m f w u m h = change-m f w u (λ d. record d { media = m }) (λ d e. ap {A
 abbrev out : (Media → Media) → Device → Device
 out change d = record d { media = change d.media; mounted = false }
 
-put-here : (f : ℕ → Media) (u : ℕ) (m : Media) → put_at u m f u ≡ m
+pub put-here : (f : ℕ → Media) (u : ℕ) (m : Media) → put_at u m f u ≡ m
 put-here f zero m = refl
 put-here f (suc u) m = put-here (λ n. f (suc n)) u m
+
+pub put-other : (f : ℕ → Media) (u n : ℕ) (m : Media) → n ≢ u → put_at u m f n ≡ f n
+put-other f zero zero m differs = absurd (differs refl)
+put-other f zero (suc n) m differs = refl
+put-other f (suc u) zero m differs = refl
+put-other f (suc u) (suc n) m differs = put-other (λ k. f (suc k)) u n m (λ e. differs (ap suc e))
 
 out-over : (f : ℕ → Media) (change : Media → Media) (u : ℕ) (m : Media) (us : List (Option Device))
     → ((d : Device) → flat (slice_get us u) ≡ Some d → change (over (f u) d.media) ≡ m)

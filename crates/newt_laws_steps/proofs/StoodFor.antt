@@ -1,16 +1,19 @@
 -- The worlds that a value stands for are those of what is meant of the units of which a sync is due.
-use Rattle.std.proofs.Common.{arith, ◌≡◌, ◌⊎◌, inl, inr, refl, ap, sym, ◌∙◌, subst, ℕ, zero, suc, ◌<◌, ◌≤◌, Bool, true, false, List, [], ◌∷◌, length, map, Option, Some, None, option_map, IsSome, if◌then◌else◌}
+use Rattle.std.proofs.Common.{arith, ◌≡◌, ◌≢◌, ◌⊎◌, inl, inr, refl, ap, sym, ◌∙◌, subst, ℕ, zero, suc, ◌<◌, ◌≤◌, Bool, true, false, List, [], ◌∷◌, length, map, Option, Some, None, option_map, IsSome, if◌then◌else◌}
 use Rattle.std.specs.Prelude.{is_some, slice_get}
 use Rattle.newt_host.specs.Moments.{IsDurable, image}
 use Rattle.newt_host.specs.Outside.{Outside}
 use Rattle.newt_spec_graph.proofs.Lists.{none-some, some-same}
 use Rattle.newt_spec_store.specs.Store.{Store}
 use Rattle.newt_spec_world.specs.First.{media_of, unit_numbers}
-use Rattle.newt_spec_world.specs.World.{World, Device, Media, blank, one, two, lost, flat, is_unsure, device}
-use Rattle.newt_laws_steps.specs.Meant.{MountedSure, media_on, meant_by, over, over_device, over_units}
+use Rattle.newt_spec_world.specs.World.{World, Device, Media, blank, one, two, lost, flat, is_unsure, device, settle}
+use Rattle.newt_laws_steps.specs.Meant.{MountedSure, media_on, meant_by, over, over_device, over_units, put_at}
 use Rattle.newt_laws_steps.specs.StandsFor.{Holds, IsDeviceOf, IsKept, Marks, StandsFor, known, known_device}
 use Rattle.newt_laws_steps.proofs.Meant.{get-over, known-over}
 use Rattle.newt_laws_steps.proofs.MeantAnswer.{settle-m}
+use Rattle.newt_laws_steps.proofs.MeantSteps.{put-here, put-other, thrown-m}
+use Rattle.newt_laws_world.proofs.Units.{same-or-not}
+use Rattle.newt_spec_world.specs.Step.{thrown_out}
 
 -- ---- units by their numbers
 
@@ -232,3 +235,18 @@ module _ (reads : List ℕ → Option Store) where
     pub known-stands : StandsFor reads marks outside (known reads marks outside)
     known-stands = subst (StandsFor reads marks outside) (ap (λ (us : List (Option Device)). record (known reads marks outside) { units = us }) (over-lost (map (known_device reads marks outside) unit_numbers)))
         (meant-stands (λ _. lost) (λ u due. tt))
+
+-- ---- a unit is thrown out
+
+pub thrown-stands : (reads : List ℕ → Option Store) (marks : Marks) (outside : Outside) (w : World) (meant : ℕ → Media) (u : ℕ) (change : Media → Media) (d : Device) → MountedSure w
+    → IsKept reads marks outside → known reads marks outside ≡ settle (thrown_out w u (λ _. lost)) → device w u ≡ Some d → Holds reads outside.now u (change (over (meant u) d.media))
+    → ((n : ℕ) → n ≢ u → marks.due n ≡ true → Holds reads outside.now n (meant n)) → StandsFor reads marks outside (settle (thrown_out (meant_by meant w) u change))
+thrown-stands reads marks outside w meant u change d sure kept is at here others = subst (StandsFor reads marks outside)
+    (sym (thrown-m meant w u change (change (over (meant u) d.media)) sure (λ x e. ap (λ (y : Device). change (over (meant u) y.media)) (some-same x d (sym e ∙ at)))
+    ∙ ap (meant_by (put_at u (change (over (meant u) d.media)) meant)) (sym is)))
+    (meant-stands reads marks outside kept (put_at u (change (over (meant u) d.media)) meant) (λ n due. go n due (same-or-not n u)))
+  where
+    go : (n : ℕ) → marks.due n ≡ true → (n ≡ u) ⊎ (n ≡ u → ⊥) → Holds reads outside.now n (put_at u (change (over (meant u) d.media)) meant n)
+    go n due (inl e) = subst (λ x. Holds reads outside.now x (put_at u (change (over (meant u) d.media)) meant x)) (sym e)
+        (subst (Holds reads outside.now u) (sym (put-here meant u (change (over (meant u) d.media)))) here)
+    go n due (inr differs) = subst (Holds reads outside.now n) (sym (put-other meant u n (change (over (meant u) d.media)) differs)) (others n differs due)

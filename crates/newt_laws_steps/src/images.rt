@@ -1,16 +1,17 @@
 //! Laws of what a value with its devices stands for.
-ghost use Rattle.std.specs.Prelude.{ℕ, ◌≡◌, true, IsSome, IsTrue, List, Option, Some};
+ghost use Rattle.std.specs.Prelude.{ℕ, ◌≡◌, ◌≢◌, true, IsSome, IsTrue, List, Option, Some};
 ghost use Rattle.newt_host.specs.Moments.{MayLeave, IsDurable, changes, image};
 ghost use Rattle.newt_host.specs.Outside.{Outside, SameCards};
 ghost use Rattle.newt_laws_steps.specs.Answering.{ReadsOneOf};
-ghost use Rattle.newt_laws_steps.specs.Meant.{MountedSure, meant_by, media_on};
+ghost use Rattle.newt_laws_steps.specs.Meant.{MountedSure, meant_by, media_on, over};
 ghost use Rattle.newt_laws_steps.specs.StandsFor.{Holds, IsKept, Marks, StandsFor, known, seen};
 ghost use Rattle.newt_spec_graph.specs.Lists.{Among};
 ghost use Rattle.newt_spec_store.specs.Store.{Store};
 ghost use Rattle.newt_spec_store.specs.Valid.{valid};
 ghost use Rattle.newt_spec_world.specs.Answer.{answer};
-ghost use Rattle.newt_spec_world.specs.Step.{Step};
-ghost use Rattle.newt_spec_world.specs.World.{Media, World, IsBlankOn, stores_on};
+ghost use Rattle.newt_spec_world.specs.Step.{Step, thrown_out};
+ghost use Rattle.newt_spec_world.specs.World.{Device, Media, World, IsBlankOn, device, lost};
+ghost use Rattle.newt_spec_world.specs.World.{settle, stores_on};
 ghost use Rattle.newt_spec_world.specs.declared.command.Command.{Command as IsCommand};
 
 /// What a value stands for goes by what has happened to its devices. A crash then leaves each unit
@@ -53,4 +54,17 @@ pub fn values_stand_for_what_is_meant()
     ensures others { (reads : List ℕ → Option Store) (marks : Marks) (outside : Outside)
         (w : World) → StandsFor reads marks outside w
         → w ≡ meant_by (media_on w) (known reads marks outside) }
+{}
+
+/// A value keeps a world with a unit thrown out of which nothing is known from then on. Where that
+/// unit holds what its failure leaves of what was meant of it, and each other one of which a sync is
+/// due what is meant of it, the value stands for the world that was meant, with the unit thrown out.
+pub fn units_thrown_out_are_stood_for()
+    ensures { (reads : List ℕ → Option Store) (marks : Marks) (outside : Outside) (w : World)
+        (meant : ℕ → Media) (u : ℕ) (change : Media → Media) (d : Device) → MountedSure w
+        → IsKept reads marks outside
+        → known reads marks outside ≡ settle (thrown_out w u (λ _. lost))
+        → device w u ≡ Some d → Holds reads outside.now u (change (over (meant u) d.media))
+        → ((n : ℕ) → n ≢ u → marks.due n ≡ true → Holds reads outside.now n (meant n))
+        → StandsFor reads marks outside (settle (thrown_out (meant_by meant w) u change)) }
 {}

@@ -10,7 +10,10 @@ mod images;
 mod known;
 mod steps;
 
-pub use images::{commands_see_images, images_tell_worlds, values_stand_for_what_is_meant};
+pub use images::{
+    commands_see_images, images_tell_worlds, units_thrown_out_are_stood_for,
+    values_stand_for_what_is_meant,
+};
 pub use known::{answers_go_by_what_is_known, units_are_found_and_thrown_out_alone};
 pub use steps::{
     ids_stay_given, quiet_steps_are_plain, steps_are_there, worlds_stand_behind_steps,
