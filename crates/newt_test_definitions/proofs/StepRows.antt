@@ -72,20 +72,26 @@ lost_is_run : IsRun Step with_soup (items (failed_add (one empty_soup))) (rows_o
 unfolding open_tables
 lost_is_run = (
   thrown {u = 0} refl refl,
-  plain refl refl,
-  found {u = 0} refl (record { on = record { blocks = 13; media = two empty_soup one_entry; mounted = false }; there = refl; holds = one empty_soup; may = inl refl; is = refl }) refl,
-  plain refl refl,
-  tt,
+  (
+    plain refl refl,
+    (
+      found {u = 0} refl (record { on = record { blocks = 13; media = two empty_soup one_entry; mounted = false }; there = refl; holds = one empty_soup; may = inl refl; is = refl }) refl,
+      (plain refl refl, tt),
+    ),
+  ),
 )
 
 kept_is_run : IsRun Step with_soup (items (failed_add (one one_entry))) (rows_of with_soup (failed_add (one one_entry)))
 unfolding open_tables
 kept_is_run = (
   thrown {u = 0} refl refl,
-  plain refl refl,
-  found {u = 0} refl (record { on = record { blocks = 13; media = two empty_soup one_entry; mounted = false }; there = refl; holds = one one_entry; may = inr refl; is = refl }) refl,
-  plain refl refl,
-  tt,
+  (
+    plain refl refl,
+    (
+      found {u = 0} refl (record { on = record { blocks = 13; media = two empty_soup one_entry; mounted = false }; there = refl; holds = one one_entry; may = inr refl; is = refl }) refl,
+      (plain refl refl, tt),
+    ),
+  ),
 )
 
 -- what the unit may have, and how often it was thrown out
@@ -114,7 +120,7 @@ moved = refl
 
 moved_is_run : IsRun Step two_mounted (items failed_move) (rows_of two_mounted failed_move)
 unfolding open_tables
-moved_is_run = (halfway {u = 0} refl refl refl refl, plain refl refl, plain refl refl, plain refl refl, tt)
+moved_is_run = (halfway {u = 0} refl refl refl refl, (plain refl refl, (plain refl refl, (plain refl refl, tt))))
 
 default_goes_on : (world_halfway two_mounted (command.Move 0 N 0 1 N) 0).default ≡ Some 1
 unfolding open_tables
@@ -138,7 +144,11 @@ nothing_is_run : IsRun Step (blank_units 1) (items (failed_format blank)) (rows_
 unfolding open_tables
 nothing_is_run = (
   thrown {u = 0} refl refl,
-  thrown {u = 0} refl refl,
-  found {u = 0} refl (record { on = record { blocks = 13; media = lost; mounted = false }; there = refl; holds = blank; may = inl refl; is = refl }) refl,
-  tt,
+  (
+    thrown {u = 0} refl refl,
+    (
+      found {u = 0} refl (record { on = record { blocks = 13; media = lost; mounted = false }; there = refl; holds = blank; may = inl refl; is = refl }) refl,
+      tt,
+    ),
+  ),
 )
