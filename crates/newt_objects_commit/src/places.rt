@@ -93,15 +93,16 @@ impl PlaceTable {
         self.rows.get(&(sig.0, uid.0)).copied()
     }
 
-    /// Keeps the object of an entry's record. After an error the table is as it was.
-    pub fn insert(&mut self, sig: Sig, uid: Uid, id: u32) -> Result<(), AllocError>
+    /// Keeps the object of an entry's record, and answers the one that it had. After an error the
+    /// table is as it was.
+    pub fn insert(&mut self, sig: Sig, uid: Uid, id: u32) -> Result<Option<u32>, AllocError>
+        ensures old { IfOk result (λ old. old ≡ place_of self.old sig uid) }
         ensures kept { OnOk result (place_of self.new sig uid ≡ Some id) }
         ensures others { OnOk result ((s u : ℕ) → ((s ≡ sig) → (u ≡ uid) → ⊥) → place_of self.new s
             u ≡ place_of self.old s u) }
         ensures err { OnErr result ((s u : ℕ) → place_of self.new s u ≡ place_of self.old s u) }
     {
-        let _old = self.rows.insert((sig.0, uid.0), id)?;
-        Ok(())
+        Ok(self.rows.insert((sig.0, uid.0), id)?)
     }
 
     /// Forgets the place of an entry.

@@ -205,10 +205,10 @@ fn keep_new(places: &mut PlaceTable, entry: &Option<NewEntry>) -> Result<(), All
     ensures others { OnOk result ((sig uid : ℕ) → (IsNew entry.now sig uid → ⊥) → place_of
         places.new sig uid ≡ place_of places.old sig uid) }
 {
-    match entry {
-        Some(e) => places.insert(e.sig, e.uid, e.id),
-        None => Ok(()),
+    if let Some(e) = entry {
+        let _old = places.insert(e.sig, e.uid, e.id)?;
     }
+    Ok(())
 }
 
 // Whether the new entry has its place already, since it is put in the place of another.

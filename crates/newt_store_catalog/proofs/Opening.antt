@@ -29,7 +29,6 @@ use Rattle.newt_spec_store.specs.StoreOf.{LargeRow, large_object, names_larges, 
 use Rattle.newt_spec_store.specs.ImageStore.{store_of_image}
 use Rattle.newt_spec_store.specs.OfImage.{blocks_of}
 use Rattle.newt_spec_store.specs.Laid.{bare}
-use Rattle.newt_spec_store.specs.Reading.{whole, directory}
 use Rattle.newt_spec_store.specs.Lies.{Places, directory_read, entry_read, record_read, may_be_large}
 use Rattle.newt_spec_store.specs.Valid.{valid_soup, well_formed}
 use Rattle.newt_laws_changes.specs.Written.{Names}

@@ -307,7 +307,8 @@ fn find_row(
     if !has_given(directory, row) {
         return Err(BookFault::NotStore);
     }
-    if finding.places.get(row.soup, row.uid).is_some() {
+    let old = finding.places.insert(row.soup, row.uid, id)?;
+    if old.is_some() {
         return Err(BookFault::NotStore);
     }
     if !are_there(objects, row.larges.list()) {
@@ -318,8 +319,7 @@ fn find_row(
     if !are_free {
         return Err(BookFault::NotStore);
     }
-    keep_names(&mut finding.names, id, ids)?;
-    Ok(finding.places.insert(row.soup, row.uid, id)?)
+    Ok(keep_names(&mut finding.names, id, ids)?)
 }
 
 /// Keeps what is found of the next object. One with an odd id must be a record of an entry that has

@@ -12,7 +12,6 @@ use Rattle.newt_laws_changes.specs.Written.{Names}
 use Rattle.newt_objects_commit.specs.Names.{names_of}
 use Rattle.newt_objects_commit.specs.Places.{place_of}
 use Rattle.newt_store_catalog.specs.Opening.{OfObjects, IsRow, Owners, objects_named, owner_of, FindsRow}
-use Rattle.newt_store_catalog.specs.Calls.{IsFoundTo}
 use Rattle.newt_store_catalog.proofs.Exits.{Fails, no-value, reads-none, search-value, search-fails, search-memory}
 use Rattle.newt_store_catalog.proofs.Gathering.{gathered-next}
 use Rattle.newt_store_catalog.proofs.Opening.{record-not-given, record-twice, record-missing, record-owned}

@@ -5,11 +5,9 @@ use Rattle.newt_host.proofs.Outside.{NoFault-refl, NoFault-append}
 use Rattle.newt_objects.specs.Extents.{IsNextIn}
 use Rattle.newt_objects.specs.Held.{held}
 use Rattle.newt_pagebook.specs.declared.book.BookFault.{BookFault}
-use Rattle.newt_laws_images.specs.Found.{IsFound}
 use Rattle.newt_soupdir.specs.Bare.{bare_store}
-use Rattle.newt_nsof_flat.specs.Stream.{stream_graph}
-use Rattle.newt_objects_commit.specs.Names.{AreSoundNames, names_of}
-use Rattle.newt_objects_commit.specs.Places.{AreSoundPlaces, place_of}
+use Rattle.newt_objects_commit.specs.Names.{names_of}
+use Rattle.newt_objects_commit.specs.Places.{place_of}
 use Rattle.newt_store_catalog.specs.declared.open.Finding.{Finding}
 use Rattle.newt_store_catalog.specs.Gathering.{HasGathered}
 use Rattle.newt_store_catalog.specs.Opening.{OfObjects, owner_of}

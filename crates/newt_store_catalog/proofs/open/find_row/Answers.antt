@@ -11,8 +11,8 @@ use Rattle.newt_store_catalog.proofs.open.find_row.Goals as goal
 
 pub returns-in_err-ids : goal.returns-in_err-ids
 returns-in_err-ids c =
-    let r : Result (Unit {0}) BookFault = c.from_residual.result in
-    let fails : Fails r Memory = c.from_residual.ensures.1 in
+    let r : Result (Unit {0}) BookFault = c.from_residual-in_err-ids.result in
+    let fails : Fails r Memory = c.from_residual-in_err-ids.ensures.1 in
     record {
       found = no-value r Memory _ fails;
       bad = λ is. absurd (memory-store (fault-is r Memory NotStore fails is));
@@ -39,10 +39,10 @@ returns-in_err-keep_names c =
       no_device = λ is. memory-device (fault-is r Memory Device fails is);
     }
 
-pub returns-in_err-insert : goal.returns-in_err-insert
-returns-in_err-insert c =
-    let r : Result (Unit {0}) BookFault = c.from_residual-in_err-insert.result in
-    let fails : Fails r Memory = c.from_residual-in_err-insert.ensures.1 in
+pub returns-in_err-old : goal.returns-in_err-old
+returns-in_err-old c =
+    let r : Result (Unit {0}) BookFault = c.from_residual.result in
+    let fails : Fails r Memory = c.from_residual.ensures.1 in
     record {
       found = no-value r Memory _ fails;
       bad = λ is. absurd (memory-store (fault-is r Memory NotStore fails is));
@@ -53,7 +53,7 @@ pub returns-then-not-has_given-clause-bad : goal.returns-then-not-has_given-clau
 returns-then-not-has_given-clause-bad c = λ is. inl (c.has_given.ensures.not_given c.if-not-has_given.true)
 
 pub returns-then-is_some-clause-bad : goal.returns-then-is_some-clause-bad
-returns-then-is_some-clause-bad c = λ is. let other = some-of c.get.result (sym c.if-is_some.ensures) in inr (inl (other.0, sym c.get.ensures ∙ other.1))
+returns-then-is_some-clause-bad c = λ is. let other = some-of c.in_ok-old.old (sym c.is_some.ensures ∙ c.if-is_some.true) in inr (inl (other.0, sym c.in_ok-old.ensures.old ∙ other.1))
 
 pub returns-then-not-are_there-clause-bad : goal.returns-then-not-are_there-clause-bad
 returns-then-not-are_there-clause-bad c = λ is. inr (inr (inl (
@@ -70,11 +70,11 @@ returns-clause-found c =
     let named : c.deref.result.now ≡ objects_named c.args.row.now.larges = c.deref.ensures.value ∙ c.in_ok-ids.ensures ∙ ap objects_named c.list-2.ensures in
     record {
       given = c.has_given.ensures.given c.if-not-has_given.false;
-      free = sym c.get.ensures ∙ is-none c.get.result (sym c.if-is_some.ensures);
+      free = sym c.in_ok-old.ensures.old ∙ is-none c.in_ok-old.old (sym c.is_some.ensures ∙ c.if-is_some.false);
       there = ap (λ (rows : List LargeAt). list_all (λ row. has_length (held c.args.objects.now) row) rows) (sym c.list.ensures) ∙ sym c.are_there.ensures ∙ c.if-not-are_there.false;
       owns = subst (λ (ids : List ℕ). OwnsThese ids c.args.id (owner_of c.args.finding.now.owners) (owner_of c.own_all.new.owners)) named (c.in_ok-are_free.ensures.owned c.if-not-are_free.false);
-      placed = c.in_ok-insert.ensures.kept;
-      other_places = c.in_ok-insert.ensures.others;
+      placed = c.in_ok-old.ensures.kept;
+      other_places = c.in_ok-old.ensures.others;
       named = c.in_ok-keep_names.ensures.kept ∙ sym c.deref.ensures.value ∙ named;
       other_names = c.in_ok-keep_names.ensures.others;
     }

@@ -7,8 +7,6 @@ use Rattle.newt_host.proofs.Outside.{NoFault-refl}
 use Rattle.newt_objects.specs.Held.{held}
 use Rattle.newt_pagebook.specs.declared.book.BookFault.{BookFault}
 use Rattle.newt_spec_store.specs.Lies.{directory_read}
-use Rattle.newt_spec_store.specs.Valid.{well_formed}
-use Rattle.newt_soupdir.specs.Bare.{bare_store}
 use Rattle.newt_soupdir.specs.declared.rows.Directory.{Directory}
 use Rattle.newt_store_catalog.specs.Calls.{IsDirectory}
 use Rattle.newt_store_catalog.proofs.Exits.{Fails, no-value, reads-none, search-fails, search-none}

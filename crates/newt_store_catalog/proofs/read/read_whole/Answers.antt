@@ -1,4 +1,4 @@
-use Rattle.std.proofs.Common.{◌≡◌, ℕ, List, ap, sym, ◌∙◌, subst, map as map_list}
+use Rattle.std.proofs.Common.{ℕ, List, ap, sym, ◌∙◌, subst, map as map_list}
 use Rattle.newt_host.proofs.Outside.{NoFault-append}
 use Rattle.newt_spec_store.specs.Image.{entry_bytes}
 use Rattle.newt_spec_store.specs.Store.{Entry}
