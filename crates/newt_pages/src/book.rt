@@ -86,7 +86,14 @@ impl PageBook for DiskBook {
         self.at = AtHand::Nothing;
         match &self.journal {
             Some(journal) => {
-                self.at = bring(journal, host, place, usage, &mut self.cache, &mut self.spare)?;
+                self.at = bring(
+                    journal,
+                    host,
+                    place,
+                    usage,
+                    &mut self.cache,
+                    &mut self.spare,
+                )?;
                 Ok(())
             }
             None => unreachable!(),
