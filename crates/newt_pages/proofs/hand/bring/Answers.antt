@@ -90,3 +90,19 @@ returns-in-Ok-clause-brings g c = record {
   page = λ tells payloads is.
       put-found c.promote.new.self c.put.new.self c.args.at c.read_at.new.buf c.in-Ok.ensures.entries ∙ ap (λ (x : List ℕ). Some x) (c.in_ok-read_at.ensures.of_records tells payloads is ∙ ap (λ (n : ℕ). recorded c.args.journal.now payloads c.args.at n) c.told-spare);
 }
+
+pub returns-then-matches-clause-caches : goal.returns-then-matches-clause-caches
+returns-then-matches-clause-caches g c = λ tells.
+    let img = image c.args.journal.now.unit (g.H.Host.outside c.args.host.now).now in
+    cached-promoted c.args.journal.now img (nat_eq c.args.at) c.args.cache.now.entries c.promote.new.self.entries (ap (λ (k : LruCache ℕ (List ℕ)). k.entries) c.promote.ensures.entries) (c.requires.caches tells)
+
+pub returns-then-matches-clause-reads : goal.returns-then-matches-clause-reads
+returns-then-matches-clause-reads g c = record {
+  moment = c.read_at.ensures.reads.moment;
+  alone = c.read_at.ensures.reads.alone;
+  costs =
+      let o = g.H.Host.outside in
+      fetch-costs c.args.journal.now.unit _ c.args.at c.args.cache.now.entries (o c.args.host.now) (o c.read_at.new.host) (sym c.promote.ensures.value ∙ c.if-promote.false) c.told-spare c.read_at.ensures.reads.costs;
+  wears = search rules;
+  faults = search rules;
+}
