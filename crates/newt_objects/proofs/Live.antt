@@ -187,12 +187,12 @@ lowered-full flags flags' numbers low low' clears less each sound group under nu
     (true_or_false (list_any (λ n. number == n) numbers))
 
 -- no group behind the last one is full
-pub low_within : (taken : Taken) → length taken.flags.items ≡ 65536 → AreFull taken → taken.low ≤ 512
+pub low_within : (taken : Taken) → length taken.flags.items ≡ 65536 → AreFull taken → taken.low ≤ 2048
 low_within taken size full = ⊎_elim
-    (λ (over : 512 < taken.low). absurd (
-    let there : 65536 < length taken.flags.items = slice_get_within taken.flags.items 65536 true (full.below 512 over 65536 refl) in omega arith))
-    (λ (within : taken.low ≤ 512). within)
-    (cases_lt 512 taken.low)
+    (λ (over : 2048 < taken.low). absurd (
+    let there : 65536 < length taken.flags.items = slice_get_within taken.flags.items 65536 true (full.below 2048 over 65536 refl) in omega arith))
+    (λ (within : taken.low ≤ 2048). within)
+    (cases_lt 2048 taken.low)
 
 -- a group more is known to be full
 pub marks-full : (flags full full' : List Bool) (group : ℕ) → MarksAlso (λ q. q == group) full full' → IsFull flags group

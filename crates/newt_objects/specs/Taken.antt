@@ -20,9 +20,9 @@ pub record IsLive (table : Table) (flags : List Bool) : Type 0 where
   pub real : (number : ℕ) → slice_get flags number ≡ Some true → (id : ℕ) × (has_number number (table id) ≡ true)
   pub apart : (id other number : ℕ) → has_number number (table id) ≡ true → has_number number (table other) ≡ true → id ≡ other
 
--- the group of a page number, of 128 of them
+-- the group of a page number, of 32 of them
 abbrev pub group_of : ℕ → ℕ
-group_of number = number / 128
+group_of number = number / 32
 
 -- all numbers of a group are had
 abbrev pub IsFull : List Bool → ℕ → Type 0

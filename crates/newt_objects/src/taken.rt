@@ -14,7 +14,7 @@ use std::alloc::{AllocError, Global};
 use std::collections::BTreeMap;
 
 /// How many page numbers, one behind the other, are a group.
-pub(crate) const GROUP: u32 = 128;
+pub(crate) const GROUP: u32 = 32;
 
 /// How many groups there are.
 pub(crate) const GROUPS: u32 = PAGE_NUMBERS / GROUP;
@@ -179,7 +179,7 @@ fn has_flag(flags: &[bool], place: u32) -> bool
 
 // Whether the flags of all numbers of a group are set.
 fn are_set(flags: &[bool], group: u32) -> bool
-    requires inside { group < 512 }
+    requires inside { group < 2048 }
     requires size { length flags.now ≡ 65536 }
     ensures { IsTrue result → IsFull flags.now group }
 {
@@ -194,7 +194,7 @@ fn are_set(flags: &[bool], group: u32) -> bool
 
 // Makes known that all numbers of a group are had.
 fn make_full(taken: &mut Taken, group: u32)
-    requires inside { group < 512 }
+    requires inside { group < 2048 }
     requires it { IsFull taken.old.flags.items group }
     requires full { AreFull taken.old }
     ensures flags { taken.new.flags.items ≡ taken.old.flags.items }
@@ -208,7 +208,7 @@ fn make_full(taken: &mut Taken, group: u32)
 
 /// Whether all page numbers of a group are had. Where they are, this is known from then on.
 pub(crate) fn is_full(taken: &mut Taken, group: u32) -> bool
-    requires inside { group < 512 }
+    requires inside { group < 2048 }
     requires size { length taken.old.flags.items ≡ 65536 }
     requires full { AreFull taken.old }
     ensures flags { taken.new.flags.items ≡ taken.old.flags.items }

@@ -8,7 +8,7 @@ use Rattle.newt_objects.proofs.free.take_group.Goals.{then-not-is_set+in_ok-push
 
 pub returns-then-len-count : goal.returns-then-len-count
 returns-then-len-count c = λ rows flags was.
-    keep-enough rows c.args.batch.now c.loop-number.number (c.args.group * 128 + 128) c.args.count c.loop-number.free.items (c.loop-number.invariant rows flags was)
+    keep-enough rows c.args.batch.now c.loop-number.number (c.args.group * 32 + 32) c.args.count c.loop-number.free.items (c.loop-number.invariant rows flags was)
     (omega arith) (omega (arith, c.if-len-count.true, c.len.ensures, c.loop-number.free.ok.0))
 
 pub loop-number-preserved : goal.loop-number-preserved

@@ -12,7 +12,7 @@ returns-then-take_rows c =
       full = record {
         below = λ group under number is. absurd (omega (arith, under));
         marked = λ group yes number is. absurd (
-            let none : c.in_ok-full.full.items ≡ replicate 512 false = c.in_ok-full.ensures.items_if_clones_equal (search rules) in
-            let f : true ≡ false = all_false 512 group true (ap (λ (l : List Bool). slice_get l group) (sym none) ∙ yes) in cc);
+            let none : c.in_ok-full.full.items ≡ replicate 2048 false = c.in_ok-full.ensures.items_if_clones_equal (search rules) in
+            let f : true ≡ false = all_false 2048 group true (ap (λ (l : List Bool). slice_get l group) (sym none) ∙ yes) in cc);
       };
     }
