@@ -1,5 +1,5 @@
 -- A note is given to one watch after another.
-use Rattle.std.proofs.Common.{◌≡◌, ◌<◌, ◌≤◌, refl, ap, sym, ◌∙◌, arith, ℕ, zero, suc, List, [], ◌∷◌, length, get_or, Option, Some, None, option_map, slice_set}
+use Rattle.std.proofs.Common.{◌≡◌, ◌<◌, ◌≤◌, refl, ap, sym, ◌∙◌, arith, ℕ, zero, suc, List, [], ◌∷◌, length, get_or, Option, None, option_map, slice_set}
 use Rattle.newt_notify.specs.declared.note.Note.{Note}
 use Rattle.newt_notify.specs.Watch.{Kept, Watching, kept_of, kept_all, taking, noted}
 

@@ -28,7 +28,7 @@ lost_of most notes = min (length notes - most) 4_294_967_295
 -- what a watch keeps (this project's own)
 abbrev pub kept_of : Watching → Kept
 kept_of w = record
-  { name = w.name; most = w.most; lost = lost_of w.most w.notes; last = keep_last w.most w.notes }
+    { name = w.name; most = w.most; lost = lost_of w.most w.notes; last = keep_last w.most w.notes }
 
 -- a new watch, which has no notes (this project's own)
 abbrev pub watching : List ℕ → ℕ → Watching

@@ -1,6 +1,6 @@
 -- The test of two graphs is true exactly where they are one.
 use Rattle.std.proofs.Common.{◌≡◌, refl, ap, subst, ◌↔◌, arith, IsTrue, ℕ, Bool, true, List, [], ◌∷◌, length, Option, Some, None}
-use Rattle.std.specs.Prelude.{◌==◌, ◌&&◌, nat_eq, bytes_eq}
+use Rattle.std.specs.Prelude.{◌==◌, ◌&&◌, nat_eq}
 use Rattle.std.specs.Bool.{Decides}
 use Rattle.std.specs.List.{list_all, zip}
 use Rattle.std.specs.Option.{option_eq}
@@ -32,10 +32,11 @@ module _ {X : Type 0} (same : X → X → Bool) (decides : (x y : X) → Decides
   zip_same (x ∷ xs) = (Decides-and _ _ (decides x x) (is_true (list_all (λ p. same p.0 p.1) (zip xs xs)))).1 (refl, zip_same xs)
 
   list_decides : (xs ys : List X) → Decides ((length xs == length ys) && list_all (λ p. same p.0 p.1) (zip xs ys)) (xs ≡ ys)
-  list_decides xs ys =
-      ((λ h. let both = (Decides-and _ _ (Decides-eqb (length xs) (length ys)) (is_true (list_all (λ p. same p.0 p.1) (zip xs ys)))).0 h in zip_sound xs ys both.0 both.1),
-      (λ e. subst (λ zs. ((length xs == length zs) && list_all (λ p. same p.0 p.1) (zip xs zs)) ≡ true) e
-      ((Decides-and _ _ (Decides-eqb (length xs) (length xs)) (is_true (list_all (λ p. same p.0 p.1) (zip xs xs)))).1 (refl, zip_same xs))))
+  list_decides xs ys = (
+    (λ h. let both = (Decides-and _ _ (Decides-eqb (length xs) (length ys)) (is_true (list_all (λ p. same p.0 p.1) (zip xs ys)))).0 h in zip_sound xs ys both.0 both.1),
+    (λ e. subst (λ zs. ((length xs == length zs) && list_all (λ p. same p.0 p.1) (zip xs zs)) ≡ true) e
+        ((Decides-and _ _ (Decides-eqb (length xs) (length xs)) (is_true (list_all (λ p. same p.0 p.1) (zip xs xs)))).1 (refl, zip_same xs))),
+  )
 
 -- ---- values, nodes, graphs
 

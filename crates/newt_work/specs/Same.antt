@@ -1,5 +1,5 @@
 -- Whether two graphs are one: a test, node by node.
-use Rattle.std.specs.Prelude.{ℕ, Bool, false, ◌==◌, ◌&&◌, nat_eq, bytes_eq, List, length, Option}
+use Rattle.std.specs.Prelude.{Bool, false, ◌==◌, ◌&&◌, nat_eq, bytes_eq, List, length}
 use Rattle.std.specs.List.{list_all, zip}
 use Rattle.std.specs.Option.{option_eq}
 use Rattle.std.specs.Ordering.{int_eq}

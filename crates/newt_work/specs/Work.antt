@@ -20,7 +20,7 @@ pub record Copy : Type 0 where
 -- a copy that is opened at this state of an entry (this project's own)
 abbrev pub opened : ℕ → ℕ → ℕ → ℕ → RawGraph → Copy
 opened store soup uid time graph = record
-  { store = store; soup = soup; uid = uid; time = time; base = graph; draft = graph }
+    { store = store; soup = soup; uid = uid; time = time; base = graph; draft = graph }
 
 -- the copy with another draft (a word of these definitions)
 abbrev pub edited : RawGraph → Copy → Copy

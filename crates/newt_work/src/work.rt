@@ -29,8 +29,14 @@ impl Model for Work {
 
     ghost Value = { Copy };
 
-    ghost view = { λ w. record { store = w.store; soup = w.soup; uid = w.uid; time = w.time;
-        base = w.base; draft = w.draft } };
+    ghost view = { λ w. record {
+      store = w.store;
+      soup = w.soup;
+      uid = w.uid;
+      time = w.time;
+      base = w.base;
+      draft = w.draft;
+    } };
 }
 
 impl Work {

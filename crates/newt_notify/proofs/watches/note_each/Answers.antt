@@ -1,6 +1,5 @@
-use Rattle.std.proofs.Common.{arith, rules, ◌≡◌, suc, ◌+◌, add-one, Option}
+use Rattle.std.proofs.Common.{arith, ◌+◌, add-one}
 use Rattle.std.proofs.Math.ListN.{length-set}
-use Rattle.newt_notify.specs.Watch.{Kept}
 use Rattle.newt_notify.proofs.Noting.{noted_step, noted_end}
 use Rattle.newt_notify.proofs.watches.note_each.Goals as goal
 
