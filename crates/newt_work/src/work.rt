@@ -11,8 +11,8 @@ use newt_path::{Path, SetFault, set_at};
 use std::alloc::{AllocError, Global};
 use std::marker::Model;
 
-/// A working copy: which entry it is of, the entry's time and graph as the copy was opened, saved or
-/// reverted to last, and the draft.
+/// A working copy: which entry it is of, the time and the graph that the entry had when the copy
+/// was opened, saved or reverted last, and the draft.
 #[derive(Drop)]
 pub struct Work {
     alloc: Global,
