@@ -1,0 +1,112 @@
+//! A working copy.
+ghost use Rattle.std.specs.Prelude.{◌≡◌, ◌↔◌, IfOk, IsErrOf, None, OnErr, OnOk, IsTrue};
+ghost use Rattle.newt_path.specs.Put.{IsFormOf, PassesALimit};
+ghost use Rattle.newt_path.specs.declared.fault.SetFault.{SetFault};
+ghost use Rattle.newt_work.specs.Work.{opened, rebased, is_based, IsBased, draft_with, drafted};
+
+use crate::equal::same_graph;
+use newt_base::{Sig, Uid};
+use newt_graph::Graph;
+use newt_path::{Path, SetFault, set_at};
+use std::alloc::{AllocError, Global};
+use std::marker::Model;
+
+/// A working copy: which entry it is of, the time and the graph that the entry had when the copy
+/// was opened, saved or reverted last, and the draft.
+#[derive(Drop)]
+pub struct Work {
+    alloc: Global,
+    store: Sig,
+    soup: Sig,
+    uid: Uid,
+    time: u32,
+    base: Graph,
+    draft: Graph,
+}
+
+impl Model for Work {
+    ghost use Rattle.newt_work.specs.Work.{Copy};
+
+    ghost Value = { Copy };
+
+    ghost view = { λ w. record {
+      store = w.store;
+      soup = w.soup;
+      uid = w.uid;
+      time = w.time;
+      base = w.base;
+      draft = w.draft;
+    } };
+}
+
+impl Work {
+    /// A copy of an entry as it is now. Its draft is the entry's graph.
+    pub fn open(
+        alloc: Global,
+        store: Sig,
+        soup: Sig,
+        uid: Uid,
+        time: u32,
+        graph: Graph,
+    ) -> Result<Work, AllocError>
+        ensures { IfOk result (λ work. work ≡ opened store soup uid time graph) }
+    {
+        Ok(Work {
+            alloc,
+            store,
+            soup,
+            uid,
+            time,
+            draft: graph.copy()?,
+            base: graph,
+        })
+    }
+
+    /// The signatures of the entry's store and soup, and its id. It takes no memory.
+    pub fn alias(&self) -> (Sig, Sig, Uid)
+        ensures { result ≡ (self.now.store, self.now.soup, self.now.uid) }
+    {
+        (self.store, self.soup, self.uid)
+    }
+
+    /// The graph as it was edited. It takes no memory.
+    pub fn draft(&self) -> &Graph
+        ensures { result.now ≡ self.now.draft }
+    {
+        &self.draft
+    }
+
+    /// Whether an entry with this time and graph is as the base. It takes no memory.
+    pub fn based(&self, time: u32, graph: &Graph) -> bool
+        ensures value { result ≡ is_based time graph.now self.now }
+        ensures exact { IsTrue result ↔ IsBased time graph.now self.now }
+    {
+        self.time == time && same_graph(&self.base, graph)
+    }
+
+    /// Puts a value at a path of the draft, as `set_at` does. After a refusal it is as before.
+    #[tactic(auto, using(crate::proofs::Forms::formed))]
+    pub fn edit(&mut self, path: &Path, value: &Graph) -> Result<(), SetFault>
+        ensures form { IfOk result (λ _. IsFormOf (draft_with path.now value.now self.old)
+            self.new.draft) }
+        ensures ok { OnOk result (self.new ≡ drafted path.now value.now self.old) }
+        ensures no_path { IsErrOf result SetFault.NoPath
+            ↔ (draft_with path.now value.now self.old ≡ None) }
+        ensures limit { IsErrOf result SetFault.Limit
+            → PassesALimit (draft_with path.now value.now self.old) }
+        ensures err { OnErr result (self.new ≡ self.old) }
+    {
+        self.draft = set_at(self.alloc, &self.draft, path, value)?;
+        Ok(())
+    }
+
+    /// Begins anew from another state of the entry, whose graph is given twice. It takes no memory.
+    pub fn rebase(&mut self, time: u32, base: Graph, draft: Graph)
+        requires { base ≡ draft }
+        ensures { self.new ≡ rebased time base self.old }
+    {
+        self.time = time;
+        self.base = base;
+        self.draft = draft;
+    }
+}

@@ -1,0 +1,176 @@
+//! The sixteen places for working copies.
+ghost use Rattle.std.specs.Prelude.{◌≡◌, ◌<◌, ◌↔◌, Some, None, IsSome, IfSome, IfOk, IfErr, OnOk};
+ghost use Rattle.std.specs.Prelude.{OnErr, IsErrOf, length, is_none, replicate, slice_set};
+ghost use Rattle.std.specs.Prelude.{option_map, option_and_then};
+ghost use Rattle.std.specs.List.{position};
+ghost use Rattle.newt_path.specs.Put.{PassesALimit};
+ghost use Rattle.newt_path.specs.declared.fault.SetFault.{SetFault};
+ghost use Rattle.newt_work.specs.Work.{copy_at, opened, rebased, draft_with, HasForm, drafted};
+ghost use Rattle.newt_work.specs.declared.fault.WorkFault.{WorkFault};
+
+use crate::fault::WorkFault;
+use crate::work::Work;
+use newt_base::{Sig, Uid};
+use newt_graph::Graph;
+use newt_path::{Path, SetFault};
+use std::alloc::{AllocError, Global};
+use std::marker::Model;
+
+/// The copies that there can be at once.
+const PLACES: usize = 16;
+
+/// The sixteen places for working copies, numbered from 0. At each is a copy, or the place is free.
+#[derive(Drop)]
+pub struct Works {
+    places: Vec<Option<Work>>,
+}
+
+impl Model for Works {
+    ghost use Rattle.std.specs.Prelude.{◌≡◌, List, Option, length};
+    ghost use Rattle.newt_work.specs.Work.{Copy};
+
+    ghost Value = { List (Option Copy) };
+
+    ghost view = { λ works. works.places.items };
+
+    ghost invariant = { λ works. length works.places.items ≡ 16 };
+}
+
+impl Works {
+    /// Sixteen free places. The room for all of them is taken here.
+    pub fn new(alloc: Global) -> Result<Works, AllocError>
+        ensures { IfOk result (λ works. works ≡ replicate 16 None) }
+    {
+        Ok(Works {
+            places: free_places(alloc)?,
+        })
+    }
+
+    /// Opens a copy of an entry at the least free number, and answers this number. Limit exactly
+    /// where sixteen copies are there.
+    pub fn open(
+        &mut self,
+        store: Sig,
+        soup: Sig,
+        uid: Uid,
+        time: u32,
+        graph: Graph,
+    ) -> Result<u8, WorkFault>
+        ensures number { IfOk result (λ n. position is_none self.old ≡ Some n) }
+        ensures ok { IfOk result (λ n. self.new
+            ≡ slice_set self.old n (Some (opened store soup uid time graph))) }
+        ensures limit { IsErrOf result WorkFault.Limit ↔ (position is_none self.old ≡ None) }
+        ensures err { OnErr result (self.new ≡ self.old) }
+    {
+        let free = self.free()?;
+        let work = Work::open(*self.places.allocator(), store, soup, uid, time, graph)?;
+        self.places[free] = Some(work);
+        Ok(free as u8)
+    }
+
+    /// The copy of this number, if there is one. It takes no memory.
+    pub fn at(&self, number: u8) -> Option<&Work>
+        ensures { option_map (λ k. k.now) result ≡ copy_at number self.now }
+    {
+        match self.places.get(usize::from(number)) {
+            Some(Some(work)) => Some(work),
+            _ => None,
+        }
+    }
+
+    /// Puts a value at a path of a copy's draft. After a refusal it is as before.
+    pub fn edit(&mut self, number: u8, path: &Path, value: &Graph) -> Result<(), SetFault>
+        requires { IsSome (copy_at number self.old) }
+        ensures ok { OnOk result (self.new ≡ slice_set self.old number
+            (option_map (drafted path.now value.now) (copy_at number self.old))) }
+        ensures form { OnOk result (HasForm
+            (option_and_then (draft_with path.now value.now) (copy_at number self.old))) }
+        ensures no_path { IsErrOf result SetFault.NoPath
+            ↔ (option_and_then (draft_with path.now value.now) (copy_at number self.old) ≡ None) }
+        ensures limit { IsErrOf result SetFault.Limit → PassesALimit
+            (option_and_then (draft_with path.now value.now) (copy_at number self.old)) }
+        ensures err { OnErr result (self.new ≡ self.old) }
+    {
+        edit_at(&mut self.places[usize::from(number)], path, value)
+    }
+
+    /// Begins a copy anew from another state of its entry, whose graph is given twice. It takes no
+    /// memory.
+    pub fn rebase(&mut self, number: u8, time: u32, base: Graph, draft: Graph)
+        requires there { IsSome (copy_at number self.old) }
+        requires same { base ≡ draft }
+        ensures { self.new ≡ slice_set self.old number
+            (option_map (rebased time base) (copy_at number self.old)) }
+    {
+        rebase_at(&mut self.places[usize::from(number)], time, base, draft);
+    }
+
+    /// Discards a copy. Nothing changes where no copy has this number. It takes no memory.
+    pub fn discard(&mut self, number: u8)
+        ensures { self.new ≡ slice_set self.old number None }
+    {
+        if usize::from(number) < self.places.len() {
+            self.places[usize::from(number)] = None;
+        }
+    }
+
+    /// The least free number. Limit exactly where sixteen copies are there.
+    fn free(&self) -> Result<usize, WorkFault>
+        ensures least { IfOk result (λ free. position is_none self.now ≡ Some free) }
+        ensures below { IfOk result (λ free. free < 16) }
+        ensures limit { IfErr result (λ fault. fault ≡ WorkFault.Limit) }
+        ensures none { OnErr result (position is_none self.now ≡ None) }
+    {
+        match first_free(&self.places) {
+            Some(free) => Ok(free),
+            None => Err(WorkFault::Limit),
+        }
+    }
+}
+
+fn free_places(alloc: Global) -> Result<Vec<Option<Work>>, AllocError>
+    ensures { IfOk result (λ places. places.items ≡ replicate 16 None) }
+{
+    let mut places = Vec::with_capacity(alloc, PLACES)?;
+    'fill: while places.len() < PLACES {
+        places.push(None)?;
+    }
+    Ok(places)
+}
+
+/// The first free place.
+fn first_free(places: &[Option<Work>]) -> Option<usize>
+    ensures least { result ≡ position is_none places.now }
+    ensures below { IfSome result (λ free. free < length places.now) }
+{
+    places.iter().position(|place| place.is_none())
+}
+
+/// Puts a value into the draft of the copy that is there.
+#[tactic(auto, using(crate::proofs::Forms::has_form))]
+fn edit_at(place: &mut Option<Work>, path: &Path, value: &Graph) -> Result<(), SetFault>
+    requires { IsSome place.old }
+    ensures ok { OnOk result (place.new ≡ option_map (drafted path.now value.now) place.old) }
+    ensures form { OnOk result (HasForm
+        (option_and_then (draft_with path.now value.now) place.old)) }
+    ensures no_path { IsErrOf result SetFault.NoPath
+        ↔ (option_and_then (draft_with path.now value.now) place.old ≡ None) }
+    ensures limit { IsErrOf result SetFault.Limit → PassesALimit
+        (option_and_then (draft_with path.now value.now) place.old) }
+    ensures err { OnErr result (place.new ≡ place.old) }
+{
+    match place {
+        Some(work) => work.edit(path, value),
+        None => unreachable!(),
+    }
+}
+
+/// Begins the copy anew that is there.
+fn rebase_at(place: &mut Option<Work>, time: u32, base: Graph, draft: Graph)
+    requires { base ≡ draft }
+    ensures { place.new ≡ option_map (rebased time base) place.old }
+{
+    if let Some(work) = place {
+        work.rebase(time, base, draft);
+    }
+}
