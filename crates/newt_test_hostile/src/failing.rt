@@ -5,7 +5,7 @@ use newt_test_scripts::expect_statuses;
 use std::test::Fail;
 
 /// How many calls a run of the script makes.
-const CALLS: u64 = 473;
+const CALLS: u64 = 475;
 
 #[test]
 fn ends_at_each_call_that_fails(rt: HostRuntime) -> Result<(), Fail> {
