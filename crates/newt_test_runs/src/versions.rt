@@ -287,5 +287,5 @@ fn a_stop_within_the_first_change_loses_nothing(rt: HostRuntime) -> Result<(), F
     for pick in PICKS {
         counts.add(expect_safe(alloc, &host, Unit(0), pick, ASK, &looks)?);
     }
-    counts.expect(804, 81)
+    counts.expect(828, 81)
 }
