@@ -50,7 +50,7 @@ ends c rest = go (length (trimmed rest) == 0) refl
     go true is = rw is refl
     go false is = rw is refl
 
-ends_in_literal : (f : RawGraph → Command) (rest : List ℕ) → reading (with_literal (Ok (f, rest))) ≡ with_graph (literal_word (rest_of rest)) f
+pub ends_in_literal : (f : RawGraph → Command) (rest : List ℕ) → reading (with_literal (Ok (f, rest))) ≡ with_graph (literal_word (rest_of rest)) f
 unfolding rest_of literal_word
 ends_in_literal f rest = go (length (trimmed rest) == 0) refl (literal_in (trimmed rest)) refl
   where
