@@ -73,12 +73,7 @@ impl Names {
     }
 
     /// Gives the symbols among new nodes, which are to stand behind the old ones, their numbers.
-    pub(crate) fn note_all(
-        &mut self,
-        alloc: Global,
-        old: &[Node],
-        new: &[Node],
-    ) -> Result<(), AllocError>
+    pub fn note_all(&mut self, alloc: Global, old: &[Node], new: &[Node]) -> Result<(), AllocError>
         requires known { Knows self.old.numbers old.now }
         requires once { AreFoldedOnce (old.now ++ new.now) }
         requires few { length old.now + length new.now < 4294967296 }
@@ -93,6 +88,15 @@ impl Names {
         }
         Ok(())
     }
+}
+
+/// The place of the first symbol of this name but for ASCII case. It looks at one node after
+/// another, which is quickest where there are few.
+#[tactic(auto, unfolding(crate::specs::Draft::find_alike))]
+pub fn find_alike(name: &[u8], nodes: &[Node]) -> Option<usize>
+    ensures { result ≡ find_alike name.now nodes.now }
+{
+    nodes.iter().position(|node| is_alike(name, node))
 }
 
 /// The number, where a symbol of this name but for ASCII case has it.

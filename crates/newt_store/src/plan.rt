@@ -66,7 +66,8 @@ fn free_from(objects: &Objects, from: u32, parity: u32) -> Option<u32>
     None
 }
 
-// Half of a number above the ids of all objects: from there on the search for a free id is short.
+// The least half of an odd number from which on no object has an id: from there on the search for
+// a free id is short.
 fn half_above(objects: &Objects) -> u32
     ensures { result ≤ 2147483648 }
 {
@@ -74,7 +75,7 @@ fn half_above(objects: &Objects) -> u32
     let mut high = HALF_IDS;
     while low < high {
         let half = low + (high - low) / 2;
-        if objects.next(2 * half).is_some() {
+        if objects.next(2 * half + 1).is_some() {
             low = half + 1;
         } else {
             high = half;
