@@ -36,6 +36,7 @@ impl<C: Card> World<C> {
                 spec_rows(commands::indexes(&self.units, *unit, name))
             }
             Command::Tags(unit, name) => tag_row(commands::tags(&self.units, *unit, name)),
+            Command::Info(unit, name) => info_frame(commands::info(&self.units, *unit, name)),
             Command::Alias(unit, name, uid) => {
                 alias_of(commands::alias(&self.units, *unit, name, *uid), *uid)
             }

@@ -124,6 +124,17 @@ pub(crate) fn tag_row(found: Result<Option<TagTable>, StoreFault>) -> Result<Rep
     }
 }
 
+/// The info frame of a soup, or that there is none.
+pub(crate) fn info_frame(found: Result<Option<Graph>, StoreFault>) -> Result<Reply, StoreFault>
+    ensures { HandsOn (or_nil plain.Reply.literal_of) found result }
+{
+    match found {
+        Ok(Some(info)) => Ok(Reply::Literal(info)),
+        Ok(None) => Ok(Reply::Nil),
+        Err(fault) => Err(fault),
+    }
+}
+
 /// The alias of the entry of this id, by the signatures of its store and soup.
 pub(crate) fn alias_of(found: Result<(Sig, Sig), StoreFault>, uid: Uid) -> Result<Reply, StoreFault>
     ensures { HandsOn (λ x. plain.Reply.alias x.0 x.1 uid) found result }

@@ -123,6 +123,11 @@ pub trait Card: Sized + Drop {
         ensures { option_map (λ tags. tags.now) result
             ≡ option_and_then (λ p. p.tags) (soup_of soup (soups self.now)) };
 
+    /// The info frame of a soup; none where the soup has none or is not there.
+    fn info(&self, soup: Sig) -> Option<&Graph>
+        ensures { option_map (λ info. info.now) result
+            ≡ option_and_then (λ p. p.info) (soup_of soup (soups self.now)) };
+
     /// The sorted list of exactly the entries of a soup that have a key: by its declaration that
     /// agrees with this one, or with none of all entries by id. None exactly where the soup is not
     /// there or does not carry the declaration. It takes no memory.

@@ -149,6 +149,13 @@ impl<P: PageBook> Card for IndexedStore<P> {
         }
     }
 
+    fn info(&self, soup: Sig) -> Option<&Graph> {
+        match self.store.directory().soup_of(soup) {
+            Some(row) => row.info.as_ref(),
+            None => None,
+        }
+    }
+
     fn range(&self, soup: Sig, spec: Option<&IndexSpec>) -> Option<&Index> {
         self.ranges.range_of(soup, spec)
     }
