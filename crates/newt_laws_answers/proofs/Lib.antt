@@ -11,6 +11,7 @@ pub mod Copies
 pub mod Replaces
 pub mod Larges
 pub mod Declares
+pub mod Infos
 pub mod Stores
 pub mod Resolves
 pub mod Faces
