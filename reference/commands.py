@@ -4,12 +4,13 @@ import re
 from dataclasses import replace
 
 import lines
-from graphs import Array, Frame, Large, Ref, Walk, copied, integer, is_same_name, value_at, with_value
+from graphs import NIL, Array, Frame, Large, Ref, Walk, copied, integer, is_same_name, value_at, with_value
 from literals import NoLiteral, print_literal, read_literal
 from queries import Query, key_from, read_shape
 from replies import Refused, of_name, of_path, of_refusal
 from stores import (
     MOST_INDEXES,
+    MOST_INFO,
     MOST_SKELETON,
     MOST_SIGNATURE,
     MOST_SOUP_SIGNATURE,
@@ -203,6 +204,22 @@ def tags(world: World, number: int, name: bytes, declared: Tags):
     if len(declared.symbols) > MOST_TAGS:
         raise Refused(36)
     world.keep(number, world.store(number).with_soup(replace(soup, tags=declared)))
+    return []
+
+
+@command(lines.unit, lines.name, lines.info)
+def info(world: World, number: int, name: bytes, text: bytes):
+    if text is None:
+        found = world.soup(number, name).info
+        return ["nil" if found is None else print_literal(found)]
+    value = literal_of(text)
+    soup = world.soup(number, name)
+    frame = None if value == NIL else value
+    if frame is not None and (not isinstance(frame, Frame) or Walk(frame).larges()):
+        raise Refused(44)
+    if frame is not None and len(encode_flat(frame)) > MOST_INFO:
+        raise Refused(34)
+    world.keep(number, world.store(number).with_soup(replace(soup, info=frame)))
     return []
 
 

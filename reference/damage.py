@@ -9,9 +9,9 @@ from random import Random
 from typing import Callable, Optional
 
 from graphs import Array, Binary, Frame, Large, Symbol, Walk
-from images import BLOCK, HEADER
+from images import BLOCK, HEADER, OLD_HEADER
 from layouts import BLANK, VOTES, objects_of, pages_of, record, records_of, tail_of
-from stores import Part, Soup, Store, Tags, capacity, cost, entry_of, tags_bytes
+from stores import Part, Soup, Store, Tags, capacity, cost, entry_of, info_bytes, tags_bytes
 from streams import Malformed, decode, encode, encode_flat, pages
 
 TELLING_BYTES = b"\x00\x01\x02\x03\x04\x05\x06\x07\x08\x09\x0a\x0b\x0c\x0d\x7f\x80\xfe\xff"
@@ -94,6 +94,9 @@ def limit_soup(random: Random, soup: Soup) -> Soup:
             lambda: replace(soup, tags=Tags((b"k",), (b"a", b"A" if past else b"b"))),
             lambda: replace(soup, tags=Tags((b"k",), ())),
             lambda: replace(soup, tags=Tags((b"1",) if past else (b"_",), (b"a",))),
+            lambda: replace(soup, info=Frame([Symbol(b"b")], [Binary(Symbol(b"x"), bytes(3_985 + past))])),
+            lambda: replace(soup, info=Frame([Symbol(b"b")], [Large(Symbol(b"x"), b"") if past else 4])),
+            lambda: replace(soup, info=Array(None, []) if past else Frame([], [])),
             lambda: replace(soup, next_uid=536_870_911 + past),
             lambda: replace(soup, next_uid=max([it.uid for it in soup.entries], default=0) + 1 - past),
         )
@@ -278,12 +281,12 @@ def bend_directory(random: Random, objects: dict[int, bytes]) -> None:
     objects[0] = bytes(data)
 
 
-def bend_tags(random: Random, store: Store, objects: dict[int, bytes]) -> None:
-    """The byte that says whether a soup has a declaration of tags is neither 0 nor 1."""
-    declared = [tags_bytes(it.tags) for it in store.soups if it.tags]
-    if declared:
-        before, own, behind = objects[0].partition(random.choice(declared))
-        objects[0] = before + bytes([random.choice((2, 255))]) + own[1:] + behind
+def bend_flags(random: Random, store: Store, objects: dict[int, bytes]) -> None:
+    """The byte that says whether a soup has a declaration of tags and an info frame says something else."""
+    told = [tags_bytes(it.tags) + info_bytes(it.info) for it in store.soups if it.tags or it.info]
+    if told:
+        before, own, behind = objects[0].partition(random.choice(told))
+        objects[0] = before[:-1] + bytes([random.choice((0, 1, 2, 3, 4, 255))]) + own + behind
 
 
 OBJECT_DAMAGE = (
@@ -353,7 +356,7 @@ def miscount(random: Random, records: list[bytes]) -> None:
 def image_of(random: Random, records: list[bytes], blocks: int) -> Optional[bytes]:
     """An image whose chosen bank has these records, or nothing where they have no room. Few have another header."""
     size = BLOCK * ((blocks - 3) // 2)
-    header = bytearray(HEADER)
+    header = bytearray(random.choice((HEADER, OLD_HEADER)))
     header[random.randrange(len(header))] ^= random.choice((0,) * 24 + (1, 32))
     used = bytes(header) + b"".join(records)
     if len(used) > size:
@@ -397,7 +400,7 @@ def hostile_image(random: Random, store: Store, blocks: int, records: list, othe
         store = make(random, store)
     objects = objects_of(random, store)
     if way == "store" and random.random() < 0.1:
-        bend_tags(random, store, objects)
+        bend_flags(random, store, objects)
     for _ in range(random.choice((1, 1, 2)) if way == "objects" else 0):
         random.choice(OBJECT_DAMAGE)(random, objects)
     found = pages_of(random, objects)

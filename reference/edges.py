@@ -42,7 +42,7 @@ def cursors() -> list[str]:
 
 
 def soups() -> list[str]:
-    lines = [*START[:2], *[f"soup 0 s{number}" for number in range(66)], "soup 0 s1", "drop 0 s3"]
+    lines = [*START[:2], *[f"soup 0 s{number}" for number in range(252)], "soup 0 s1", "drop 0 s3"]
     return lines + ["soup 0 s3", "soup 0 s4", "soup 0 x", "soups 0"]
 
 
@@ -66,6 +66,17 @@ def tags() -> list[str]:
     lines = [*START, "tags 0 S p " + " ".join(symbols[:-1]), "tags 0 S", "tags 0 S p " + " ".join(symbols)]
     lines += ["tags 0 S p a A", "tags 0 S p a b", "tags 0 S", "tags 0 S p"]
     return lines + ["tags 0 S p " + "x" * 254, "tags 0 S p " + "x" * 255, "tags 0 S p |a b|"]
+
+
+def infos() -> list[str]:
+    values = ("{}", "{ver: 2}", "nil", "5", "[]", "<<w:*4>>", "{b: <<w:*4>>}", "{b: <x:0102>}", "'a", "{", "{a: #1={}, b: #1#}")
+    lines = [*START, "info 0 S", "info 0 T", "info 1 S", "info 0 T 5", "info 0 T {", "info 0", "info 0 S {} {}"]
+    lines += [line for it in values for line in (f"info 0 S {it}", "info 0 S")]
+    lines += [f"info 0 S {{b: <x:{'0' * (2 * count)}>}}" for count in (3_980, 3_984, 3_985, 3_986, 3_987, 3_990, 4_000)]
+    lines += ["info 0 S", "drop 0 S", "soup 0 S", "info 0 S"]
+    # A store that is full takes no info frame, and gives one away.
+    full = ["soup 0 U", "info 0 U {a: 1}", *["add 0 U {}"] * 40, f"info 0 U {{b: <x:{'0' * 2_000}>}}", "info 0 U", "info 0 U nil"]
+    return [*lines, *full, "info 0 U", "unmount 0", "mount 0", "info 0 U", "info 0 S"]
 
 
 def lines() -> list[str]:
@@ -137,6 +148,7 @@ EDGES = [
     (soups, (40,)),
     (indexes, (40,)),
     (tags, (40,)),
+    (infos, (13,)),
     (lines, ()),
     (depths, (40,)),
     (rectangles, (40,)),

@@ -3,12 +3,14 @@
 import struct
 from typing import Optional
 
-from graphs import MOST_BYTES, Frame, Walk
+from graphs import MOST_BYTES, Frame, Ref, Walk
 from lines import IDENTIFIER
 from scanner import Scanner
 from stores import (
     KINDS,
     MOST_INDEXES,
+    MOST_INFO,
+    MOST_OLD_SOUPS,
     MOST_SIGNATURE,
     MOST_SKELETON,
     MOST_SOUPS,
@@ -28,7 +30,8 @@ from stores import (
 from streams import Malformed, decode, encode_flat, pages
 
 BLOCK = 4096
-HEADER = b"NSTORE\x00\x01" + bytes(8)
+OLD_HEADER, HEADER = (b"NSTORE" + version.to_bytes(2, "big") + bytes(8) for version in (1, 2))
+VERSIONS = {OLD_HEADER: 1, HEADER: 2}
 
 
 class NoStore(Exception):
@@ -38,6 +41,16 @@ class NoStore(Exception):
 def wants(holds) -> None:
     if not holds:
         raise NoStore
+
+
+def flat_graph(text: bytes) -> Ref:
+    """The graph whose flat text this is."""
+    try:
+        graph, is_compressed = decode(text)
+    except Malformed as fault:
+        raise NoStore from fault
+    wants(not is_compressed and encode_flat(graph) == text)
+    return graph
 
 
 class Record(Scanner):
@@ -73,27 +86,31 @@ class Record(Scanner):
     def spec(self) -> tuple:
         return self.several(self.part, 1, 4)
 
-    def tags(self) -> Optional[Tags]:
-        if not self.number(1, 1):
-            return None
+    def tags(self) -> Tags:
         tags = Tags(self.path(), self.several(self.identifier, 0, MOST_TAGS))
         self.wants(len({it.lower() for it in tags.symbols}) == len(tags.symbols))
         return tags
 
-    def soup(self) -> Soup:
-        soup = Soup(
-            self.name(),
-            self.number(2),
-            self.number(4, MOST_SIGNATURE),
-            self.several(self.spec, 0, MOST_INDEXES),
-            self.tags(),
-        )
-        self.wants(len({paths_of(it) for it in soup.specs}) == len(soup.specs))
-        return soup
+    def info(self) -> Frame:
+        info = flat_graph(self.take(self.number(2, MOST_INFO)))
+        self.wants(isinstance(info, Frame) and not Walk(info).larges())
+        return info
 
-    def directory(self) -> Store:
+    def soup(self, version: int) -> Soup:
+        name, sig, next_uid = self.name(), self.number(2), self.number(4, MOST_SIGNATURE)
+        specs = self.several(self.spec, 0, MOST_INDEXES)
+        self.wants(len({paths_of(it) for it in specs}) == len(specs))
+        flags = self.number(1, {1: 1, 2: 3}[version])
+        tags = self.tags() if flags & 1 else None
+        return Soup(name, sig, next_uid, specs, tags, self.info() if flags & 2 else None)
+
+    def directory(self, version: int) -> Store:
+        most = {1: MOST_OLD_SOUPS, 2: MOST_SOUPS}[version]
         store = Store(
-            self.name(), self.number(4, MOST_SIGNATURE), self.number(2), self.several(self.soup, 0, MOST_SOUPS)
+            self.name(),
+            self.number(4, MOST_SIGNATURE),
+            self.number(2),
+            self.several(lambda: self.soup(version), 0, most),
         )
         numbers = [it.sig for it in store.soups]
         self.wants(self.left() == 0 and len({it.name for it in store.soups}) == len(store.soups))
@@ -112,10 +129,15 @@ def bank_of(image: bytes) -> bytes:
     return image[BLOCK * (3 + chosen[0] * size) : BLOCK * (3 + chosen[0] * size + size)]
 
 
+def version_of(image: bytes) -> int:
+    version = VERSIONS.get(bank_of(image)[: len(HEADER)])
+    wants(version is not None)
+    return version
+
+
 def payloads(image: bytes) -> list[bytes]:
-    bank = Record(bank_of(image))
-    wants(bank.take(len(HEADER)) == HEADER)
-    found = []
+    version_of(image)
+    bank, found = Record(bank_of(image)[len(HEADER) :]), []
     while bank.passes(b"\x00"):
         found.append(bank.take(bank.number(4)))
     return found
@@ -152,12 +174,9 @@ def read_entry(record: bytes, objects: dict, named: list) -> tuple[int, Entry]:
     sig, count, uid, time = struct.unpack(">HHII", record[:12])
     wants(len(record) >= 12 + 12 * count)
     skeleton, places = record[12 : len(record) - 12 * count], record[len(record) - 12 * count :]
-    try:
-        graph, is_compressed = decode(skeleton)
-    except Malformed as fault:
-        raise NoStore from fault
-    wants(len(skeleton) <= MOST_SKELETON and not is_compressed)
-    wants(isinstance(graph, Frame) and encode_flat(graph) == skeleton)
+    wants(len(skeleton) <= MOST_SKELETON)
+    graph = flat_graph(skeleton)
+    wants(isinstance(graph, Frame))
     walk = Walk(graph)
     wants(len(walk.larges()) == count and not any(it.data for it in walk.larges()))
     for large, (node, number, length) in zip(walk.larges(), struct.iter_unpack(">III", places)):
@@ -172,7 +191,7 @@ def store_of_image(image: bytes) -> Optional[Store]:
     try:
         objects = objects_of(image)
         wants(0 in objects)
-        store, named = Record(objects[0]).directory(), []
+        store, named = Record(objects[0]).directory(version_of(image)), []
         for number in sorted(it for it in objects if it % 2):
             sig, entry = read_entry(objects[number], objects, named)
             soup = next((it for it in store.soups if it.sig == sig), None)
@@ -188,13 +207,16 @@ def store_of_image(image: bytes) -> Optional[Store]:
 def is_same_store(one: Store, other: Store) -> bool:
     """Whether two stores are equal, their graphs by their flat texts."""
 
+    def told_info(soup: Soup) -> Optional[bytes]:
+        return None if soup.info is None else encode_flat(soup.info)
+
     def told(store: Store) -> list:
         entries = [(it.sig, [(at.uid, at.time, encode_flat(at.graph)) for at in it.entries]) for it in store.soups]
         return [
             store.name,
             store.sig,
             store.next_soup,
-            [(it.name, it.sig, it.next_uid, it.specs, it.tags) for it in store.soups],
+            [(it.name, it.sig, it.next_uid, it.specs, it.tags, told_info(it)) for it in store.soups],
             entries,
         ]
 

@@ -5,8 +5,8 @@ from random import Random
 from typing import Optional
 
 from graphs import Walk
-from images import BLOCK, HEADER
-from stores import Store, directory
+from images import BLOCK, HEADER, OLD_HEADER
+from stores import MOST_OLD_SOUPS, Store, directory
 from streams import encode_flat, pages
 
 # Votes that choose the bank, whose number is put for the 1; the 0 is the other bank, and any other number no vote.
@@ -111,6 +111,12 @@ def struck(random: Random, image: bytearray, begin: int, records: list[bytes]) -
     image[place] = random.choice((0, 1, 2, 255, image[place] ^ 1, random.randrange(256)))
 
 
+def header_for(random: Random, store: Store) -> bytes:
+    """The header of a bank: of version 1 only where its directory can write the store, but for a few."""
+    is_old = len(store.soups) <= MOST_OLD_SOUPS and not any(it.info for it in store.soups)
+    return random.choice((HEADER, OLD_HEADER) if is_old or random.random() < 0.05 else (HEADER,))
+
+
 def random_image(random: Random, store: Store, blocks: int) -> Optional[bytes]:
     """The image of a store with some damage or none, or nothing where it has no room in a bank."""
     objects = objects_of(random, store)
@@ -119,11 +125,12 @@ def random_image(random: Random, store: Store, blocks: int) -> Optional[bytes]:
         damaged(random, objects)
     records = records_of(random, pages_of(random, objects))
     size = (blocks - 3) // 2
-    used = HEADER + b"".join(records)
+    header = header_for(random, store)
+    used = header + b"".join(records)
     if len(used) > BLOCK * size:
         return None
     bank = used + tail_of(random, BLOCK * size - len(used))
-    other = random.choice((BLANK * len(bank), bytes(len(bank)), (HEADER + record({}, [])).ljust(len(bank), BLANK)))
+    other = random.choice((BLANK * len(bank), bytes(len(bank)), (header + record({}, [])).ljust(len(bank), BLANK)))
     chosen = random.randrange(2)
     votes = [it if it > 1 else chosen if it else 1 - chosen for it in random.choice(VOTES)]
     heads = b"".join(bytes([it]) + BLANK * (BLOCK - 1) for it in votes)

@@ -136,5 +136,10 @@ def literal(words: Words) -> bytes:
     return words.rest()
 
 
+def info(words: Words):
+    """A literal, or nothing."""
+    return words.rest() if words.left() else None
+
+
 def hexadecimal(words: Words) -> bytes:
     return words.rest()

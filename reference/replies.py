@@ -23,6 +23,7 @@ REFUSALS = {
     35: "ids",
     36: "limit",
     37: "notframe",
+    44: "info",
     38: "path",
     39: "range",
     40: "index",

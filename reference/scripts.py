@@ -39,6 +39,7 @@ COMMANDS = {
     "unindex": (1, "soup index_paths"),
     "indexes": (1, "soup"),
     "tags": (2, "soup declaration"),
+    "info": (3, "soup info"),
     "query": (5, "query"),
     "entry": (3, "cursor"),
     "next": (10, "cursor"),
@@ -199,6 +200,10 @@ class Writer(Values):
         return self.one(*DECLARATIONS)
 
     # Queries and cursors.
+
+    def info(self) -> str:
+        """An info frame, mostly, or nil, or nothing."""
+        return self.one("", "nil", self.frame(0, (f"ver: {self.one(1, 2)}",)), self.entry(), self.any_value())
 
     def bound(self, spec: tuple) -> str:
         """A key value for an index."""

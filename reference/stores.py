@@ -6,16 +6,17 @@ A change makes a new value.
 from dataclasses import dataclass, replace
 from typing import NamedTuple, Optional
 
-from graphs import Ref
-from streams import entry_cost, pages
+from graphs import Frame, Ref
+from streams import encode_flat, entry_cost, pages
 
 KINDS = ("string", "int", "char", "symbol")
 ORDERS = ("ascend", "descend")
 MOST_SIGNATURE = 536_870_911
 MOST_SOUP_SIGNATURE = 65_535
-MOST_SOUPS, MOST_INDEXES, MOST_TAGS = 64, 16, 64
+MOST_SOUPS, MOST_INDEXES, MOST_TAGS = 250, 16, 64
+MOST_OLD_SOUPS = 64  # in a directory of version 1
 
-MOST_SKELETON = 64_000
+MOST_SKELETON, MOST_INFO = 64_000, 4_000
 
 Path = tuple
 
@@ -45,6 +46,7 @@ class Soup:
     next_uid: int = 0
     specs: tuple = ()
     tags: Optional[Tags] = None
+    info: Optional[Frame] = None
     entries: tuple = ()
 
     def entry(self, uid: int) -> Optional[Entry]:
@@ -108,13 +110,23 @@ def index_bytes(spec: tuple) -> bytes:
 
 def tags_bytes(tags: Optional[Tags]) -> bytes:
     if tags is None:
-        return b"\x00"
-    return b"\x01" + path_bytes(tags.path) + bytes([len(tags.symbols)]) + b"".join(map(text, tags.symbols))
+        return b""
+    return path_bytes(tags.path) + bytes([len(tags.symbols)]) + b"".join(map(text, tags.symbols))
+
+
+def info_bytes(info: Optional[Frame]) -> bytes:
+    if info is None:
+        return b""
+    written = encode_flat(info)
+    return len(written).to_bytes(2, "big") + written
 
 
 def soup_bytes(soup: Soup) -> bytes:
+    """The soup in a directory of version 2. Without info it is the same in version 1."""
     start = text(soup.name) + soup.sig.to_bytes(2, "big") + soup.next_uid.to_bytes(4, "big")
-    return start + bytes([len(soup.specs)]) + b"".join(map(index_bytes, soup.specs)) + tags_bytes(soup.tags)
+    flags = (soup.tags is not None) + 2 * (soup.info is not None)
+    indexes = bytes([len(soup.specs)]) + b"".join(map(index_bytes, soup.specs))
+    return start + indexes + bytes([flags]) + tags_bytes(soup.tags) + info_bytes(soup.info)
 
 
 def directory(store: Store) -> bytes:

@@ -13,53 +13,56 @@ use Rattle.newt_engine.specs.Groups.{is_between, is_shown, on_place}
 
 -- there are no others
 pub no_other : (c : Command) → is_shown c ≡ false → uses_device c ≡ false → uses_cursors c ≡ false → ((t : _) → c ≡ command.Time t → ⊥) → (c ≡ command.Quit → ⊥) → ((u : _) → c ≡ command.Unmount u → ⊥) → (c ≡ command.Stores → ⊥)
-    → ((u : _) → c ≡ command.Default u → ⊥) → ((u : _) → c ≡ command.Soups u → ⊥) → ((u s : _) → c ≡ command.Indexes u s → ⊥) → ((u s : _) → c ≡ command.Tags u s → ⊥) → ((u s i : _) → c ≡ command.Alias u s i → ⊥) → ((g : _) → c ≡ command.Resolve g → ⊥) → ⊥
+    → ((u : _) → c ≡ command.Default u → ⊥) → ((u : _) → c ≡ command.Soups u → ⊥) → ((u s : _) → c ≡ command.Indexes u s → ⊥) → ((u s : _) → c ≡ command.Tags u s → ⊥) → ((u s : _) → c ≡ command.Info u s → ⊥) → ((u s i : _) → c ≡ command.Alias u s i → ⊥) → ((g : _) → c ≡ command.Resolve g → ⊥) → ⊥
 unfolding uses_cursors
-no_other (command.Time t) g d n time quit unmount stores default soups indexes tags alias resolve = time t refl
-no_other command.Quit g d n time quit unmount stores default soups indexes tags alias resolve = quit refl
-no_other (command.Unmount u) g d n time quit unmount stores default soups indexes tags alias resolve = unmount u refl
-no_other command.Stores g d n time quit unmount stores default soups indexes tags alias resolve = stores refl
-no_other (command.Default u) g d n time quit unmount stores default soups indexes tags alias resolve = default u refl
-no_other (command.Soups u) g d n time quit unmount stores default soups indexes tags alias resolve = soups u refl
-no_other (command.Indexes u s) g d n time quit unmount stores default soups indexes tags alias resolve = indexes u s refl
-no_other (command.Tags u s) g d n time quit unmount stores default soups indexes tags alias resolve = tags u s refl
-no_other (command.Alias u s i) g d n time quit unmount stores default soups indexes tags alias resolve = alias u s i refl
-no_other (command.Resolve x) g d n time quit unmount stores default soups indexes tags alias resolve = resolve x refl
-no_other _ g d n time quit unmount stores default soups indexes tags alias resolve = cc
+no_other (command.Time t) g d n time quit unmount stores default soups indexes tags info alias resolve = time t refl
+no_other command.Quit g d n time quit unmount stores default soups indexes tags info alias resolve = quit refl
+no_other (command.Unmount u) g d n time quit unmount stores default soups indexes tags info alias resolve = unmount u refl
+no_other command.Stores g d n time quit unmount stores default soups indexes tags info alias resolve = stores refl
+no_other (command.Default u) g d n time quit unmount stores default soups indexes tags info alias resolve = default u refl
+no_other (command.Soups u) g d n time quit unmount stores default soups indexes tags info alias resolve = soups u refl
+no_other (command.Indexes u s) g d n time quit unmount stores default soups indexes tags info alias resolve = indexes u s refl
+no_other (command.Tags u s) g d n time quit unmount stores default soups indexes tags info alias resolve = tags u s refl
+no_other (command.Info u s) g d n time quit unmount stores default soups indexes tags info alias resolve = info u s refl
+no_other (command.Alias u s i) g d n time quit unmount stores default soups indexes tags info alias resolve = alias u s i refl
+no_other (command.Resolve x) g d n time quit unmount stores default soups indexes tags info alias resolve = resolve x refl
+no_other _ g d n time quit unmount stores default soups indexes tags info alias resolve = cc
 
 -- a command that uses no cursor and is none of these shows no graph and uses no device
 pub in_memory : (k : Command) → uses_cursors k ≡ false
     → ((a : _) → k ≡ command.Nsof a → ⊥) → ((a : _) → k ≡ command.Lit a → ⊥) → ((a b c : _) → k ≡ command.Format a b c → ⊥)
     → ((a : _) → k ≡ command.Mount a → ⊥) → ((a b : _) → k ≡ command.Soup a b → ⊥) → ((a b : _) → k ≡ command.Drop a b → ⊥)
     → ((a b c : _) → k ≡ command.Index a b c → ⊥) → ((a b c : _) → k ≡ command.Unindex a b c → ⊥) → ((a b c d : _) → k ≡ command.SetTags a b c d → ⊥)
+    → ((a b c : _) → k ≡ command.SetInfo a b c → ⊥)
     → ((a b c : _) → k ≡ command.Add a b c → ⊥) → ((a b c : _) → k ≡ command.Addx a b c → ⊥) → ((a b : _) → k ≡ command.Addu a b → ⊥)
     → ((a b c : _) → k ≡ command.Get a b c → ⊥) → ((a b c : _) → k ≡ command.Getx a b c → ⊥) → ((a b c d e : _) → k ≡ command.Set a b c d e → ⊥)
     → ((a b c d : _) → k ≡ command.Change a b c d → ⊥) → ((a b c : _) → k ≡ command.Remove a b c → ⊥) → ((a b c d e : _) → k ≡ command.Copy a b c d e → ⊥)
     → ((a b c d e : _) → k ≡ command.Move a b c d e → ⊥) → ((a b c d e f : _) → k ≡ command.Vread a b c d e f → ⊥) → ((a b c d e f : _) → k ≡ command.Vwrite a b c d e f → ⊥)
     → (is_shown k ≡ false) × (uses_device k ≡ false)
 unfolding uses_cursors
-in_memory (command.Nsof a) cursors nsof lit format mount soup drop index unindex settags add addx addu get getx set change remove copy move vread vwrite = absurd (nsof a refl)
-in_memory (command.Lit a) cursors nsof lit format mount soup drop index unindex settags add addx addu get getx set change remove copy move vread vwrite = absurd (lit a refl)
-in_memory (command.Format a b c) cursors nsof lit format mount soup drop index unindex settags add addx addu get getx set change remove copy move vread vwrite = absurd (format a b c refl)
-in_memory (command.Mount a) cursors nsof lit format mount soup drop index unindex settags add addx addu get getx set change remove copy move vread vwrite = absurd (mount a refl)
-in_memory (command.Soup a b) cursors nsof lit format mount soup drop index unindex settags add addx addu get getx set change remove copy move vread vwrite = absurd (soup a b refl)
-in_memory (command.Drop a b) cursors nsof lit format mount soup drop index unindex settags add addx addu get getx set change remove copy move vread vwrite = absurd (drop a b refl)
-in_memory (command.Index a b c) cursors nsof lit format mount soup drop index unindex settags add addx addu get getx set change remove copy move vread vwrite = absurd (index a b c refl)
-in_memory (command.Unindex a b c) cursors nsof lit format mount soup drop index unindex settags add addx addu get getx set change remove copy move vread vwrite = absurd (unindex a b c refl)
-in_memory (command.SetTags a b c d) cursors nsof lit format mount soup drop index unindex settags add addx addu get getx set change remove copy move vread vwrite = absurd (settags a b c d refl)
-in_memory (command.Add a b c) cursors nsof lit format mount soup drop index unindex settags add addx addu get getx set change remove copy move vread vwrite = absurd (add a b c refl)
-in_memory (command.Addx a b c) cursors nsof lit format mount soup drop index unindex settags add addx addu get getx set change remove copy move vread vwrite = absurd (addx a b c refl)
-in_memory (command.Addu a b) cursors nsof lit format mount soup drop index unindex settags add addx addu get getx set change remove copy move vread vwrite = absurd (addu a b refl)
-in_memory (command.Get a b c) cursors nsof lit format mount soup drop index unindex settags add addx addu get getx set change remove copy move vread vwrite = absurd (get a b c refl)
-in_memory (command.Getx a b c) cursors nsof lit format mount soup drop index unindex settags add addx addu get getx set change remove copy move vread vwrite = absurd (getx a b c refl)
-in_memory (command.Set a b c d e) cursors nsof lit format mount soup drop index unindex settags add addx addu get getx set change remove copy move vread vwrite = absurd (set a b c d e refl)
-in_memory (command.Change a b c d) cursors nsof lit format mount soup drop index unindex settags add addx addu get getx set change remove copy move vread vwrite = absurd (change a b c d refl)
-in_memory (command.Remove a b c) cursors nsof lit format mount soup drop index unindex settags add addx addu get getx set change remove copy move vread vwrite = absurd (remove a b c refl)
-in_memory (command.Copy a b c d e) cursors nsof lit format mount soup drop index unindex settags add addx addu get getx set change remove copy move vread vwrite = absurd (copy a b c d e refl)
-in_memory (command.Move a b c d e) cursors nsof lit format mount soup drop index unindex settags add addx addu get getx set change remove copy move vread vwrite = absurd (move a b c d e refl)
-in_memory (command.Vread a b c d e f) cursors nsof lit format mount soup drop index unindex settags add addx addu get getx set change remove copy move vread vwrite = absurd (vread a b c d e f refl)
-in_memory (command.Vwrite a b c d e f) cursors nsof lit format mount soup drop index unindex settags add addx addu get getx set change remove copy move vread vwrite = absurd (vwrite a b c d e f refl)
-in_memory _ cursors nsof lit format mount soup drop index unindex settags add addx addu get getx set change remove copy move vread vwrite = (cc, cc)
+in_memory (command.Nsof a) cursors nsof lit format mount soup drop index unindex settags setinfo add addx addu get getx set change remove copy move vread vwrite = absurd (nsof a refl)
+in_memory (command.Lit a) cursors nsof lit format mount soup drop index unindex settags setinfo add addx addu get getx set change remove copy move vread vwrite = absurd (lit a refl)
+in_memory (command.Format a b c) cursors nsof lit format mount soup drop index unindex settags setinfo add addx addu get getx set change remove copy move vread vwrite = absurd (format a b c refl)
+in_memory (command.Mount a) cursors nsof lit format mount soup drop index unindex settags setinfo add addx addu get getx set change remove copy move vread vwrite = absurd (mount a refl)
+in_memory (command.Soup a b) cursors nsof lit format mount soup drop index unindex settags setinfo add addx addu get getx set change remove copy move vread vwrite = absurd (soup a b refl)
+in_memory (command.Drop a b) cursors nsof lit format mount soup drop index unindex settags setinfo add addx addu get getx set change remove copy move vread vwrite = absurd (drop a b refl)
+in_memory (command.Index a b c) cursors nsof lit format mount soup drop index unindex settags setinfo add addx addu get getx set change remove copy move vread vwrite = absurd (index a b c refl)
+in_memory (command.Unindex a b c) cursors nsof lit format mount soup drop index unindex settags setinfo add addx addu get getx set change remove copy move vread vwrite = absurd (unindex a b c refl)
+in_memory (command.SetTags a b c d) cursors nsof lit format mount soup drop index unindex settags setinfo add addx addu get getx set change remove copy move vread vwrite = absurd (settags a b c d refl)
+in_memory (command.SetInfo a b c) cursors nsof lit format mount soup drop index unindex settags setinfo add addx addu get getx set change remove copy move vread vwrite = absurd (setinfo a b c refl)
+in_memory (command.Add a b c) cursors nsof lit format mount soup drop index unindex settags setinfo add addx addu get getx set change remove copy move vread vwrite = absurd (add a b c refl)
+in_memory (command.Addx a b c) cursors nsof lit format mount soup drop index unindex settags setinfo add addx addu get getx set change remove copy move vread vwrite = absurd (addx a b c refl)
+in_memory (command.Addu a b) cursors nsof lit format mount soup drop index unindex settags setinfo add addx addu get getx set change remove copy move vread vwrite = absurd (addu a b refl)
+in_memory (command.Get a b c) cursors nsof lit format mount soup drop index unindex settags setinfo add addx addu get getx set change remove copy move vread vwrite = absurd (get a b c refl)
+in_memory (command.Getx a b c) cursors nsof lit format mount soup drop index unindex settags setinfo add addx addu get getx set change remove copy move vread vwrite = absurd (getx a b c refl)
+in_memory (command.Set a b c d e) cursors nsof lit format mount soup drop index unindex settags setinfo add addx addu get getx set change remove copy move vread vwrite = absurd (set a b c d e refl)
+in_memory (command.Change a b c d) cursors nsof lit format mount soup drop index unindex settags setinfo add addx addu get getx set change remove copy move vread vwrite = absurd (change a b c d refl)
+in_memory (command.Remove a b c) cursors nsof lit format mount soup drop index unindex settags setinfo add addx addu get getx set change remove copy move vread vwrite = absurd (remove a b c refl)
+in_memory (command.Copy a b c d e) cursors nsof lit format mount soup drop index unindex settags setinfo add addx addu get getx set change remove copy move vread vwrite = absurd (copy a b c d e refl)
+in_memory (command.Move a b c d e) cursors nsof lit format mount soup drop index unindex settags setinfo add addx addu get getx set change remove copy move vread vwrite = absurd (move a b c d e refl)
+in_memory (command.Vread a b c d e f) cursors nsof lit format mount soup drop index unindex settags setinfo add addx addu get getx set change remove copy move vread vwrite = absurd (vread a b c d e f refl)
+in_memory (command.Vwrite a b c d e f) cursors nsof lit format mount soup drop index unindex settags setinfo add addx addu get getx set change remove copy move vread vwrite = absurd (vwrite a b c d e f refl)
+in_memory _ cursors nsof lit format mount soup drop index unindex settags setinfo add addx addu get getx set change remove copy move vread vwrite = (cc, cc)
 
 -- a command on cursors that is none of these is on their places
 pub on_places : (k : Command) → uses_cursors k ≡ true → ((a : _) → k ≡ command.Entry a → ⊥) → ((a : _) → k ≡ command.Next a → ⊥) → ((a : _) → k ≡ command.Prev a → ⊥) → ((a : _) → k ≡ command.Reset a → ⊥) → ((a : _) → k ≡ command.End a → ⊥) → ((a b : _) → k ≡ command.Moveby a b → ⊥) → ((a b c : _) → k ≡ command.Goto a b c → ⊥) → ((a b : _) → k ≡ command.Gotokey a b → ⊥) → on_place k ≡ true

@@ -1,4 +1,5 @@
 -- A command that is refused leaves the world.
+use Rattle.newt_graph.specs.Graph.{RawGraph}
 use Rattle.std.proofs.Common.{◌≡◌, refl, sym, ◌∙◌, ap, ℕ, map, length, Some, None, Option, option_and_then, IfOk}
 use Rattle.std.specs.Prelude.{Result, Ok}
 use Rattle.newt_base.specs.Refusals.{first_of}
@@ -68,6 +69,8 @@ fields_not w v (command.Unindex u s paths) r h = cc
 fields_not w v (command.Indexes u s) r h = nil_not {X = Soup} (λ p. plain.Reply.indexes p.specs) (soup_in w u s) r (λ x k. cc) h
 fields_not w v (command.Tags u s) r h = nil_not {X = Soup} (λ p. plain.Reply.tags p.tags) (soup_in w u s) r (λ x k. cc) h
 fields_not w v (command.SetTags u s path symbols) r h = cc
+fields_not w v (command.Info u s) r h = nil_not {X = Soup} (λ p. or_nil plain.Reply.literal_of p.info) (soup_in w u s) r (λ p k. nil_not {X = RawGraph} plain.Reply.literal_of p.info r (λ g l. cc) k) h
+fields_not w v (command.SetInfo u s g) r h = cc
 fields_not w v (command.Get u s uid) r h = nil_not {X = Entry} (λ e. plain.Reply.timed e.time e.graph) (entry_in w u s uid) r (λ x k. cc) h
 fields_not w v (command.Getx u s uid) r h = nil_not {X = Entry} (λ e. plain.Reply.timed_nsof e.time e.graph) (entry_in w u s uid) r (λ x k. cc) h
 fields_not w v (command.Set u s uid path g) r h = cc

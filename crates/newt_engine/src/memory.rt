@@ -5,7 +5,7 @@ ghost use Rattle.newt_engine.specs.Ends.{uses_device};
 ghost use Rattle.newt_engine.specs.Groups.{is_shown};
 ghost use Rattle.newt_laws_world.specs.Cursors.{uses_cursors};
 
-use crate::replies::{alias_of, done, place, soup_rows, spec_rows, tag_row};
+use crate::replies::{alias_of, done, literal, place, soup_rows, spec_rows, tag_row};
 use crate::world::World;
 use newt_base::Refusal;
 use newt_engine_card::Card;
@@ -15,7 +15,7 @@ use newt_script::Command;
 use newt_store_change::StoreFault;
 
 impl<C: Card> World<C> {
-    /// Obeys a command that uses no device and shows no graph.
+    /// Obeys a command that uses no device and shows no given graph.
     pub(crate) fn obey_in_memory(&mut self, command: &Command) -> Result<Reply, StoreFault>
         requires not_shown { is_shown command.now ≡ false }
         requires no_device { uses_device command.now ≡ false }
@@ -36,6 +36,7 @@ impl<C: Card> World<C> {
                 spec_rows(commands::indexes(&self.units, *unit, name))
             }
             Command::Tags(unit, name) => tag_row(commands::tags(&self.units, *unit, name)),
+            Command::Info(unit, name) => literal(commands::info(&self.units, *unit, name)),
             Command::Alias(unit, name, uid) => {
                 alias_of(commands::alias(&self.units, *unit, name, *uid), *uid)
             }

@@ -47,6 +47,9 @@ impl<C: Card> World<C> {
             Command::SetTags(unit, name, path, symbols) => {
                 done(commands::set_tags(units, host, unit, &name, &path, &symbols))
             }
+            Command::SetInfo(unit, name, graph) => {
+                done(commands::set_info(units, host, unit, &name, graph))
+            }
             Command::Add(unit, name, graph) => {
                 numbered(commands::add(units, host, unit, &name, graph))
             }

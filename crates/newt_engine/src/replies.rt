@@ -8,7 +8,7 @@ ghost use Rattle.newt_engine.specs.Handed.{HandsOn};
 
 use newt_base::{Name, Sig, Uid};
 use newt_engine_cursors::{Shown, Side};
-use newt_graph::Bytes;
+use newt_graph::{Bytes, Graph};
 use newt_host::Unit;
 use newt_reply::{Alias, Reply, SoupRows, SpecRows, TagRow};
 use newt_store_change::{Entry, StoreFault};
@@ -120,6 +120,17 @@ pub(crate) fn tag_row(found: Result<Option<TagTable>, StoreFault>) -> Result<Rep
 {
     match found {
         Ok(table) => Ok(Reply::Tags(TagRow { table })),
+        Err(fault) => Err(fault),
+    }
+}
+
+/// A graph as a literal, or nil.
+pub(crate) fn literal(found: Result<Option<Graph>, StoreFault>) -> Result<Reply, StoreFault>
+    ensures { HandsOn (λ graph. or_nil plain.Reply.literal_of graph) found result }
+{
+    match found {
+        Ok(Some(graph)) => Ok(Reply::Literal(graph)),
+        Ok(None) => Ok(Reply::Nil),
         Err(fault) => Err(fault),
     }
 }

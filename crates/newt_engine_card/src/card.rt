@@ -14,7 +14,7 @@ ghost use Rattle.newt_engine_card.specs.Cards.{mask_at};
 ghost use Rattle.newt_engine_card.specs.Calls.{Formats, Opens, Changes, Fetches, FetchesLarge};
 
 use newt_base::{Name, Sig, Uid};
-use newt_graph::Bytes;
+use newt_graph::{Bytes, Graph};
 use newt_host::{Host, Unit};
 use newt_index::Index;
 use newt_keys::IndexSpec;
@@ -122,6 +122,11 @@ pub trait Card: Sized + Drop {
     fn tags(&self, soup: Sig) -> Option<&TagTable>
         ensures { option_map (λ tags. tags.now) result
             ≡ option_and_then (λ p. p.tags) (soup_of soup (soups self.now)) };
+
+    /// The info frame of a soup; none where the soup has none or is not there.
+    fn info(&self, soup: Sig) -> Option<&Graph>
+        ensures { option_map (λ info. info.now) result
+            ≡ option_and_then (λ p. p.info) (soup_of soup (soups self.now)) };
 
     /// The sorted list of exactly the entries of a soup that have a key: by its declaration that
     /// agrees with this one, or with none of all entries by id. None exactly where the soup is not

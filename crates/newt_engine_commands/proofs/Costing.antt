@@ -1,5 +1,5 @@
 -- What the commands cost, by what the calls on one store cost that they are done by.
-use Rattle.std.proofs.Common.{arith, ◌≡◌, refl, ap, sym, ◌∙◌, subst, ◌⊎◌, inl, inr, ℕ, ◌+◌, ◌*◌, ◌≤◌, ◌==◌, List, [], ◌∷◌, ◌++◌, Bool, true, false, cond, None, Some, length, nat_lt, option_and_then}
+use Rattle.std.proofs.Common.{arith, ◌≡◌, refl, ap, sym, ◌∙◌, subst, ◌⊎◌, inl, inr, ℕ, ◌+◌, ◌*◌, ◌≤◌, ◌==◌, List, [], ◌∷◌, ◌++◌, Bool, true, false, cond, None, Some, length, nat_lt, option_and_then, Option}
 use Rattle.std.specs.Prelude.{Result, Err}
 use Rattle.newt_base.specs.Refusals.{first_of}
 use Rattle.newt_graph.specs.Graph.{RawGraph}
@@ -16,7 +16,7 @@ use Rattle.newt_spec_world.specs.declared.command.Command.{Command}
 use Rattle.newt_spec_world.specs.declared.command.Command.TheVariants as command
 use Rattle.newt_spec_world.specs.declared.command.PartWord.{PartWord}
 use Rattle.newt_spec_graph.specs.Larges.{large_at}
-use Rattle.newt_spec_world.specs.Changed.{spec_of_words}
+use Rattle.newt_spec_world.specs.Changed.{spec_of_words, info_from}
 use Rattle.newt_spec_graph.proofs.Lists.{both-ways}
 use Rattle.newt_spec_world.specs.World.{World, default_unit, entry_in}
 use Rattle.newt_spec_store.specs.Cost.{patch_bytes}
@@ -25,8 +25,8 @@ use Rattle.newt_laws_answers.specs.Bounds.{change_bytes, unless, most_programmed
 use Rattle.newt_laws_answers.specs.Fetched.{if_on, means_entries, most_fetched, next_if_on, pages_there}
 use Rattle.newt_laws_answers.proofs.Answers.{entry-named}
 use Rattle.newt_laws_answers.proofs.Fetched.{first-pages, named-pages}
-use Rattle.newt_laws_answers.proofs.Tests.{add_tests, replace_tests, replaced, patch_tests, move_tests, moved_within, index_tests, tagged, tags_tests}
-use Rattle.newt_laws_answers.proofs.Most.{drop-most, add-most, addx-most, addu-most, remove-most, change-most, set-most, vwrite-most, copy-most, move-to-most, move-from-most, within-most, index-most, unindex-most, set-tags-most}
+use Rattle.newt_laws_answers.proofs.Tests.{add_tests, replace_tests, replaced, patch_tests, move_tests, moved_within, index_tests, tagged, tags_tests, informed, info_tests}
+use Rattle.newt_laws_answers.proofs.Most.{drop-most, add-most, addx-most, addu-most, remove-most, change-most, set-most, vwrite-most, copy-most, move-to-most, move-from-most, within-most, index-most, unindex-most, set-tags-most, set-info-most}
 use Rattle.newt_store_change.specs.declared.fault.StoreFault.{StoreFault}
 use Rattle.newt_store_change.specs.declared.fault.StoreFault.TheVariants.{Refused, Stop}
 use Rattle.newt_engine_card.specs.Bounds.{Costs, CostsOn, FetchesAtMost, FetchesOn, FetchesWithin, LeftAlone, of_unit}
@@ -124,6 +124,10 @@ unindex_bytes s p paths = change_bytes s (change_soup p.name (without_index path
 abbrev pub tags_bytes : ℕ → Store → Soup → TagTable → ℕ
 tags_bytes blocks s p table = unless (tags_tests blocks p.name table s) (change_bytes s (tagged p.name table s) [] [])
 
+-- the bytes of an info frame
+abbrev pub info_bytes : ℕ → Store → Soup → Option RawGraph → ℕ
+info_bytes blocks s p info = unless (info_tests blocks p.name info s) (change_bytes s (informed p.name info s) [] [])
+
 -- an entry of a soup is within the limits
 fits : {w : World} {u : ℕ} {name : List ℕ} {sig : ℕ} (h : HasSoup w u name sig) (uid : ℕ) (e : Entry) → entry_of uid h.soup ≡ Some e → valid_entry e ≡ true
 fits {name = name} h uid e found = entry-fits h.store name h.soup uid e h.formed h.named found
@@ -157,6 +161,10 @@ module _ {w : World} {u : ℕ} {name : List ℕ} {sig : ℕ} (h : HasSoup w u na
       → Spent u (tags_bytes h.blocks h.store h.soup table) f result o p → CostsOf w (command.SetTags u name path symbols) result o p
   tags-costs path symbols few table words k = named-costs h (λ m. command.SetTags u m path symbols) (subst (λ x. CostsOn u (tags_bytes h.blocks h.store h.soup x) result o p) words k.programs)
       (set-tags-most w u h.soup.name path symbols h.blocks h.store h.soup h.on h.self_named few) (λ means. absurd (both-ways means))
+
+  pub info-costs : {f : ℕ} (g : RawGraph) (info : Option RawGraph) → info ≡ info_from g → Spent u (info_bytes h.blocks h.store h.soup info) f result o p → CostsOf w (command.SetInfo u name g) result o p
+  info-costs g info words k = named-costs h (λ m. command.SetInfo u m g) (subst (λ x. CostsOn u (info_bytes h.blocks h.store h.soup x) result o p) words k.programs)
+      (set-info-most w u h.soup.name g h.blocks h.store h.soup h.on h.self_named) (λ means. absurd (both-ways means))
 
 module _ {w : World} {u : ℕ} {name : List ℕ} {sig uid : ℕ} (x : HasEntry w u name sig uid) {T : Type 0} {result : Result T StoreFault} {o p : Outside} where
   pub remove-costs : Spent u (removed_bytes x.of.store x.of.soup x.entry uid) 0 result o p → CostsOf w (command.Remove u name uid) result o p

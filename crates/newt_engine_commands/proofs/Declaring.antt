@@ -1,10 +1,11 @@
--- Commands that declare, remove and show indexes and tags.
+-- Commands that declare, remove and show indexes, tags and info frames.
 use Rattle.std.proofs.Common.{◌≡◌, refl, ap, sym, ◌∙◌, subst, ℕ, List, [], ◌∷◌, Bool, true, false, IsTrue, Option, Some, None, map, find, cond, option_map, option_and_then, replicate, ◌==◌, nat_lt, length}
 use Rattle.std.specs.Prelude.{Result, Err}
 use Rattle.std.specs.Bool.{⊤}
 use Rattle.newt_base.specs.Refusals.{first_of}
 use Rattle.newt_base.specs.declared.Refusal.{Refusal}
 use Rattle.newt_base.specs.declared.Refusal.TheVariants.{Index as BadIndex, Key as BadKey}
+use Rattle.newt_graph.specs.Graph.{RawGraph}
 use Rattle.newt_host.specs.Outside.{Outside}
 use Rattle.newt_spec_graph.proofs.Lists.{some-same, none-some}
 use Rattle.newt_spec_store.specs.Keys.{Path, IndexSpec, has_paths}
@@ -12,13 +13,13 @@ use Rattle.newt_spec_store.specs.Laid.{bare, bare_soup}
 use Rattle.newt_spec_store.specs.Store.{Store, Soup, TagTable, soup_named, change_soup, soup_of, with_index, without_index}
 use Rattle.newt_spec_world.specs.declared.command.Command.TheVariants as command
 use Rattle.newt_spec_world.specs.declared.command.PartWord.{PartWord}
-use Rattle.newt_spec_world.specs.Changed.{spec_of_words}
+use Rattle.newt_spec_world.specs.Changed.{spec_of_words, info_from}
 use Rattle.newt_spec_world.specs.Reply.{Reply}
 use Rattle.newt_spec_world.specs.World.{World, store_on_unit, change_store}
 use Rattle.newt_spec_world.specs.Answer.{answer}
-use Rattle.newt_laws_answers.proofs.Tests.{index_tests, tagged, tags_tests}
+use Rattle.newt_laws_answers.proofs.Tests.{index_tests, tagged, tags_tests, informed, info_tests}
 use Rattle.newt_laws_answers.specs.There.{OnUnit}
-use Rattle.newt_laws_answers.proofs.Declares.{index-exists, index-real, index-refused, index-done, unindex-done, set-tags-refused, set-tags-done}
+use Rattle.newt_laws_answers.proofs.Declares.{index-exists, index-real, index-refused, index-done, unindex-done, set-tags-refused, set-tags-done, set-info-refused, set-info-done}
 use Rattle.newt_store_change.specs.declared.fault.StoreFault.{StoreFault}
 use Rattle.newt_store_change.specs.declared.fault.StoreFault.TheVariants.{Refused, Stop}
 use Rattle.newt_engine_units.specs.declared.units.Units.{Units}
@@ -60,6 +61,11 @@ module _ {C : Type 0} {reads : List ℕ → Option Store} {place : C → ℕ} {s
   table-known found is =
       let k = soup-known in
       is ∙ ap (option_and_then (λ card. option_and_then (λ (p : Soup). p.tags) (soup_of sig (soups card)))) k.1 ∙ ap (option_and_then (λ (p : Soup). p.tags)) k.2
+
+  pub info-known : (found : Option RawGraph) → found ≡ option_and_then (λ card. option_and_then (λ p. p.info) (soup_of sig (soups card))) (card_at units.slots.items u) → found ≡ p.info
+  info-known found is =
+      let k = soup-known in
+      is ∙ ap (option_and_then (λ card. option_and_then (λ (p : Soup). p.info) (soup_of sig (soups card)))) k.1 ∙ ap (option_and_then (λ (p : Soup). p.info)) k.2
 
 -- ---- declared
 
@@ -127,3 +133,22 @@ module _ (w v : World) (u blocks : ℕ) (s : Store) (on : OnUnit w u blocks s) (
 
     pub tags-makes : first_of (tags_tests blocks p.name table s) ≡ None → store_on_unit (answer w (command.SetTags u name path symbols)).0 u ≡ Some (tagged p.name table s)
     tags-makes k = makes w u blocks s (tagged p.name table) (answer w (command.SetTags u name path symbols)) Reply.done on (tags-is k)
+
+  -- ---- info frames
+
+  module _ (g : RawGraph) (info : Option RawGraph) (words : info ≡ info_from g) where
+    own-info : first_of (info_tests blocks name (info_from g) s) ≡ first_of (info_tests blocks p.name info s)
+    own-info = ap (λ m. first_of (info_tests blocks m (info_from g) s)) (sym is) ∙ ap (λ x. first_of (info_tests blocks p.name x s)) (sym words)
+
+    info-is : first_of (info_tests blocks p.name info s) ≡ None → answer w (command.SetInfo u name g) ≡ (change_store w u (informed p.name info), Reply.done)
+    info-is k = set-info-done w u name g blocks s p on named (own-info ∙ k) none
+        ∙ ap {B = World × Reply} (λ m. (change_store w u (informed m (info_from g)), Reply.done)) (sym is)
+        ∙ ap {B = World × Reply} (λ x. (change_store w u (informed p.name x), Reply.done)) (sym words)
+
+    pub info-answers : (result : Result (Unit {0}) StoreFault) → Does (info_tests blocks p.name info s) (λ _. ⊤) w (change_store w u (informed p.name info)) v result
+        → Answers w v (command.SetInfo u name g) (λ _. Reply.done) result
+    info-answers result d = does-answers w v (change_store w u (informed p.name info)) (command.SetInfo u name g) (λ _. Reply.done) (info_tests blocks p.name info s) (λ _. ⊤)
+        (λ k n good. info-is k) (λ r k. set-info-refused w u name g blocks s p on named r (own-info ∙ k)) result d
+
+    pub info-makes : first_of (info_tests blocks p.name info s) ≡ None → store_on_unit (answer w (command.SetInfo u name g)).0 u ≡ Some (informed p.name info s)
+    info-makes k = makes w u blocks s (informed p.name info) (answer w (command.SetInfo u name g)) Reply.done on (info-is k)

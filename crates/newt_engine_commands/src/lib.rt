@@ -4,8 +4,8 @@
 //! store at a time. The promise that it carries upwards: each of these commands is answered as the
 //! world answers it that units and devices stand for, leaves units that stand for the world after
 //! it, programs no more than the command may, and at every moment a crash leaves each store as it
-//! was or as it is then: soup, drop, index, unindex, indexes, tags, add, addx, addu, get, getx,
-//! set, change, remove, copy, move within one store, alias, vread, vwrite.
+//! was or as it is then: soup, drop, index, unindex, indexes, tags, info, add, addx, addu, get,
+//! getx, set, change, remove, copy, move within one store, alias, vread, vwrite.
 #![tactic(auto)]
 
 mod copies;
@@ -14,6 +14,7 @@ mod done;
 mod entries;
 mod forms;
 mod indexing;
+mod infos;
 mod larges;
 mod replaces;
 mod soups;
@@ -22,6 +23,7 @@ mod tagging;
 pub use copies::{copy, move_within};
 pub use entries::{add, add_to_default, alias, get, remove};
 pub use indexing::{index, indexes, unindex};
+pub use infos::{info, set_info};
 pub use larges::{vread, vwrite};
 pub use replaces::{change, set};
 pub use soups::{drop_soup, soup};

@@ -13,7 +13,7 @@ use Rattle.newt_store_change.specs.Faults.{GoesOn}
 
 -- a bank with room for so many bytes has room for fewer
 room-for-less : {n m : ℕ} {bytes : List ℕ} → n ≤ m → IsOpenFor m bytes → IsOpenFor n bytes
-room-for-less less h = record { room = let r = h.room in omega (arith, less, r); blank = h.blank }
+room-for-less less h = record { is_open = h.is_open; room = let r = h.room in omega (arith, less, r) }
 
 -- a unit to which nothing has happened since then is as open
 still-open : (u n : ℕ) (a b : Moment) → changes u a ≡ changes u b → IsOpenFor n (image u b) → IsOpenFor n (image u a)

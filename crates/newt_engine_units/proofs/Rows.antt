@@ -104,7 +104,7 @@ length-rows [] = refl
 length-rows (p ∷ ps) = ap suc (length-rows ps)
 
 -- all of them
-pub rows-whole : (s : Store) → well_formed s ≡ true → (n : ℕ) → 64 ≤ n → take n (soup_rows s) ≡ soup_rows s
+pub rows-whole : (s : Store) → well_formed s ≡ true → (n : ℕ) → 250 ≤ n → take n (soup_rows s) ≡ soup_rows s
 rows-whole s ok n h = take-whole (soup_rows s) n (omega (arith, h, length-rows s.soups, (is-store s ok).count))
 
 -- ---- the command

@@ -21,7 +21,7 @@ use newt_store_change::StoreFault;
 use std::alloc::AllocError;
 
 /// The most soups that a store has.
-const MOST_SOUPS: usize = 64;
+const MOST_SOUPS: usize = 250;
 
 impl<C: Card> Units<C> {
     /// The stores that are mounted, by unit.

@@ -1,5 +1,3 @@
-pub mod Spelled
-pub mod Streams
 pub mod Putting
 pub mod Fits
 pub mod Steps

@@ -4,12 +4,14 @@ use Rattle.std.proofs.lemmas.List.{drop-drop}
 use Rattle.newt_base.specs.Text.{be16_at, be32_at}
 use Rattle.newt_graph.specs.Graph.{RawGraph}
 use Rattle.newt_spec_nsof.specs.Flat.{flat}
-use Rattle.newt_spec_store.specs.Lies.{only, is_record, record_read}
-use Rattle.newt_spec_store.specs.StoreOf.{LargeRow, EntryRow, written}
-use Rattle.newt_entries.specs.Entry.{stream_graph, row_at, rows_in, fits}
+use Rattle.newt_spec_store.specs.Lies.{is_record, record_read}
+use Rattle.newt_spec_store.specs.Reading.{written}
+use Rattle.newt_spec_store.specs.StoreOf.{LargeRow, EntryRow, only}
+use Rattle.newt_nsof_flat.specs.Stream.{stream_graph}
+use Rattle.newt_entries.specs.Entry.{row_at, rows_in, fits}
 use Rattle.newt_entries.specs.declared.row.LargeAt.{LargeAt}
 use Rattle.newt_entries.proofs.Steps.{rest-is}
-use Rattle.newt_entries.proofs.Streams.{written_text}
+use Rattle.newt_nsof_flat.proofs.Streams.{written_text}
 use Rattle.newt_entries.proofs.Rows.{the_row, text_size, row_read, row_short}
 
 abbrev read_row : Option EntryRow → Option (EntryRow × RawGraph)

@@ -1,4 +1,4 @@
--- Entry records as a program has them, and the graphs that texts are read as.
+-- Entry records as a program has them.
 use Rattle.std.specs.Prelude.{◌≡◌, ℕ, zero, suc, ◌==◌, Bool, ◌&&◌, ◌++◌, nat_lt, bytes_eq, List, [], ◌∷◌, length, map, flat_map, drop, fold, zip, Option, Some, None, Result, Ok, Err, if◌then◌else◌}
 use Rattle.std.specs.List.{list_all, enumerate_from}
 use Rattle.newt_base.specs.Text.{be32, be32_at}
@@ -6,27 +6,12 @@ use Rattle.newt_graph.specs.declared.node.Node.{Node}
 use Rattle.newt_graph.specs.Graph.{RawGraph}
 use Rattle.newt_spec_nsof.specs.Flat.{flat}
 use Rattle.newt_spec_nsof.specs.Lengths.{skeleton}
-use Rattle.newt_nsof_read.specs.declared.fault.NsofFault.{NsofFault}
-use Rattle.newt_nsof_read.specs.Reading.{decoded}
 use Rattle.newt_spec_store.specs.Image.{larges, large_in}
 use Rattle.newt_spec_store.specs.Laid.{row_of_large}
 use Rattle.newt_spec_store.specs.Lies.{is_record}
 use Rattle.newt_spec_store.specs.StoreOf.{LargeRow, EntryRow as PlainRow, fill}
 use Rattle.newt_entries.specs.declared.row.EntryRow.{EntryRow}
 use Rattle.newt_entries.specs.declared.row.LargeAt.{LargeAt}
-
--- the graph of an answer, none of a fault
-abbrev pub graph_in : Result RawGraph NsofFault → Option RawGraph
-graph_in (Ok g) = Some g
-graph_in (Err _) = None
-
--- a list of numbers of which each is a byte
-abbrev pub are_bytes : List ℕ → Bool
-are_bytes = list_all (λ b. nat_lt b 256)
-
--- The graph that bytes spell in version 2 of the streamed form (Newton Formats 1.1). Lists with a number above 255 are no bytes, and spell none.
-abbrev pub stream_graph : List ℕ → Option RawGraph
-stream_graph bytes = if are_bytes bytes then graph_in (decoded bytes) else None
 
 -- the node, object and length of a large binary
 abbrev pub row_at : LargeAt → LargeRow

@@ -1,7 +1,7 @@
 //! Whether a skeleton and its rows may be those of an entry.
 ghost use Rattle.std.specs.Prelude.{◌≡◌, ◌≤◌, ◌*◌, ◌&&◌, true, nat_le, length, map};
 ghost use Rattle.std.specs.List.{list_all, sum_by};
-ghost use Rattle.newt_graph.specs.Graph.{IsGraph, payload};
+ghost use Rattle.newt_graph.specs.Graph.{payload};
 ghost use Rattle.newt_spec_nsof.specs.Lengths.{skeleton as skeleton_of};
 ghost use Rattle.newt_spec_nsof.specs.Flat.{flat};
 ghost use Rattle.newt_spec_graph.specs.Graph as words;
@@ -10,7 +10,8 @@ ghost use Rattle.newt_spec_store.specs.Lies.{may_be_large, stretched};
 ghost use Rattle.newt_entries.specs.Entry.{row_at, names_from, fits};
 
 use crate::row::LargeAt;
-use newt_graph::{Graph, MOST_BYTES, MOST_DATA, Node, Ref, payload};
+use newt_graph::{Graph, MOST_BYTES, MOST_DATA, Node, payload};
+use newt_nsof_flat::is_frame;
 use newt_nsof_write::skeleton_len;
 
 /// The most bytes of an entry's text.
@@ -52,17 +53,6 @@ fn may_be_larges(rows: &[LargeAt]) -> bool
     ensures { result ≡ list_all (λ row. may_be_large (row_at row)) rows.now }
 {
     rows.iter().all(|row| may_be_large(row))
-}
-
-/// Whether the root of a graph is a frame.
-pub fn is_frame(graph: &Graph) -> bool
-    ensures frame { result ≡ words.is_frame (words.object graph.now.nodes graph.now.root) }
-    ensures graph { IsGraph graph.now }
-{
-    match graph.root() {
-        Ref::Node(n) => matches!(graph.nodes().get(n as usize), Some(Node::Frame(_, _))),
-        Ref::Imm(_) => false,
-    }
 }
 
 /// The bytes of all strings, binaries and large binaries.

@@ -1,7 +1,7 @@
 //! Entry records as bytes.
 //!
-//! It stands on `newt_graph`, on the reader and the writer of the streamed form, and on the
-//! definitions of stores. It carries this promise: a record is read from exactly the bytes that
+//! It stands on `newt_graph`, on the reader of flat texts and their writer, and on the definitions
+//! of stores. It carries this promise: a record is read from exactly the bytes that
 //! have one by the store's reading, and is written as the store's definition says. The bytes of
 //! large binaries are no part of a record: it has the graph without them, and names their objects.
 #![tactic(auto)]
@@ -9,15 +9,13 @@
 mod fault;
 mod fit;
 mod graphs;
-mod laws;
 mod read;
 mod row;
 mod write;
 
 pub use fault::EntryFault;
-pub use fit::{MOST_TEXT, is_frame};
+pub use fit::MOST_TEXT;
 pub use graphs::{filled, larges_of, row_of, skeleton, whole};
-pub use laws::streams_are_read;
 pub use read::read_entry;
 pub use row::{EntryRow, LargeAt, Larges};
 pub use write::write_entry;

@@ -3,16 +3,16 @@ ghost use Rattle.std.specs.Prelude.{◌≡◌, ◌≤◌, ◌<◌, ◌*◌, true
 ghost use Rattle.std.specs.Prelude.{IsErrOf};
 ghost use Rattle.newt_base.specs.Text.{be32_at};
 ghost use Rattle.newt_spec_store.specs.Lies.{record_read};
-ghost use Rattle.newt_spec_store.specs.StoreOf.{written};
-ghost use Rattle.newt_entries.specs.Entry.{stream_graph, row_at, rows_in, fits, said};
+ghost use Rattle.newt_spec_store.specs.Reading.{written};
+ghost use Rattle.newt_nsof_flat.specs.Stream.{stream_graph};
+ghost use Rattle.newt_entries.specs.Entry.{row_at, rows_in, fits, said};
 
 use crate::fault::EntryFault;
 use crate::fit::is_fit;
 use crate::row::{EntryRow, LargeAt, Larges};
 use newt_base::{Sig, Uid, be16, be32};
 use newt_graph::Graph;
-use newt_nsof_read::{NsofFault, decode};
-use newt_nsof_write::encode_flat;
+use newt_nsof_flat::{FlatFault, read_flat};
 use std::alloc::{AllocError, Global};
 
 /// The bytes before an entry's text: soup signature, number of large binaries, id and time.
@@ -26,18 +26,11 @@ fn graph_of(alloc: Global, text: &[u8]) -> Result<Graph, EntryFault>
     ensures found { IfOk result (λ g. written stream_graph text.now ≡ Some g) }
     ensures bad { IsErrOf result EntryFault.Bad → written stream_graph text.now ≡ None }
 {
-    let graph = match decode(alloc, text) {
-        Ok(graph) => graph,
-        Err(NsofFault::Memory) => return Err(EntryFault::Memory),
-        Err(_) => return Err(EntryFault::Bad),
-    };
-    let Ok(text_again) = encode_flat(alloc, &graph) else {
-        return Err(EntryFault::Memory);
-    };
-    if text_again.as_slice() != text {
-        return Err(EntryFault::Bad);
+    match read_flat(alloc, text) {
+        Ok(graph) => Ok(graph),
+        Err(FlatFault::Bad) => Err(EntryFault::Bad),
+        Err(FlatFault::Memory) => Err(EntryFault::Memory),
     }
-    Ok(graph)
 }
 
 /// The row of a large binary at the front of bytes.

@@ -95,7 +95,7 @@ soup_changed s rows sig p change changed formed found h are =
 -- a new soup
 pub made : (s : Store) (rows : List SoupRanges) (name : List ℕ) → AreRangesOf s rows → AreRangesOf (make_soup name s) (rows ++ no_ranges s.next_soup [] None ∷ [])
 made s rows name are =
-    let p : Soup = record { name = name; sig = s.next_soup; next_uid = 0; specs = []; tags = None; entries = [] } in
+    let p : Soup = record { name = name; sig = s.next_soup; next_uid = 0; specs = []; tags = None; info = None; entries = [] } in
     ranges_more graphs_of s.soups rows p (no_ranges s.next_soup [] None) (record { of_sig = refl; all = range_none None (graphs_of p) (λ w. refl); indexes = tt; masks = tt }) are
 
 -- a soup gone

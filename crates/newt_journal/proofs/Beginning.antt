@@ -11,13 +11,13 @@ use Rattle.newt_journal.proofs.Records.{length-length_bytes}
 use Rattle.newt_journal.proofs.Steps.{bank-fits}
 use Rattle.newt_journal.proofs.Filling.{Filled, erased, sync_leaves, sync_filled, room_blank, write_leaves, write_filled}
 
-pub length-header : length header ≡ 16
+pub length-header : length (header 2) ≡ 16
 unfolding header
 length-header = refl
 
 pub length-lead : (len : ℕ) → length (lead len) ≡ 21
 unfolding lead
-length-lead len = omega (arith, length-append (header ++ 0 ∷ []) (length_bytes len), length-append header (0 ∷ []), length-header, length-length_bytes len)
+length-lead len = omega (arith, length-append (header 2 ++ 0 ∷ []) (length_bytes len), length-append (header 2) (0 ∷ []), length-header, length-length_bytes len)
 
 module _ (u blocks len : ℕ) (bank : Bank) (enough : 13 ≤ blocks) (fits : 21 + len ≤ bank_size blocks) (old : Moment) (long : length (image u old) ≡ blocks * 4096)
     (at first count : ℕ) (at_is : at ≡ start_of blocks bank) (first_is : first ≡ 3 + bank_number bank * bank_blocks blocks) (count_is : count ≡ bank_blocks blocks) where
@@ -55,12 +55,12 @@ module _ (u blocks len : ℕ) (bank : Bank) (enough : 13 ≤ blocks) (fits : 21 
         pub leaves_2 : Leaves u (λ left. SameOutside start size base left) old m2
         leaves_2 = sync_leaves u start size base inside leaves_1 filled_1 synced
 
-      module _ {T2 E2 : Type 0} {x2 : T2} {m2 : Moment} (synced : Syncs {E = E2} u (Ok x2) m1 m2) (gated : List ℕ) (gated_is : gated ≡ header ++ 0 ∷ []) where
+      module _ {T2 E2 : Type 0} {x2 : T2} {m2 : Moment} (synced : Syncs {E = E2} u (Ok x2) m1 m2) (gated : List ℕ) (gated_is : gated ≡ header 2 ++ 0 ∷ []) where
         filled_2 : Filled u start size base inside [] size m2
         filled_2 = sync_filled u start size base inside filled_1 synced
 
         long_gated : length gated ≡ 17
-        long_gated = omega (arith, ap length gated_is, length-append header (0 ∷ []), length-header)
+        long_gated = omega (arith, ap length gated_is, length-append (header 2) (0 ∷ []), length-header)
 
         room_2 : length gated ≤ size
         room_2 = omega (arith, long_gated, fits)
@@ -98,7 +98,7 @@ module _ (u blocks len : ℕ) (bank : Bank) (enough : 13 ≤ blocks) (fits : 21 
           unfolding lead
           filled_4 {m4 = m4} last =
               let left_over : size - length gated - length sized ≡ size - 21 = omega (arith, long_gated, four) in
-              let front_is : gated ++ sized ≡ (header ++ 0 ∷ []) ++ length_bytes len = λ i. gated_is i ++ sized_is i in
-              subst (λ (n : ℕ). FilledBy start size base ((header ++ 0 ∷ []) ++ length_bytes len) n (changes u m4)) left_over
+              let front_is : gated ++ sized ≡ (header 2 ++ 0 ∷ []) ++ length_bytes len = λ i. gated_is i ++ sized_is i in
+              subst (λ (n : ℕ). FilledBy start size base ((header 2 ++ 0 ∷ []) ++ length_bytes len) n (changes u m4)) left_over
               (subst (λ (l : List ℕ). FilledBy start size base l (size - length gated - length sized) (changes u m4)) front_is
               (write_filled u start size base inside gated (size - length gated) m3 filled_3 sized room_3 (at + 17) there_3 last))

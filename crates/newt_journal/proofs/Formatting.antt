@@ -6,15 +6,15 @@ use Rattle.newt_host.specs.Outside.{Outside, IsBlank, Writes, Syncs}
 use Rattle.newt_host.proofs.Moments.{Leaves-append, Leaves-start, Leaves-sync, Leaves-weaken, image-sync}
 use Rattle.newt_host.proofs.Histories.{history-leaves}
 use Rattle.newt_host.proofs.Ranges.{same-refl, same-trans, same-widen}
-use Rattle.newt_spec_image.specs.Records.{bank_size, bank_start, records, tail, AllVoteFor}
+use Rattle.newt_spec_image.specs.Records.{bank_size, bank_start, tail, AllVoteFor}
 use Rattle.newt_journal.specs.Bank.{bank_number, start_of}
 use Rattle.newt_journal.specs.Fresh.{lead, FilledBy}
-use Rattle.newt_journal.specs.Journal.{Holds, written, HeldBy}
+use Rattle.newt_journal.specs.Journal.{Holds, written, reading, HeldBy}
 use Rattle.newt_journal.specs.Pieces.{IsTornIn}
 use Rattle.newt_journal.specs.declared.bank.Bank.{Bank}
 use Rattle.newt_journal.specs.declared.bank.Bank.TheVariants.{First}
 use Rattle.newt_journal.specs.declared.journal.Journal.{Journal}
-use Rattle.newt_journal.proofs.Steps.{bank-fits, bank-low, holds-records}
+use Rattle.newt_journal.proofs.Steps.{bank-fits, bank-low, holds-reading, version-2}
 use Rattle.newt_journal.proofs.Tail.{holds-tail}
 use Rattle.newt_journal.proofs.Finish.{Ends-blank}
 use Rattle.newt_journal.proofs.Casting.{alike-chosen}
@@ -125,31 +125,32 @@ module _ (u blocks : ℕ) (enough : 13 ≤ blocks) (few : blocks ≤ 4099) (base
     filled_3 : FilledBy start size base (lead (length payload) ++ payload) rest (changes u m3)
     filled_3 = sync_filled u start size base inside (write_filled u start size base inside (lead (length payload)) (size - 21) m1 filled payload room (at + 21) there wrote) synced
 
-    pub format_holds : Holds blocks (bank_number First) (written (payload ∷ []) ++ replicate rest 255) (image u m4)
+    pub format_holds : Holds blocks (bank_number First) (written 2 (payload ∷ []) ++ replicate rest 255) (image u m4)
     format_holds = record {
       size = same.size ∙ filled_3.kept.size ∙ long;
       votes = alike-chosen 0 (image u m4) (omega arith) alike;
       bank_is = ap (λ (l : List ℕ). take size l) (drop-behind same start (bank-low blocks First)) ∙ filled_3.bytes ∙ ap (λ (l : List ℕ). l ++ replicate rest 255) (lead-record payload);
     }
 
-    pub format_one : records (image u m4) ≡ Some (payload ∷ [])
-    format_one = holds-records blocks First enough few (payload ∷ []) (replicate rest 255) (image u m4) format_holds (Ends-blank rest)
+    pub format_reads : reading (image u m4) ≡ (2, Some (payload ∷ []))
+    format_reads = holds-reading blocks First enough few 2 version-2 (payload ∷ []) (replicate rest 255) (image u m4) format_holds (Ends-blank rest)
 
     pub format_tail : tail (image u m4) ≡ replicate rest 255
-    format_tail = holds-tail blocks First enough few (payload ∷ []) (replicate rest 255) (image u m4) format_holds (Ends-blank rest)
+    format_tail = holds-tail blocks First enough few 2 version-2 (payload ∷ []) (replicate rest 255) (image u m4) format_holds (Ends-blank rest)
 
-    pub format_stands : (j : Journal) → j.blocks ≡ blocks → j.bank ≡ First → j.end ≡ at + 21 + length payload → j.closed ≡ false → IsDurable u m4 → HeldBy j (changes u m4)
-    format_stands j blocks_is bank_is end_is open_is durable = record {
+    pub format_stands : (j : Journal) → j.blocks ≡ blocks → j.bank ≡ First → j.end ≡ at + 21 + length payload → j.version ≡ 2 → j.closed ≡ false → IsDurable u m4 → HeldBy j (changes u m4)
+    format_stands j blocks_is bank_is end_is new open_is durable = record {
       payloads = payload ∷ [];
       behind = replicate rest 255;
-      bank = subst (λ (b : Bank). Holds j.blocks (bank_number b) (written (payload ∷ []) ++ replicate rest 255) (image u m4)) (sym bank_is)
-          (subst (λ (n : ℕ). Holds n (bank_number First) (written (payload ∷ []) ++ replicate rest 255) (image u m4)) (sym blocks_is) format_holds);
+      bank = subst (λ (v : ℕ). Holds j.blocks (bank_number j.bank) (written v (payload ∷ []) ++ replicate rest 255) (image u m4)) (sym new)
+          (subst (λ (b : Bank). Holds j.blocks (bank_number b) (written 2 (payload ∷ []) ++ replicate rest 255) (image u m4)) (sym bank_is)
+          (subst (λ (n : ℕ). Holds n (bank_number First) (written 2 (payload ∷ []) ++ replicate rest 255) (image u m4)) (sym blocks_is) format_holds));
       end =
-          let sizes : length (written (payload ∷ [])) ≡ 21 + length payload = omega (arith, ap length (sym (lead-record payload)), length-append (lead (length payload)) payload, length-lead (length payload)) in
-          end_is ∙ (let place : at + 21 + length payload ≡ start + length (written (payload ∷ [])) = omega (arith, at_is, sizes) in place)
-          ∙ (λ i. start_of (sym blocks_is i) (sym bank_is i) + length (written (payload ∷ [])));
+          let sizes : length (written 2 (payload ∷ [])) ≡ 21 + length payload = omega (arith, ap length (sym (lead-record payload)), length-append (lead (length payload)) payload, length-lead (length payload)) in
+          end_is ∙ (let place : at + 21 + length payload ≡ start + length (written 2 (payload ∷ [])) = omega (arith, at_is, sizes) in place)
+          ∙ (λ i. start_of (sym blocks_is i) (sym bank_is i) + length (written (sym new i) (payload ∷ [])));
       ends = Ends-blank rest;
       blank = λ not_closed. ap (λ (n : ℕ). replicate n 255) (sym (length-replicate rest 255));
-      not_closed = λ blank. open_is;
+      not_closed = λ is blank. open_is;
       durable = durable;
     }

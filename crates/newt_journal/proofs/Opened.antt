@@ -1,5 +1,5 @@
 -- A journal is opened.
-use Rattle.std.proofs.Common.{◌≡◌, ◌≢◌, ◌⊎◌, inl, inr, ℕ, ◌+◌, ◌-◌, ◌*◌, ◌/◌, ◌^◌, ◌<◌, ◌≤◌, ◌==◌, if◌then◌else◌, Bool, true, false, List, [], ◌∷◌, ◌++◌, length, get_or, take, drop, replicate, Option, Some, None, IsSome, MatchOption, not, refl, sym, ◌∙◌, ap, subst, arith, append_assoc, length-append, length-take, length-drop}
+use Rattle.std.proofs.Common.{◌≡◌, ◌≢◌, ◌⊎◌, inl, inr, ℕ, ◌+◌, ◌-◌, ◌*◌, ◌/◌, ◌^◌, ◌<◌, ◌≤◌, ◌==◌, if◌then◌else◌, Bool, true, false, List, [], ◌∷◌, ◌++◌, length, get_or, take, drop, replicate, Option, Some, None, IfSome, IsSome, MatchOption, not, refl, sym, ◌∙◌, ap, subst, arith, append_assoc, length-append, length-take, length-drop}
 use Rattle.std.proofs.lemmas.List.{take_at, drop-drop, drop-take, take-take, take-replicate, drop-replicate, replicate-append-replicate, get_or-drop}
 use Rattle.std.proofs.Math.Seq.{take-add}
 use Rattle.std.proofs.lemmas.Bool.{cases_eq}
@@ -7,13 +7,13 @@ use Rattle.std.proofs.lemmas.Bool.Decides.{nat_tests}
 use Rattle.std.specs.List.{flat_map}
 use Rattle.newt_host.specs.Outside.{Outside, HasBlocks}
 use Rattle.newt_host.specs.Moments.{Change, Moment, image, bytes_after, LeftBy}
-use Rattle.newt_spec_image.specs.Records.{bank_size, bank_bytes, chosen_bank, header, without, payloads_after, and_then, has_banks, body, records, record_bytes}
+use Rattle.newt_spec_image.specs.Records.{bank_size, bank_bytes, chosen_bank, header, without, versioned, versioned_body, behind_header, payloads_after, and_then, has_banks, records, record_bytes, IsVersion}
 use Rattle.newt_journal.specs.Bank.{bank_number, start_of, limit_of}
-use Rattle.newt_journal.specs.Journal.{Holds, written, HeldBy}
+use Rattle.newt_journal.specs.Journal.{Holds, written, Reading, HeldBy}
 use Rattle.newt_journal.specs.Scan.{IsEnd, between}
 use Rattle.newt_journal.specs.declared.bank.Bank.{Bank}
 use Rattle.newt_journal.specs.declared.journal.Journal.{Journal}
-use Rattle.newt_journal.proofs.Steps.{bank-fits, length-written, holds-body, holds-records}
+use Rattle.newt_journal.proofs.Steps.{bank-fits, length-written, holds-body, holds-reading, version-2}
 use Rattle.newt_journal.proofs.Scanning.{rest_is, long_rest}
 
 pub blank_more : (image : List ℕ) (from at n : ℕ) → from ≤ at → between from at image ≡ replicate (at - from) 255 → take n (drop at image) ≡ replicate n 255 → between from (at + n) image ≡ replicate (at + n - from) 255
@@ -44,12 +44,16 @@ module _ (blocks : ℕ) (image : List ℕ) (size : length image ≡ blocks * 409
   yes : has_banks image ≡ true
   yes = grind (arith, nat_tests, many)
 
-  body_is : body image ≡ and_then (chosen_bank image) (λ bank. without header (bank_bytes blocks bank image))
-  body_is = ap (λ (b : Bool). if b then and_then (chosen_bank image) (λ bank. without header (bank_bytes (length image / 4096) bank image)) else None) yes
-      ∙ ap (λ (n : ℕ). and_then (chosen_bank image) (λ bank. without header (bank_bytes n bank image))) many
+  body_is : versioned_body image ≡ and_then (chosen_bank image) (λ bank. versioned (bank_bytes blocks bank image))
+  body_is = ap (λ (b : Bool). if b then and_then (chosen_bank image) (λ bank. versioned (bank_bytes (length image / 4096) bank image)) else None) yes
+      ∙ ap (λ (n : ℕ). and_then (chosen_bank image) (λ bank. versioned (bank_bytes n bank image))) many
+
+  -- the records that a body has
+  records_in : {found : Option (ℕ × List ℕ)} → versioned_body image ≡ found → records image ≡ and_then (and_then found (λ b. Some b.1)) (payloads_after 0)
+  records_in is = ap (λ (o : Option (ℕ × List ℕ)). and_then (and_then o (λ b. Some b.1)) (payloads_after 0)) is
 
   pub no_bank : chosen_bank image ≡ None → records image ≡ None
-  no_bank none = ap (λ (o : Option (List ℕ)). and_then o (payloads_after 0)) (body_is ∙ ap (λ (o : Option ℕ). and_then o (λ bank. without header (bank_bytes blocks bank image))) none)
+  no_bank none = records_in (body_is ∙ ap (λ (o : Option ℕ). and_then o (λ bank. versioned (bank_bytes blocks bank image))) none)
 
   module _ (bank : Bank) (voted : chosen_bank image ≡ Some (bank_number bank)) where
     abbrev start : ℕ
@@ -67,31 +71,38 @@ module _ (blocks : ℕ) (image : List ℕ) (size : length image ≡ blocks * 409
         ap (λ (n : ℕ). take n (drop start image)) parts ∙ take-add 16 (limit - (start + 16)) (drop start image)
         ∙ ap (λ (l : List ℕ). take 16 (drop start image) ++ take (limit - (start + 16)) l) (drop-drop 16 start image)
 
-    body_of : body image ≡ without header (bank_bytes blocks (bank_number bank) image)
-    body_of = body_is ∙ ap (λ (o : Option ℕ). and_then o (λ bank. without header (bank_bytes blocks bank image))) voted
+    body_of : versioned_body image ≡ versioned (bank_bytes blocks (bank_number bank) image)
+    body_of = body_is ∙ ap (λ (o : Option ℕ). and_then o (λ bank. versioned (bank_bytes blocks bank image))) voted
 
-    pub no_header : take 16 (drop start image) ≢ header → records image ≡ None
+    other_header : (version : ℕ) → take 16 (drop start image) ≢ header version → behind_header version (bank_bytes blocks (bank_number bank) image) ≡ None
     unfolding header
-    no_header differ =
+    other_header version differ =
         let long : length (take 16 (drop start image)) ≡ 16 = omega (arith, length-take 16 (drop start image), length-drop start image, size, bank-fits blocks bank enough, wide) in
         let more : 16 ≤ length (bank_bytes blocks (bank_number bank) image) = omega (arith, ap length in_two, length-append (take 16 (drop start image)) (between (start + 16) limit image), long) in
-        let none : without header (bank_bytes blocks (bank_number bank) image) ≡ None = elim (without-cases header (bank_bytes blocks (bank_number bank) image) more) [
+        let none : without (header version) (bank_bytes blocks (bank_number bank) image) ≡ None = elim (without-cases (header version) (bank_bytes blocks (bank_number bank) image) more) [
           | inl none ↦ none
           | inr is ↦ absurd (differ (sym (take_at (take 16 (drop start image)) (between (start + 16) limit image) 16 long) ∙ ap (λ (l : List ℕ). take 16 l) (sym in_two) ∙ is))
         ] in
-        ap (λ (o : Option (List ℕ)). and_then o (payloads_after 0)) (body_of ∙ none)
+        ap (λ (o : Option (List ℕ)). and_then o (λ rest. Some (version, rest))) none
 
-    module _ (headed : take 16 (drop start image) ≡ header) where
-      holds : Holds blocks (bank_number bank) (header ++ between (start + 16) limit image) image
+    pub no_header : ((version : ℕ) → IsVersion version → take 16 (drop start image) ≢ header version) → records image ≡ None
+    no_header differ =
+        let bytes = bank_bytes blocks (bank_number bank) image in
+        records_in (body_of
+        ∙ ap (λ (o : Option (ℕ × List ℕ)). elim o as (λ _. Option (ℕ × List ℕ)) [ Some found ↦ Some found | None ↦ behind_header 2 bytes ]) (other_header 1 (differ 1 (omega arith, omega arith)))
+        ∙ other_header 2 (differ 2 version-2))
+
+    module _ (version : ℕ) (is_version : IsVersion version) (headed : take 16 (drop start image) ≡ header version) where
+      holds : Holds blocks (bank_number bank) (header version ++ between (start + 16) limit image) image
       holds = record { size = size; votes = voted; bank_is = in_two ∙ ap (λ (l : List ℕ). l ++ between (start + 16) limit image) headed }
 
       pub no_end : payloads_after 0 (between (start + 16) limit image) ≡ None → records image ≡ None
-      no_end none = ap (λ (o : Option (List ℕ)). and_then o (payloads_after 0)) (holds-body blocks bank enough few (between (start + 16) limit image) image holds) ∙ none
+      no_end none = records_in (holds-body blocks bank enough few version is_version (between (start + 16) limit image) image holds) ∙ none
 
 pub opened : (j : Journal) (done : List Change) → length (bytes_after done) ≡ j.blocks * 4096 → chosen_bank (bytes_after done) ≡ Some (bank_number j.bank)
-    → take 16 (drop (start_of j.blocks j.bank) (bytes_after done)) ≡ header → IsEnd (start_of j.blocks j.bank + 16) j.end (between (start_of j.blocks j.bank + 16) (limit_of j.blocks j.bank) (bytes_after done))
+    → take 16 (drop (start_of j.blocks j.bank) (bytes_after done)) ≡ header j.version → IsEnd (start_of j.blocks j.bank + 16) j.end (between (start_of j.blocks j.bank + 16) (limit_of j.blocks j.bank) (bytes_after done))
     → limit_of j.blocks j.bank < 2 ^ 32
-    → (j.closed ≡ false → between j.end (limit_of j.blocks j.bank) (bytes_after done) ≡ replicate (limit_of j.blocks j.bank - j.end) 255) → (between j.end (limit_of j.blocks j.bank) (bytes_after done) ≡ replicate (limit_of j.blocks j.bank - j.end) 255 → j.closed ≡ false) → ((left : List ℕ) → LeftBy done left → left ≡ bytes_after done) → HeldBy j done
+    → (j.closed ≡ false → between j.end (limit_of j.blocks j.bank) (bytes_after done) ≡ replicate (limit_of j.blocks j.bank - j.end) 255) → (j.version ≡ 2 → between j.end (limit_of j.blocks j.bank) (bytes_after done) ≡ replicate (limit_of j.blocks j.bank - j.end) 255 → j.closed ≡ false) → ((left : List ℕ) → LeftBy done left → left ≡ bytes_after done) → HeldBy j done
 unfolding written
 opened j done size voted headed found small blank not_closed durable =
     let image = bytes_after done in
@@ -103,11 +114,11 @@ opened j done size voted headed found small blank not_closed durable =
     record {
       payloads = s.payloads;
       behind = s.rest;
-      bank = subst (λ (l : List ℕ). Holds j.blocks (bank_number j.bank) l image) (ap (λ (l : List ℕ). header ++ l) s.is ∙ sym (append_assoc header (flat_map record_bytes s.payloads) s.rest)) (holds j.blocks image size j.enough j.not_too_many j.bank voted headed);
-      end = omega (arith, s.place, length-written s.payloads);
+      bank = subst (λ (l : List ℕ). Holds j.blocks (bank_number j.bank) l image) (ap (λ (l : List ℕ). header j.version ++ l) s.is ∙ sym (append_assoc (header j.version) (flat_map record_bytes s.payloads) s.rest)) (holds j.blocks image size j.enough j.not_too_many j.bank voted j.version j.known headed);
+      end = omega (arith, s.place, length-written j.version s.payloads);
       ends = found.ends;
       blank = λ is_open. rest ∙ blank is_open ∙ ap (λ (n : ℕ). replicate n 255) (sym long);
-      not_closed = λ is_blank. not_closed (sym rest ∙ is_blank ∙ ap (λ (n : ℕ). replicate n 255) long);
+      not_closed = λ new is_blank. not_closed new (sym rest ∙ is_blank ∙ ap (λ (n : ℕ). replicate n 255) long);
       durable = durable;
     }
 
@@ -127,9 +138,14 @@ at_none P Q (Some x) m never = absurd (never x refl)
 pub at_some : {A : Type 0} (P : Type 0) (Q : A → Type 0) {o : Option A} {x : A} → o ≡ Some x → MatchOption o P Q → Q x
 at_some {A = A} P Q is m = subst (λ (o : Option A). MatchOption o P Q) is m
 
-pub not_false : (b : Bool) → not b ≡ false → b ≡ true
-not_false true is = refl
-not_false false is = cc
+pub of_some : {A : Type 0} (P : A → Type 0) {o : Option A} {x : A} → o ≡ Some x → IfSome o P → P x
+of_some {A = A} P is m = subst (λ (o : Option A). IfSome o P) is m
+
+-- a bank is closed where something stands behind its records, or else where it has version 1
+pub closed_where : (blank closed : Bool) (version : ℕ) → ((blank ≡ false) × (closed ≡ not blank)) ⊎ ((blank ≡ true) × (closed ≡ (version == 1)))
+    → (closed ≡ false → blank ≡ true) × (version ≡ 2 → (blank ≡ false → ⊥) → closed ≡ false)
+closed_where blank closed version (inl shut) = (λ is_open. absurd (let clash : true ≡ false = ap not (sym shut.0) ∙ sym shut.1 ∙ is_open in cc), λ new never. absurd (never shut.0))
+closed_where blank closed version (inr old) = (λ is_open. old.0, λ new never. old.1 ∙ ap (λ (v : ℕ). v == 1) new)
 
 -- what was said of the bytes of a later moment, at places that have names
 module _ (P : List ℕ → Type 0) where
@@ -140,8 +156,8 @@ module _ (P : List ℕ → Type 0) where
   moved_back u same is_from is_to p = moved u (sym same) (sym is_from) (sym is_to) p
 
 pub opened_later : (j : Journal) (done last : List Change) → last ≡ done → length (bytes_after done) ≡ j.blocks * 4096 → chosen_bank (bytes_after done) ≡ Some (bank_number j.bank)
-    → take 16 (drop (start_of j.blocks j.bank) (bytes_after done)) ≡ header → IsEnd (start_of j.blocks j.bank + 16) j.end (between (start_of j.blocks j.bank + 16) (limit_of j.blocks j.bank) (bytes_after done))
-    → (j.closed ≡ false → between j.end (limit_of j.blocks j.bank) (bytes_after done) ≡ replicate (limit_of j.blocks j.bank - j.end) 255) → (between j.end (limit_of j.blocks j.bank) (bytes_after done) ≡ replicate (limit_of j.blocks j.bank - j.end) 255 → j.closed ≡ false) → ((left : List ℕ) → LeftBy done left → left ≡ bytes_after done) → HeldBy j last
+    → take 16 (drop (start_of j.blocks j.bank) (bytes_after done)) ≡ header j.version → IsEnd (start_of j.blocks j.bank + 16) j.end (between (start_of j.blocks j.bank + 16) (limit_of j.blocks j.bank) (bytes_after done))
+    → (j.closed ≡ false → between j.end (limit_of j.blocks j.bank) (bytes_after done) ≡ replicate (limit_of j.blocks j.bank - j.end) 255) → (j.version ≡ 2 → between j.end (limit_of j.blocks j.bank) (bytes_after done) ≡ replicate (limit_of j.blocks j.bank - j.end) 255 → j.closed ≡ false) → ((left : List ℕ) → LeftBy done left → left ≡ bytes_after done) → HeldBy j last
 opened_later j done last same size voted headed found blank not_closed durable =
     let few = j.not_too_many in
     subst (λ (d : List Change). HeldBy j d) (sym same) (opened j done size voted headed found (omega (arith, few, bank-fits j.blocks j.bank j.enough)) blank not_closed durable)
@@ -160,10 +176,6 @@ not_blank image from at n to low high differ blank =
     ∙ (let left : to - from - m ≡ k = omega (arith, all) in ap (λ (p : ℕ). replicate p 255) left) in
     differ (sym (take-take n k (drop at image) within) ∙ ap (λ (l : List ℕ). take n l) behind ∙ take-replicate n k 255 within)
 
-pub false_from : (b : Bool) {P : Type 0} → (b ≡ false → P → ⊥) → P → not b ≡ false
-false_from true never p = refl
-false_from false never p = absurd (never refl p)
-
 is_there : {A : Type 0} (o : Option A) (n : ℕ) → (o ≡ None → n ≡ 0) → 13 ≤ n → IsSome o
 is_there None n none some = absurd (omega (arith, none refl))
 is_there (Some x) n none some = refl
@@ -176,4 +188,5 @@ has_blocks unit blocks outside none is enough = record {
 }
 
 pub holds-some : (j : Journal) (done : List Change) → HeldBy j done → IsSome (records (bytes_after done))
-holds-some j done held = subst (λ (o : Option (List (List ℕ))). IsSome o) (sym (holds-records j.blocks j.bank j.enough j.not_too_many held.payloads held.behind (bytes_after done) held.bank held.ends)) refl
+holds-some j done held = subst (λ (o : Option (List (List ℕ))). IsSome o)
+    (ap (λ (r : Reading). r.1) (sym (holds-reading j.blocks j.bank j.enough j.not_too_many j.version j.known held.payloads held.behind (bytes_after done) held.bank held.ends))) refl

@@ -3,13 +3,13 @@ use Rattle.std.proofs.Common.{◌≡◌, ℕ, ◌+◌, ◌≤◌, ◌==◌, ◌-
 use Rattle.std.proofs.lemmas.List.{drop-drop}
 use Rattle.newt_host.specs.Moments.{Moment, image, IsDurable, SameOutside, Leaves}
 use Rattle.newt_host.proofs.Moments.{Leaves-append, Leaves-weaken, Leaves-start, Leaves-same}
-use Rattle.newt_spec_image.specs.Records.{chosen_bank, bank_size, records, vote_of, AllVoteFor}
+use Rattle.newt_spec_image.specs.Records.{chosen_bank, bank_size, vote_of, AllVoteFor}
 use Rattle.newt_journal.specs.Bank.{bank_number, other_bank, start_of}
 use Rattle.newt_journal.specs.Repairs.{Settling, Repairs, Mends}
-use Rattle.newt_journal.specs.Journal.{Holds, written, IsHeld}
+use Rattle.newt_journal.specs.Journal.{Holds, written, reading, IsHeld}
 use Rattle.newt_journal.specs.declared.bank.Bank.{Bank}
 use Rattle.newt_journal.specs.declared.journal.Journal.{Journal}
-use Rattle.newt_journal.proofs.Steps.{bank-small, bank-low, holds-records}
+use Rattle.newt_journal.proofs.Steps.{bank-small, bank-low, holds-reading}
 use Rattle.newt_journal.proofs.Opened.{byte_at}
 use Rattle.newt_journal.proofs.Settle.{Order, order_of, other-differs, step_0, step_1, step_2, step_3, alike}
 
@@ -83,20 +83,20 @@ module _ (j : Journal) (old : Moment) (held : IsHeld j old) where
   pub voted_for : chosen_bank (image j.unit old) ≡ Some (bank_number j.bank)
   voted_for = held.bank.votes
 
-  pub same_reading : (left : List ℕ) → Repairs (bank_number j.bank) (image j.unit old) left → records left ≡ records (image j.unit old)
+  pub same_reading : (left : List ℕ) → Repairs (bank_number j.bank) (image j.unit old) left → reading left ≡ reading (image j.unit old)
   same_reading left r =
-      holds-records j.blocks j.bank j.enough j.not_too_many held.payloads held.behind left (bank-behind j.blocks j.bank (written held.payloads ++ held.behind) (image j.unit old) left held.bank r) held.ends
-      ∙ sym (holds-records j.blocks j.bank j.enough j.not_too_many held.payloads held.behind (image j.unit old) held.bank held.ends)
+      holds-reading j.blocks j.bank j.enough j.not_too_many j.version j.known held.payloads held.behind left (bank-behind j.blocks j.bank (written j.version held.payloads ++ held.behind) (image j.unit old) left held.bank r) held.ends
+      ∙ sym (holds-reading j.blocks j.bank j.enough j.not_too_many j.version j.known held.payloads held.behind (image j.unit old) held.bank held.ends)
 
   pub mended : (left : List ℕ) → Repairs (bank_number j.bank) (image j.unit old) left
       → Mends (bank_number j.bank) (image j.unit old) left
-  mended left r = record { repairs = r; same_records = same_reading left r }
+  mended left r = record { repairs = r; same_reading = same_reading left r }
 
   pub still_held : (now : Moment) → Repairs (bank_number j.bank) (image j.unit old) (image j.unit now) → IsDurable j.unit now → IsHeld j now
   still_held now r durable = record {
     payloads = held.payloads;
     behind = held.behind;
-    bank = bank-behind j.blocks j.bank (written held.payloads ++ held.behind) (image j.unit old) (image j.unit now) held.bank r;
+    bank = bank-behind j.blocks j.bank (written j.version held.payloads ++ held.behind) (image j.unit old) (image j.unit now) held.bank r;
     end = held.end;
     ends = held.ends;
     blank = held.blank;

@@ -1,21 +1,21 @@
 -- A record is written alone into the other bank, and then the votes turn.
-use Rattle.std.proofs.Common.{◌≡◌, inl, inr, ℕ, ◌+◌, ◌-◌, ◌≤◌, false, List, [], ◌∷◌, ◌++◌, length, take, drop, replicate, Option, Some, Result, Ok, refl, sym, ◌∙◌, ap, subst, arith, append_assoc, length-append}
+use Rattle.std.proofs.Common.{◌≡◌, inl, inr, ℕ, ◌+◌, ◌-◌, ◌≤◌, false, List, [], ◌∷◌, ◌++◌, length, take, drop, replicate, Some, Result, Ok, refl, sym, ◌∙◌, ap, subst, arith, append_assoc, length-append}
 use Rattle.std.proofs.lemmas.List.{length-replicate, append-nil}
 use Rattle.newt_host.specs.Moments.{Moment, image, changes, IsDurable, SameOutside, Leaves}
 use Rattle.newt_host.specs.Outside.{IsBlank, Writes, Syncs}
 use Rattle.newt_host.proofs.Moments.{Leaves-start, Leaves-sync, Leaves-append, Leaves-weaken, image-sync}
 use Rattle.newt_host.proofs.Ranges.{get_or-same, same-refl, part-reads}
-use Rattle.newt_spec_image.specs.Records.{bank_size, bank_bytes, chosen, chosen_bank, header, records, record_bytes, length_bytes, AllVoteFor}
+use Rattle.newt_spec_image.specs.Records.{bank_size, bank_bytes, chosen, chosen_bank, header, record_bytes, length_bytes, AllVoteFor}
 use Rattle.newt_journal.specs.Bank.{bank_number, other_bank, start_of}
 use Rattle.newt_journal.specs.Turns.{Turns}
 use Rattle.newt_journal.specs.Fresh.{lead, FilledBy}
-use Rattle.newt_journal.specs.Journal.{Holds, written, HeldBy, IsHeld, ReadsAs, ReadsAsEither}
+use Rattle.newt_journal.specs.Journal.{Holds, written, Reading, reading, HeldBy, IsHeld, ReadsAs, ReadsAsEither}
 use Rattle.newt_journal.specs.Switch.{switch_start, switched, IsSwitching}
 use Rattle.newt_journal.specs.declared.bank.Bank.{Bank}
 use Rattle.newt_journal.specs.declared.bank.Bank.TheVariants.{First, Second}
 use Rattle.newt_journal.specs.declared.journal.Journal.{Journal}
 use Rattle.newt_journal.specs.declared.switching.Switching.{Switching}
-use Rattle.newt_journal.proofs.Steps.{bank-low, bank-fits, holds-records}
+use Rattle.newt_journal.proofs.Steps.{bank-low, bank-fits, holds-reading, version-2}
 use Rattle.newt_journal.proofs.Finish.{Ends-blank}
 use Rattle.newt_journal.proofs.Erasing.{part-before}
 use Rattle.newt_journal.proofs.Repairing.{drop-behind, bank-behind}
@@ -49,9 +49,9 @@ alike-elsewhere blocks k bank base left alike s =
 regroup_lead : (front size payload : List ℕ) → ((front ++ 0 ∷ []) ++ size) ++ payload ≡ front ++ ((0 ∷ size ++ payload) ++ [])
 regroup_lead front size payload = simp (append_assoc, append-nil)
 
-pub lead-record : (payload : List ℕ) → lead (length payload) ++ payload ≡ written (payload ∷ [])
+pub lead-record : (payload : List ℕ) → lead (length payload) ++ payload ≡ written 2 (payload ∷ [])
 unfolding lead written record_bytes
-lead-record payload = regroup_lead header (length_bytes (length payload)) payload
+lead-record payload = regroup_lead (header 2) (length_bytes (length payload)) payload
 
 module _ (s : Switching) (now : Moment) (held : IsSwitching s now) where
   abbrev pub u : ℕ
@@ -78,16 +78,19 @@ module _ (s : Switching) (now : Moment) (held : IsSwitching s now) where
   pub inside : start + size ≤ length held.base
   inside = omega (arith, held.bank.size, bank-fits blocks to s.journal.enough)
 
-  pub elsewhere : (left : List ℕ) → SameOutside start size held.base left → Holds blocks (bank_number from) (written held.payloads ++ held.behind) left
-  elsewhere left same = bank-elsewhere blocks from (written held.payloads ++ held.behind) held.base left held.bank same
+  abbrev pub version : ℕ
+  version = s.journal.version
 
-  reads-payloads : (left : List ℕ) → SameOutside start size held.base left → records left ≡ Some held.payloads
-  reads-payloads left same = holds-records blocks from s.journal.enough s.journal.not_too_many held.payloads held.behind left (elsewhere left same) held.ends
+  pub elsewhere : (left : List ℕ) → SameOutside start size held.base left → Holds blocks (bank_number from) (written version held.payloads ++ held.behind) left
+  elsewhere left same = bank-elsewhere blocks from (written version held.payloads ++ held.behind) held.base left held.bank same
 
-  pub reads_now : records img ≡ Some held.payloads
+  reads-payloads : (left : List ℕ) → SameOutside start size held.base left → reading left ≡ (version, Some held.payloads)
+  reads-payloads left same = holds-reading blocks from s.journal.enough s.journal.not_too_many version s.journal.known held.payloads held.behind left (elsewhere left same) held.ends
+
+  pub reads_now : reading img ≡ (version, Some held.payloads)
   reads_now = reads-payloads img held.filled.kept
 
-  pub reads_same : (left : List ℕ) → SameOutside start size held.base left → records left ≡ records img
+  pub reads_same : (left : List ℕ) → SameOutside start size held.base left → reading left ≡ reading img
   reads_same left same = reads-payloads left same ∙ sym reads_now
 
   pub switched-is : switched s img ≡ held.so_far
@@ -106,7 +109,7 @@ module _ (s : Switching) (now : Moment) (held : IsSwitching s now) where
     pub blank_put : IsBlank at (length bytes) img
     blank_put = room_blank u start size held.base inside (lead s.len ++ held.so_far) (size - 21 - s.put) now held.filled bytes room at there
 
-    pub any_put : {T E : Type 0} {result : Result T E} {next : Moment} → Writes u at bytes result now next → Leaves u (ReadsAs (records img)) now next
+    pub any_put : {T E : Type 0} {result : Result T E} {next : Moment} → Writes u at bytes result now next → Leaves u (ReadsAs (reading img)) now next
     any_put wrote = Leaves-weaken reads_same
         (write_leaves u start size held.base inside (lead s.len ++ held.so_far) (size - 21 - s.put) now held.filled bytes room at there wrote (Leaves-start (λ left may. held.filled.crash left may)))
 
@@ -118,8 +121,8 @@ module _ (s : Switching) (now : Moment) (held : IsSwitching s now) where
           (subst (λ (l : List ℕ). FilledBy start size held.base l (size - 21 - s.put - length bytes) (changes u next)) (append_assoc (lead s.len) held.so_far bytes)
           (write_filled u start size held.base inside (lead s.len ++ held.so_far) (size - 21 - s.put) now held.filled bytes room at there wrote))
 
-      pub same_records : records (image u next) ≡ records img
-      same_records = reads_same (image u next) filled_next.kept
+      pub same_reading : reading (image u next) ≡ reading img
+      same_reading = reads_same (image u next) filled_next.kept
 
       module _ (fits : 21 + s.len ≤ size) (within_len : s.put + length bytes ≤ s.len) where
         abbrev pub next_draft : Switching
@@ -149,16 +152,16 @@ module _ (s : Switching) (now : Moment) (held : IsSwitching s now) where
 
   -- the end: a sync, and the votes
   module _ (whole : s.put ≡ s.len) where
-    abbrev pub before : Option (List (List ℕ))
-    before = records img
+    abbrev pub before : Reading
+    before = reading img
 
-    abbrev pub after : Option (List (List ℕ))
-    after = Some (switched s img ∷ [])
+    abbrev pub after : Reading
+    after = (2, Some (switched s img ∷ []))
 
     abbrev pub rest : List ℕ
     rest = replicate (size - 21 - s.put) 255
 
-    other_is : bank_bytes blocks (bank_number to) img ≡ written (held.so_far ∷ []) ++ rest
+    other_is : bank_bytes blocks (bank_number to) img ≡ written 2 (held.so_far ∷ []) ++ rest
     other_is =
         let n : s.len ≡ length held.so_far = sym whole ∙ sym held.put in
         held.filled.bytes ∙ ap (λ (n : ℕ). lead n ++ held.so_far ++ rest) n ∙ ap (λ (l : List ℕ). l ++ rest) (lead-record held.so_far)
@@ -174,24 +177,24 @@ module _ (s : Switching) (now : Moment) (held : IsSwitching s now) where
       alike_1 = subst (λ (l : List ℕ). AllVoteFor (bank_number from) l) (sym img_1) (alike-elsewhere blocks (bank_number from) to held.base img held.alike held.filled.kept)
 
       module _ (to_bank : Bank) (to_is : to_bank ≡ to) where
-        kept_from : (left : List ℕ) → chosen_bank left ≡ Some (bank_number from) → SameOutside 0 12288 (image u m1) left → records left ≡ before
+        kept_from : (left : List ℕ) → chosen_bank left ≡ Some (bank_number from) → SameOutside 0 12288 (image u m1) left → reading left ≡ before
         kept_from left chosen_is same =
-            holds-records blocks from s.journal.enough s.journal.not_too_many held.payloads held.behind left
-            (bank-behind blocks from (written held.payloads ++ held.behind) img left (elsewhere img held.filled.kept)
+            holds-reading blocks from s.journal.enough s.journal.not_too_many version s.journal.known held.payloads held.behind left
+            (bank-behind blocks from (written version held.payloads ++ held.behind) img left (elsewhere img held.filled.kept)
             (record { bank_is = chosen_is; same = subst (λ (l : List ℕ). SameOutside 0 12288 l left) img_1 same })) held.ends
             ∙ sym reads_now
 
-        pub holds_to : (left : List ℕ) → chosen_bank left ≡ Some (bank_number to_bank) → SameOutside 0 12288 (image u m1) left → Holds blocks (bank_number to) (written (held.so_far ∷ []) ++ rest) left
+        pub holds_to : (left : List ℕ) → chosen_bank left ≡ Some (bank_number to_bank) → SameOutside 0 12288 (image u m1) left → Holds blocks (bank_number to) (written 2 (held.so_far ∷ []) ++ rest) left
         holds_to left chosen_is same = record {
           size = same.size ∙ ap length img_1 ∙ held.filled.kept.size ∙ held.bank.size;
           votes = chosen_is ∙ ap (λ (b : Bank). Some (bank_number b)) to_is;
           bank_is = ap (λ (l : List ℕ). take size l) (drop-behind same start (bank-low blocks to) ∙ ap (λ (l : List ℕ). drop start l) img_1) ∙ other_is;
         }
 
-        pub kept_to : (left : List ℕ) → chosen_bank left ≡ Some (bank_number to_bank) → SameOutside 0 12288 (image u m1) left → records left ≡ after
+        pub kept_to : (left : List ℕ) → chosen_bank left ≡ Some (bank_number to_bank) → SameOutside 0 12288 (image u m1) left → reading left ≡ after
         kept_to left chosen_is same =
-            holds-records blocks to s.journal.enough s.journal.not_too_many (held.so_far ∷ []) rest left (holds_to left chosen_is same) (Ends-blank (size - 21 - s.put))
-            ∙ ap (λ (l : List ℕ). Some (l ∷ [])) (sym switched-is)
+            holds-reading blocks to s.journal.enough s.journal.not_too_many 2 version-2 (held.so_far ∷ []) rest left (holds_to left chosen_is same) (Ends-blank (size - 21 - s.put))
+            ∙ ap (λ (l : List ℕ). (2, Some (l ∷ []))) (sym switched-is)
 
         either : (left : List ℕ) → Turns (bank_number from) (bank_number to_bank) (image u m1) left → ReadsAsEither before after left
         either left turns = elim turns.bank [
@@ -203,34 +206,35 @@ module _ (s : Switching) (now : Moment) (held : IsSwitching s now) where
         any_2 turning = Leaves-append (any_1 synced) (Leaves-weaken either turning)
 
         module _ (m2 : Moment) (turned : (chosen_bank (image u m2) ≡ Some (bank_number to_bank)) × SameOutside 0 12288 (image u m1) (image u m2)) where
-          pub committed : records (image u m2) ≡ after
+          pub committed : reading (image u m2) ≡ after
           committed = kept_to (image u m2) turned.0 turned.1
 
-          pub stands : (j : Journal) → j.blocks ≡ blocks → j.bank ≡ to → j.end ≡ start + 21 + s.len → j.closed ≡ false → IsDurable u m2 → HeldBy j (changes u m2)
-          stands j blocks_is bank_is end_is open_is durable = record {
+          pub stands : (j : Journal) → j.blocks ≡ blocks → j.bank ≡ to → j.end ≡ start + 21 + s.len → j.version ≡ 2 → j.closed ≡ false → IsDurable u m2 → HeldBy j (changes u m2)
+          stands j blocks_is bank_is end_is new open_is durable = record {
             payloads = held.so_far ∷ [];
             behind = rest;
-            bank = subst (λ (b : Bank). Holds j.blocks (bank_number b) (written (held.so_far ∷ []) ++ rest) (image u m2)) (sym bank_is)
-                (subst (λ (n : ℕ). Holds n (bank_number to) (written (held.so_far ∷ []) ++ rest) (image u m2)) (sym blocks_is) (holds_to (image u m2) turned.0 turned.1));
+            bank = subst (λ (v : ℕ). Holds j.blocks (bank_number j.bank) (written v (held.so_far ∷ []) ++ rest) (image u m2)) (sym new)
+                (subst (λ (b : Bank). Holds j.blocks (bank_number b) (written 2 (held.so_far ∷ []) ++ rest) (image u m2)) (sym bank_is)
+                (subst (λ (n : ℕ). Holds n (bank_number to) (written 2 (held.so_far ∷ []) ++ rest) (image u m2)) (sym blocks_is) (holds_to (image u m2) turned.0 turned.1)));
             end =
-                let long : length (written (held.so_far ∷ [])) ≡ 21 + s.len = omega (arith, ap length (sym (lead-record held.so_far)), length-append (lead (length held.so_far)) held.so_far, length-lead (length held.so_far), held.put, whole) in
-                end_is ∙ (let place : start + 21 + s.len ≡ start + length (written (held.so_far ∷ [])) = omega (arith, long) in place)
-                ∙ (λ i. start_of (sym blocks_is i) (sym bank_is i) + length (written (held.so_far ∷ [])));
+                let long : length (written 2 (held.so_far ∷ [])) ≡ 21 + s.len = omega (arith, ap length (sym (lead-record held.so_far)), length-append (lead (length held.so_far)) held.so_far, length-lead (length held.so_far), held.put, whole) in
+                end_is ∙ (let place : start + 21 + s.len ≡ start + length (written 2 (held.so_far ∷ [])) = omega (arith, long) in place)
+                ∙ (λ i. start_of (sym blocks_is i) (sym bank_is i) + length (written (sym new i) (held.so_far ∷ [])));
             ends = Ends-blank (size - 21 - s.put);
             blank = λ not_closed. ap (λ (n : ℕ). replicate n 255) (sym (length-replicate (size - 21 - s.put) 255));
-            not_closed = λ blank. open_is;
+            not_closed = λ is blank. open_is;
             durable = durable;
           }
 
 -- the beginning of a switch
 module _ (j : Journal) (len : ℕ) (old : Moment) (held : IsHeld j old) (to_bank : Bank) (to_is : to_bank ≡ other_bank j.bank) where
-  elsewhere_first : (left : List ℕ) → SameOutside (start_of j.blocks to_bank) (bank_size j.blocks) (image j.unit old) left → records left ≡ Some held.payloads
+  elsewhere_first : (left : List ℕ) → SameOutside (start_of j.blocks to_bank) (bank_size j.blocks) (image j.unit old) left → reading left ≡ (j.version, Some held.payloads)
   elsewhere_first left same =
-      holds-records j.blocks j.bank j.enough j.not_too_many held.payloads held.behind left
-      (bank-elsewhere j.blocks j.bank (written held.payloads ++ held.behind) (image j.unit old) left held.bank
+      holds-reading j.blocks j.bank j.enough j.not_too_many j.version j.known held.payloads held.behind left
+      (bank-elsewhere j.blocks j.bank (written j.version held.payloads ++ held.behind) (image j.unit old) left held.bank
       (subst (λ (b : Bank). SameOutside (start_of j.blocks b) (bank_size j.blocks) (image j.unit old) left) to_is same)) held.ends
 
-  pub begin_same : (left : List ℕ) → SameOutside (start_of j.blocks to_bank) (bank_size j.blocks) (image j.unit old) left → records left ≡ records (image j.unit old)
+  pub begin_same : (left : List ℕ) → SameOutside (start_of j.blocks to_bank) (bank_size j.blocks) (image j.unit old) left → reading left ≡ reading (image j.unit old)
   begin_same left same = elsewhere_first left same ∙ sym (elsewhere_first (image j.unit old) (same-refl (start_of j.blocks to_bank) (bank_size j.blocks) (image j.unit old)))
 
   pub begun : (now : Moment) → AllVoteFor (bank_number j.bank) (image j.unit old)

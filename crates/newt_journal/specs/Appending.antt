@@ -11,15 +11,15 @@ use Rattle.newt_journal.specs.declared.appending.Appending.{Appending}
 abbrev pub drafted : Appending → List ℕ → List ℕ
 drafted d image = take d.put (drop (d.journal.end + 5) image)
 
--- Behind a gate that is FF stand the length, what has been put, and blank bytes. A crash spoils nothing but the length and the payload.
+-- The bank has version 2. Behind a gate that is FF stand the length, what has been put, and blank bytes. A crash spoils nothing but the length and the payload.
 pub record DraftedBy (d : Appending) (done : List Change) : Type 0 where
   pub payloads : List (List ℕ)
   pub so_far : List ℕ
   pub more : ℕ
   pub bank : Holds d.journal.blocks (bank_number d.journal.bank)
-      ((written payloads ++ 255 ∷ []) ++ (length_bytes d.len ++ so_far ++ replicate (d.len - d.put) 255) ++ replicate more 255) (bytes_after done)
+      ((written 2 payloads ++ 255 ∷ []) ++ (length_bytes d.len ++ so_far ++ replicate (d.len - d.put) 255) ++ replicate more 255) (bytes_after done)
   pub put : length so_far ≡ d.put
-  pub end : d.journal.end ≡ start_of d.journal.blocks d.journal.bank + length (written payloads)
+  pub end : d.journal.end ≡ start_of d.journal.blocks d.journal.bank + length (written 2 payloads)
   pub crash : (left : List ℕ) → LeftBy done left → SameOutside (d.journal.end + 1) (4 + d.len) (bytes_after done) left
 
 abbrev pub IsDrafted : Appending → Moment → Type 0

@@ -4,7 +4,7 @@ use Rattle.newt_host.specs.Moments.{image}
 use Rattle.newt_host.specs.Outside.{Outside, Work}
 use Rattle.newt_spec_image.specs.Records.{bank_size, records, tail}
 use Rattle.newt_journal.specs.Bank.{limit_of}
-use Rattle.newt_journal.specs.Journal.{Stands, VotesAgree, appended}
+use Rattle.newt_journal.specs.Journal.{Reading, reading, Stands, VotesAgree, appended}
 use Rattle.newt_journal.specs.Appending.{drafted, IsAppendingOf}
 use Rattle.newt_journal.specs.Places.{first_place}
 use Rattle.newt_journal.specs.Calls.{writing}
@@ -65,10 +65,13 @@ abbrev pub outcome : Bool → Option (List (List ℕ)) → List ℕ → Option (
 outcome false before payload = appended before payload
 outcome true before payload = Some (payload ∷ [])
 
--- the records of its unit once it is finished
-abbrev pub outcome_of : Draft → Outside → Option (List (List ℕ))
-outcome_of draft outside = outcome (is_switch draft) (records (image (unit_of draft) outside.now))
-    (payload_of draft (image (unit_of draft) outside.now))
+-- what its unit reads as once it is finished: these, in version 2
+abbrev pub outcome_of : Draft → Outside → Reading
+outcome_of draft outside = (
+  2,
+  outcome (is_switch draft)
+      (records (image (unit_of draft) outside.now)) (payload_of draft (image (unit_of draft) outside.now)),
+)
 
 -- what is done to commit it: the gate between two syncs, or a sync and the votes
 abbrev pub commit_work : Bool → Work
@@ -76,7 +79,7 @@ commit_work false = writing 1 0 2
 commit_work true = writing 3 3 7
 
 -- A record of so many bytes was begun, behind the others or alone in the other bank, of which
--- nothing is put yet; the records are what they were.
+-- nothing is put yet; the unit reads as it did.
 pub record IsBegun (told : Bool) (journal : Journal) (len : ℕ) (alone : Bool) (draft : Draft)
     (old new : Outside) : Type 0 where
   pub draft_of : IsDraftOf told draft new
@@ -86,8 +89,8 @@ pub record IsBegun (told : Bool) (journal : Journal) (len : ℕ) (alone : Bool) 
   pub put : put_of draft ≡ 0
   pub kind : is_switch draft ≡ alone
   pub empty : (image : List ℕ) → payload_of draft image ≡ []
-  pub same : IsTrue told → records (image journal.unit new.now)
-      ≡ records (image journal.unit old.now)
+  pub same : IsTrue told → reading (image journal.unit new.now)
+      ≡ reading (image journal.unit old.now)
 
 -- Both are drafts of one record, of which more may have been put.
 pub record IsSameRecord (before after : Draft) : Type 0 where
@@ -99,15 +102,15 @@ pub record IsSameRecord (before after : Draft) : Type 0 where
   pub place : place_of after ≡ place_of before
   pub front : front_of after ≡ front_of before
 
--- These bytes were put behind what was put before; the records are what they were.
+-- These bytes were put behind what was put before; the unit reads as it did.
 pub record HasPut (told : Bool) (bytes : List ℕ) (before after : Draft) (old new : Outside)
     : Type 0 where
   pub draft_of : IsDraftOf told after new
   pub put : put_of after ≡ put_of before + length bytes
   pub more : IsTrue told → payload_of after (image (unit_of before) new.now)
       ≡ payload_of before (image (unit_of before) old.now) ++ bytes
-  pub same : IsTrue told → records (image (unit_of before) new.now)
-      ≡ records (image (unit_of before) old.now)
+  pub same : IsTrue told → reading (image (unit_of before) new.now)
+      ≡ reading (image (unit_of before) old.now)
 
 -- The record was committed: the journal stands for its unit, behind whose last record all is blank.
 -- All votes agree where the record is alone.
@@ -118,7 +121,7 @@ pub record IsFinished (told : Bool) (draft : Draft) (journal : Journal) (old new
   pub not_closed : journal.closed ≡ false
   pub end : journal.end ≡ place_of draft + len_of draft
   pub first : first_place journal ≡ front_of draft
-  pub committed : IsTrue told → records (image (unit_of draft) new.now) ≡ outcome_of draft old
+  pub committed : IsTrue told → reading (image (unit_of draft) new.now) ≡ outcome_of draft old
   pub rest : IsTrue told → tail (image (unit_of draft) new.now) ≡ replicate (rest_of draft) 255
   pub alike : IsTrue told → is_switch draft ≡ true
       → VotesAgree journal (image (unit_of draft) new.now)

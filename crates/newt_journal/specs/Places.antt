@@ -3,7 +3,7 @@ use Rattle.std.specs.Prelude.{IsTrue, ◌≡◌, ℕ, ◌+◌, ◌-◌, ◌≤�
 use Rattle.newt_spec_image.specs.Records.{records, payloads_after, with_first}
 use Rattle.newt_journal.specs.Bank.{start_of, limit_of}
 use Rattle.newt_journal.specs.Scan.{between}
-use Rattle.newt_journal.specs.Journal.{written}
+use Rattle.newt_journal.specs.Journal.{records_bytes}
 use Rattle.newt_journal.specs.declared.journal.Journal.{Journal}
 use Rattle.newt_journal.specs.declared.reading.Found.{Found}
 
@@ -17,14 +17,14 @@ payloads_from j at image = payloads_after 0 (between at (limit_of j.blocks j.ban
 
 -- so many bytes from a place on, where these are the payloads of the records
 abbrev pub recorded : Journal → List (List ℕ) → ℕ → ℕ → List ℕ
-recorded j payloads at n = take n (drop (at - start_of j.blocks j.bank) (written payloads))
+recorded j payloads at n = take n (drop (at - first_place j) (records_bytes payloads))
 
 -- some of the records stand before this place, and the others from it on
 pub record IsPlace (j : Journal) (at : ℕ) (image : List ℕ) : Type 0 where
   pub passed : List (List ℕ)
   pub others : List (List ℕ)
   pub all : records image ≡ Some (passed ++ others)
-  pub place : at ≡ start_of j.blocks j.bank + length (written passed)
+  pub place : at ≡ first_place j + length (records_bytes passed)
 
 -- What is found at a place of the records: the record that begins there, behind which the others
 -- stand, or none at their end.

@@ -16,15 +16,15 @@ switch_start s = start_of s.journal.blocks (other_bank s.journal.bank)
 abbrev pub switched : Switching → List ℕ → List ℕ
 switched s image = take s.put (drop (switch_start s + 21) image)
 
--- The votes choose the bank of the journal, all alike, and the other one has a header, an open gate, a length and what has been put.
+-- The votes choose the bank of the journal, all alike, and the other one has a header of version 2, an open gate, a length and what has been put.
 pub record SwitchedBy (s : Switching) (done : List Change) : Type 0 where
   pub base : List ℕ
   pub payloads : List (List ℕ)
   pub behind : List ℕ
   pub so_far : List ℕ
-  pub bank : Holds s.journal.blocks (bank_number s.journal.bank) (written payloads ++ behind) base
+  pub bank : Holds s.journal.blocks (bank_number s.journal.bank) (written s.journal.version payloads ++ behind) base
   pub ends : Ends behind
-  pub end : s.journal.end ≡ start_of s.journal.blocks s.journal.bank + length (written payloads)
+  pub end : s.journal.end ≡ start_of s.journal.blocks s.journal.bank + length (written s.journal.version payloads)
   pub alike : AllVoteFor (bank_number s.journal.bank) base
   pub filled : FilledBy (switch_start s) (bank_size s.journal.blocks) base (lead s.len ++ so_far) (bank_size s.journal.blocks - 21 - s.put) done
   pub put : length so_far ≡ s.put

@@ -19,8 +19,8 @@ pub struct Appending {
 impl Appending {
     ghost use Rattle.std.specs.Prelude.{OnOk, IfOk, length, false};
     ghost use Rattle.newt_host.specs.Moments.{image};
-    ghost use Rattle.newt_spec_image.specs.Records.{records, tail};
-    ghost use Rattle.newt_journal.specs.Journal.{room, Stands, ReadsAs, ReadsAsEither};
+    ghost use Rattle.newt_spec_image.specs.Records.{tail};
+    ghost use Rattle.newt_journal.specs.Journal.{room, Stands, reading, ReadsAs, ReadsAsEither};
     ghost use Rattle.newt_journal.specs.Appending.{IsAppendingOf};
     ghost use Rattle.newt_journal.specs.Draft.{IsBegun, IsSameRecord, HasPut, IsFinished};
     ghost use Rattle.newt_journal.specs.Draft.{outcome_of, rest_of};
@@ -41,7 +41,7 @@ impl Appending {
         ensures rest { IsTrue H.told → IfOk result (λ draft. 5 + len + rest_of (Append draft)
             ≡ length (tail (image journal.unit (H.outside host.old).now))) }
         ensures writes { Programs H.told journal.unit (writing 4 0 0)
-            (ReadsAs (records (image journal.unit (H.outside host.old).now))) result
+            (ReadsAs (reading (image journal.unit (H.outside host.old).now))) result
             (H.outside host.old) (H.outside host.new) }
     {
         program_piece(host, journal.unit, journal.end + 1, &len.to_be_bytes())?;
@@ -60,7 +60,7 @@ impl Appending {
         ensures more { OnOk result (HasPut H.told bytes.now (Append self.old) (Append self.new)
             (H.outside host.old) (H.outside host.new)) }
         ensures writes { Programs H.told self.old.journal.unit (writing (length bytes.now) 0 0)
-            (ReadsAs (records (image self.old.journal.unit (H.outside host.old).now))) result
+            (ReadsAs (reading (image self.old.journal.unit (H.outside host.old).now))) result
             (H.outside host.old) (H.outside host.new) }
     {
         program_piece(
@@ -80,7 +80,7 @@ impl Appending {
         ensures finished { IfOk result (λ journal. IsFinished H.told (Append self) journal
             (H.outside host.old) (H.outside host.new)) }
         ensures writes { Programs H.told self.journal.unit (writing 1 0 2)
-            (ReadsAsEither (records (image self.journal.unit (H.outside host.old).now))
+            (ReadsAsEither (reading (image self.journal.unit (H.outside host.old).now))
             (outcome_of (Append self) (H.outside host.old))) result
             (H.outside host.old) (H.outside host.new) }
     {
@@ -100,6 +100,7 @@ impl Appending {
             blocks,
             bank,
             end: end + 5 + len,
+            version: 2,
             closed: false,
         })
     }

@@ -11,8 +11,11 @@ use crate::erase::erase_blocks;
 use crate::piece::program_piece;
 use newt_host::{Failed, Host, Unit};
 
-/// The header of a bank, and the open gate of its first record.
-pub(crate) const LEAD: [u8; 17] = *b"NSTORE\x00\x01\x00\x00\x00\x00\x00\x00\x00\x00\x00";
+/// The header of a bank as it is written, with version 2, and the open gate of its first record.
+pub(crate) const LEAD: [u8; 17] = *b"NSTORE\x00\x02\x00\x00\x00\x00\x00\x00\x00\x00\x00";
+
+/// The header of a bank of version 1.
+pub(crate) const OLD_HEADER: [u8; 16] = *b"NSTORE\x00\x01\x00\x00\x00\x00\x00\x00\x00\x00";
 
 /// Erases a bank and begins its one record, of so many bytes.
 pub(crate) fn begin_bank<H: Host>(

@@ -16,8 +16,8 @@ impl Journal {
     ghost use Rattle.newt_journal.specs.declared.bank.Bank.TheVariants.{First};
     ghost use Rattle.newt_journal.specs.Calls.{Programs, writing};
 
-    /// Makes a unit a journal of one record, in the first bank, whatever it held before. While it
-    /// runs, the other bank stays what it was.
+    /// Makes a unit a journal of one record, in the first bank, in version 2, whatever it held
+    /// before. While it runs, the other bank stays what it was.
     pub fn format<H: Host>(host: &mut H, unit: Unit, first: &[u8]) -> Result<Journal, Failed>
         requires enough { 13 ≤ (H.outside host.old).blocks unit }
         requires few { (H.outside host.old).blocks unit ≤ 4099 }
@@ -46,6 +46,7 @@ impl Journal {
             blocks,
             bank: Bank::First,
             end: start + 21 + len,
+            version: 2,
             closed: false,
         })
     }

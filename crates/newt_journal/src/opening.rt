@@ -7,7 +7,7 @@ ghost use Rattle.newt_journal.specs.Bank.{bank_number};
 ghost use Rattle.newt_journal.specs.Calls.{MayHold, Reads, OpensJournal};
 
 use crate::choose::choose;
-use crate::scan::{find_end, has_header, is_blank, read_byte};
+use crate::scan::{find_end, is_blank, read_byte, read_version};
 use crate::{Bank, Journal, JournalFault};
 use newt_host::{BLOCK, Failed, Host, Unit};
 
@@ -31,8 +31,8 @@ impl Journal {
     ghost use Rattle.newt_spec_image.specs.Records.{records, bank_size};
     ghost use Rattle.newt_journal.specs.Journal.{Stands, unit_under};
 
-    /// Reads the journal of a unit on which nothing is pending: its votes may differ, and a record
-    /// may be torn.
+    /// Reads the journal of a unit on which nothing is pending: its votes may differ, a record may
+    /// be torn, and its bank may have either version.
     pub fn open<H: Host>(host: &mut H, unit: Unit) -> Result<Journal, JournalFault>
         requires may_hold { MayHold H.told unit (H.outside host.old) }
         ensures journal { IfOk result (λ journal. Stands H.told journal (H.outside host.new)
@@ -50,9 +50,9 @@ impl Journal {
         };
         let start = bank.start(blocks);
         let limit = bank.limit(blocks);
-        if !has_header(host, unit, start)? {
+        let Some(version) = read_version(host, unit, start)? else {
             return Err(JournalFault::NotStore);
-        }
+        };
         let Some(end) = find_end(host, unit, start + 16, limit)? else {
             return Err(JournalFault::NotStore);
         };
@@ -62,7 +62,8 @@ impl Journal {
             blocks,
             bank,
             end,
-            closed: !blank,
+            version,
+            closed: !blank || version == 1,
         })
     }
 }

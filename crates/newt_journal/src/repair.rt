@@ -76,8 +76,7 @@ pub(crate) fn settle_votes<H: Host>(
 }
 
 impl Journal {
-    ghost use Rattle.newt_spec_image.specs.Records.{records};
-    ghost use Rattle.newt_journal.specs.Journal.{Stands, VotesAgree, unit_under, bank_of};
+    ghost use Rattle.newt_journal.specs.Journal.{Stands, VotesAgree, reading, unit_under, bank_of};
 
     /// Makes all three votes equal to the bank that they choose. Whenever it is cut off, the same
     /// bank is chosen, so that it may be begun again.
@@ -88,8 +87,8 @@ impl Journal {
         ensures alike { IsTrue H.told → OnOk result
             (VotesAgree self.old (image (unit_under self.old) (H.outside host.new).now)) }
         ensures reads { IsTrue H.told → OnOk result
-            (records (image (unit_under self.old) (H.outside host.new).now)
-            ≡ records (image (unit_under self.old) (H.outside host.old).now)) }
+            (reading (image (unit_under self.old) (H.outside host.new).now)
+            ≡ reading (image (unit_under self.old) (H.outside host.old).now)) }
         ensures writes { Programs H.told (unit_under self.old) three_votes
             (Mends (bank_number (bank_of self.old))
             (image (unit_under self.old) (H.outside host.old).now))

@@ -22,8 +22,9 @@ pub struct Switching {
 impl Switching {
     ghost use Rattle.std.specs.Prelude.{OnOk, IfOk, length, true};
     ghost use Rattle.newt_host.specs.Moments.{image};
-    ghost use Rattle.newt_spec_image.specs.Records.{records, bank_blocks};
-    ghost use Rattle.newt_journal.specs.Journal.{Stands, VotesAgree, ReadsAs, ReadsAsEither};
+    ghost use Rattle.newt_spec_image.specs.Records.{bank_blocks};
+    ghost use Rattle.newt_journal.specs.Journal.{Stands, VotesAgree};
+    ghost use Rattle.newt_journal.specs.Journal.{reading, ReadsAs, ReadsAsEither};
     ghost use Rattle.newt_journal.specs.Switch.{IsSwitchOf};
     ghost use Rattle.newt_journal.specs.Draft.{IsBegun, IsSameRecord, HasPut, IsFinished};
     ghost use Rattle.newt_journal.specs.Draft.{outcome_of};
@@ -43,7 +44,7 @@ impl Switching {
         ensures begun { IfOk result (λ draft. IsBegun H.told journal len true (Switch draft)
             (H.outside host.old) (H.outside host.new)) }
         ensures writes { Programs H.told journal.unit (writing 21 (bank_blocks journal.blocks) 1)
-            (ReadsAs (records (image journal.unit (H.outside host.old).now))) result
+            (ReadsAs (reading (image journal.unit (H.outside host.old).now))) result
             (H.outside host.old) (H.outside host.new) }
     {
         begin_bank(
@@ -68,7 +69,7 @@ impl Switching {
         ensures more { OnOk result (HasPut H.told bytes.now (Switch self.old) (Switch self.new)
             (H.outside host.old) (H.outside host.new)) }
         ensures writes { Programs H.told self.old.journal.unit (writing (length bytes.now) 0 0)
-            (ReadsAs (records (image self.old.journal.unit (H.outside host.old).now))) result
+            (ReadsAs (reading (image self.old.journal.unit (H.outside host.old).now))) result
             (H.outside host.old) (H.outside host.new) }
     {
         let start = self.journal.bank.other().start(self.journal.blocks);
@@ -84,7 +85,7 @@ impl Switching {
         ensures finished { IfOk result (λ journal. IsFinished H.told (Switch self) journal
             (H.outside host.old) (H.outside host.new)) }
         ensures writes { Programs H.told self.journal.unit (writing 3 3 7)
-            (ReadsAsEither (records (image self.journal.unit (H.outside host.old).now))
+            (ReadsAsEither (reading (image self.journal.unit (H.outside host.old).now))
             (outcome_of (Switch self) (H.outside host.old))) result
             (H.outside host.old) (H.outside host.new) }
     {
@@ -103,6 +104,7 @@ impl Switching {
             blocks,
             bank: to,
             end: to.start(blocks) + 21 + len,
+            version: 2,
             closed: false,
         })
     }

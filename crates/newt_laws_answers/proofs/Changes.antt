@@ -1,5 +1,5 @@
 -- Each change in the words of the commands: its tests, what it makes of the store, and how much it programs at most.
-use Rattle.std.proofs.Common.{◌≡◌, ℕ, List, [], ◌∷◌, length, Some, refl}
+use Rattle.std.proofs.Common.{◌≡◌, ℕ, List, [], ◌∷◌, length, Option, Some, refl}
 use Rattle.std.specs.Prelude.{slice_get}
 use Rattle.newt_base.specs.Refusals.{Checks, first_of}
 use Rattle.newt_graph.specs.Graph.{RawGraph}
@@ -11,9 +11,9 @@ use Rattle.newt_store_change.specs.Change.{changed_by, refusals, most_bytes}
 use Rattle.newt_store_change.specs.declared.change.Change.{Change}
 use Rattle.newt_store_change.specs.declared.change.Change.TheVariants as change
 use Rattle.newt_laws_answers.specs.Bounds.{change_bytes, unless}
-use Rattle.newt_laws_answers.proofs.Tests.{add_tests, move_tests, moved_within, replace_tests, replaced, patch_tests, patched_within, index_tests, tags_tests, tagged}
-use Rattle.newt_laws_answers.proofs.Refusals.{drop-tests, dropped, index-tests, indexed, unindex-tests, unindexed, tags-tests, tagged-as, add-tests, added, remove-tests, removed, replace-tests, replaced-as, patch-tests, patched-as, move-tests, moved}
-use Rattle.newt_laws_answers.proofs.Programs.{make-bound, drop-bound, index-bound, unindex-bound, tags-bound, add-bound, remove-bound, replace-bound, patch-bound, move-bound}
+use Rattle.newt_laws_answers.proofs.Tests.{add_tests, move_tests, moved_within, replace_tests, replaced, patch_tests, patched_within, index_tests, tags_tests, tagged, info_tests, informed}
+use Rattle.newt_laws_answers.proofs.Refusals.{drop-tests, dropped, index-tests, indexed, unindex-tests, unindexed, tags-tests, tagged-as, info-tests, informed-as, add-tests, added, remove-tests, removed, replace-tests, replaced-as, patch-tests, patched-as, move-tests, moved}
+use Rattle.newt_laws_answers.proofs.Programs.{make-bound, drop-bound, index-bound, unindex-bound, tags-bound, info-bound, add-bound, remove-bound, replace-bound, patch-bound, move-bound}
 
 -- A change of a store at a minute, in other words: by these tests, as this change of the store, with so many bytes at most.
 pub record SaidAs (change : Change) (blocks now : ℕ) (s : Store) (tests : Checks) (made : Store → Store) (most : ℕ) : Type 0 where
@@ -50,6 +50,14 @@ module _ (blocks now sig : ℕ) (s : Store) (p : Soup) (found : soup_of sig s �
     tests_are = tags-tests blocks now sig s p found table;
     made_is = tagged-as blocks now sig s p found table;
     most_is = tags-bound blocks now sig s p found table;
+  }
+
+  pub info-said : (info : Option RawGraph) → SaidAs (change.SetInfo sig info) blocks now s (info_tests blocks p.name info s) (informed p.name info)
+      (unless (info_tests blocks p.name info s) (change_bytes s (informed p.name info s) [] []))
+  info-said info = record {
+    tests_are = info-tests blocks now sig s p found info;
+    made_is = informed-as blocks now sig s p found info;
+    most_is = info-bound blocks now sig s p found info;
   }
 
   pub add-said : (g : RawGraph) → SaidAs (change.Add sig g) blocks now s (add_tests blocks now p.name g s p) (change_soup p.name (add_entry now g))

@@ -1,9 +1,18 @@
 -- Indexes and tags: declared, removed and shown.
-use Rattle.std.proofs.Common.{◌≡◌, refl, ap, ◌∙◌, sym, ℕ, List, [], ◌∷◌, Bool, true, false, not, nat_lt, nat_le, Some, None, map, length, replicate, cond, drop}
-use Rattle.std.specs.List.{list_any}
+use Rattle.newt_spec_query.specs.Spec.{is_nil}
+use Rattle.newt_store_change.specs.Change.{is_bad_info, is_large_info}
+use Rattle.newt_spec_store.specs.Valid.{is_no_large}
+use Rattle.newt_spec_nsof.specs.Flat.{flat, value_text, word_text}
+use Rattle.newt_spec_graph.specs.Graph.{is_frame, object}
+use Rattle.newt_graph.specs.declared.node.Ref.TheVariants.{Imm, Node as At}
+use Rattle.newt_graph.specs.declared.node.Ref.{Ref}
+use Rattle.newt_graph.specs.Graph.{RawGraph}
+use Rattle.std.proofs.Common.{◌≡◌, refl, ap, ◌∙◌, sym, ℕ, List, [], ◌∷◌, Bool, true, false, not, ◌||◌, ◌&&◌, ◌==◌, pos, negsuc, nat_lt, nat_le, Some, None, map, length, replicate, cond, drop}
+use Rattle.std.specs.List.{list_all, list_any}
+use Rattle.std.proofs.lemmas.Bool.{eqb-true}
 use Rattle.newt_base.specs.Refusals.{Checks, first_of}
 use Rattle.newt_base.specs.declared.Refusal.{Refusal}
-use Rattle.newt_base.specs.declared.Refusal.TheVariants.{Index as BadIndex, Key as BadKey, Limit, Full}
+use Rattle.newt_base.specs.declared.Refusal.TheVariants.{Index as BadIndex, Key as BadKey, Limit, Full, Size, Info as BadInfo}
 use Rattle.newt_spec_image.specs.Pages.{cap}
 use Rattle.newt_spec_store.specs.Cost.{cost}
 use Rattle.newt_spec_store.specs.Keys.{Path, paths_of, same_paths, has_paths}
@@ -12,11 +21,11 @@ use Rattle.newt_spec_world.specs.declared.command.Command.TheVariants as command
 use Rattle.newt_spec_world.specs.declared.command.PartWord.{PartWord}
 use Rattle.newt_spec_world.specs.World.{World, change_store}
 use Rattle.newt_spec_world.specs.Reply.{Reply}
-use Rattle.newt_spec_world.specs.Changed.{changed, spec_of_words}
-use Rattle.newt_spec_world.specs.Refused.{checks, on_some, no_unit, not_mounted, no_soup, has_index, index_exists, no_index, real_part, index_limit, full}
+use Rattle.newt_spec_world.specs.Changed.{changed, spec_of_words, info_from}
+use Rattle.newt_spec_world.specs.Refused.{checks, on_some, no_unit, not_mounted, no_soup, has_index, index_exists, no_index, real_part, index_limit, bad_info, info_too_large, full}
 use Rattle.newt_spec_world.specs.Answer.{answer, fields, or_nil}
 use Rattle.newt_laws_answers.specs.Tests.{soup_checks}
-use Rattle.newt_laws_answers.proofs.Tests.{index_tests, tagged, tags_tests}
+use Rattle.newt_laws_answers.proofs.Tests.{index_tests, tagged, tags_tests, info_tests, informed}
 use Rattle.newt_laws_answers.specs.There.{OnUnit}
 use Rattle.newt_laws_answers.proofs.Firsts.{first-true, first-false, first-found}
 use Rattle.newt_laws_answers.proofs.Units.{on-changed, soup-named}
@@ -113,6 +122,11 @@ module _ (w : World) (u blocks : ℕ) (s : Store) (name : List ℕ) (p : Soup) (
   tags-done none = done w (command.Tags u name) (all-pass w u blocks s name p [] h f) none
       ∙ ap {B = World × Reply} (λ o. (w, or_nil (λ (q : Soup). Reply.tags q.tags) o)) (soup-named w u blocks s name h ∙ f)
 
+  pub info-done : w.cursors ≡ replicate 32 None → answer w (command.Info u name) ≡ (w, or_nil Reply.literal_of p.info)
+  unfolding checks changed fields
+  info-done none = done w (command.Info u name) (all-pass w u blocks s name p [] h f) none
+      ∙ ap {B = World × Reply} (λ o. (w, or_nil (λ (q : Soup). or_nil Reply.literal_of q.info) o)) (soup-named w u blocks s name h ∙ f)
+
 -- ---- refused before
 
 module _ (w : World) (u : ℕ) (name : List ℕ) (r : Refusal) (h : first_of (soup_checks w u name) ≡ Some r) where
@@ -127,6 +141,10 @@ module _ (w : World) (u : ℕ) (name : List ℕ) (r : Refusal) (h : first_of (so
   pub tags-not-found : answer w (command.Tags u name) ≡ (w, Reply.refused r)
   unfolding checks
   tags-not-found = refused w (command.Tags u name) r h
+
+  pub info-not-found : answer w (command.Info u name) ≡ (w, Reply.refused r)
+  unfolding checks
+  info-not-found = refused w (command.Info u name) r h
 
 -- ---- tags are declared
 
@@ -164,3 +182,58 @@ module _ (w : World) (u : ℕ) (name : List ℕ) (path : Path) (symbols : List (
           → answer w (command.SetTags u name path symbols) ≡ (change_store w u (tagged name (record { path = path; symbols = symbols })), Reply.done)
       unfolding changed fields
       set-tags-done k none = done w (command.SetTags u name path symbols) (tags-checks ∙ k) none
+
+-- ---- an info frame is set
+
+-- the literal nil is written in two bytes
+nil-short : (g : RawGraph) → is_nil g.root ≡ true → nat_lt 4_000 (length (flat g)) ≡ false
+unfolding flat value_text word_text
+nil-short g h = go g.root h
+  where
+    go : (r : Ref) → is_nil r ≡ true → nat_lt 4_000 (length (flat (record { nodes = g.nodes; root = r }))) ≡ false
+    go (Imm (pos w)) e = ap (λ n. nat_lt 4_000 (length (flat (record { nodes = g.nodes; root = Imm (pos n) })))) (eqb-true w 2 e)
+    go (Imm (negsuc w)) e = cc
+    go (At n) e = cc
+
+-- the tests of the literal are those of the info frame that it gives
+bad-is : (g : RawGraph) → (bad_info g).1 ≡ is_bad_info (info_from g)
+bad-is g = go (is_nil g.root)
+  where
+    go : (b : Bool) → not (b || (is_frame (object g.nodes g.root) && list_all is_no_large g.nodes)) ≡ is_bad_info (cond b None (Some g))
+    go true = refl
+    go false = refl
+
+large-is : (g : RawGraph) → (info_too_large g).1 ≡ is_large_info (info_from g)
+large-is g = go (is_nil g.root) refl
+  where
+    go : (b : Bool) → is_nil g.root ≡ b → nat_lt 4_000 (length (flat g)) ≡ is_large_info (cond b None (Some g))
+    go true e = nil-short g e
+    go false e = refl
+
+module _ (w : World) (u : ℕ) (name : List ℕ) (g : RawGraph) where
+  abbrev info-rows : Checks
+  info-rows = no_unit w u ∷ not_mounted w u ∷ no_soup w u name ∷ bad_info g ∷ info_too_large g ∷ full w u (command.SetInfo u name g) ∷ []
+
+  info-table : first_of (checks w (command.SetInfo u name g)) ≡ first_of info-rows
+  unfolding checks
+  info-table = refl
+
+  pub set-info-not-found : (r : Refusal) → first_of (soup_checks w u name) ≡ Some r → answer w (command.SetInfo u name g) ≡ (w, Reply.refused r)
+  set-info-not-found r h = refused w (command.SetInfo u name g) r (info-table ∙ first-found (soup_checks w u name) (drop 3 info-rows) r h)
+
+  module _ (blocks : ℕ) (s : Store) (p : Soup) (h : OnUnit w u blocks s) (f : soup_named name s ≡ Some p) where
+    info-room : (full w u (command.SetInfo u name g)).1 ≡ nat_lt (cap blocks) (cost (informed name (info_from g) s))
+    unfolding changed
+    info-room = full-is (change_store w u (informed name (info_from g))) u blocks (informed name (info_from g) s) (on-changed w u blocks s (informed name (info_from g)) h)
+
+    pub info-checks : first_of (checks w (command.SetInfo u name g)) ≡ first_of (info_tests blocks name (info_from g) s)
+    info-checks = info-table ∙ all-pass w u blocks s name p (drop 3 info-rows) h f
+        ∙ (λ i. first_of ((BadInfo, bad-is g i) ∷ (Size, large-is g i) ∷ (Full, info-room i) ∷ []))
+
+    pub set-info-refused : (r : Refusal) → first_of (info_tests blocks name (info_from g) s) ≡ Some r → answer w (command.SetInfo u name g) ≡ (w, Reply.refused r)
+    set-info-refused r k = refused w (command.SetInfo u name g) r (info-checks ∙ k)
+
+    pub set-info-done : first_of (info_tests blocks name (info_from g) s) ≡ None → w.cursors ≡ replicate 32 None
+        → answer w (command.SetInfo u name g) ≡ (change_store w u (informed name (info_from g)), Reply.done)
+    unfolding changed fields
+    set-info-done k none = done w (command.SetInfo u name g) (info-checks ∙ k) none

@@ -13,13 +13,13 @@ use Rattle.newt_spec_graph.proofs.Lists.{some-same, none-some}
 use Rattle.newt_spec_query.specs.Cursor.{Cursor}
 use Rattle.newt_spec_store.specs.Keys.{Path, has_paths}
 use Rattle.newt_spec_store.specs.Valid.{valid_entry}
-use Rattle.newt_spec_store.specs.Store.{Store, Soup, Entry, soup_named, entry_of, change_first, change_soup, change_entry, make_soup, drop_soup, add_entry, remove_entry, next_uid_of, with_index, without_index, with_graph, with_tags}
+use Rattle.newt_spec_store.specs.Store.{Store, Soup, Entry, soup_named, entry_of, change_first, change_soup, change_entry, make_soup, drop_soup, add_entry, remove_entry, next_uid_of, with_index, without_index, with_graph, with_tags, with_info}
 use Rattle.newt_spec_world.specs.declared.command.Command.{Command}
 use Rattle.newt_spec_world.specs.declared.command.Command.TheVariants as command
 use Rattle.newt_spec_world.specs.declared.command.PartWord.{PartWord}
 use Rattle.newt_spec_world.specs.World.{World, default_unit, store_on_unit, soup_in, entry_in, change_store}
 use Rattle.newt_spec_graph.specs.Larges.{large_at}
-use Rattle.newt_spec_world.specs.Changed.{changed, spec_of_words}
+use Rattle.newt_spec_world.specs.Changed.{changed, spec_of_words, info_from}
 use Rattle.newt_spec_world.specs.Refused.{checks, real_part}
 use Rattle.newt_laws_world.proofs.Settled.{find-passes}
 use Rattle.newt_laws_world.specs.Cursors.{with_cursors, uses_cursors}
@@ -29,7 +29,7 @@ use Rattle.newt_laws_answers.specs.Bounds.{change_bytes, unless, listed, entries
 use Rattle.newt_laws_answers.specs.There.{OnUnit}
 use Rattle.newt_store_change.specs.Change.{refusals}
 use Rattle.newt_store_change.specs.declared.change.Change.TheVariants.{MakeSoup}
-use Rattle.newt_laws_answers.proofs.Tests.{add_tests, move_tests, moved_within, replace_tests, replaced, patch_tests, index_tests, tagged, tags_tests, with_added}
+use Rattle.newt_laws_answers.proofs.Tests.{add_tests, move_tests, moved_within, replace_tests, replaced, patch_tests, index_tests, tagged, tags_tests, with_added, info_tests, informed}
 use Rattle.newt_laws_answers.proofs.Firsts.{first-false}
 use Rattle.newt_laws_answers.proofs.Units.{is-there, on-changed, on-other, soup-named}
 use Rattle.newt_laws_answers.proofs.Answers.{all-pass, entry-named}
@@ -39,7 +39,7 @@ use Rattle.newt_laws_answers.proofs.Entries.{all-there}
 use Rattle.newt_laws_answers.proofs.Replaces.{change-checks, set-changed, set-checks}
 use Rattle.newt_laws_answers.proofs.Larges.{patch-checks}
 use Rattle.newt_laws_answers.proofs.Copies.{graph-passes, copied, copy-checks, moved, moved_world, ids-first, full-there, full-within}
-use Rattle.newt_laws_answers.proofs.Declares.{paths_of_words, has-is, index-checks, unindex-there, tags-checks}
+use Rattle.newt_laws_answers.proofs.Declares.{paths_of_words, has-is, index-checks, unindex-there, tags-checks, info-checks}
 
 -- the entries that are put and let go
 abbrev Touch : Type 0
@@ -265,6 +265,13 @@ unfolding changed
 set-tags-most w u name path symbols blocks s p h f few =
     most-between w (command.SetTags u name path symbols) u blocks s (change_soup name (with_tags (Some (record { path = path; symbols = symbols }))) s) [] [] (tags_tests blocks name (record { path = path; symbols = symbols }) s) refl
     (tags-checks w u name path symbols blocks s p h f few) h (on-changed w u blocks s (change_soup name (with_tags (Some (record { path = path; symbols = symbols })))) h) (if-same {X = Touch} u (Some ([], [])) None)
+
+pub set-info-most : (w : World) (u : ℕ) (name : List ℕ) (g : RawGraph) → (blocks : ℕ) (s : Store) (p : Soup) → OnUnit w u blocks s → soup_named name s ≡ Some p
+    → unless (info_tests blocks name (info_from g) s) (change_bytes s (informed name (info_from g) s) [] []) ≤ most_programmed w (command.SetInfo u name g) u
+unfolding changed
+set-info-most w u name g blocks s p h f =
+    most-between w (command.SetInfo u name g) u blocks s (change_soup name (with_info (info_from g)) s) [] [] (info_tests blocks name (info_from g) s) refl
+    (info-checks w u name g blocks s p h f) h (on-changed w u blocks s (change_soup name (with_info (info_from g))) h) (if-same {X = Touch} u (Some ([], [])) None)
 
 -- ---- cursors
 

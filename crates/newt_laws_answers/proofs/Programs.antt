@@ -7,14 +7,14 @@ use Rattle.newt_base.specs.declared.Refusal.{Refusal}
 use Rattle.newt_graph.specs.Graph.{RawGraph}
 use Rattle.newt_graph.specs.declared.node.Node.TheVariants.{Large}
 use Rattle.newt_laws_answers.specs.Bounds.{change_bytes, unless}
-use Rattle.newt_laws_answers.proofs.Tests.{add_tests, move_tests, moved_within, replace_tests, replaced, patch_tests, index_tests, tags_tests, tagged}
+use Rattle.newt_laws_answers.proofs.Tests.{add_tests, move_tests, moved_within, replace_tests, replaced, patch_tests, index_tests, tags_tests, tagged, info_tests, informed}
 use Rattle.newt_spec_store.specs.Cost.{entry_pages, directory_pages, patch_bytes, pages_bytes}
 use Rattle.newt_spec_store.specs.Keys.{IndexSpec, Path}
 use Rattle.newt_spec_store.specs.Store.{Store as Plain, Soup, Entry, TagTable, entry_of, change_soup, make_soup, drop_soup, add_entry, remove_entry, soup_of, entry_at, next_uid_of, with_index, without_index, with_graph}
 use Rattle.newt_store_change.specs.Change.{changed_by, refusals, refusal_of, entry_added, pages_of_entry, pages_of_soup, pages_removed, pages_put, pages_gone, bytes_of, most_bytes}
 use Rattle.newt_store_change.specs.declared.change.Change.{Change}
 use Rattle.newt_store_change.specs.declared.change.Change.TheVariants as change
-use Rattle.newt_laws_answers.proofs.Refusals.{entry-there, drop-tests, dropped, index-tests, indexed, unindex-tests, unindexed, tags-tests, tagged-as, add-tests, added, remove-tests, removed, replace-tests, replaced-as, patch-tests, move-tests, moved}
+use Rattle.newt_laws_answers.proofs.Refusals.{entry-there, drop-tests, dropped, index-tests, indexed, unindex-tests, unindexed, tags-tests, tagged-as, info-tests, informed-as, add-tests, added, remove-tests, removed, replace-tests, replaced-as, patch-tests, move-tests, moved}
 
 -- the pages of one entry
 one : (e : Entry) → entry_pages e ≡ sum_by entry_pages (e ∷ [])
@@ -50,6 +50,10 @@ module _ (blocks now sig : ℕ) (s : Plain) (p : Soup) (found : soup_of sig s �
   pub tags-bound : (table : TagTable) → most_bytes (change.SetTags sig table) blocks now s ≡ unless (tags_tests blocks p.name table s) (change_bytes s (tagged p.name table s) [] [])
   tags-bound table = bound-is (change.SetTags sig table) blocks now s (tagged p.name table s) (tags_tests blocks p.name table s) [] []
       (tags-tests blocks now sig s p found table) (tagged-as blocks now sig s p found table) refl refl refl
+
+  pub info-bound : (info : Option RawGraph) → most_bytes (change.SetInfo sig info) blocks now s ≡ unless (info_tests blocks p.name info s) (change_bytes s (informed p.name info s) [] [])
+  info-bound info = bound-is (change.SetInfo sig info) blocks now s (informed p.name info s) (info_tests blocks p.name info s) [] []
+      (info-tests blocks now sig s p found info) (informed-as blocks now sig s p found info) refl refl refl
 
   module _ (g : RawGraph) where
     pub add-bound : most_bytes (change.Add sig g) blocks now s

@@ -3,22 +3,22 @@ use Rattle.std.proofs.Common.{Bool, ◌≡◌, ◌==◌, ◌||◌, ◌+◌, ◌�
 use Rattle.std.specs.Option.{is_none, option_and_then, unwrap_or}
 use Rattle.std.specs.Prelude.{slice_get}
 use Rattle.newt_base.specs.Refusals.{Checks, first_of}
-use Rattle.newt_base.specs.declared.Refusal.TheVariants.{Soup as NoSoup, Entry as NoEntry, Notframe, Path as NoPath, Range, Size, Ids, Full, Limit, Index as BadIndex}
+use Rattle.newt_base.specs.declared.Refusal.TheVariants.{Soup as NoSoup, Entry as NoEntry, Notframe, Path as NoPath, Range, Size, Ids, Full, Limit, Index as BadIndex, Info as BadInfo}
 use Rattle.newt_graph.specs.Graph.{RawGraph}
 use Rattle.newt_graph.specs.declared.node.Node.{Node}
 use Rattle.newt_graph.specs.declared.node.Node.TheVariants.{Symbol, Str, Binary, Large, Array, Frame}
 use Rattle.newt_host.specs.Moments.{overwritten}
 use Rattle.newt_spec_image.specs.Pages.{cap}
 use Rattle.newt_laws_changes.proofs.Members.{entry_is_in}
-use Rattle.newt_laws_answers.proofs.Tests.{add_tests, move_tests, moved_within, replace_tests, replaced, patch_tests, patched_within, index_tests, tags_tests, tagged}
+use Rattle.newt_laws_answers.proofs.Tests.{add_tests, move_tests, moved_within, replace_tests, replaced, patch_tests, patched_within, index_tests, tags_tests, tagged, info_tests, informed}
 use Rattle.newt_spec_graph.specs.Graph.{change_nth, is_frame, object}
 use Rattle.newt_spec_store.specs.Cost.{cost}
 use Rattle.newt_spec_store.specs.Keys.{IndexSpec, Path, paths_of, has_paths}
 use Rattle.newt_spec_graph.specs.Larges.{bytes_of_large}
 use Rattle.newt_spec_world.specs.Changed.{patch_node, patched_at}
-use Rattle.newt_spec_store.specs.Store.{Store as Plain, Soup, Entry, TagTable, entry_of, change_soup, change_entry, drop_soup, add_entry, remove_entry, soup_of, entry_at, next_uid_of, with_index, without_index, with_graph, with_tags}
+use Rattle.newt_spec_store.specs.Store.{Store as Plain, Soup, Entry, TagTable, entry_of, change_soup, change_entry, drop_soup, add_entry, remove_entry, soup_of, entry_at, next_uid_of, with_index, without_index, with_graph, with_tags, with_info}
 use Rattle.newt_spec_store.specs.StoreOf.{with_bytes}
-use Rattle.newt_store_change.specs.Change.{changed_by, answer_of, refusals, changed_soup, dropped_soup, moved_entry, bytes_in, with_patch, patched_entry, large_in_entry, ends_behind, has_no_ids, is_too_large, specs_of}
+use Rattle.newt_store_change.specs.Change.{changed_by, answer_of, refusals, changed_soup, dropped_soup, moved_entry, bytes_in, with_patch, patched_entry, large_in_entry, ends_behind, has_no_ids, is_too_large, is_bad_info, is_large_info, specs_of}
 use Rattle.newt_store_change.specs.declared.change.Change.TheVariants as change
 
 -- the entry of a soup that is there
@@ -65,6 +65,13 @@ module _ (blocks now sig : ℕ) (s : Plain) (p : Soup) (found : soup_of sig s �
 
   pub tags-tests : (table : TagTable) → first_of (refusals (change.SetTags sig table) blocks now s) ≡ first_of (tags_tests blocks p.name table s)
   tags-tests table = ap (λ (o : Option Soup). first_of ((NoSoup, is_none o) ∷ (Full, nat_lt (cap blocks) (cost (changed_soup o (with_tags (Some table)) s))) ∷ [])) found
+
+  pub informed-as : (info : Option RawGraph) → changed_by (change.SetInfo sig info) now s ≡ informed p.name info s
+  informed-as info = ap (λ (o : Option Soup). changed_soup o (with_info info) s) found
+
+  pub info-tests : (info : Option RawGraph) → first_of (refusals (change.SetInfo sig info) blocks now s) ≡ first_of (info_tests blocks p.name info s)
+  info-tests info = ap (λ (o : Option Soup). first_of ((NoSoup, is_none o) ∷ (BadInfo, is_bad_info info) ∷ (Size, is_large_info info)
+      ∷ (Full, nat_lt (cap blocks) (cost (changed_soup o (with_info info) s))) ∷ [])) found
 
   module _ (g : RawGraph) where
     pub add-tests : first_of (refusals (change.Add sig g) blocks now s) ≡ first_of (add_tests blocks now p.name g s p)

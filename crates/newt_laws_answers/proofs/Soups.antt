@@ -24,8 +24,8 @@ module _ (w : World) (u blocks : ℕ) (s : Store) (name : List ℕ) (h : OnUnit 
   exists-is : is_some (soup_in w u name) ≡ is_some (soup_named name s)
   exists-is = ap is_some (soup-named w u blocks s name h)
 
-  limit-is : on_some (mounted_store w u) (λ s. nat_le 64 (length s.soups)) ≡ nat_le 64 (length s.soups)
-  limit-is = ap (λ o. on_some o (λ (s : Store). nat_le 64 (length s.soups))) (is-mounted w u blocks s h)
+  limit-is : on_some (mounted_store w u) (λ s. nat_le 250 (length s.soups)) ≡ nat_le 250 (length s.soups)
+  limit-is = ap (λ o. on_some o (λ (s : Store). nat_le 250 (length s.soups))) (is-mounted w u blocks s h)
 
   ids-is : on_some (mounted_store w u) (λ s. s.next_soup == 65_535) ≡ (s.next_soup == 65_535)
   ids-is = ap (λ o. on_some o (λ (s : Store). s.next_soup == 65_535)) (is-mounted w u blocks s h)
@@ -40,8 +40,8 @@ module _ (w : World) (u blocks : ℕ) (s : Store) (name : List ℕ) (h : OnUnit 
       unit-passes w u blocks s (soup_exists w u name ∷ soup_limit w u ∷ no_more_soups w u ∷ full w u (command.Soup u name) ∷ []) h
       ∙ ap {A = Bool} (λ b. first_of ((Exists, b) ∷ soup_limit w u ∷ no_more_soups w u ∷ full w u (command.Soup u name) ∷ [])) exists-is
       ∙ ap {A = Bool} (λ b. first_of ((Exists, is_some (soup_named name s)) ∷ (Limit, b) ∷ no_more_soups w u ∷ full w u (command.Soup u name) ∷ [])) limit-is
-      ∙ ap {A = Bool} (λ b. first_of ((Exists, is_some (soup_named name s)) ∷ (Limit, nat_le 64 (length s.soups)) ∷ (Ids, b) ∷ full w u (command.Soup u name) ∷ [])) ids-is
-      ∙ ap {A = Bool} (λ b. first_of ((Exists, is_some (soup_named name s)) ∷ (Limit, nat_le 64 (length s.soups)) ∷ (Ids, s.next_soup == 65_535) ∷ (Full, b) ∷ [])) room-is
+      ∙ ap {A = Bool} (λ b. first_of ((Exists, is_some (soup_named name s)) ∷ (Limit, nat_le 250 (length s.soups)) ∷ (Ids, b) ∷ full w u (command.Soup u name) ∷ [])) ids-is
+      ∙ ap {A = Bool} (λ b. first_of ((Exists, is_some (soup_named name s)) ∷ (Limit, nat_le 250 (length s.soups)) ∷ (Ids, s.next_soup == 65_535) ∷ (Full, b) ∷ [])) room-is
 
   pub soup-refused : (r : Refusal) → first_of (refusals (MakeSoup name) blocks w.minute s) ≡ Some r → answer w (command.Soup u name) ≡ (w, Reply.refused r)
   soup-refused r k = refused w (command.Soup u name) r (soup-checks ∙ k)

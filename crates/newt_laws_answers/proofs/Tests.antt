@@ -1,14 +1,15 @@
 -- What is left of the refusals of a change where the soup and the entry that it names are there, by the soup's name; and what the change makes of the store then.
-use Rattle.std.specs.Prelude.{ℕ, ◌+◌, not, ◌==◌, nat_lt, nat_le, List, [], ◌∷◌, length, Some, slice_get}
+use Rattle.std.specs.Prelude.{ℕ, ◌+◌, not, ◌==◌, nat_lt, nat_le, List, [], ◌∷◌, length, Option, Some, slice_get}
 use Rattle.newt_base.specs.Refusals.{Checks}
-use Rattle.newt_base.specs.declared.Refusal.TheVariants.{Notframe, Range, Limit, Size, Ids, Full, Index as BadIndex}
+use Rattle.newt_base.specs.declared.Refusal.TheVariants.{Notframe, Range, Limit, Size, Ids, Full, Index as BadIndex, Info as BadInfo}
 use Rattle.newt_graph.specs.Graph.{RawGraph}
 use Rattle.newt_spec_image.specs.Pages.{cap}
 use Rattle.newt_spec_graph.specs.Graph.{is_frame, object}
 use Rattle.newt_spec_graph.specs.Larges.{bytes_of_large}
 use Rattle.newt_spec_store.specs.Cost.{cost, skeleton_length}
 use Rattle.newt_spec_store.specs.Keys.{IndexSpec, paths_of, has_paths}
-use Rattle.newt_spec_store.specs.Store.{Store, Soup, Entry, TagTable, change_soup, change_entry, add_entry, remove_entry, with_index, with_graph, with_tags}
+use Rattle.newt_spec_store.specs.Store.{Store, Soup, Entry, TagTable, change_soup, change_entry, add_entry, remove_entry, with_index, with_graph, with_tags, with_info}
+use Rattle.newt_store_change.specs.Change.{is_bad_info, is_large_info}
 use Rattle.newt_spec_world.specs.World.{World, change_store}
 use Rattle.newt_spec_world.specs.Changed.{patched_at}
 
@@ -58,6 +59,14 @@ tagged name table s = change_soup name (with_tags (Some table)) s
 -- what is tested of the store where tags are to be declared
 abbrev pub tags_tests : (blocks : ℕ) → List ℕ → TagTable → Store → Checks
 tags_tests blocks name table s = (Full, nat_lt (cap blocks) (cost (tagged name table s))) ∷ []
+
+-- the store with this info frame of a soup, or none
+abbrev pub informed : List ℕ → Option RawGraph → Store → Store
+informed name info s = change_soup name (with_info info) s
+
+-- what is tested of an info frame and the store where it is to be a soup's
+abbrev pub info_tests : (blocks : ℕ) → List ℕ → Option RawGraph → Store → Checks
+info_tests blocks name info s = (BadInfo, is_bad_info info) ∷ (Size, is_large_info info) ∷ (Full, nat_lt (cap blocks) (cost (informed name info s))) ∷ []
 
 -- the world with the entry
 abbrev pub with_added : World → ℕ → List ℕ → RawGraph → World

@@ -56,6 +56,7 @@ touched w v (command.Move t s uid x y) u =
 touched w v (command.Index t s parts) u = if t == u then Some ([], []) else None
 touched w v (command.Unindex t s paths) u = if t == u then Some ([], []) else None
 touched w v (command.SetTags t s path symbols) u = if t == u then Some ([], []) else None
+touched w v (command.SetInfo t s g) u = if t == u then Some ([], []) else None
 touched w v c u = None
 
 -- the bytes of the change of a unit's store, of which these entries are put and let go (a word of these definitions)

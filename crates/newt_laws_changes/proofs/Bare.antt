@@ -48,7 +48,7 @@ bool-same false false h k = refl
 -- ---- the changes
 
 pub made_bare : (name : List ℕ) (s : Store) → bare (make_soup name s) ≡ make_soup name (bare s)
-made_bare name s = ap (with_soups s (s.next_soup + 1)) (map-append bare_soup s.soups (record { name = name; sig = s.next_soup; next_uid = 0; specs = []; tags = None; entries = [] } ∷ []))
+made_bare name s = ap (with_soups s (s.next_soup + 1)) (map-append bare_soup s.soups (record { name = name; sig = s.next_soup; next_uid = 0; specs = []; tags = None; info = None; entries = [] } ∷ []))
 
 pub removed_bare : (name : List ℕ) (uid : ℕ) (s : Store) → bare (change_soup name (remove_entry uid) s) ≡ bare s
 removed_bare name uid s = ap (with_soups s s.next_soup) (first-map bare_soup (λ p. equal_text p.name name) (remove_entry uid) s.soups (λ p. refl))

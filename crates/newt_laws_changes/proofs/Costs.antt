@@ -5,7 +5,7 @@ use Rattle.newt_base.specs.Text.{be16, be32}
 use Rattle.newt_base.specs.Names.{equal_text}
 use Rattle.newt_spec_store.specs.Store.{Store, Soup, Entry, change_first, change_soup, change_entry, drop_soup, remove_entry, entry_of, soup_named}
 use Rattle.newt_spec_image.specs.Objects.{pages_for}
-use Rattle.newt_spec_store.specs.Cost.{cost, directory_bytes, soup_bytes, text_bytes, counted, part_bytes, tags_bytes, entry_pages, soup_pages}
+use Rattle.newt_spec_store.specs.Cost.{cost, directory_bytes, soup_bytes, text_bytes, counted, part_bytes, extra_bytes, entry_pages, soup_pages}
 use Rattle.newt_spec_store.specs.Valid.{fits}
 use Rattle.newt_laws_images.proofs.Totals.{total, sum-total}
 
@@ -39,13 +39,13 @@ pages-mono m n h = grind arith
 
 -- ---- the directory
 
-pub soup-length : (p : Soup) → length (soup_bytes p) ≡ (length p.name + 8) + (total (λ spec. length (counted part_bytes spec)) p.specs + length (tags_bytes p.tags))
+pub soup-length : (p : Soup) → length (soup_bytes p) ≡ (length p.name + 8) + (total (λ spec. length (counted part_bytes spec)) p.specs + length (extra_bytes p.tags p.info))
 soup-length p = grind (
   arith,
   length-append (text_bytes p.name) (be16 p.sig),
   length-append (text_bytes p.name ++ be16 p.sig) (be32 p.next_uid),
   length-append (text_bytes p.name ++ be16 p.sig ++ be32 p.next_uid) (counted (counted part_bytes) p.specs),
-  length-append (text_bytes p.name ++ be16 p.sig ++ be32 p.next_uid ++ counted (counted part_bytes) p.specs) (tags_bytes p.tags),
+  length-append (text_bytes p.name ++ be16 p.sig ++ be32 p.next_uid ++ counted (counted part_bytes) p.specs) (extra_bytes p.tags p.info),
   flat-total (counted part_bytes) p.specs,
 )
 

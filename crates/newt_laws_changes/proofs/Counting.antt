@@ -158,7 +158,7 @@ cost-declared name change s p found same =
 -- a soup more
 pub cost-made : (name : List ℕ) (s : Store) → cost (make_soup name s) + pages_for (length (directory_bytes s)) ≡ cost s + pages_for (length (directory_bytes (make_soup name s)))
 cost-made name s =
-    let none = total-push soup_pages s.soups (record { name = name; sig = s.next_soup; next_uid = 0; specs = []; tags = None; entries = [] }) in
+    let none = total-push soup_pages s.soups (record { name = name; sig = s.next_soup; next_uid = 0; specs = []; tags = None; info = None; entries = [] }) in
     let a = cost-total (make_soup name s) in
     let b = cost-total s in
     omega (arith, none, a, b)

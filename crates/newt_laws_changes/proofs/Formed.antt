@@ -11,7 +11,7 @@ use Rattle.newt_laws_images.proofs.Chosen.{find-passes, found_by_name, soup-good
 use Rattle.newt_laws_changes.proofs.Patched.{with_patch, patched-valid}
 use Rattle.newt_laws_changes.proofs.Soups.{with-entry, with-change-at, with-soup, with-new-soup, without-entry, without-soup}
 
-pub made_formed : (name : List ℕ) (s : Store) → IsTrue (well_formed s) → IsTrue (is_name name) → soup_named name s ≡ None → length s.soups < 64 → s.next_soup < 65535
+pub made_formed : (name : List ℕ) (s : Store) → IsTrue (well_formed s) → IsTrue (is_name name) → soup_named name s ≡ None → length s.soups < 250 → s.next_soup < 65535
     → IsTrue (well_formed (make_soup name s))
 made_formed name s w good new room ids = with-new-soup name s w good new room (λ e. omega (arith, e, ids))
 

@@ -27,6 +27,7 @@ fresh_lies objects s none h = (
     only_these = λ id bytes got n. absurd (none-some bytes (sym (h.no_others id n) ∙ got));
     names = λ r o m. absurd m;
     places = λ t u id at. absurd (none-some id at);
+    infos = λ p g m e. absurd (subst (λ (soups : List Soup). Among soups p) none m);
     skeletons = λ t e i. absurd (empty-in s t e none i);
     times = λ t e i. absurd (empty-in s t e none i);
   },

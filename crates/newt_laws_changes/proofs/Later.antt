@@ -60,7 +60,7 @@ store-trans s t x h k = record { sig_same = k.sig_same ∙ h.sig_same; next = om
 pub later-make : (name : List ℕ) (s : Store) → StoreLater s (make_soup name s)
 later-make name s = record { sig_same = refl; next = omega arith; soups = λ q m. go q (among-append s.soups _ q m) }
   where
-    go : (q : Soup) → Among s.soups q ⊎ Among (record { name = name; sig = s.next_soup; next_uid = 0; specs = []; tags = None; entries = [] } ∷ []) q → ((p : Soup) × Among s.soups p × SoupLater p q) ⊎ (s.next_soup ≤ q.sig)
+    go : (q : Soup) → Among s.soups q ⊎ Among (record { name = name; sig = s.next_soup; next_uid = 0; specs = []; tags = None; info = None; entries = [] } ∷ []) q → ((p : Soup) × Among s.soups p × SoupLater p q) ⊎ (s.next_soup ≤ q.sig)
     go q (inl m) = inl (q, m, soup-not q)
     go q (inr (inl is)) = inr (omega (arith, ap (λ (x : Soup). x.sig) is))
     go q (inr (inr m)) = absurd m

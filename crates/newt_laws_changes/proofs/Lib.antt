@@ -7,6 +7,7 @@ pub mod Lying
 pub mod Formed
 pub mod Bare
 pub mod Places
+pub mod Infos
 pub mod Turned
 pub mod Patched
 pub mod Moved

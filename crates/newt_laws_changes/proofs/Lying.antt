@@ -13,6 +13,7 @@ use Rattle.newt_spec_store.specs.Store.{Store, Soup, Entry, change_soup, make_so
 use Rattle.newt_spec_store.specs.Valid.{well_formed}
 use Rattle.newt_laws_changes.specs.Written.{Names, HeadWritten, EntryWritten, EntryErased, SoupErased}
 use Rattle.newt_laws_changes.proofs.Bytes.{removed-directory}
+use Rattle.newt_laws_changes.proofs.Infos.{AreNormal, changed-infos, dropped-infos, made-infos}
 use Rattle.newt_laws_changes.proofs.Members.{same-or-not, in-below, added-in, in-added, new-in, removed-in, in-removed, dropped-in, in-dropped, made-in, in-made}
 use Rattle.newt_laws_changes.proofs.Places.{odd-is-not, odd-or-even, above-is-not, place-there, named-there, places_apart}
 use Rattle.newt_laws_changes.proofs.Turned.{IsNew, turned_lies}
@@ -52,8 +53,8 @@ at-other place t u sig uid a b = ap (λ v. place v u) a ∙ ap (place sig) b
 -- the entries stay and only object 0 is written
 pub headed_lies : (objects objects' : Objects) (place : Places) (s t : Store) (lies : LiesIn objects place s) → HeadWritten (directory_bytes t) objects objects'
     → ((sig : ℕ) (e : Entry) → IsIn t sig e → IsIn s sig e) → ((sig : ℕ) (e : Entry) → IsIn s sig e → IsIn t sig e)
-    → (lies' : LiesIn objects' place t) × ((r : ℕ) → lies'.named r ≡ lies.named r)
-headed_lies objects objects' place s t lies h back forth = turned_lies objects objects' place place lies.named s t (λ k. ⊥) (λ v e k. ⊥) lies (record {
+    → AreNormal t → (lies' : LiesIn objects' place t) × ((r : ℕ) → lies'.named r ≡ lies.named r)
+headed_lies objects objects' place s t lies h back forth normal = turned_lies objects objects' place place lies.named s t (λ k. ⊥) (λ v e k. ⊥) lies (record {
   head_is = h.head_is;
   back = λ v e i. inl (back v e i, λ k at g. g);
   stays = λ v e k i at n. (forth v e i, at);
@@ -64,13 +65,14 @@ headed_lies objects objects' place s t lies h back forth = turned_lies objects o
   apart = λ v e k o r n m l. n;
   places_back = λ v u k at. inl (at, λ g. g);
   objects_back = λ o bytes got n. inl (sym (h.others o n) ∙ got, (λ g. g), λ r m g. g);
+  infos = normal;
   names_back = λ r o m. inl (m, λ g. g);
 })
 
 -- a soup more
 pub made_lies : (name : List ℕ) (objects objects' : Objects) (place : Places) (s : Store) (lies : LiesIn objects place s) → HeadWritten (directory_bytes (make_soup name s)) objects objects'
     → (lies' : LiesIn objects' place (make_soup name s)) × ((r : ℕ) → lies'.named r ≡ lies.named r)
-made_lies name objects objects' place s lies h = headed_lies objects objects' place s (make_soup name s) lies h (made-in name s) (in-made name s)
+made_lies name objects objects' place s lies h = headed_lies objects objects' place s (make_soup name s) lies h (made-in name s) (in-made name s) (made-infos name s lies.infos)
 
 -- ---- a soup less
 
@@ -135,6 +137,7 @@ module _ (sig : ℕ) (objects objects' : Objects) (place place' : Places) (named
         let was = sym (h.other_places t u differ) ∙ at in
         inl (was, λ g. differ (places_apart objects place s lies w t u sig g.0 k was g.1).0);
     objects_back = λ o bytes got n. inl (drop-objects o bytes got n);
+    infos = dropped-infos p.name s lies.infos;
     names_back = λ r o m. drop-names r o m (of-soup-or-not r);
   })
 
@@ -177,6 +180,7 @@ module _ (sig uid id : ℕ) (objects objects' : Objects) (place place' : Places)
         let was = sym (h.other_places t u m) ∙ at in
         inl (was, λ g. let a = gone-here t u (subst (λ n. place t u ≡ Some n) g was) in m a.0 a.1);
     objects_back = λ o bytes got n. inl (remove-objects o bytes got);
+    infos = changed-infos p.name (remove_entry uid) s (λ q. refl) lies.infos;
     names_back = λ r o m. remove-names r o m (same-or-not r id);
   })
 
@@ -248,6 +252,7 @@ module _ (sig id now : ℕ) (ids : List ℕ) (g : RawGraph) (objects objects' : 
         let b = named-there objects place s lies r o l in
         is-not-free objects ids o b.0 h.are_new b.1 (subst (λ (v : List ℕ). Among v o) h.names_are.names_it (subst (λ v. Among (named' v) o) n.2 m));
     places_back = λ t u k at. add-places t u k at (either-way t u sig p.next_uid);
+    infos = changed-infos p.name (add_entry now g) s (λ q. refl) lies.infos;
     objects_back = λ o bytes got n. add-objects o bytes got n (same-or-not o id) (among-or-not ids o);
     names_back = λ r o m. add-names r o m (same-or-not r id);
   })

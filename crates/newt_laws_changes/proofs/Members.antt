@@ -150,7 +150,7 @@ module _ (s : Store) (sig : ℕ) (p : Soup) (w : IsTrue (well_formed s)) (found 
 pub made-in : (name : List ℕ) (s : Store) (t : ℕ) (e : Entry) → IsIn (make_soup name s) t e → IsIn s t e
 made-in name s t e i = go i.soup (among-append s.soups _ i.soup i.is_soup) i.of_sig i.is_entry
   where
-    go : (q : Soup) → Among s.soups q ⊎ Among (record { name = name; sig = s.next_soup; next_uid = 0; specs = []; tags = None; entries = [] } ∷ []) q → q.sig ≡ t → Among q.entries e → IsIn s t e
+    go : (q : Soup) → Among s.soups q ⊎ Among (record { name = name; sig = s.next_soup; next_uid = 0; specs = []; tags = None; info = None; entries = [] } ∷ []) q → q.sig ≡ t → Among q.entries e → IsIn s t e
     go q (inl m) is n = record { soup = q; is_soup = m; of_sig = is; is_entry = n }
     go q (inr (inl k)) is n = absurd (subst (λ (r : Soup). Among r.entries e) (sym k) n)
     go q (inr (inr m)) is n = absurd m

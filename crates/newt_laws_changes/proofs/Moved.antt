@@ -21,6 +21,7 @@ use Rattle.newt_laws_changes.specs.Written.{Names, EntryMoved}
 use Rattle.newt_laws_images.proofs.Chosen.{find-one, first-among, first-others, one-sig-of, soup-there, found_by_name}
 use Rattle.newt_laws_changes.proofs.Formed.{added_formed}
 use Rattle.newt_laws_changes.proofs.Lying.{Same, same-carried, among-or-not, either-way, at-other, is-not-free}
+use Rattle.newt_laws_changes.proofs.Infos.{changed-infos}
 use Rattle.newt_laws_changes.proofs.Members.{same-or-not, same-name, in-below, added-in, in-added, new-in, removed-in, in-removed}
 use Rattle.newt_laws_changes.proofs.Places.{odd-is-not, odd-or-even, above-is-not, place-there, named-there, places_apart}
 use Rattle.newt_laws_changes.proofs.Soups.{first-map}
@@ -177,6 +178,7 @@ module _ (sig uid old to id now : ℕ) (ids : List ℕ) (g : RawGraph) (objects 
         let b = named-there objects place s lies r o l in
         absurd (is-not-free objects ids o b.0 h.are_new b.1 (subst (λ (v : List ℕ). Among v o) h.names_it (subst (λ v. Among (named' v) o) n.2 m)));
     places_back = λ t u k at. move-places t u k at (either-way t u to q.next_uid);
+    infos = changed-infos p.name (remove_entry uid) between (λ r. refl) (changed-infos q.name (add_entry now g) s (λ r. refl) lies.infos);
     objects_back = λ o bytes got n. move-objects o bytes got n (same-or-not o id) (among-or-not ids o);
     names_back = λ r o m. move-names r o m (same-or-not r id) (same-or-not r old);
   })

@@ -1,5 +1,5 @@
 -- A graph with other bytes, as many, in one of its large binaries: its skeleton, its rows, its limits and its pages are the same.
-use Rattle.std.proofs.Common.{arith, ◌≡◌, ◌≢◌, refl, ap, sym, ◌∙◌, subst, ℕ, zero, suc, ◌+◌, ◌*◌, ◌≤◌, List, [], ◌∷◌, ◌++◌, ◌&&◌, Some, inl, inr, map, flat_map, zip, length, nat_le, sum}
+use Rattle.std.proofs.Common.{arith, ◌≡◌, ◌≢◌, refl, ap, sym, ◌∙◌, subst, ℕ, zero, suc, ◌+◌, ◌*◌, ◌≤◌, List, [], ◌∷◌, ◌++◌, ◌&&◌, Some, map, flat_map, zip, length, nat_le, sum}
 use Rattle.std.specs.Prelude.{slice_get}
 use Rattle.std.specs.FinMap as map
 use Rattle.newt_base.specs.Text.{be16, be32}
@@ -10,8 +10,8 @@ use Rattle.newt_spec_image.specs.Objects.{Objects, pages_for}
 use Rattle.newt_spec_nsof.specs.Flat.{flat}
 use Rattle.newt_spec_nsof.specs.Lengths.{skeleton, bare as bare_node}
 use Rattle.newt_spec_graph.specs.Graph.{change_nth}
-use Rattle.newt_spec_graph.specs.Lists.{Each, Pairs, Among}
-use Rattle.newt_spec_graph.proofs.Lists.{each-at, each-more, get-among, some-same, none-some}
+use Rattle.newt_spec_graph.specs.Lists.{Each, Pairs}
+use Rattle.newt_spec_graph.proofs.Lists.{each-at, each-more, get-among, some-same}
 use Rattle.newt_spec_store.specs.Cost.{large_length, entry_pages}
 use Rattle.newt_spec_store.specs.Image.{larges, large_row, entry_bytes}
 use Rattle.newt_spec_store.specs.Lies.{HasLarge, AreLarges}

@@ -2,7 +2,7 @@
 use Rattle.std.proofs.Common.{◌≡◌, ◌≢◌, refl, ap, sym, ◌∙◌, subst, ℕ, ◌<◌, ◌%◌, List, true, IsTrue, Some, ◌⊎◌, inl, inr, ◌==◌}
 use Rattle.std.specs.FinMap as map
 use Rattle.std.proofs.lemmas.Bool.{eqb-true, eq-eqb}
-use Rattle.newt_graph.specs.Graph.{IsGraph}
+use Rattle.newt_graph.specs.Graph.{RawGraph, IsGraph}
 use Rattle.newt_spec_image.specs.Objects.{Objects}
 use Rattle.newt_spec_nsof.specs.Lengths.{skeleton}
 use Rattle.newt_spec_graph.specs.Lists.{Among}
@@ -16,6 +16,7 @@ use Rattle.newt_laws_changes.specs.Written.{Names, HeadWritten, EntryRewritten, 
 use Rattle.newt_laws_changes.proofs.Bytes.{same-directory}
 use Rattle.newt_laws_images.proofs.Chosen.{find-passes, first-among, first-others, first-parts, one-uid, soup-there, soup-good}
 use Rattle.newt_laws_changes.proofs.Lying.{Same, same-carried, among-or-not, either-way, at-other, headed_lies, is-not-free}
+use Rattle.newt_laws_changes.proofs.Infos.{changed-infos, declared-infos}
 use Rattle.newt_laws_changes.proofs.Members.{same-or-not, entry_is_in, in-one, one-in, changed-in, in-changed, others-in}
 use Rattle.newt_laws_changes.proofs.Patched.{with_patch, patched-skeleton, patched-bytes, patched-there}
 use Rattle.newt_laws_changes.proofs.Places.{odd-is-not, odd-or-even, above-is-not, named-there, places_apart}
@@ -66,10 +67,10 @@ module _ (s : Store) (sig : ℕ) (p : Soup) (w : IsTrue (well_formed s)) (found 
       go (inr n) = others-in s sig p w found f t e i n
 
 pub declared_lies : (sig : ℕ) (change : Soup → Soup) (objects objects' : Objects) (place : Places) (s : Store) (p : Soup) (lies : LiesIn objects place s) → IsTrue (well_formed s)
-    → soup_of sig s ≡ Some p → (change p).sig ≡ p.sig → (change p).entries ≡ p.entries → HeadWritten (directory_bytes (change_soup p.name change s)) objects objects'
+    → soup_of sig s ≡ Some p → (change p).sig ≡ p.sig → (change p).entries ≡ p.entries → ((g : RawGraph) → (change p).info ≡ Some g → IsGraph g) → HeadWritten (directory_bytes (change_soup p.name change s)) objects objects'
     → (lies' : LiesIn objects' place (change_soup p.name change s)) × ((r : ℕ) → lies'.named r ≡ lies.named r)
-declared_lies sig change objects objects' place s p lies w found same_sig same_entries h = headed_lies objects objects' place s (change_soup p.name change s) lies h
-    (declared-in s sig p w found change same_sig same_entries) (in-declared s sig p w found change same_sig same_entries)
+declared_lies sig change objects objects' place s p lies w found same_sig same_entries normal h = headed_lies objects objects' place s (change_soup p.name change s) lies h
+    (declared-in s sig p w found change same_sig same_entries) (in-declared s sig p w found change same_sig same_entries) (declared-infos s sig p w found change normal lies.infos)
 
 -- ---- an entry whose record is written anew
 
@@ -157,6 +158,7 @@ module _ (sig uid id : ℕ) (change : Entry → Entry) (objects : Objects) (plac
           let b = named-there objects place s lies r o l in
           absurd (is-not-free objects ids o b.0 h.are_new b.1 (subst (λ (v : List ℕ). Among v o) h.names_are.names_it (subst (λ v. Among (named' v) o) n.2 m)));
       places_back = λ t u k at. its-places t u k at (either-way t u sig uid);
+      infos = changed-infos p.name (change_entry uid change) s (λ q. refl) lies.infos;
       objects_back = λ o bytes got n. replace-objects o bytes got (same-or-not o id) (among-or-not ids o);
       names_back = λ r o m. its-names named' h.names_are.other_names r o m (same-or-not r id);
     })
@@ -205,6 +207,7 @@ module _ (sig uid id : ℕ) (change : Entry → Entry) (objects : Objects) (plac
       one_new = λ t e k v d other n m. n.2 ∙ sym m.2;
       apart = λ t e k q r n m l. lies.once r k q l m ∙ n.2;
       places_back = λ t u k at. its-places t u k at (either-way t u sig uid);
+      infos = changed-infos p.name (change_entry uid change) s (λ q. refl) lies.infos;
       objects_back = λ q b got n. patch-objects q b got (same-or-not q id) (among-or-not (lies.named id) q);
       names_back = λ r q m. its-names lies.named (λ v n. refl) r q m (same-or-not r id);
     })

@@ -3,10 +3,10 @@ use Rattle.std.proofs.Common.{arith, ◌≡◌, refl, ap, ◌∙◌, ℕ, ◌+�
 use Rattle.std.specs.List.{list_all, list_any}
 use Rattle.newt_base.specs.Names.{equal_text, same_name}
 use Rattle.newt_graph.specs.Graph.{RawGraph}
-use Rattle.newt_spec_store.specs.Store.{Store, Soup, Entry, soup_named, entry_of, change_first, change_soup, change_entry, make_soup, drop_soup, add_entry, remove_entry, TagTable, with_index, without_index, with_tags}
+use Rattle.newt_spec_store.specs.Store.{Store, Soup, Entry, soup_named, entry_of, change_first, change_soup, change_entry, make_soup, drop_soup, add_entry, remove_entry, TagTable, with_index, without_index, with_tags, with_info}
 use Rattle.newt_base.specs.Names.{is_name}
 use Rattle.newt_spec_graph.specs.Lists.{all_apart, rises}
-use Rattle.newt_spec_store.specs.Valid.{well_formed, valid_soup, valid_entry, valid_spec, valid_tags}
+use Rattle.newt_spec_store.specs.Valid.{well_formed, valid_soup, valid_entry, valid_spec, valid_tags, valid_info}
 use Rattle.newt_laws_images.proofs.Records.{push-length}
 use Rattle.newt_laws_images.proofs.Stores.{is-soup, soup-is, is-store, store-is}
 use Rattle.newt_spec_store.specs.Keys.{Path, IndexSpec, paths_of, same_paths}
@@ -147,6 +147,7 @@ with-entry time g p h room fits = let r = is-soup p h in soup-is (add_entry time
   specs_fit = r.specs_fit;
   specs_apart = r.specs_apart;
   tags_fit = r.tags_fit;
+  info_fits = r.info_fits;
   entries_fit = push-all valid_entry p.entries _ r.entries_fit fits;
 })
 
@@ -160,6 +161,7 @@ with-change-at uid f p h same fits = let r = is-soup p h in soup-is (change_entr
   specs_fit = r.specs_fit;
   specs_apart = r.specs_apart;
   tags_fit = r.tags_fit;
+  info_fits = r.info_fits;
   entries_fit = first-all valid_entry (λ e. e.uid == uid) f p.entries r.entries_fit fits;
 })
 
@@ -176,6 +178,7 @@ without-entry uid p h = let r = is-soup p h in soup-is (remove_entry uid p) (rec
   specs_fit = r.specs_fit;
   specs_apart = r.specs_apart;
   tags_fit = r.tags_fit;
+  info_fits = r.info_fits;
   entries_fit = filter-all valid_entry _ p.entries r.entries_fit;
 })
 
@@ -191,6 +194,7 @@ with-index spec p h fits room new = let r = is-soup p h in soup-is (with_index s
   specs_fit = push-all valid_spec p.specs spec r.specs_fit fits;
   specs_apart = push-apart same_paths paths_of p.specs spec r.specs_apart new;
   tags_fit = r.tags_fit;
+  info_fits = r.info_fits;
   entries_fit = r.entries_fit;
 })
 
@@ -203,6 +207,7 @@ without-index paths p h = let r = is-soup p h in soup-is (without_index paths p)
   specs_fit = filter-all valid_spec _ p.specs r.specs_fit;
   specs_apart = filter-apart same_paths paths_of _ p.specs r.specs_apart;
   tags_fit = r.tags_fit;
+  info_fits = r.info_fits;
   entries_fit = r.entries_fit;
 })
 
@@ -215,6 +220,20 @@ with-tags tags p fits h = let r = is-soup p h in soup-is (with_tags tags p) (rec
   specs_fit = r.specs_fit;
   specs_apart = r.specs_apart;
   tags_fit = fits;
+  info_fits = r.info_fits;
+  entries_fit = r.entries_fit;
+})
+
+pub with-info : (info : Option RawGraph) (p : Soup) → valid_info info ≡ true → valid_soup p ≡ true → valid_soup (with_info info p) ≡ true
+with-info info p fits h = let r = is-soup p h in soup-is (with_info info p) (record {
+  named = r.named;
+  next = r.next;
+  uids = r.uids;
+  count = r.count;
+  specs_fit = r.specs_fit;
+  specs_apart = r.specs_apart;
+  tags_fit = r.tags_fit;
+  info_fits = fits;
   entries_fit = r.entries_fit;
 })
 
@@ -232,13 +251,13 @@ with-soup name f s h same_name same_sig fits = let r = is-store s h in store-is 
   soups_fit = first-all valid_soup _ f s.soups r.soups_fit fits;
 })
 
-pub with-new-soup : (name : List ℕ) (s : Store) → well_formed s ≡ true → is_name name ≡ true → soup_named name s ≡ None → length s.soups < 64 → (s.next_soup ≡ 65535 → ⊥)
+pub with-new-soup : (name : List ℕ) (s : Store) → well_formed s ≡ true → is_name name ≡ true → soup_named name s ≡ None → length s.soups < 250 → (s.next_soup ≡ 65535 → ⊥)
     → well_formed (make_soup name s) ≡ true
 with-new-soup name s h good new room ids = let r = is-store s h in store-is (make_soup name s) (record {
   named = r.named;
   sig_fits = r.sig_fits;
   next = grind (arith, ids, r.next);
-  count = omega (arith, push-length s.soups (record { name = name; sig = s.next_soup; next_uid = 0; specs = []; tags = None; entries = [] }), room);
+  count = omega (arith, push-length s.soups (record { name = name; sig = s.next_soup; next_uid = 0; specs = []; tags = None; info = None; entries = [] }), room);
   sigs = push-rises (λ (p : Soup). p.sig) 0 s.next_soup s.soups _ (omega arith) refl r.sigs;
   names_apart = push-apart equal_text (λ (p : Soup). p.name) s.soups _ r.names_apart (find-none (λ p. equal_text p.name name) s.soups new);
   soups_fit = push-all valid_soup s.soups _ r.soups_fit (grind (arith, good));

@@ -10,7 +10,7 @@ use Rattle.newt_spec_graph.proofs.Lists.{some-same}
 use Rattle.newt_spec_store.specs.Cost.{directory_bytes}
 use Rattle.newt_spec_store.specs.Image.{larges, entry_bytes}
 use Rattle.newt_spec_store.specs.Lies.{Places, IsIn, HasLarge, AreLarges, LiesIn}
-use Rattle.newt_spec_store.specs.Store.{Store, Entry}
+use Rattle.newt_spec_store.specs.Store.{Store, Soup, Entry}
 use Rattle.newt_laws_changes.specs.Written.{Names}
 
 -- a new record: its entry is in the store, it lies at its place, and it names the objects of the entry's large binaries
@@ -36,6 +36,7 @@ pub record IsTurned (objects objects' : Objects) (place place' : Places) (named 
   pub places_back : (sig uid id : ℕ) → place' sig uid ≡ Some id → ((place sig uid ≡ Some id) × (Gone id → ⊥)) ⊎ ((e : Entry) × New sig e id × (e.uid ≡ uid))
   pub objects_back : (o : ℕ) (bytes : List ℕ) → map.get objects' o ≡ Some bytes → o ≢ 0
       → ((map.get objects o ≡ Some bytes) × (Gone o → ⊥) × ((r : ℕ) → Among (named r) o → Gone r → ⊥)) ⊎ (((sig : ℕ) × (e : Entry) × New sig e o) ⊎ ((r : ℕ) × Among (named' r) o))
+  pub infos : (p : Soup) (g : RawGraph) → Among t.soups p → p.info ≡ Some g → IsGraph g
   pub names_back : (r o : ℕ) → Among (named' r) o → (Among (named r) o × (Gone r → ⊥)) ⊎ ((sig : ℕ) × (e : Entry) × New sig e r)
 
 kept-there : (objects objects' : Objects) (ls : List (ℕ × List ℕ)) (ids : List ℕ)
@@ -136,6 +137,7 @@ module _ (objects objects' : Objects) (place place' : Places) (named' : Names) (
       only_these = only-these;
       names = names-its;
       places = places-its;
+      infos = h.infos;
       skeletons = λ sig e i. elim (h.back sig e i) [ inl k ↦ lies.skeletons sig e k.0 | inr k ↦ (h.new_is sig e k.0 k.1).graph ];
       times = λ sig e i. elim (h.back sig e i) [ inl k ↦ lies.times sig e k.0 | inr k ↦ (h.new_is sig e k.0 k.1).time ];
     },

@@ -43,6 +43,7 @@ pub record ChangedStoresLie : Type 0 where
       (place : Places) (s : Store) (p : Soup) → (lies : LiesIn objects place s)
       → IsTrue (well_formed s)
       → soup_of sig s ≡ Some p → (change p).sig ≡ p.sig → (change p).entries ≡ p.entries
+      → ((g : RawGraph) → (change p).info ≡ Some g → IsGraph g)
       → HeadWritten (directory_bytes (change_soup p.name change s)) objects objects'
       → (lies' : LiesIn objects' place (change_soup p.name change s))
       × ((r : ℕ) → lies'.named r ≡ lies.named r)
@@ -87,7 +88,7 @@ pub record ChangedStoresAreFormed : Type 0 where
   pub fresh : (name : List ℕ) (sig : ℕ) → IsTrue (is_name name) → sig ≤ 536870911
       → IsTrue (well_formed (record { name = name; sig = sig; next_soup = 0; soups = [] }))
   pub made : (name : List ℕ) (s : Store) → IsTrue (well_formed s) → IsTrue (is_name name)
-      → soup_named name s ≡ None → length s.soups < 64 → s.next_soup < 65535
+      → soup_named name s ≡ None → length s.soups < 250 → s.next_soup < 65535
       → IsTrue (well_formed (make_soup name s))
   pub dropped : (name : List ℕ) (s : Store) → IsTrue (well_formed s)
       → IsTrue (well_formed (drop_soup name s))

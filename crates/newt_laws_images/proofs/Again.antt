@@ -2,17 +2,18 @@
 use Rattle.std.proofs.Common.{arith, ◌≡◌, ◌≢◌, refl, ap, sym, ◌∙◌, subst, ℕ, ◌%◌, ◌<◌, List, [], ◌∷◌, true, false, Bool, ◌&&◌, cond, inl, inr, ◌⊎◌, Option, Some, None, option_map, find, length, sum_by, ◌==◌}
 use Rattle.std.specs.FinMap as map
 use Rattle.std.proofs.lemmas.Bool.{eqb-true, eq-eqb, and_parts, and_from, leb-true}
-use Rattle.newt_graph.specs.Graph.{RawGraph}
+use Rattle.newt_graph.specs.Graph.{RawGraph, IsGraph}
 use Rattle.newt_spec_image.specs.Objects.{pages_for, Objects}
 use Rattle.newt_spec_image.specs.Pages.{cap}
 use Rattle.newt_spec_nsof.specs.Text.{AreBytes}
 use Rattle.newt_spec_graph.specs.Lists.{Pairs, Among}
 use Rattle.newt_spec_graph.proofs.Lists.{each-at, some-same, none-some, among-filter, filter-among, pairs-more}
 use Rattle.newt_spec_store.specs.Lies.{LiesIn, Places, ReadsGraphs}
-use Rattle.newt_spec_store.specs.Store.{Entry, Store}
+use Rattle.newt_spec_store.specs.Store.{Entry, Soup, Store}
 use Rattle.newt_spec_store.specs.StoreOf.{EntryRow, entry_row, store_of}
 use Rattle.newt_spec_store.specs.Valid.{well_formed, fits}
 use Rattle.newt_laws_images.specs.Found.{ids_named}
+use Rattle.newt_laws_images.proofs.Directories.{directory-infos}
 use Rattle.newt_laws_images.proofs.Finite.{entry-get, get-entry}
 use Rattle.newt_laws_images.proofs.Known.{IsEntryIn, all-read, read-directory, read-good, read-bare, named-once, named-apart, even-named, records-differ, Differ, bare-good}
 use Rattle.newt_laws_images.proofs.Both.{both-left, both-more}
@@ -70,21 +71,21 @@ find-one {X} test (y ∷ xs) x h m t = go (λ n. find-one test xs x h.1 n t) (te
 read-names : (graph_of : List ℕ → Option RawGraph) (objects : Objects) (sig uid : ℕ) (bytes : List ℕ) (a : ℕ) (e : Entry) → ReadAs graph_of objects bytes a e → row_names sig uid (entry_row bytes) ≡ ((a == sig) && (e.uid == uid))
 read-names graph_of objects sig uid bytes a e r = ap (row_names sig uid) r.is_row ∙ (λ i. (r.of_row.of_soup i == sig) && (r.of_row.of_uid i == uid))
 
-module _ (graph_of : List ℕ → Option RawGraph) (objects : Objects) (blocks : ℕ) (s : Store) (r : IsReading graph_of (map.entries objects) blocks s)
+module _ (graph_of : List ℕ → Option RawGraph) (version : ℕ) (objects : Objects) (blocks : ℕ) (s : Store) (r : IsReading graph_of version (map.entries objects) blocks s)
     (small : (id : ℕ) (bytes : List ℕ) → map.get objects id ≡ Some bytes → (id ≡ 0) ⊎ (id % 2 ≡ 1) → Small bytes) where
   -- the entry of a record
   record-of : (o : ℕ × List ℕ) → Among (odds objects) o → (x : ℕ × Entry) × Among r.es x × IsEntryIn graph_of objects r.d o x
-  record-of o m = both-left (IsEntryIn graph_of objects r.d) (odds objects) r.es o (all-read graph_of objects blocks s r) m
+  record-of o m = both-left (IsEntryIn graph_of objects r.d) (odds objects) r.es o (all-read graph_of version objects blocks s r) m
 
   names-apart : (sig uid : ℕ) → Pairs (λ a b. names sig uid a ≡ true → names sig uid b ≡ true → ⊥) (odds objects)
-  names-apart sig uid = pairs-more (Differ graph_of objects blocks s r) (λ a b. names sig uid a ≡ true → names sig uid b ≡ true → ⊥) (odds objects)
+  names-apart sig uid = pairs-more (Differ graph_of version objects blocks s r) (λ a b. names sig uid a ≡ true → names sig uid b ≡ true → ⊥) (odds objects)
       (λ a b m n differ p q.
       let x = record-of a m in
       let y = record-of b n in
       let u = and_parts (x.0.0 == sig) (x.0.1.uid == uid) (sym (read-names graph_of objects sig uid a.1 x.0.0 x.0.1 x.2.read) ∙ p) in
       let v = and_parts (y.0.0 == sig) (y.0.1.uid == uid) (sym (read-names graph_of objects sig uid b.1 y.0.0 y.0.1 y.2.read) ∙ q) in
       differ x.0 y.0 x.2.read y.2.read (eqb-true x.0.0 sig u.0 ∙ sym (eqb-true y.0.0 sig v.0)) (eqb-true x.0.1.uid uid u.1 ∙ sym (eqb-true y.0.1.uid uid v.1)))
-      (records-differ graph_of objects blocks s r)
+      (records-differ graph_of version objects blocks s r)
 
   its-place : (o : ℕ × List ℕ) (x : ℕ × Entry) → Among (odds objects) o → IsEntryIn graph_of objects r.d o x → place_in objects x.0 x.1.uid ≡ Some o.0
   its-place o x m is = ap (option_map (λ (o : ℕ × List ℕ). o.0)) (find-one (names x.0 x.1.uid) (odds objects) o (names-apart x.0 x.1.uid) m
@@ -122,41 +123,44 @@ module _ (graph_of : List ℕ → Option RawGraph) (objects : Objects) (blocks :
       go : (b : Bool) → (id % 2 == 1) ≡ b → (t : Option (List ℕ)) → map.get objects id ≡ t → Pairs (λ a b. a ≢ b) (cond b (names_at t) [])
       go false e t k = tt
       go true e None k = tt
-      go true e (Some bytes) k = named-apart graph_of objects blocks s r (id, bytes) (in-odds id bytes k (eqb-true (id % 2) 1 e))
+      go true e (Some bytes) k = named-apart graph_of version objects blocks s r (id, bytes) (in-odds id bytes k (eqb-true (id % 2) 1 e))
+
+  infos-read : ReadsGraphs graph_of → (p : Soup) (g : RawGraph) → Among r.d.soups p → p.info ≡ Some g → IsGraph g
+  infos-read reads p g m e = let k = directory-infos graph_of r.bytes r.d r.is_directory p g m e in reads.graphs k.0 g k.1
 
   gathered-again : Gathered graph_of objects (place_in objects) (named_by objects) r.d r.es
   gathered-again = record {
-    directory = read-directory graph_of objects blocks s r ∙ ap Some (directory-spelt r.bytes r.d (small 0 r.bytes (read-directory graph_of objects blocks s r) (inl refl)) r.is_directory);
-    good = ap well_formed (read-bare graph_of objects blocks s r) ∙ bare-good s (read-good graph_of objects blocks s r);
+    directory = read-directory graph_of version objects blocks s r ∙ ap Some (directory-spelt graph_of r.bytes r.d (small 0 r.bytes (read-directory graph_of version objects blocks s r) (inl refl)) r.is_directory);
+    good = ap well_formed (read-bare graph_of version objects blocks s r) ∙ bare-good s (read-good graph_of version objects blocks s r);
     both = both-more (IsEntryIn graph_of objects r.d) (IsEntryOf graph_of objects (place_in objects) (named_by objects) r.d) (odds objects) r.es
         (λ o x m n is.
         let there = entry-get objects o.0 o.1 (among-filter (λ (o : ℕ × List ℕ). o.0 % 2 == 1) (map.entries objects) o m).0 in
         record { odd = is.odd; small = small o.0 o.1 there (inr is.odd); read = is.read; given = is.given; at = its-place o x m is; names_are = record-names o is.odd there })
-        (all-read graph_of objects blocks s r);
+        (all-read graph_of version objects blocks s r);
     places = its-entry;
     names = λ id o m. let k = its-record id o m in (k.0, k.1, k.2);
     others = λ id bytes there n even.
-        let k = even-named graph_of objects blocks s r id bytes there n even in
+        let k = even-named graph_of version objects blocks s r id bytes there n even in
         let f = among-filter (λ (o : ℕ × List ℕ). o.0 % 2 == 1) (map.entries objects) k.0 k.1 in
         (k.0.0, subst (λ (ns : List ℕ). Among ns id) (sym (record-names k.0 (eqb-true (k.0.0 % 2) 1 f.1) (entry-get objects k.0.0 k.0.1 f.0))) k.2);
     once = λ id other o m n.
         let a = its-record id o m in
         let b = its-record other o n in
-        ap {A = ℕ × List ℕ} {B = ℕ} (λ o. o.0) (named-once graph_of objects blocks s r (id, a.0) (other, b.0) o (in-odds id a.0 a.1 a.2) (in-odds other b.0 b.1 b.2) a.3 b.3);
+        ap {A = ℕ × List ℕ} {B = ℕ} (λ o. o.0) (named-once graph_of version objects blocks s r (id, a.0) (other, b.0) o (in-odds id a.0 a.1 a.2) (in-odds other b.0 b.1 b.2) a.3 b.3);
     apart = its-apart;
   }
 
   lies-again : ReadsGraphs graph_of → LiesIn objects (place_in objects) s
-  lies-again reads = subst (λ (t : Store). LiesIn objects (place_in objects) t) r.is (made-lies graph_of reads objects (place_in objects) (named_by objects) r.d r.es gathered-again)
+  lies-again reads = subst (λ (t : Store). LiesIn objects (place_in objects) t) r.is (made-lies graph_of reads objects (place_in objects) (named_by objects) r.d r.es (infos-read reads) gathered-again)
 
-module _ (graph_of : List ℕ → Option RawGraph) (objects : Objects) (blocks : ℕ) (s : Store) (reads : ReadsGraphs graph_of)
-    (are_bytes : (id : ℕ) (bytes : List ℕ) → map.get objects id ≡ Some bytes → (id ≡ 0) ⊎ (id % 2 ≡ 1) → AreBytes bytes) (h : store_of graph_of (map.entries objects) blocks ≡ Some s) where
+module _ (graph_of : List ℕ → Option RawGraph) (version : ℕ) (objects : Objects) (blocks : ℕ) (s : Store) (reads : ReadsGraphs graph_of)
+    (are_bytes : (id : ℕ) (bytes : List ℕ) → map.get objects id ≡ Some bytes → (id ≡ 0) ⊎ (id % 2 ≡ 1) → AreBytes bytes) (h : store_of graph_of version (map.entries objects) blocks ≡ Some s) where
   pub read-lies : (place : Places) × LiesIn objects place s
-  read-lies = (place_in objects, lies-again graph_of objects blocks s (reading graph_of (map.entries objects) blocks s h) (λ id bytes at which. small-of bytes (are_bytes id bytes at which)) reads)
+  read-lies = (place_in objects, lies-again graph_of version objects blocks s (reading graph_of version (map.entries objects) blocks s h) (λ id bytes at which. small-of bytes (are_bytes id bytes at which)) reads)
 
   pub over : cap blocks < sum_by (λ (o : ℕ × List ℕ). pages_for (length o.1)) (map.entries objects) → ⊥
   over more =
-      let r = reading graph_of (map.entries objects) blocks s h in
+      let r = reading graph_of version (map.entries objects) blocks s h in
       let v = and_parts (well_formed s) (fits blocks s) r.good in
       let total = lies-total objects read-lies.0 s read-lies.1 v.0 in
       let few = leb-true _ (cap blocks) v.1 in

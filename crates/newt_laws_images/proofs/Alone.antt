@@ -14,9 +14,10 @@ use Rattle.newt_spec_nsof.specs.Flat.{flat}
 use Rattle.newt_spec_graph.proofs.Lists.{some-same, none-some}
 use Rattle.newt_spec_store.specs.Cost.{skeleton_length}
 use Rattle.newt_spec_store.specs.Image.{larges}
-use Rattle.newt_spec_store.specs.Lies.{entry_read, record_read, is_record, stretched, may_be_large, only}
+use Rattle.newt_spec_store.specs.Lies.{entry_read, record_read, is_record, stretched, may_be_large}
 use Rattle.newt_spec_store.specs.Store.{Entry}
-use Rattle.newt_spec_store.specs.StoreOf.{LargeRow, EntryRow, large_object, fill, written, names_larges, with_larges, entry_row, entry_of_row}
+use Rattle.newt_spec_store.specs.Reading.{written}
+use Rattle.newt_spec_store.specs.StoreOf.{LargeRow, EntryRow, large_object, fill, only, names_larges, with_larges, entry_row, entry_of_row}
 use Rattle.newt_spec_store.specs.Valid.{valid_entry}
 use Rattle.newt_laws_images.proofs.Both.{Both, every-both}
 use Rattle.newt_laws_images.proofs.Filled.{AsLong, filled_with, filled-skeleton, filled-limits, filled-frame}

@@ -1,5 +1,5 @@
 -- What is written is read back: the whole store from its directory and its entries.
-use Rattle.std.proofs.Common.{arith, ◌≡◌, refl, ap, sym, ◌∙◌, subst, ℕ, ◌<◌, List, [], ◌∷◌, true, false, Bool, ◌&&◌, ◌||◌, ◌⊎◌, inl, inr, cond, Option, Some, None, option_and_then, option_map, map, filter, ◌==◌}
+use Rattle.std.proofs.Common.{arith, ◌≡◌, refl, ap, sym, ◌∙◌, subst, ℕ, ◌<◌, List, [], ◌∷◌, true, false, not, suc, Bool, nat_le, length, is_none, ◌&&◌, ◌||◌, ◌⊎◌, inl, inr, cond, Option, Some, None, option_and_then, option_map, map, filter, ◌==◌}
 use Rattle.std.specs.List.{list_all, list_any}
 use Rattle.std.specs.declared.cmp.Ordering.{Ordering}
 use Rattle.std.specs.declared.cmp.Ordering.TheVariants.{Less, Equal}
@@ -10,11 +10,11 @@ use Rattle.std.proofs.lemmas.Bool.{eq-eqb, eqb-true, and_parts}
 use Rattle.newt_graph.specs.Graph.{RawGraph}
 use Rattle.newt_spec_store.specs.Store.{Entry, Soup, Store}
 use Rattle.newt_spec_store.specs.Sorted.{sorted_by}
-use Rattle.newt_spec_store.specs.Valid.{valid, well_formed, fits, valid_soup}
+use Rattle.newt_spec_store.specs.Valid.{valid, keeps_version, well_formed, fits, valid_soup}
 use Rattle.newt_spec_store.specs.Image.{Objects, all_entries}
 use Rattle.newt_spec_store.specs.Reading.{whole, directory}
 use Rattle.newt_spec_graph.specs.Graph.{every}
-use Rattle.newt_spec_store.specs.StoreOf.{EntryRow, object_bytes, entry_of_row, rows_of, named_once, with_entries, in_a_soup, assembled, store_of}
+use Rattle.newt_spec_store.specs.StoreOf.{EntryRow, only, object_bytes, entry_of_row, rows_of, named_once, with_entries, in_a_soup, assembled, store_of}
 use Rattle.newt_spec_graph.specs.Lists.{Each, Pairs, Among}
 use Rattle.newt_spec_store.specs.Laid.{ApartIds, AreEntries, Laid, record_of, row_of, IsLaid, bare, bare_soup}
 use Rattle.newt_laws_images.proofs.Records.{all-true, record-back, entry-back}
@@ -196,10 +196,21 @@ entries-back graph_of objects (x ∷ laid) f d t =
     ap (λ o. every (o ∷ map (entry_of_row graph_of objects) (map (λ x. row_of x.soup x.entry x.ids) laid))) (entry-back graph_of objects x.soup x.entry x.ids d.0 f.0.each_named t.0)
     ∙ ap (option_map (λ es. (x.soup, x.entry) ∷ es)) (entries-back graph_of objects laid f.1 d.1 t.1)
 
-pub store-back : (graph_of : List ℕ → Option RawGraph) (objects : Objects) (blocks : ℕ) (s : Store) (laid : List Laid) → valid blocks s ≡ true → IsLaid graph_of objects s laid → store_of graph_of objects blocks ≡ Some s
-store-back graph_of objects blocks s laid v is =
+soups-bare : (ps : List Soup) → (length (map bare_soup ps) ≡ length ps) × (list_all (λ (p : Soup). is_none p.info) (map bare_soup ps) ≡ list_all (λ (p : Soup). is_none p.info) ps)
+soups-bare [] = (refl, refl)
+soups-bare (p ∷ ps) = let r = soups-bare ps in (ap suc r.0, ap (λ b. is_none p.info && b) r.1)
+
+-- a store keeps its version as its directory does
+pub bare-keeps : (version : ℕ) (s : Store) → keeps_version version (bare s) ≡ keeps_version version s
+bare-keeps version s = let r = soups-bare s.soups in λ i. not (version == 1) || (nat_le (r.0 i) 64 && r.1 i)
+
+pub store-back : (graph_of : List ℕ → Option RawGraph) (version : ℕ) (objects : Objects) (blocks : ℕ) (s : Store) (laid : List Laid) → keeps_version version s ≡ true → valid blocks s ≡ true
+    → IsLaid graph_of objects s laid → store_of graph_of version objects blocks ≡ Some s
+store-back graph_of version objects blocks s laid keeps v is =
     ap (option_and_then (λ d. option_and_then (λ rows. option_and_then (λ entries. assembled graph_of objects blocks d rows entries) (every (map (entry_of_row graph_of objects) rows))) (rows_of graph_of objects)))
-    (ap (option_and_then (whole directory)) is.written ∙ directory-back s (and_parts (well_formed s) (fits blocks s) v).0)
+    (ap (option_and_then (λ bytes. only (keeps_version version) (whole (directory graph_of) bytes))) is.written
+    ∙ ap (only (keeps_version version)) (directory-back graph_of s is.infos (and_parts (well_formed s) (fits blocks s) v).0)
+    ∙ ap (λ b. cond b (Some (bare s)) None) (bare-keeps version s ∙ keeps))
     ∙ ap (option_and_then (λ rows. option_and_then (λ entries. assembled graph_of objects blocks (bare s) rows entries) (every (map (entry_of_row graph_of objects) rows))))
     (ap (λ os. every (map (λ (o : ℕ × List ℕ). entry_row o.1) os)) is.records ∙ rows-back laid is.fit)
     ∙ ap (option_and_then (λ entries. assembled graph_of objects blocks (bare s) (map (λ x. row_of x.soup x.entry x.ids) laid) entries)) (entries-back graph_of objects laid is.fit is.decoded is.there)
@@ -212,8 +223,8 @@ checked-some true true s t h = (refl, Rattle.newt_spec_graph.proofs.Lists.some-s
 checked-some true false s t h = cc
 checked-some false b s t h = cc
 
-pub read-valid : (graph_of : List ℕ → Option RawGraph) (objects : Objects) (blocks : ℕ) (s : Store) → store_of graph_of objects blocks ≡ Some s → valid blocks s ≡ true
-read-valid graph_of objects blocks s = from-directory (option_and_then (whole directory) (object_bytes objects 0))
+pub read-valid : (graph_of : List ℕ → Option RawGraph) (version : ℕ) (objects : Objects) (blocks : ℕ) (s : Store) → store_of graph_of version objects blocks ≡ Some s → valid blocks s ≡ true
+read-valid graph_of version objects blocks s = from-directory (option_and_then (λ bytes. only (keeps_version version) (whole (directory graph_of) bytes)) (object_bytes objects 0))
   where
     built : (d : Store) (rows : List EntryRow) (entries : List (ℕ × Entry)) → assembled graph_of objects blocks d rows entries ≡ Some s → valid blocks s ≡ true
     built d rows entries h =

@@ -9,6 +9,7 @@ use Rattle.std.proofs.lemmas.Bool.{eqb-true, eq-eqb, and_parts, and_from, cases_
 use Rattle.std.proofs.lemmas.Option.{slice_get-get_or}
 use Rattle.newt_graph.specs.Graph.{RawGraph}
 use Rattle.newt_spec_image.specs.Objects.{Extent, Table, IsTableOf, Objects, AreObjectsOf, joined, pages_for}
+use Rattle.newt_spec_image.specs.Records.{version}
 use Rattle.newt_spec_image.specs.Pages.{Pages, pages, object_id, part_number, object_length}
 use Rattle.newt_spec_graph.specs.Graph.{every}
 use Rattle.newt_spec_graph.specs.Lists.{Among}
@@ -267,35 +268,35 @@ pub image-sound : (graph_of : List ℕ → Option RawGraph) (image : List ℕ) (
 image-sound graph_of image s h = from-pages (pages image) refl h
   where
     from-objects : (live : Pages) → pages image ≡ Some live → (o : Option Objects) → objects_of live ≡ o
-        → option_and_then (λ objects. store_of graph_of (map.entries objects) (blocks_of image)) o ≡ Some s → IsStoreOf graph_of image s
+        → option_and_then (λ objects. store_of graph_of (version image) (map.entries objects) (blocks_of image)) o ≡ Some s → IsStoreOf graph_of image s
     from-objects live e None k p = absurd (none-some s p)
     from-objects live e (Some objects) k p = record { live = live; has_pages = e; objects = objects; has_objects = objects-sound live objects k; reads = p }
 
-    from-pages : (o : Option Pages) → pages image ≡ o → option_and_then (λ live. option_and_then (λ objects. store_of graph_of (map.entries objects) (blocks_of image)) (objects_of live)) o ≡ Some s
+    from-pages : (o : Option Pages) → pages image ≡ o → option_and_then (λ live. option_and_then (λ objects. store_of graph_of (version image) (map.entries objects) (blocks_of image)) (objects_of live)) o ≡ Some s
         → IsStoreOf graph_of image s
     from-pages None e k = absurd (none-some s k)
     from-pages (Some live) e k = from-objects live e (objects_of live) refl k
 
 pub image-complete : (graph_of : List ℕ → Option RawGraph) (image : List ℕ) (s : Store) → IsStoreOf graph_of image s → store_of_image graph_of image ≡ Some s
 image-complete graph_of image s is =
-    ap (option_and_then (λ live. option_and_then (λ objects. store_of graph_of (map.entries objects) (blocks_of image)) (objects_of live))) is.has_pages
-    ∙ ap (option_and_then (λ (objects : Objects). store_of graph_of (map.entries objects) (blocks_of image))) (objects-complete is.live is.objects is.has_objects)
+    ap (option_and_then (λ live. option_and_then (λ objects. store_of graph_of (version image) (map.entries objects) (blocks_of image)) (objects_of live))) is.has_pages
+    ∙ ap (option_and_then (λ (objects : Objects). store_of graph_of (version image) (map.entries objects) (blocks_of image))) (objects-complete is.live is.objects is.has_objects)
     ∙ is.reads
 
 pub image-by-objects : (graph_of : List ℕ → Option RawGraph) (image : List ℕ) (live : Pages) (objects : Objects) → pages image ≡ Some live → AreObjectsOf live objects
-    → store_of_image graph_of image ≡ store_of graph_of (map.entries objects) (blocks_of image)
+    → store_of_image graph_of image ≡ store_of graph_of (version image) (map.entries objects) (blocks_of image)
 image-by-objects graph_of image live objects has are =
-    ap (option_and_then (λ live. option_and_then (λ objects. store_of graph_of (map.entries objects) (blocks_of image)) (objects_of live))) has
-    ∙ ap (option_and_then (λ (objects : Objects). store_of graph_of (map.entries objects) (blocks_of image))) (objects-complete live objects are)
+    ap (option_and_then (λ live. option_and_then (λ objects. store_of graph_of (version image) (map.entries objects) (blocks_of image)) (objects_of live))) has
+    ∙ ap (option_and_then (λ (objects : Objects). store_of graph_of (version image) (map.entries objects) (blocks_of image))) (objects-complete live objects are)
 
 pub image-no-pages : (graph_of : List ℕ → Option RawGraph) (image : List ℕ) → pages image ≡ None → store_of_image graph_of image ≡ None
-image-no-pages graph_of image none = ap (option_and_then (λ live. option_and_then (λ objects. store_of graph_of (map.entries objects) (blocks_of image)) (objects_of live))) none
+image-no-pages graph_of image none = ap (option_and_then (λ live. option_and_then (λ objects. store_of graph_of (version image) (map.entries objects) (blocks_of image)) (objects_of live))) none
 
 pub image-no-table : (graph_of : List ℕ → Option RawGraph) (image : List ℕ) (live : Pages) → pages image ≡ Some live → ((table : Table) → IsTableOf live table → ⊥) → store_of_image graph_of image ≡ None
 image-no-table graph_of image live has none =
-    ap (option_and_then (λ live. option_and_then (λ objects. store_of graph_of (map.entries objects) (blocks_of image)) (objects_of live))) has
+    ap (option_and_then (λ live. option_and_then (λ objects. store_of graph_of (version image) (map.entries objects) (blocks_of image)) (objects_of live))) has
     ∙ go (objects_of live) refl
   where
-    go : (o : Option Objects) → objects_of live ≡ o → option_and_then (λ (objects : Objects). store_of graph_of (map.entries objects) (blocks_of image)) o ≡ None
+    go : (o : Option Objects) → objects_of live ≡ o → option_and_then (λ (objects : Objects). store_of graph_of (version image) (map.entries objects) (blocks_of image)) o ≡ None
     go None e = refl
     go (Some objects) e = let are = objects-sound live objects e in absurd (none are.table are.is_table)

@@ -1,84 +1,31 @@
 -- A store that was read: its directory, one record for each of its entries, and the objects that these name.
-use Rattle.std.proofs.Common.{arith, ◌≡◌, ◌≢◌, not, refl, ap, sym, ◌∙◌, subst, ℕ, zero, suc, ◌%◌, ◌<◌, List, [], ◌∷◌, ◌++◌, true, false, Bool, ◌&&◌, ◌||◌, ◌⊎◌, inl, inr, cond, Option, Some, None, option_and_then, map, filter, flat_map, ◌==◌}
+use Rattle.std.proofs.Common.{arith, ◌≡◌, ◌≢◌, not, refl, ap, sym, ◌∙◌, subst, ℕ, ◌%◌, ◌<◌, List, [], ◌∷◌, ◌++◌, true, false, Bool, ◌&&◌, ◌||◌, ◌⊎◌, inl, inr, cond, Option, Some, None, map, filter, flat_map, ◌==◌}
 use Rattle.std.specs.List.{list_all, list_any}
 use Rattle.std.specs.FinMap as map
 use Rattle.std.proofs.lemmas.Bool.{eqb-true, eq-eqb, and_parts, or_cases}
 use Rattle.newt_base.specs.Names.{equal_text}
 use Rattle.newt_graph.specs.Graph.{RawGraph}
 use Rattle.newt_spec_image.specs.Objects.{Objects}
-use Rattle.newt_spec_graph.specs.Lists.{Each, Pairs, Among, rises, all_apart}
-use Rattle.newt_spec_graph.proofs.Lists.{each-at, each-from, each-list_all, some-same, none-some, pairs-more, pairs-map, among-left, among-right, among-filter, filter-among, among-flat_map, flat_map-among, rises-pairs}
+use Rattle.newt_spec_graph.specs.Lists.{Pairs, Among, rises, all_apart}
+use Rattle.newt_spec_graph.proofs.Lists.{each-at, each-from, each-list_all, pairs-more, pairs-map, among-left, among-right, among-filter, filter-among, among-flat_map, flat_map-among, rises-pairs}
 use Rattle.newt_spec_store.specs.Laid.{ApartIds, bare, bare_soup}
-use Rattle.newt_spec_store.specs.Lies.{IsIn, directory_read, only}
-use Rattle.newt_spec_store.specs.Reading.{Take, ◌>>=◌, give, text, number, counted, part, tags_of, times, soup, whole, directory}
+use Rattle.newt_spec_store.specs.Lies.{IsIn, directory_read}
 use Rattle.newt_spec_store.specs.Sorted.{sorted_by}
 use Rattle.newt_spec_store.specs.Store.{Entry, Soup, Store}
-use Rattle.newt_spec_store.specs.StoreOf.{EntryRow, LargeRow, entry_row, entry_of_row, with_entries, in_a_soup}
-use Rattle.newt_spec_store.specs.Valid.{well_formed, fits, valid_soup, valid_entry}
+use Rattle.newt_spec_store.specs.StoreOf.{EntryRow, LargeRow, only, entry_row, entry_of_row, with_entries, in_a_soup}
+use Rattle.newt_spec_store.specs.Valid.{well_formed, fits, keeps_version, valid_soup, valid_entry}
 use Rattle.newt_laws_images.specs.Found.{HasGiven, ids_in, ids_named}
 use Rattle.newt_laws_images.proofs.Assembled.{map-among, among-map, chosen, uid_cmp_of}
 use Rattle.newt_laws_images.proofs.Finite.{object-get, get-entry}
 use Rattle.newt_laws_images.proofs.Both.{Both, both-left, both-pairs, every-both, both-flip, both-join, both-more}
+use Rattle.newt_laws_images.proofs.Directories.{directory-bare}
 use Rattle.newt_laws_images.proofs.Made.{built, in-sorted, odds, all-map, map-length, map-kept}
 use Rattle.newt_laws_images.proofs.Parts.{apart-from, sort-back, IsReading}
 use Rattle.newt_laws_images.proofs.Placed.{its-id, its-soup}
 use Rattle.newt_laws_images.proofs.Rows.{row-of, ReadAs, read-same}
-use Rattle.newt_laws_images.proofs.Spelt.{whole-parts}
 use Rattle.newt_laws_images.proofs.Stores.{is-store, store-is, is-soup, soup-is}
 
--- ---- a directory that is read has no entries
-
-abbrev Gives : {A : Type 0} → Take A → (A → Type 0) → Type 0
-Gives {A} p Q = (bytes rest : List ℕ) (a : A) → p bytes ≡ Some (a, rest) → Q a
-
-gives-then : {A B : Type 0} (p : Take A) (Q : A → Type 0) (f : A → Take B) (S : B → Type 0) → Gives p Q → ((a : A) → Q a → Gives (f a) S) → Gives (p >>= f) S
-gives-then {A} {B} p Q f S one more bytes rest b h = go (p bytes) refl h
-  where
-    go : (o : Option (A × List ℕ)) → p bytes ≡ o → option_and_then (λ r. f r.0 r.1) o ≡ Some (b, rest) → S b
-    go None e k = absurd (none-some {X = B × List ℕ} (b, rest) k)
-    go (Some (a, r)) e k = more a (one bytes r a e) r rest b k
-
-gives-give : {A : Type 0} (a : A) (Q : A → Type 0) → Q a → Gives (give a) Q
-gives-give {A} a Q q bytes rest b h = subst Q (ap {A = A × List ℕ} (λ p. p.0) (some-same {X = A × List ℕ} (a, bytes) (b, rest) h)) q
-
-abbrev Whatever : {A : Type 0} → A → Type 0
-Whatever a = Unit {0}
-
-gives-any : {A : Type 0} (p : Take A) → Gives p Whatever
-gives-any p bytes rest a h = tt
-
-gives-times : {A : Type 0} (item : Take A) (Q : A → Type 0) → Gives item Q → (n : ℕ) → Gives (times n item) (Each Q)
-gives-times item Q one zero = gives-give [] (Each Q) tt
-gives-times item Q one (suc n) = gives-then item Q (λ a. times n item >>= λ as'. give (a ∷ as')) (Each Q) one
-    (λ a q. gives-then (times n item) (Each Q) (λ as'. give (a ∷ as')) (Each Q) (gives-times item Q one n) (λ as' k. gives-give (a ∷ as') (Each Q) (q, k)))
-
-abbrev Empty : Soup → Type 0
-Empty p = p.entries ≡ []
-
-gives-soup : Gives soup Empty
-gives-soup = gives-then text Whatever _ Empty (gives-any text) (λ name _.
-    gives-then (number 2) Whatever _ Empty (gives-any (number 2)) (λ sig _.
-    gives-then (number 4) Whatever _ Empty (gives-any (number 4)) (λ next _.
-    gives-then (counted (counted part)) Whatever _ Empty (gives-any (counted (counted part))) (λ specs _.
-    gives-then (number 1 >>= tags_of) Whatever _ Empty (gives-any (number 1 >>= tags_of)) (λ tags _.
-    gives-give (record { name = name; sig = sig; next_uid = next; specs = specs; tags = tags; entries = [] }) Empty refl)))))
-
-abbrev AllEmpty : Store → Type 0
-AllEmpty s = Each Empty s.soups
-
-gives-directory : Gives directory AllEmpty
-gives-directory = gives-then text Whatever _ AllEmpty (gives-any text) (λ name _.
-    gives-then (number 4) Whatever _ AllEmpty (gives-any (number 4)) (λ sig _.
-    gives-then (number 2) Whatever _ AllEmpty (gives-any (number 2)) (λ next _.
-    gives-then (counted soup) (Each Empty) _ AllEmpty (gives-then (number 1) Whatever (λ n. times n soup) (Each Empty) (gives-any (number 1)) (λ n _. gives-times soup Empty gives-soup n)) (λ soups k.
-    gives-give (record { name = name; sig = sig; next_soup = next; soups = soups }) AllEmpty k))))
-
-bare-soups : (ps : List Soup) → Each Empty ps → map bare_soup ps ≡ ps
-bare-soups [] h = refl
-bare-soups (p ∷ ps) h = λ i. record p { entries = sym h.0 i } ∷ bare-soups ps h.1 i
-
-pub directory-bare : (bytes : List ℕ) (d : Store) → whole directory bytes ≡ Some d → bare d ≡ d
-directory-bare bytes d h = ap {A = List Soup} {B = Store} (λ ps. record d { soups = ps }) (bare-soups d.soups (gives-directory bytes [] d (whole-parts directory bytes d h)))
+-- ---- the store without its entries
 
 pub bare-good : (s : Store) → well_formed s ≡ true → well_formed (bare s) ≡ true
 bare-good s w = let r = is-store s w in store-is (bare s) (record {
@@ -96,6 +43,7 @@ bare-good s w = let r = is-store s w in store-is (bare s) (record {
     specs_fit = q.specs_fit;
     specs_apart = q.specs_apart;
     tags_fit = q.tags_fit;
+    info_fits = q.info_fits;
     entries_fit = refl;
   }));
 })
@@ -180,7 +128,7 @@ pub record IsEntryIn (graph_of : List ℕ → Option RawGraph) (objects : Object
   pub read : ReadAs graph_of objects o.1 x.0 x.1
   pub given : HasGiven d x.0 x.1.uid
 
-module _ (graph_of : List ℕ → Option RawGraph) (objects : Objects) (blocks : ℕ) (s : Store) (r : IsReading graph_of (map.entries objects) blocks s) where
+module _ (graph_of : List ℕ → Option RawGraph) (version : ℕ) (objects : Objects) (blocks : ℕ) (s : Store) (r : IsReading graph_of version (map.entries objects) blocks s) where
   pub read-good : well_formed s ≡ true
   read-good = (and_parts (well_formed s) (fits blocks s) r.good).0
 
@@ -188,10 +136,10 @@ module _ (graph_of : List ℕ → Option RawGraph) (objects : Objects) (blocks :
   read-directory = sym (object-get objects 0) ∙ r.at_zero
 
   pub read-bare : r.d ≡ bare s
-  read-bare = sym (directory-bare r.bytes r.d r.is_directory) ∙ sym (ap {A = List Soup} {B = Store} (λ ps. record r.d { soups = ps }) (map-kept bare_soup (with_entries graph_of r.es) (λ p. refl) r.d.soups)) ∙ ap bare r.is
+  read-bare = sym (directory-bare graph_of r.bytes r.d r.is_directory) ∙ sym (ap {A = List Soup} {B = Store} (λ ps. record r.d { soups = ps }) (map-kept bare_soup (with_entries graph_of r.es) (λ p. refl) r.d.soups)) ∙ ap bare r.is
 
-  pub read-whole : directory_read r.bytes ≡ Some (bare s)
-  read-whole = ap (only well_formed) (r.is_directory ∙ ap Some read-bare) ∙ ap (λ b. cond b (Some (bare s)) None) (bare-good s read-good)
+  pub read-whole : directory_read graph_of version r.bytes ≡ Some (bare s)
+  read-whole = ap (only well_formed) (ap (only (keeps_version version)) r.is_directory ∙ ap (λ b. cond b (Some r.d) None) r.keeps ∙ ap Some read-bare) ∙ ap (λ b. cond b (Some (bare s)) None) (bare-good s read-good)
 
   built-good : well_formed (built graph_of r.d r.es) ≡ true
   built-good = ap well_formed r.is ∙ read-good

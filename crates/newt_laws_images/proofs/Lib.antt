@@ -1,4 +1,5 @@
 pub mod Stores
+pub mod Texts
 pub mod Read
 pub mod Records
 pub mod Assembled
@@ -10,6 +11,7 @@ pub mod Alike
 pub mod Skeletons
 pub mod Filled
 pub mod Rows
+pub mod Directories
 pub mod Alone
 pub mod Placed
 pub mod Whole

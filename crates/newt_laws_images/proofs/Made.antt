@@ -8,7 +8,7 @@ use Rattle.std.proofs.lemmas.Bool.{eqb-true, eq-eqb}
 use Rattle.std.proofs.lemmas.List.Elements.{All-head, All-tail}
 use Rattle.newt_base.specs.Text.{be16, be32}
 use Rattle.newt_base.specs.Names.{equal_text}
-use Rattle.newt_graph.specs.Graph.{RawGraph}
+use Rattle.newt_graph.specs.Graph.{RawGraph, IsGraph}
 use Rattle.newt_spec_image.specs.Objects.{Objects}
 use Rattle.newt_spec_nsof.specs.Text.{AreBytes}
 use Rattle.newt_spec_nsof.specs.Flat.{flat}
@@ -19,20 +19,20 @@ use Rattle.newt_spec_store.proofs.Sorting.{Untied, sorted-rises, among-fold, fol
 use Rattle.newt_spec_store.specs.Cost.{directory_bytes, soup_bytes, text_bytes}
 use Rattle.newt_spec_store.specs.Image.{larges, entry_bytes}
 use Rattle.newt_spec_store.specs.Laid.{ApartIds, IsThere, bare, bare_soup}
-use Rattle.newt_spec_store.specs.Lies.{LiesIn, Places, IsIn, HasLarge, AreLarges, ReadsGraphs, directory_read}
+use Rattle.newt_spec_store.specs.Lies.{LiesIn, Places, IsIn, HasLarge, AreLarges, ReadsGraphs}
 use Rattle.newt_spec_store.specs.Reading.{whole, directory}
 use Rattle.newt_spec_store.specs.Sorted.{sorted_by}
 use Rattle.newt_spec_store.specs.Store.{Entry, Soup, Store}
 use Rattle.newt_spec_store.specs.StoreOf.{LargeRow, with_entries}
-use Rattle.newt_spec_store.specs.Valid.{well_formed, valid_soup, valid_entry}
+use Rattle.newt_spec_store.specs.Valid.{well_formed, keeps_version, valid_soup, valid_entry}
 use Rattle.newt_laws_images.specs.Found.{HasGiven, IsFound, ids_in, ids_named}
-use Rattle.newt_laws_images.proofs.Assembled.{among-map, map-among, one-sig, chosen, chosen-apart, uid_cmp_of, uid_total, tied-same, less-rise}
+use Rattle.newt_laws_images.proofs.Assembled.{bare-keeps, among-map, map-among, one-sig, chosen, chosen-apart, uid_cmp_of, uid_total, tied-same, less-rise}
 use Rattle.newt_laws_images.proofs.Both.{Both, both-from, both-left, both-right, both-pairs}
+use Rattle.newt_laws_images.proofs.Directories.{directory-bare, directory-infos, directory-parts}
 use Rattle.newt_laws_images.proofs.Finite.{object-get, entries-rising, entry-get, get-entry}
 use Rattle.newt_laws_images.proofs.Placed.{soups-rise}
 pub use Rattle.newt_laws_images.proofs.Records.{map-length}
-use Rattle.newt_laws_images.proofs.Rows.{ids_of, ReadAs, read-as, read-same, bytes-are, only-parts}
-use Rattle.newt_laws_images.proofs.Read.{directory-back}
+use Rattle.newt_laws_images.proofs.Rows.{ids_of, ReadAs, read-as, read-same, bytes-are}
 use Rattle.newt_laws_images.proofs.Spelt.{Small, directory-spelt}
 use Rattle.newt_laws_images.proofs.Stores.{is-store, store-is, is-soup, soup-is}
 
@@ -134,7 +134,7 @@ small-ids [] h = tt
 small-ids (l ∷ ls) h = (h.0, small-ids ls h.1)
 
 module _ (graph_of : List ℕ → Option RawGraph) (reads : ReadsGraphs graph_of) (objects : Objects) (place : Places) (named : ℕ → List ℕ) (d : Store) (es : List (ℕ × Entry))
-    (g : Gathered graph_of objects place named d es) where
+    (infos : (p : Soup) (g : RawGraph) → Among d.soups p → p.info ≡ Some g → IsGraph g) (g : Gathered graph_of objects place named d es) where
   of-entry : (x : ℕ × Entry) → Among es x → (o : ℕ × List ℕ) × Among (odds objects) o × IsEntryOf graph_of objects place named d o x
   of-entry x m = both-right (IsEntryOf graph_of objects place named d) (odds objects) es x g.both m
 
@@ -183,6 +183,7 @@ module _ (graph_of : List ℕ → Option RawGraph) (reads : ReadsGraphs graph_of
     specs_fit = r.specs_fit;
     specs_apart = r.specs_apart;
     tags_fit = r.tags_fit;
+    info_fits = r.info_fits;
     entries_fit = list_all-each valid_entry (sorted_by uid_cmp_of (chosen p.sig es)) (each-from _ (sorted_by uid_cmp_of (chosen p.sig es)) (λ e n. (of-entry (p.sig, e) (sorted-in es p.sig e n)).2.read.is_valid));
   })
 
@@ -242,16 +243,14 @@ module _ (graph_of : List ℕ → Option RawGraph) (reads : ReadsGraphs graph_of
     ];
     names = λ r o m. let n = g.names r o m in let k = of-record r n.0 n.1 n.2 in (k.0.0, k.0.1, is-in k.0 k.1, k.2.at);
     places = λ sig uid id h. let r = g.places sig uid id h in (r.0, is-in (sig, r.0) r.1, r.2);
+    infos = λ p k m e. let v = among-map (with_entries graph_of es) d.soups p m in infos v.0 k v.1 (ap (λ (q : Soup). q.info) v.2 ∙ e);
     skeletons = λ sig e is. let r = of-entry (sig, e) (in-es sig e is) in reads.graphs (flat (skeleton e.graph)) (skeleton e.graph) r.2.read.of_row.reads;
     times = λ sig e is. let r = of-entry (sig, e) (in-es sig e is) in (bytes-are graph_of objects r.0.1 sig e r.2.small r.2.read).1;
   }
 
 -- ---- from what was found
 
-directory-parts : (bytes : List ℕ) (d : Store) → directory_read bytes ≡ Some d → (whole directory bytes ≡ Some d) × (well_formed d ≡ true)
-directory-parts bytes d h = only-parts well_formed (whole directory bytes) d h
-
-module _ (graph_of : List ℕ → Option RawGraph) (objects : Objects) (place : Places) (named : ℕ → List ℕ) (d : Store) (f : IsFound graph_of objects place named d) where
+module _ (graph_of : List ℕ → Option RawGraph) (version : ℕ) (objects : Objects) (place : Places) (named : ℕ → List ℕ) (d : Store) (f : IsFound graph_of version objects place named d) where
   is-entry : (o : ℕ × List ℕ) → Among (odds objects) o → (x : ℕ × Entry) × IsEntryOf graph_of objects place named d o x
   is-entry o m =
       let k = among-filter (λ (o : ℕ × List ℕ). o.0 % 2 == 1) (map.entries objects) o m in
@@ -262,11 +261,11 @@ module _ (graph_of : List ℕ → Option RawGraph) (objects : Objects) (place : 
   gathered : (es : List (ℕ × Entry)) × Gathered graph_of objects place named d es
   gathered =
       let b = both-from (IsEntryOf graph_of objects place named d) (odds objects) (each-from _ (odds objects) is-entry) in
-      let k = directory-parts f.directory.0 d f.directory.2 in (
+      let k = directory-parts graph_of version f.directory.0 d f.directory.2 in (
         b.0,
         record {
-          directory = f.directory.1 ∙ ap Some (directory-spelt f.directory.0 d (small-of f.directory.0 f.directory.3) k.0);
-          good = k.1;
+          directory = f.directory.1 ∙ ap Some (directory-spelt graph_of f.directory.0 d (small-of f.directory.0 f.directory.3) k.0);
+          good = k.2;
           both = b.1;
           places = λ sig uid id at.
               let p = f.places sig uid id at in
@@ -280,19 +279,26 @@ module _ (graph_of : List ℕ → Option RawGraph) (objects : Objects) (place : 
         },
       )
 
-  its-bare : bare d ≡ d
-  its-bare =
-      let k = directory-parts f.directory.0 d f.directory.2 in
-      some-same (bare d) d (sym (directory-back d k.1) ∙ ap (whole directory) (sym (directory-spelt f.directory.0 d (small-of f.directory.0 f.directory.3) k.0)) ∙ k.0)
+  its-directory : whole (directory graph_of) f.directory.0 ≡ Some d
+  its-directory = (directory-parts graph_of version f.directory.0 d f.directory.2).0
 
-  pub found-lies : ReadsGraphs graph_of → (s : Store) × (lies : LiesIn objects place s) × ((id : ℕ) → lies.named id ≡ named id) × (well_formed s ≡ true) × (bare s ≡ d)
+  its-bare : bare d ≡ d
+  its-bare = directory-bare graph_of f.directory.0 d its-directory
+
+  its-infos : ReadsGraphs graph_of → (p : Soup) (g : RawGraph) → Among d.soups p → p.info ≡ Some g → IsGraph g
+  its-infos reads p g m e = let k = directory-infos graph_of f.directory.0 d its-directory p g m e in reads.graphs k.0 g k.1
+
+  pub found-lies : ReadsGraphs graph_of
+      → (s : Store) × (lies : LiesIn objects place s) × ((id : ℕ) → lies.named id ≡ named id) × (well_formed s ≡ true) × (keeps_version version s ≡ true) × (bare s ≡ d)
   unfolding made-lies
   found-lies reads =
       let es = gathered.0 in
-      let g = gathered.1 in (
+      let g = gathered.1 in
+      let is-bare : bare (built graph_of d es) ≡ d = made-bare graph_of reads objects place named d es (its-infos reads) g ∙ its-bare in (
         built graph_of d es,
-        made-lies graph_of reads objects place named d es g,
+        made-lies graph_of reads objects place named d es (its-infos reads) g,
         (λ id. refl),
-        made-good graph_of reads objects place named d es g,
-        made-bare graph_of reads objects place named d es g ∙ its-bare,
+        made-good graph_of reads objects place named d es (its-infos reads) g,
+        sym (bare-keeps version (built graph_of d es)) ∙ ap (keeps_version version) is-bare ∙ (directory-parts graph_of version f.directory.0 d f.directory.2).1,
+        is-bare,
       )

@@ -5,6 +5,7 @@ use Rattle.std.proofs.lemmas.Option.{slice_get-get_or}
 use Rattle.std.specs.FinMap as map
 use Rattle.std.proofs.lemmas.Cmp.{nat_cmp_total}
 use Rattle.newt_graph.specs.Graph.{RawGraph}
+use Rattle.newt_spec_image.specs.Records.{version}
 use Rattle.newt_spec_image.specs.Pages.{Pages, object_length}
 use Rattle.newt_spec_image.specs.Objects.{Extent, Table, IsTableOf, Objects, AreObjectsOf, joined, pages_for}
 use Rattle.newt_spec_graph.proofs.Lists.{some-same}
@@ -58,4 +59,4 @@ pub store-same : (graph_of : List ℕ → Option RawGraph) (image : List ℕ) (s
 store-same graph_of image s t is_s is_t =
     let live = some-same is_s.live is_t.live (sym is_s.has_pages ∙ is_t.has_pages) in
     let objects = objects-same is_t.live is_s.objects is_t.objects (subst (λ (p : Pages). AreObjectsOf p is_s.objects) live is_s.has_objects) is_t.has_objects in
-    some-same s t (sym is_s.reads ∙ ap (λ (o : Objects). store_of graph_of (map.entries o) (blocks_of image)) objects ∙ is_t.reads)
+    some-same s t (sym is_s.reads ∙ ap (λ (o : Objects). store_of graph_of (version image) (map.entries o) (blocks_of image)) objects ∙ is_t.reads)

@@ -14,10 +14,11 @@ use Rattle.newt_spec_store.specs.Laid.{ApartIds}
 use Rattle.newt_spec_store.specs.Reading.{whole, directory}
 use Rattle.newt_spec_store.specs.Sorted.{insert_by, sorted_by}
 use Rattle.newt_spec_store.specs.Store.{Entry, Store}
-use Rattle.newt_spec_store.specs.StoreOf.{EntryRow, object_bytes, entry_of_row, rows_of, named_once, in_a_soup, assembled, store_of}
-use Rattle.newt_spec_store.specs.Valid.{valid}
+use Rattle.newt_spec_store.specs.StoreOf.{EntryRow, only, object_bytes, entry_of_row, rows_of, named_once, in_a_soup, assembled, store_of}
+use Rattle.newt_spec_store.specs.Valid.{valid, keeps_version}
 use Rattle.newt_laws_images.proofs.Assembled.{map-among, chosen}
 use Rattle.newt_laws_images.proofs.Made.{built}
+use Rattle.newt_laws_images.proofs.Rows.{only-parts}
 
 -- ---- lists
 
@@ -70,11 +71,12 @@ apart-from (x ∷ es) h = (
 
 -- ---- what was read
 
-pub record IsReading (graph_of : List ℕ → Option RawGraph) (objects : Objects) (blocks : ℕ) (s : Store) : Type 0 where
+pub record IsReading (graph_of : List ℕ → Option RawGraph) (version : ℕ) (objects : Objects) (blocks : ℕ) (s : Store) : Type 0 where
   pub bytes : List ℕ
   pub at_zero : object_bytes objects 0 ≡ Some bytes
   pub d : Store
-  pub is_directory : whole directory bytes ≡ Some d
+  pub is_directory : whole (directory graph_of) bytes ≡ Some d
+  pub keeps : keeps_version version d ≡ true
   pub rows : List EntryRow
   pub are_rows : rows_of graph_of objects ≡ Some rows
   pub es : List (ℕ × Entry)
@@ -90,29 +92,29 @@ checked-parts true true false s t h = cc
 checked-parts true false c s t h = cc
 checked-parts false b c s t h = cc
 
-pub reading : (graph_of : List ℕ → Option RawGraph) (objects : Objects) (blocks : ℕ) (s : Store) → store_of graph_of objects blocks ≡ Some s → IsReading graph_of objects blocks s
-reading graph_of objects blocks s h = from-bytes (object_bytes objects 0) refl h
+pub reading : (graph_of : List ℕ → Option RawGraph) (version : ℕ) (objects : Objects) (blocks : ℕ) (s : Store) → store_of graph_of version objects blocks ≡ Some s → IsReading graph_of version objects blocks s
+reading graph_of version objects blocks s h = from-bytes (object_bytes objects 0) refl h
   where
-    from-entries : (bytes : List ℕ) → object_bytes objects 0 ≡ Some bytes → (d : Store) → whole directory bytes ≡ Some d → (rows : List EntryRow) → rows_of graph_of objects ≡ Some rows
-        → (o : Option (List (ℕ × Entry))) → every (map (entry_of_row graph_of objects) rows) ≡ o → option_and_then (λ entries. assembled graph_of objects blocks d rows entries) o ≡ Some s → IsReading graph_of objects blocks s
+    from-entries : (bytes : List ℕ) → object_bytes objects 0 ≡ Some bytes → (d : Store) → (whole (directory graph_of) bytes ≡ Some d) × (keeps_version version d ≡ true) → (rows : List EntryRow) → rows_of graph_of objects ≡ Some rows
+        → (o : Option (List (ℕ × Entry))) → every (map (entry_of_row graph_of objects) rows) ≡ o → option_and_then (λ entries. assembled graph_of objects blocks d rows entries) o ≡ Some s → IsReading graph_of version objects blocks s
     from-entries bytes a d b rows c None e k = absurd (none-some s k)
     from-entries bytes a d b rows c (Some es) e k =
         let r = checked-parts (named_once graph_of objects rows) (list_all (in_a_soup graph_of d) es) (valid blocks (built graph_of d es)) (built graph_of d es) s k in
-        record { bytes = bytes; at_zero = a; d = d; is_directory = b; rows = rows; are_rows = c; es = es; are_entries = e; named = r.0; inside = r.1; good = ap (valid blocks) (sym r.3) ∙ r.2; is = r.3 }
+        record { bytes = bytes; at_zero = a; d = d; is_directory = b.0; keeps = b.1; rows = rows; are_rows = c; es = es; are_entries = e; named = r.0; inside = r.1; good = ap (valid blocks) (sym r.3) ∙ r.2; is = r.3 }
 
-    from-rows : (bytes : List ℕ) → object_bytes objects 0 ≡ Some bytes → (d : Store) → whole directory bytes ≡ Some d → (o : Option (List EntryRow)) → rows_of graph_of objects ≡ o
-        → option_and_then (λ rows. option_and_then (λ entries. assembled graph_of objects blocks d rows entries) (every (map (entry_of_row graph_of objects) rows))) o ≡ Some s → IsReading graph_of objects blocks s
+    from-rows : (bytes : List ℕ) → object_bytes objects 0 ≡ Some bytes → (d : Store) → (whole (directory graph_of) bytes ≡ Some d) × (keeps_version version d ≡ true) → (o : Option (List EntryRow)) → rows_of graph_of objects ≡ o
+        → option_and_then (λ rows. option_and_then (λ entries. assembled graph_of objects blocks d rows entries) (every (map (entry_of_row graph_of objects) rows))) o ≡ Some s → IsReading graph_of version objects blocks s
     from-rows bytes a d b None e k = absurd (none-some s k)
     from-rows bytes a d b (Some rows) e k = from-entries bytes a d b rows e (every (map (entry_of_row graph_of objects) rows)) refl k
 
-    from-directory : (bytes : List ℕ) → object_bytes objects 0 ≡ Some bytes → (o : Option Store) → whole directory bytes ≡ o
+    from-directory : (bytes : List ℕ) → object_bytes objects 0 ≡ Some bytes → (o : Option Store) → only (keeps_version version) (whole (directory graph_of) bytes) ≡ o
         → option_and_then (λ d. option_and_then (λ rows. option_and_then (λ entries. assembled graph_of objects blocks d rows entries) (every (map (entry_of_row graph_of objects) rows))) (rows_of graph_of objects)) o ≡ Some s
-        → IsReading graph_of objects blocks s
+        → IsReading graph_of version objects blocks s
     from-directory bytes a None e k = absurd (none-some s k)
-    from-directory bytes a (Some d) e k = from-rows bytes a d e (rows_of graph_of objects) refl k
+    from-directory bytes a (Some d) e k = from-rows bytes a d (only-parts (keeps_version version) (whole (directory graph_of) bytes) d e) (rows_of graph_of objects) refl k
 
     from-bytes : (o : Option (List ℕ)) → object_bytes objects 0 ≡ o
         → option_and_then (λ d. option_and_then (λ rows. option_and_then (λ entries. assembled graph_of objects blocks d rows entries) (every (map (entry_of_row graph_of objects) rows))) (rows_of graph_of objects))
-        (option_and_then (whole directory) o) ≡ Some s → IsReading graph_of objects blocks s
+        (option_and_then (λ bytes. only (keeps_version version) (whole (directory graph_of) bytes)) o) ≡ Some s → IsReading graph_of version objects blocks s
     from-bytes None e k = absurd (none-some s k)
-    from-bytes (Some bytes) e k = from-directory bytes e (whole directory bytes) refl k
+    from-bytes (Some bytes) e k = from-directory bytes e (only (keeps_version version) (whole (directory graph_of) bytes)) refl k

@@ -4,7 +4,6 @@ use Rattle.std.specs.List.{enumerate_from, list_all}
 use Rattle.std.specs.Prelude.{bytes_eq}
 use Rattle.std.proofs.lemmas.List.{append_assoc}
 use Rattle.std.proofs.lemmas.Bool.{eq-eqb, lt-ltb}
-use Rattle.std.proofs.lemmas.Cmp.{nat_list_eq_equiv}
 use lib.ListN.{length-append}
 use Rattle.newt_base.specs.Text.{be16, be32}
 use Rattle.newt_graph.specs.declared.node.Node.{Node}
@@ -18,9 +17,11 @@ use Rattle.newt_spec_store.specs.Image as image
 use Rattle.newt_spec_store.specs.Image.{Objects, larges, large_in, entry_bytes}
 use Rattle.newt_spec_store.specs.Reading.{◌>>=◌, give, some_bytes, number, times}
 use Rattle.newt_spec_graph.specs.Graph.{every}
-use Rattle.newt_spec_store.specs.StoreOf.{LargeRow, large_row, entry_fields, entry_row, large_object, with_bytes, fill, written, with_larges, entry_of_row}
+use Rattle.newt_spec_store.specs.StoreOf.{LargeRow, large_row, entry_fields, entry_row, large_object, with_bytes, fill, with_larges, entry_of_row}
 use Rattle.newt_spec_graph.specs.Lists.{Each}
 use Rattle.newt_spec_store.specs.Laid.{Named, row_of_large, FitsRow, IsThere, row_of, FitsRecord}
+pub use Rattle.newt_laws_images.proofs.Texts.{bytes-same}
+use Rattle.newt_laws_images.proofs.Texts.{written-back}
 use Rattle.newt_laws_images.proofs.Read.{Reads, reads-then, reads-last, reads-some, reads-be16, reads-be32, regroup, reads-whole}
 
 three : (a b c : List ℕ) → a ++ b ++ c ≡ a ++ (b ++ c)
@@ -192,9 +193,6 @@ zip-back : (ls : List (ℕ × List ℕ)) → zip (map (λ (l : ℕ × List ℕ).
 zip-back [] = refl
 zip-back (l ∷ ls) = ap (λ ks. l ∷ ks) (zip-back ls)
 
-pub bytes-same : (xs : List ℕ) → bytes_eq xs xs ≡ true
-bytes-same xs = nat_list_eq_equiv.refl xs
-
 pub larges-back : (graph_of : List ℕ → Option RawGraph) (objects : Objects) (soup : ℕ) (e : Entry) (ids : List ℕ) → length (larges e.graph) ≡ length ids → Each (IsThere objects) (zip (larges e.graph) ids)
     → with_larges graph_of objects (row_of soup e ids) (skeleton e.graph) ≡ Some e.graph
 larges-back graph_of objects soup e ids h there =
@@ -218,8 +216,5 @@ larges-back graph_of objects soup e ids h there =
 pub entry-back : (graph_of : List ℕ → Option RawGraph) (objects : Objects) (soup : ℕ) (e : Entry) (ids : List ℕ) → graph_of (flat (skeleton e.graph)) ≡ Some (skeleton e.graph)
     → length (larges e.graph) ≡ length ids → Each (IsThere objects) (zip (larges e.graph) ids) → entry_of_row graph_of objects (row_of soup e ids) ≡ Some (soup, e)
 entry-back graph_of objects soup e ids reads h there =
-    ap (λ o. option_map (λ g. (soup, record { uid = e.uid; time = e.time; graph = g })) (option_and_then (with_larges graph_of objects (row_of soup e ids)) o)) is-written
+    ap (λ o. option_map (λ g. (soup, record { uid = e.uid; time = e.time; graph = g })) (option_and_then (with_larges graph_of objects (row_of soup e ids)) o)) (written-back graph_of (skeleton e.graph) reads)
     ∙ ap {A = Option RawGraph} {B = Option (ℕ × Entry)} (option_map (λ g. (soup, record { uid = e.uid; time = e.time; graph = g }))) (larges-back graph_of objects soup e ids h there)
-  where
-    is-written : written graph_of (flat (skeleton e.graph)) ≡ Some (skeleton e.graph)
-    is-written = ap (option_and_then (λ g. cond (bytes_eq (flat g) (flat (skeleton e.graph))) (Some g) None)) reads ∙ ap (λ b. cond b (Some (skeleton e.graph)) None) (bytes-same (flat (skeleton e.graph)))

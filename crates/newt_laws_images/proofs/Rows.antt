@@ -4,7 +4,6 @@ use Rattle.std.specs.List.{list_all}
 use Rattle.std.specs.Prelude.{bytes_eq}
 use Rattle.std.specs.FinMap as map
 use Rattle.std.proofs.lemmas.Bool.{eqb-true, and_parts, ltb-true}
-use Rattle.std.proofs.lemmas.Slice.Eq.{bytes_eq-Decides}
 use Rattle.newt_graph.specs.Graph.{RawGraph}
 use Rattle.newt_spec_image.specs.Objects.{Objects as Texts}
 use Rattle.newt_spec_graph.specs.Graph.{every}
@@ -15,28 +14,17 @@ use Rattle.newt_spec_graph.proofs.Lists.{some-same, none-some}
 use Rattle.newt_spec_store.specs.Store.{Entry}
 use Rattle.newt_base.specs.Text.{be16, be32}
 use Rattle.newt_spec_store.specs.Image.{Objects, larges, entry_bytes, large_row as large_row_bytes}
-use Rattle.newt_spec_store.specs.StoreOf.{LargeRow, EntryRow, object_bytes, large_object, fill, written, names_larges, with_larges, entry_row, entry_of_row}
+use Rattle.newt_spec_store.specs.StoreOf.{LargeRow, EntryRow, only, object_bytes, large_object, fill, names_larges, with_larges, entry_row, entry_of_row}
 use Rattle.newt_spec_store.specs.Laid.{Named, row_of_large, row_of, IsThere}
-use Rattle.newt_spec_store.specs.Lies.{entry_read, only}
+use Rattle.newt_spec_store.specs.Lies.{entry_read}
+use Rattle.newt_spec_store.specs.Reading.{written}
 use Rattle.newt_spec_store.specs.Valid.{valid_entry}
 use Rattle.newt_laws_images.proofs.Both.{Both, every-both}
 use Rattle.newt_laws_images.proofs.Filled.{filled_with, filled-skeleton, filled-larges, own-skeleton}
 use Rattle.newt_laws_images.proofs.Records.{entry-back, map-length}
+pub use Rattle.newt_laws_images.proofs.Texts.{text-same}
+use Rattle.newt_laws_images.proofs.Texts.{written-parts}
 use Rattle.newt_laws_images.proofs.Spelt.{Small, row_bytes, large_bytes, record-spelt}
-
-pub text-same : (a b : List ℕ) → bytes_eq a b ≡ true → a ≡ b
-text-same a b h = (bytes_eq-Decides a b).0 h
-
-pub written-parts : (graph_of : List ℕ → Option RawGraph) (text : List ℕ) (g : RawGraph) → written graph_of text ≡ Some g → (graph_of text ≡ Some g) × (flat g ≡ text)
-written-parts graph_of text g h = go (graph_of text) refl h
-  where
-    test : (b : Bool) (k : RawGraph) → bytes_eq (flat k) text ≡ b → graph_of text ≡ Some k → cond b (Some k) None ≡ Some g → (graph_of text ≡ Some g) × (flat g ≡ text)
-    test true k e r s = let q = some-same k g s in (r ∙ s, ap flat (sym q) ∙ text-same (flat k) text e)
-    test false k e r s = absurd (none-some g s)
-
-    go : (o : Option RawGraph) → graph_of text ≡ o → option_and_then (λ k. cond (bytes_eq (flat k) text) (Some k) None) o ≡ Some g → (graph_of text ≡ Some g) × (flat g ≡ text)
-    go None e k = absurd (none-some g k)
-    go (Some k) e s = test (bytes_eq (flat k) text) k refl e s
 
 -- ---- large binaries
 

@@ -1,16 +1,19 @@
 -- What is read is written so: bytes that give a value are the bytes of the value, where each is below 256.
-use Rattle.std.proofs.Common.{arith, ◌≡◌, refl, ap, sym, ◌∙◌, subst, ℕ, zero, suc, ◌+◌, ◌-◌, ◌*◌, ◌/◌, ◌%◌, ◌<◌, ◌≤◌, List, [], ◌∷◌, ◌++◌, true, false, Bool, cond, Option, Some, None, option_and_then, length, take, drop, flat_map, fold, nat_le}
+use Rattle.std.proofs.Common.{arith, ◌≡◌, refl, ap, sym, ◌∙◌, subst, ℕ, zero, suc, ◌+◌, ◌-◌, ◌*◌, ◌/◌, ◌%◌, ◌<◌, ◌≤◌, List, [], ◌∷◌, ◌++◌, true, false, Bool, cond, Option, Some, None, option_and_then, option_map, length, take, drop, flat_map, fold, nat_le}
 use Rattle.std.proofs.lemmas.List.{append_assoc}
 use Rattle.std.proofs.lemmas.Bool.{leb-true}
 use Rattle.newt_base.specs.Text.{be16, be32}
+use Rattle.newt_graph.specs.Graph.{RawGraph}
+use Rattle.newt_spec_nsof.specs.Flat.{flat}
 use Rattle.newt_spec_graph.specs.Lists.{Each}
 use Rattle.newt_spec_graph.proofs.Lists.{some-same, none-some}
 use Rattle.newt_spec_store.specs.declared.Kind.TheVariants as kind
 use Rattle.newt_spec_store.specs.declared.Order.TheVariants as order
-use Rattle.newt_spec_store.specs.Store.{Store}
+use Rattle.newt_spec_store.specs.Store.{TagTable, Store}
 use Rattle.newt_spec_store.specs.Cost as cost
 use Rattle.newt_spec_store.specs.StoreOf.{LargeRow, EntryRow, large_row, entry_fields, entry_row}
-use Rattle.newt_spec_store.specs.Reading.{Take, ◌>>=◌, give, refuse, some_bytes, number, times, counted, whole, whole_of, text, path, kind_of, direction_of, part, tags_of, soup, directory}
+use Rattle.newt_spec_store.specs.Reading.{Take, ◌>>=◌, give, refuse, some_bytes, number, times, counted, whole, whole_of, text, path, kind_of, direction_of, part, table, written, graph, info, extra_of, soup, directory}
+use Rattle.newt_laws_images.proofs.Texts.{written-parts}
 
 abbrev pub Small : List ℕ → Type 0
 Small bytes = Each (λ b. b < 256) bytes
@@ -22,7 +25,7 @@ Ends {A} pre p w Q = (bytes rest : List ℕ) (a : A) → Small bytes → p bytes
 abbrev pub Anything : {A : Type 0} → A → Type 0
 Anything a = Unit {0}
 
-read-parts : {A : Type 0} (a b : A) (r s : List ℕ) → ◌≡◌ {A = Option (A × List ℕ)} (Some (a, r)) (Some (b, s)) → (a ≡ b) × (r ≡ s)
+pub read-parts : {A : Type 0} (a b : A) (r s : List ℕ) → ◌≡◌ {A = Option (A × List ℕ)} (Some (a, r)) (Some (b, s)) → (a ≡ b) × (r ≡ s)
 read-parts {A} a b r s h = let k = some-same {X = A × List ℕ} (a, r) (b, s) h in (ap {A = A × List ℕ} (λ p. p.0) k, ap {A = A × List ℕ} (λ p. p.1) k)
 
 pub ends-then : {A B : Type 0} (pre : List ℕ) (p : Take A) (w : A → List ℕ) (Q : A → Type 0) (f : A → Take B) (v : B → List ℕ) (S : B → Type 0) → Ends [] p w Q
@@ -187,32 +190,63 @@ spells-part = ends-then [] (number 1 >>= kind_of) (λ k. cost.kind_byte k ∷ []
     ends-then (cost.kind_byte k ∷ cost.direction_byte d ∷ []) path cost.path_bytes Anything _ cost.part_bytes Anything spells-path (λ s _.
     ends-give (cost.kind_byte k ∷ cost.direction_byte d ∷ cost.path_bytes s) (record { path = s; kind = k; direction = d }) cost.part_bytes Anything refl tt)))
 
-spells-tags : Ends [] (number 1 >>= tags_of) cost.tags_bytes Anything
-spells-tags = ends-then [] (number 1) (λ n. n ∷ []) (λ n. n < 256) tags_of cost.tags_bytes Anything spells-byte (λ n _. go n)
-  where
-    go : (n : ℕ) → Ends (n ∷ []) (tags_of n) cost.tags_bytes Anything
-    go zero = ends-give (0 ∷ []) None cost.tags_bytes Anything refl tt
-    go (suc zero) = ends-then (1 ∷ []) path cost.path_bytes Anything _ cost.tags_bytes Anything spells-path (λ p _.
-        ends-then (1 ∷ cost.path_bytes p) (counted text) (cost.counted cost.text_bytes) Anything _ cost.tags_bytes Anything (spells-counted text cost.text_bytes spells-text) (λ s _.
-        ends-give (1 ∷ cost.path_bytes p ++ cost.counted cost.text_bytes s) (Some (record { path = p; symbols = s })) cost.tags_bytes Anything refl tt))
-    go (suc (suc n)) = ends-refuse (suc (suc n) ∷ []) cost.tags_bytes Anything
+spells-table : Ends [] table cost.table_bytes Anything
+spells-table = ends-then [] path cost.path_bytes Anything _ cost.table_bytes Anything spells-path (λ p _.
+    ends-then (cost.path_bytes p) (counted text) (cost.counted cost.text_bytes) Anything _ cost.table_bytes Anything (spells-counted text cost.text_bytes spells-text) (λ s _.
+    ends-give (cost.path_bytes p ++ cost.counted cost.text_bytes s) (record { path = p; symbols = s }) cost.table_bytes Anything refl tt))
 
-spells-soup : Ends [] soup cost.soup_bytes Anything
-spells-soup = ends-then [] text cost.text_bytes Anything _ cost.soup_bytes Anything spells-text (λ name _.
-    ends-then (cost.text_bytes name) (number 2) be16 (λ n. n < 65536) _ cost.soup_bytes Anything spells-be16 (λ sig _.
-    ends-then (cost.text_bytes name ++ be16 sig) (number 4) be32 (λ n. n < 4294967296) _ cost.soup_bytes Anything spells-be32 (λ next _.
-    ends-then (cost.text_bytes name ++ be16 sig ++ be32 next) (counted (counted part)) (cost.counted (cost.counted cost.part_bytes)) Anything _ cost.soup_bytes Anything
-    (spells-counted (counted part) (cost.counted cost.part_bytes) (spells-counted part cost.part_bytes spells-part)) (λ specs _.
-    ends-then (cost.text_bytes name ++ be16 sig ++ be32 next ++ cost.counted (cost.counted cost.part_bytes) specs) (number 1 >>= tags_of) cost.tags_bytes Anything _ cost.soup_bytes Anything spells-tags (λ tags _.
-    ends-give (cost.text_bytes name ++ be16 sig ++ be32 next ++ cost.counted (cost.counted cost.part_bytes) specs ++ cost.tags_bytes tags)
-    (record { name = name; sig = sig; next_uid = next; specs = specs; tags = tags; entries = [] }) cost.soup_bytes Anything refl tt)))))
+module _ (graph_of : List ℕ → Option RawGraph) where
+  spells-written : (t : List ℕ) → Ends t (λ bytes. option_map (λ g. (g, bytes)) (written graph_of t)) flat (λ g. flat g ≡ t)
+  spells-written t bytes rest g small h = go (written graph_of t) refl h
+    where
+      go : (o : Option RawGraph) → written graph_of t ≡ o → ◌≡◌ {A = Option (RawGraph × List ℕ)} (option_map (λ k. (k, bytes)) o) (Some (g, rest)) → (t ++ bytes ≡ flat g ++ rest) × Small rest × (flat g ≡ t)
+      go None e p = absurd (none-some {X = RawGraph × List ℕ} (g, rest) p)
+      go (Some k) e p =
+          let r = read-parts k g bytes rest p in
+          let text : flat g ≡ t = ap flat (sym r.0) ∙ (written-parts graph_of t k e).1 in
+          ((λ i. sym text i ++ r.1 i), subst Small r.1 small, text)
 
-spells-directory : Ends [] directory cost.directory_bytes Anything
-spells-directory = ends-then [] text cost.text_bytes Anything _ cost.directory_bytes Anything spells-text (λ name _.
-    ends-then (cost.text_bytes name) (number 4) be32 (λ n. n < 4294967296) _ cost.directory_bytes Anything spells-be32 (λ sig _.
-    ends-then (cost.text_bytes name ++ be32 sig) (number 2) be16 (λ n. n < 65536) _ cost.directory_bytes Anything spells-be16 (λ next _.
-    ends-then (cost.text_bytes name ++ be32 sig ++ be16 next) (counted soup) (cost.counted cost.soup_bytes) Anything _ cost.directory_bytes Anything (spells-counted soup cost.soup_bytes spells-soup) (λ soups _.
-    ends-give (cost.text_bytes name ++ be32 sig ++ be16 next ++ cost.counted cost.soup_bytes soups) (record { name = name; sig = sig; next_soup = next; soups = soups }) cost.directory_bytes Anything refl tt))))
+  spells-info : Ends [] (info graph_of) cost.info_bytes Anything
+  spells-info = ends-then [] (number 2) be16 (λ n. n < 65536) (graph graph_of) cost.info_bytes Anything spells-be16 (λ n _.
+      ends-then (be16 n) (some_bytes n) (λ t. t) (λ t. (length t ≡ n) × Small t) (λ t bytes. option_map (λ g. (g, bytes)) (written graph_of t)) cost.info_bytes Anything (spells-some n)
+      (λ t k bytes rest g small h. let r = spells-written t bytes rest g small h in
+      (ap (λ zs. zs ++ bytes) (ap (λ zs. be16 n ++ zs) (sym r.2) ∙ ap (λ m. be16 m ++ flat g) (sym k.0 ∙ ap length (sym r.2))) ∙ behind g t bytes rest r.2 r.0, r.1, tt)))
+    where
+      behind : (g : RawGraph) (t bytes rest : List ℕ) → flat g ≡ t → t ++ bytes ≡ flat g ++ rest → (be16 (length (flat g)) ++ flat g) ++ bytes ≡ (be16 (length (flat g)) ++ flat g) ++ rest
+      behind g t bytes rest e h = append_assoc (be16 (length (flat g))) (flat g) bytes ∙ ap (λ zs. be16 (length (flat g)) ++ zs) (ap (λ zs. zs ++ bytes) e ∙ h) ∙ sym (append_assoc (be16 (length (flat g))) (flat g) rest)
+
+  -- the bytes of a tags declaration and an info frame
+  abbrev extra : Option TagTable × Option RawGraph → List ℕ
+  extra x = cost.extra_bytes x.0 x.1
+
+  spells-extra : Ends [] (number 1 >>= extra_of graph_of) extra Anything
+  spells-extra = ends-then [] (number 1) (λ n. n ∷ []) (λ n. n < 256) (extra_of graph_of) extra Anything spells-byte (λ n _. go n)
+    where
+      go : (n : ℕ) → Ends (n ∷ []) (extra_of graph_of n) extra Anything
+      go zero = ends-give (0 ∷ []) (None, None) extra Anything refl tt
+      go (suc zero) = ends-then (1 ∷ []) table cost.table_bytes Anything _ extra Anything spells-table (λ t _. ends-give (1 ∷ cost.table_bytes t) (Some t, None) extra Anything refl tt)
+      go (suc (suc zero)) = ends-then (2 ∷ []) (info graph_of) cost.info_bytes Anything _ extra Anything spells-info (λ g _. ends-give (2 ∷ cost.info_bytes g) (None, Some g) extra Anything refl tt)
+      go (suc (suc (suc zero))) = ends-then (3 ∷ []) table cost.table_bytes Anything _ extra Anything spells-table (λ t _.
+          ends-then (3 ∷ cost.table_bytes t) (info graph_of) cost.info_bytes Anything _ extra Anything spells-info (λ g _.
+          ends-give (3 ∷ cost.table_bytes t ++ cost.info_bytes g) (Some t, Some g) extra Anything refl tt))
+      go (suc (suc (suc (suc n)))) = ends-refuse (suc (suc (suc (suc n))) ∷ []) extra Anything
+
+  spells-soup : Ends [] (soup graph_of) cost.soup_bytes Anything
+  spells-soup = ends-then [] text cost.text_bytes Anything _ cost.soup_bytes Anything spells-text (λ name _.
+      ends-then (cost.text_bytes name) (number 2) be16 (λ n. n < 65536) _ cost.soup_bytes Anything spells-be16 (λ sig _.
+      ends-then (cost.text_bytes name ++ be16 sig) (number 4) be32 (λ n. n < 4294967296) _ cost.soup_bytes Anything spells-be32 (λ next _.
+      ends-then (cost.text_bytes name ++ be16 sig ++ be32 next) (counted (counted part)) (cost.counted (cost.counted cost.part_bytes)) Anything _ cost.soup_bytes Anything
+      (spells-counted (counted part) (cost.counted cost.part_bytes) (spells-counted part cost.part_bytes spells-part)) (λ specs _.
+      ends-then (cost.text_bytes name ++ be16 sig ++ be32 next ++ cost.counted (cost.counted cost.part_bytes) specs) (number 1 >>= extra_of graph_of) extra Anything _ cost.soup_bytes Anything spells-extra (λ x _.
+      ends-give (cost.text_bytes name ++ be16 sig ++ be32 next ++ cost.counted (cost.counted cost.part_bytes) specs ++ extra x)
+      (record { name = name; sig = sig; next_uid = next; specs = specs; tags = x.0; info = x.1; entries = [] }) cost.soup_bytes Anything refl tt)))))
+
+  spells-directory : Ends [] (directory graph_of) cost.directory_bytes Anything
+  spells-directory = ends-then [] text cost.text_bytes Anything _ cost.directory_bytes Anything spells-text (λ name _.
+      ends-then (cost.text_bytes name) (number 4) be32 (λ n. n < 4294967296) _ cost.directory_bytes Anything spells-be32 (λ sig _.
+      ends-then (cost.text_bytes name ++ be32 sig) (number 2) be16 (λ n. n < 65536) _ cost.directory_bytes Anything spells-be16 (λ next _.
+      ends-then (cost.text_bytes name ++ be32 sig ++ be16 next) (counted (soup graph_of)) (cost.counted cost.soup_bytes) Anything _ cost.directory_bytes Anything (spells-counted (soup graph_of) cost.soup_bytes spells-soup) (λ soups _.
+      ends-give (cost.text_bytes name ++ be32 sig ++ be16 next ++ cost.counted cost.soup_bytes soups) (record { name = name; sig = sig; next_soup = next; soups = soups }) cost.directory_bytes Anything refl tt))))
 
 append-nil : (xs : List ℕ) → xs ++ [] ≡ xs
 append-nil [] = refl
@@ -229,8 +263,8 @@ whole-parts {A} p bytes a h = go (p bytes) h
 pub spells-whole : {A : Type 0} (p : Take A) (w : A → List ℕ) (Q : A → Type 0) → Ends [] p w Q → (bytes : List ℕ) (a : A) → Small bytes → whole p bytes ≡ Some a → (bytes ≡ w a) × Q a
 spells-whole p w Q h bytes a small e = let r = h bytes [] a small (whole-parts p bytes a e) in (r.0 ∙ append-nil (w a), r.2)
 
-pub directory-spelt : (bytes : List ℕ) (d : Store) → Small bytes → whole directory bytes ≡ Some d → bytes ≡ cost.directory_bytes d
-directory-spelt bytes d small h = (spells-whole directory cost.directory_bytes Anything spells-directory bytes d small h).0
+pub directory-spelt : (graph_of : List ℕ → Option RawGraph) (bytes : List ℕ) (d : Store) → Small bytes → whole (directory graph_of) bytes ≡ Some d → bytes ≡ cost.directory_bytes d
+directory-spelt graph_of bytes d small h = (spells-whole (directory graph_of) cost.directory_bytes Anything (spells-directory graph_of) bytes d small h).0
 
 -- ---- records
 

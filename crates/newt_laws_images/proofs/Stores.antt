@@ -5,7 +5,7 @@ use Rattle.newt_base.specs.Names.{equal_text, is_name}
 use Rattle.newt_spec_graph.specs.Lists.{all_apart, rises}
 use Rattle.newt_spec_store.specs.Keys.{paths_of, same_paths}
 use Rattle.newt_spec_store.specs.Store.{Store, Soup}
-use Rattle.newt_spec_store.specs.Valid.{well_formed, valid_soup, valid_entry, valid_spec, valid_tags}
+use Rattle.newt_spec_store.specs.Valid.{well_formed, valid_soup, valid_entry, valid_spec, valid_tags, valid_info}
 
 pub record IsSoup (p : Soup) : Type 0 where
   pub named : is_name p.name ≡ true
@@ -15,6 +15,7 @@ pub record IsSoup (p : Soup) : Type 0 where
   pub specs_fit : list_all valid_spec p.specs ≡ true
   pub specs_apart : all_apart same_paths (map paths_of p.specs) ≡ true
   pub tags_fit : valid_tags p.tags ≡ true
+  pub info_fits : valid_info p.info ≡ true
   pub entries_fit : list_all valid_entry p.entries ≡ true
 
 pub is-soup : (p : Soup) → valid_soup p ≡ true → IsSoup p
@@ -26,17 +27,18 @@ is-soup p h = record {
   specs_fit = grind arith;
   specs_apart = grind arith;
   tags_fit = grind arith;
+  info_fits = grind arith;
   entries_fit = grind arith;
 }
 
 pub soup-is : (p : Soup) → IsSoup p → valid_soup p ≡ true
-soup-is p r = grind (arith, r.named, r.next, r.uids, r.count, r.specs_fit, r.specs_apart, r.tags_fit, r.entries_fit)
+soup-is p r = grind (arith, r.named, r.next, r.uids, r.count, r.specs_fit, r.specs_apart, r.tags_fit, r.info_fits, r.entries_fit)
 
 pub record IsStore (s : Store) : Type 0 where
   pub named : is_name s.name ≡ true
   pub sig_fits : nat_le s.sig 536_870_911 ≡ true
   pub next : s.next_soup ≤ 65535
-  pub count : length s.soups ≤ 64
+  pub count : length s.soups ≤ 250
   pub sigs : rises 0 s.next_soup (map (λ p. p.sig) s.soups) ≡ true
   pub names_apart : all_apart equal_text (map (λ p. p.name) s.soups) ≡ true
   pub soups_fit : list_all valid_soup s.soups ≡ true

@@ -14,7 +14,7 @@ use Rattle.newt_spec_store.specs.Image.{Objects, larges}
 use Rattle.newt_spec_store.specs.Laid.{Laid, IsLaid, FitsRecord, IsThere, row_of, row_of_large}
 use Rattle.newt_spec_store.specs.Lies.{LiesIn, Places, IsIn, ReadsGraphs}
 use Rattle.newt_spec_store.specs.StoreOf.{EntryRow, LargeRow, named_once, store_of}
-use Rattle.newt_spec_store.specs.Valid.{well_formed, valid, fits}
+use Rattle.newt_spec_store.specs.Valid.{well_formed, valid, fits, keeps_version}
 use Rattle.newt_laws_images.proofs.Assembled.{store-back}
 use Rattle.newt_laws_images.proofs.Finite.{object-get, entry-get}
 use Rattle.newt_laws_images.proofs.Placed.{IsPlaced, Layout, layout, entry-fits}
@@ -130,6 +130,7 @@ module _ (objects : Texts) (place : Places) (s : Store) (lies : LiesIn objects p
   pub lies-laid : (graph_of : List ℕ → Option RawGraph) → ReadsGraphs graph_of → IsLaid graph_of (map.entries objects) s its-layout.laid
   lies-laid graph_of reads = record {
     written = object-get objects 0 ∙ lies.directory;
+    infos = λ p g m e. reads.back g (lies.infos p g m e);
     records = its-layout.records;
     fit = each (λ x. FitsRecord x.soup x.entry x.ids) (λ x p. entry-fits objects place s x.soup x.entry x.ids lies w p.is_in p.larges_are);
     decoded = each (λ x. graph_of (flat (skeleton x.entry.graph)) ≡ Some (skeleton x.entry.graph)) (λ x p. reads.back (skeleton x.entry.graph) (lies.skeletons x.soup x.entry p.is_in));
@@ -143,8 +144,8 @@ module _ (objects : Texts) (place : Places) (s : Store) (lies : LiesIn objects p
       each : (P : Laid → Type 0) → ((x : Laid) → IsPlaced objects place lies.named s x → P x) → Each P its-layout.laid
       each P f = each-more (IsPlaced objects place lies.named s) P its-layout.laid f its-layout.placed
 
-pub lies-read : (graph_of : List ℕ → Option RawGraph) (objects : Texts) (place : Places) (blocks : ℕ) (s : Store) → ReadsGraphs graph_of → LiesIn objects place s → valid blocks s ≡ true
-    → store_of graph_of (map.entries objects) blocks ≡ Some s
-lies-read graph_of objects place blocks s reads lies v =
+pub lies-read : (graph_of : List ℕ → Option RawGraph) (version : ℕ) (objects : Texts) (place : Places) (blocks : ℕ) (s : Store) → ReadsGraphs graph_of → LiesIn objects place s → keeps_version version s ≡ true
+    → valid blocks s ≡ true → store_of graph_of version (map.entries objects) blocks ≡ Some s
+lies-read graph_of version objects place blocks s reads lies keeps v =
     let w = (and_parts (well_formed s) (fits blocks s) v).0 in
-    store-back graph_of (map.entries objects) blocks s (its-layout objects place s lies w).laid v (lies-laid objects place s lies w graph_of reads)
+    store-back graph_of version (map.entries objects) blocks s (its-layout objects place s lies w).laid keeps v (lies-laid objects place s lies w graph_of reads)

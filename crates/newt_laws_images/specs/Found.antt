@@ -31,10 +31,10 @@ ids_in (Some row) = list_map (λ l. l.1) row.larges
 abbrev pub ids_named : List ℕ → List ℕ
 ids_named bytes = ids_in (entry_row bytes)
 
--- Object 0 is this directory. Each object with an odd id is a record, it is the object of its entry's place, and these are the ids that it names; there are no other
+-- Object 0 is this directory, in the form of this version. Each object with an odd id is a record, it is the object of its entry's place, and these are the ids that it names; there are no other
 -- places and no other names. Each other object is named, and none is named twice.
-pub record IsFound (graph_of : List ℕ → Option RawGraph) (objects : Objects) (place : Places) (named : ℕ → List ℕ) (d : Store) : Type 0 where
-  pub directory : (bytes : List ℕ) × (map.get objects 0 ≡ Some bytes) × (directory_read bytes ≡ Some d) × AreBytes bytes
+pub record IsFound (graph_of : List ℕ → Option RawGraph) (version : ℕ) (objects : Objects) (place : Places) (named : ℕ → List ℕ) (d : Store) : Type 0 where
+  pub directory : (bytes : List ℕ) × (map.get objects 0 ≡ Some bytes) × (directory_read graph_of version bytes ≡ Some d) × AreBytes bytes
   pub records : (id : ℕ) (bytes : List ℕ) → map.get objects id ≡ Some bytes → id % 2 ≡ 1
       → (sig : ℕ) × (e : Entry) × IsRecord graph_of objects d bytes sig e × (place sig e.uid ≡ Some id) × (named id ≡ ids_named bytes)
   pub places : (sig uid id : ℕ) → place sig uid ≡ Some id

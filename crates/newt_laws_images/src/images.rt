@@ -3,6 +3,7 @@ ghost use Rattle.std.specs.Prelude.{ℕ, ◌≡◌, List, IsTrue, Option, Some, 
 ghost use Rattle.std.specs.FinMap as map;
 ghost use Rattle.newt_graph.specs.Graph.{RawGraph};
 ghost use Rattle.newt_spec_image.specs.Objects.{Objects, Table, IsTableOf, AreObjectsOf};
+ghost use Rattle.newt_spec_image.specs.Records.{version};
 ghost use Rattle.newt_spec_image.specs.Pages.{Pages, pages};
 ghost use Rattle.newt_spec_store.specs.ImageStore.{objects_of, store_of_image};
 ghost use Rattle.newt_spec_store.specs.OfImage.{IsStoreOf, blocks_of};
@@ -33,7 +34,7 @@ pub fn stores_are_made_of_images()
 pub fn images_are_read_by_their_objects()
     ensures objects { (graph_of : List ℕ → Option RawGraph) (image : List ℕ) (live : Pages)
         (objects : Objects) → pages image ≡ Some live → AreObjectsOf live objects
-        → store_of_image graph_of image ≡ store_of graph_of (map.entries objects)
+        → store_of_image graph_of image ≡ store_of graph_of (version image) (map.entries objects)
         (blocks_of image) }
     ensures no_pages { (graph_of : List ℕ → Option RawGraph) (image : List ℕ) → pages image ≡ None
         → store_of_image graph_of image ≡ None }

@@ -13,19 +13,20 @@ ghost use Rattle.newt_spec_store.specs.Cost.{cost};
 ghost use Rattle.newt_spec_store.specs.Laid.{bare};
 ghost use Rattle.newt_spec_store.specs.Lies.{LiesIn, Places, ReadsGraphs, entry_read, record_read};
 ghost use Rattle.newt_spec_store.specs.StoreOf.{EntryRow, large_object, fill, store_of};
-ghost use Rattle.newt_spec_store.specs.Valid.{well_formed, valid};
+ghost use Rattle.newt_spec_store.specs.Valid.{well_formed, keeps_version, valid};
 
 /// A store that lies in objects is what they are read as, it costs the pages that they take, and a
 /// store that is read lies in them.
 pub fn lying_stores_are_read()
-    ensures back { (graph_of : List ℕ → Option RawGraph) (objects : Objects) (place : Places)
-        (blocks : ℕ) (s : Store) → ReadsGraphs graph_of → LiesIn objects place s
-        → IsTrue (valid blocks s) → store_of graph_of (map.entries objects) blocks ≡ Some s }
-    ensures lies { (graph_of : List ℕ → Option RawGraph) (objects : Objects) (blocks : ℕ)
-        (s : Store) → ReadsGraphs graph_of
+    ensures back { (graph_of : List ℕ → Option RawGraph) (version : ℕ) (objects : Objects)
+        (place : Places) (blocks : ℕ) (s : Store) → ReadsGraphs graph_of → LiesIn objects place s
+        → IsTrue (keeps_version version s) → IsTrue (valid blocks s)
+        → store_of graph_of version (map.entries objects) blocks ≡ Some s }
+    ensures lies { (graph_of : List ℕ → Option RawGraph) (version : ℕ) (objects : Objects)
+        (blocks : ℕ) (s : Store) → ReadsGraphs graph_of
         → ((id : ℕ) (bytes : List ℕ) → map.get objects id ≡ Some bytes → (id ≡ 0) ⊎ (id % 2 ≡ 1)
         → AreBytes bytes)
-        → store_of graph_of (map.entries objects) blocks ≡ Some s → (place : Places)
+        → store_of graph_of version (map.entries objects) blocks ≡ Some s → (place : Places)
         × LiesIn objects place s }
     ensures total { (objects : Objects) (place : Places) (s : Store) → LiesIn objects place s
         → IsTrue (well_formed s)
@@ -35,11 +36,11 @@ pub fn lying_stores_are_read()
 /// Objects that are a directory, records of entries of its soups and what these name are a store:
 /// the directory with the entries in the order of their ids.
 pub fn stores_are_made_of_records()
-    ensures { (graph_of : List ℕ → Option RawGraph) (objects : Objects) (place : Places)
-        (named : ℕ → List ℕ) (d : Store) → ReadsGraphs graph_of
-        → IsFound graph_of objects place named d
+    ensures { (graph_of : List ℕ → Option RawGraph) (version : ℕ) (objects : Objects)
+        (place : Places) (named : ℕ → List ℕ) (d : Store) → ReadsGraphs graph_of
+        → IsFound graph_of version objects place named d
         → (s : Store) × (lies : LiesIn objects place s) × ((id : ℕ) → lies.named id ≡ named id)
-        × IsTrue (well_formed s) × (bare s ≡ d) }
+        × IsTrue (well_formed s) × IsTrue (keeps_version version s) × (bare s ≡ d) }
 {}
 
 /// A record that is read alone is read among objects as its entry with their bytes, where each

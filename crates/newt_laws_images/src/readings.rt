@@ -7,27 +7,30 @@ ghost use Rattle.newt_spec_store.specs.Image.{Objects, entry_bytes};
 ghost use Rattle.newt_spec_store.specs.Reading.{whole, directory};
 ghost use Rattle.newt_spec_store.specs.StoreOf.{entry_row, store_of};
 ghost use Rattle.newt_spec_store.specs.OfImage.{IsStoreOf};
-ghost use Rattle.newt_spec_store.specs.Laid.{bare, FitsRecord, row_of, Laid, IsLaid};
-ghost use Rattle.newt_spec_store.specs.Valid.{well_formed, valid};
+ghost use Rattle.newt_spec_store.specs.Laid.{AreInfosRead, bare, FitsRecord, row_of, Laid, IsLaid};
+ghost use Rattle.newt_spec_store.specs.Valid.{well_formed, keeps_version, valid};
 
 /// A directory and a record are read as what they were written from.
 pub fn records_are_read_back()
-    ensures directory { (s : Store) → IsTrue (well_formed s)
-        → whole directory (directory_bytes s) ≡ Some (bare s) }
+    ensures directory { (graph_of : List ℕ → Option RawGraph) (s : Store)
+        → AreInfosRead graph_of s → IsTrue (well_formed s)
+        → whole (directory graph_of) (directory_bytes s) ≡ Some (bare s) }
     ensures entry { (soup : ℕ) (e : Entry) (ids : List ℕ) → FitsRecord soup e ids
         → entry_row (entry_bytes soup e ids) ≡ Some (row_of soup e ids) }
 {}
 
 /// A valid store that objects write down is what they are read as, and only valid stores are read.
 pub fn stores_are_read_back()
-    ensures back { (graph_of : List ℕ → Option RawGraph) (objects : Objects) (blocks : ℕ)
-        (s : Store) (laid : List Laid) → IsTrue (valid blocks s) → IsLaid graph_of objects s laid
-        → store_of graph_of objects blocks ≡ Some s }
+    ensures back { (graph_of : List ℕ → Option RawGraph) (version : ℕ) (objects : Objects)
+        (blocks : ℕ) (s : Store) (laid : List Laid) → IsTrue (keeps_version version s)
+        → IsTrue (valid blocks s) → IsLaid graph_of objects s laid
+        → store_of graph_of version objects blocks ≡ Some s }
     ensures at_most_one { (graph_of : List ℕ → Option RawGraph) (objects : Objects) (blocks : ℕ)
         (s t : Store) (laid others : List Laid) → IsTrue (valid blocks s) → IsTrue (valid blocks t)
         → IsLaid graph_of objects s laid → IsLaid graph_of objects t others → s ≡ t }
-    ensures sound { (graph_of : List ℕ → Option RawGraph) (objects : Objects) (blocks : ℕ)
-        (s : Store) → store_of graph_of objects blocks ≡ Some s → IsTrue (valid blocks s) }
+    ensures sound { (graph_of : List ℕ → Option RawGraph) (version : ℕ) (objects : Objects)
+        (blocks : ℕ) (s : Store) → store_of graph_of version objects blocks ≡ Some s
+        → IsTrue (valid blocks s) }
 {}
 
 /// The reading of an image gives at most one store.

@@ -16,17 +16,17 @@ ghost use Rattle.newt_spec_store.specs.StoreOf.{store_of};
 /// A store that is read has its directory in object 0, an entry's record in each object with an odd
 /// id, and each other object is named by one.
 pub fn read_stores_have_their_parts()
-    ensures directory { (graph_of : List ℕ → Option RawGraph) (objects : Objects) (blocks : ℕ)
-        (s : Store) → store_of graph_of (map.entries objects) blocks ≡ Some s
+    ensures directory { (graph_of : List ℕ → Option RawGraph) (version : ℕ) (objects : Objects)
+        (blocks : ℕ) (s : Store) → store_of graph_of version (map.entries objects) blocks ≡ Some s
         → (bytes : List ℕ) × (map.get objects 0 ≡ Some bytes)
-        × (directory_read bytes ≡ Some (bare s)) }
-    ensures record { (graph_of : List ℕ → Option RawGraph) (objects : Objects) (blocks : ℕ)
-        (s : Store) → store_of graph_of (map.entries objects) blocks ≡ Some s
-        → (id : ℕ) (bytes : List ℕ) → map.get objects id ≡ Some bytes → id % 2 ≡ 1
-        → (sig : ℕ) × (e : Entry) × (entry_read graph_of objects bytes ≡ Some (sig, e))
-        × IsIn s sig e × HasGiven (bare s) sig e.uid }
-    ensures large { (graph_of : List ℕ → Option RawGraph) (objects : Objects) (blocks : ℕ)
-        (s : Store) → store_of graph_of (map.entries objects) blocks ≡ Some s
+        × (directory_read graph_of version bytes ≡ Some (bare s)) }
+    ensures record { (graph_of : List ℕ → Option RawGraph) (version : ℕ) (objects : Objects)
+        (blocks : ℕ) (s : Store) → store_of graph_of version (map.entries objects) blocks ≡ Some s
+        → (id : ℕ) (bytes : List ℕ) → map.get objects id ≡ Some bytes → id % 2 ≡ 1 → (sig : ℕ)
+        × (e : Entry) × (entry_read graph_of objects bytes ≡ Some (sig, e)) × IsIn s sig e
+        × HasGiven (bare s) sig e.uid }
+    ensures large { (graph_of : List ℕ → Option RawGraph) (version : ℕ) (objects : Objects)
+        (blocks : ℕ) (s : Store) → store_of graph_of version (map.entries objects) blocks ≡ Some s
         → (id : ℕ) (bytes : List ℕ) → map.get objects id ≡ Some bytes → id ≢ 0 → id % 2 ≡ 0
         → (r : ℕ) × (names : List ℕ) × (map.get objects r ≡ Some names) × (r % 2 ≡ 1)
         × Among (ids_named names) id }
@@ -34,60 +34,60 @@ pub fn read_stores_have_their_parts()
 
 /// Where the directory is not there or not readable, nothing is read.
 pub fn bad_directories_are_refused()
-    ensures missing { (graph_of : List ℕ → Option RawGraph) (objects : Objects) (blocks : ℕ)
-        → map.get objects 0 ≡ None → (s : Store)
-        → store_of graph_of (map.entries objects) blocks ≡ Some s → ⊥ }
-    ensures unreadable { (graph_of : List ℕ → Option RawGraph) (objects : Objects) (blocks : ℕ)
-        (bytes : List ℕ) → map.get objects 0 ≡ Some bytes → directory_read bytes ≡ None
-        → (s : Store) → store_of graph_of (map.entries objects) blocks ≡ Some s → ⊥ }
+    ensures missing { (graph_of : List ℕ → Option RawGraph) (version : ℕ) (objects : Objects)
+        (blocks : ℕ) → map.get objects 0 ≡ None → (s : Store)
+        → store_of graph_of version (map.entries objects) blocks ≡ Some s → ⊥ }
+    ensures unreadable { (graph_of : List ℕ → Option RawGraph) (version : ℕ) (objects : Objects)
+        (blocks : ℕ) (bytes : List ℕ) → map.get objects 0 ≡ Some bytes
+        → directory_read graph_of version bytes ≡ None → (s : Store)
+        → store_of graph_of version (map.entries objects) blocks ≡ Some s → ⊥ }
 {}
 
 /// Where an object with an odd id is no record, or is the record of an entry that is not given or
 /// stands twice, nothing is read.
 pub fn bad_records_are_refused()
-    ensures unreadable { (graph_of : List ℕ → Option RawGraph) (objects : Objects) (blocks id : ℕ)
-        (bytes : List ℕ) → map.get objects id ≡ Some bytes → id % 2 ≡ 1
-        → entry_read graph_of objects bytes ≡ None
-        → (s : Store) → store_of graph_of (map.entries objects) blocks ≡ Some s → ⊥ }
-    ensures not_given { (graph_of : List ℕ → Option RawGraph) (objects : Objects) (blocks id : ℕ)
-        (zero bytes : List ℕ) (d : Store) (sig : ℕ) (e : Entry)
-        → map.get objects 0 ≡ Some zero → directory_read zero ≡ Some d → map.get objects id
+    ensures unreadable { (graph_of : List ℕ → Option RawGraph) (version : ℕ) (objects : Objects)
+        (blocks id : ℕ) (bytes : List ℕ) → map.get objects id ≡ Some bytes → id % 2 ≡ 1
+        → entry_read graph_of objects bytes ≡ None → (s : Store)
+        → store_of graph_of version (map.entries objects) blocks ≡ Some s → ⊥ }
+    ensures not_given { (graph_of : List ℕ → Option RawGraph) (version : ℕ) (objects : Objects)
+        (blocks id : ℕ) (zero bytes : List ℕ) (d : Store) (sig : ℕ) (e : Entry) → map.get objects 0
+        ≡ Some zero → directory_read graph_of version zero ≡ Some d → map.get objects id
         ≡ Some bytes → id % 2 ≡ 1 → entry_read graph_of objects bytes ≡ Some (sig, e)
         → (HasGiven d sig e.uid → ⊥)
-        → (s : Store) → store_of graph_of (map.entries objects) blocks ≡ Some s → ⊥ }
-    ensures twice { (graph_of : List ℕ → Option RawGraph) (objects : Objects) (blocks id other : ℕ)
-        (bytes others : List ℕ) (sig : ℕ) (e k : Entry)
-        → map.get objects id ≡ Some bytes → map.get objects other ≡ Some others → id % 2 ≡ 1
-        → other % 2 ≡ 1 → id ≢ other
+        → (s : Store) → store_of graph_of version (map.entries objects) blocks ≡ Some s → ⊥ }
+    ensures twice { (graph_of : List ℕ → Option RawGraph) (version : ℕ) (objects : Objects)
+        (blocks id other : ℕ) (bytes others : List ℕ) (sig : ℕ) (e k : Entry) → map.get objects id
+        ≡ Some bytes → map.get objects other ≡ Some others → id % 2 ≡ 1 → other % 2 ≡ 1 → id ≢ other
         → entry_read graph_of objects bytes ≡ Some (sig, e) → entry_read graph_of objects others
         ≡ Some (sig, k) → e.uid ≡ k.uid
-        → (s : Store) → store_of graph_of (map.entries objects) blocks ≡ Some s → ⊥ }
+        → (s : Store) → store_of graph_of version (map.entries objects) blocks ≡ Some s → ⊥ }
 {}
 
 /// Where an object with an even id above 0 is not named, or an object is named twice, nothing is
 /// read.
 pub fn bad_names_are_refused()
-    ensures not_named { (graph_of : List ℕ → Option RawGraph) (objects : Objects) (blocks id : ℕ)
-        (bytes : List ℕ) → map.get objects id ≡ Some bytes → id ≢ 0 → id % 2 ≡ 0
+    ensures not_named { (graph_of : List ℕ → Option RawGraph) (version : ℕ) (objects : Objects)
+        (blocks id : ℕ) (bytes : List ℕ) → map.get objects id ≡ Some bytes → id ≢ 0 → id % 2 ≡ 0
         → ((r : ℕ) (names : List ℕ) → map.get objects r ≡ Some names → r % 2 ≡ 1
         → Among (ids_named names) id → ⊥)
-        → (s : Store) → store_of graph_of (map.entries objects) blocks ≡ Some s → ⊥ }
-    ensures by_two { (graph_of : List ℕ → Option RawGraph) (objects : Objects)
+        → (s : Store) → store_of graph_of version (map.entries objects) blocks ≡ Some s → ⊥ }
+    ensures by_two { (graph_of : List ℕ → Option RawGraph) (version : ℕ) (objects : Objects)
         (blocks id other o : ℕ) (bytes others : List ℕ)
         → map.get objects id ≡ Some bytes → map.get objects other ≡ Some others → id % 2 ≡ 1
         → other % 2 ≡ 1 → id ≢ other → Among (ids_named bytes) o → Among (ids_named others) o
-        → (s : Store) → store_of graph_of (map.entries objects) blocks ≡ Some s → ⊥ }
-    ensures by_one { (graph_of : List ℕ → Option RawGraph) (objects : Objects) (blocks id : ℕ)
-        (bytes : List ℕ) → map.get objects id ≡ Some bytes → id % 2 ≡ 1
-        → (Pairs (λ a b. a ≢ b) (ids_named bytes) → ⊥)
-        → (s : Store) → store_of graph_of (map.entries objects) blocks ≡ Some s → ⊥ }
+        → (s : Store) → store_of graph_of version (map.entries objects) blocks ≡ Some s → ⊥ }
+    ensures by_one { (graph_of : List ℕ → Option RawGraph) (version : ℕ) (objects : Objects)
+        (blocks id : ℕ) (bytes : List ℕ) → map.get objects id ≡ Some bytes → id % 2 ≡ 1
+        → (Pairs (λ a b. a ≢ b) (ids_named bytes) → ⊥) → (s : Store)
+        → store_of graph_of version (map.entries objects) blocks ≡ Some s → ⊥ }
 {}
 
 /// Where the objects take more pages than a unit of so many blocks has, nothing is read.
 pub fn large_stores_are_refused()
-    ensures { (graph_of : List ℕ → Option RawGraph) (objects : Objects) (blocks : ℕ)
+    ensures { (graph_of : List ℕ → Option RawGraph) (version : ℕ) (objects : Objects) (blocks : ℕ)
         → ReadsGraphs graph_of → ((id : ℕ) (bytes : List ℕ) → map.get objects id ≡ Some bytes →
         (id ≡ 0) ⊎ (id % 2 ≡ 1) → AreBytes bytes)
         → cap blocks < sum_by (λ o. pages_for (length o.1)) (map.entries objects)
-        → (s : Store) → store_of graph_of (map.entries objects) blocks ≡ Some s → ⊥ }
+        → (s : Store) → store_of graph_of version (map.entries objects) blocks ≡ Some s → ⊥ }
 {}

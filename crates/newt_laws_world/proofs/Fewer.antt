@@ -1,18 +1,19 @@
 -- Commands that leave a settled world settled by themselves.
+use Rattle.newt_graph.specs.Graph.{RawGraph}
 use Rattle.std.proofs.Common.{arith, ◌≡◌, refl, ap, sym, ◌∙◌, subst, ℕ, zero, suc, List, [], ◌∷◌, true, false, Bool, IsTrue, not, ◌||◌, ◌⊎◌, inl, inr, cond, Option, Some, None, option_map, option_and_then, filter, filter_map, slice_set, ◌==◌}
 use Rattle.std.specs.Prelude.{slice_get}
 use Rattle.std.specs.List.{list_any, cons_option}
 use Rattle.std.proofs.lemmas.Bool.{and_parts}
 use Rattle.newt_base.specs.Names.{equal_text}
 use Rattle.newt_spec_store.specs.Keys.{IndexSpec, Key, Path, same_spec}
-use Rattle.newt_spec_store.specs.Store.{Store, Soup, Entry, change_soup, make_soup, drop_soup, remove_entry, new_store, without_index}
+use Rattle.newt_spec_store.specs.Store.{Store, Soup, Entry, change_soup, make_soup, drop_soup, remove_entry, new_store, without_index, with_info}
 use Rattle.newt_spec_store.specs.Valid.{well_formed, fits, valid}
 use Rattle.newt_spec_query.specs.Hits.{Hit, Query, hits, in_scope, carries, passes}
 use Rattle.newt_spec_query.specs.Cursor.{Place, on, Cursor, first_place, last_place, next_place, previous_place, moved}
 use Rattle.newt_spec_world.specs.declared.command.Command.{Command}
 use Rattle.newt_spec_world.specs.declared.command.Command.TheVariants as command
 use Rattle.newt_spec_world.specs.World.{World, Device, Media, blank, one, device, store_of, store_if_mounted, on_unit, mounted_store, mounted_stores, soup_in, hits_of, flat, cursor, free_cursor, change_device, change_store, change_media, set_place}
-use Rattle.newt_spec_world.specs.Changed.{changed, mark, Step, stepped, step_from, open_cursor, open_at, query_of, put_on, cloned, go_to, hit_for, hit_in, go_to_key, to_key, key_from, sig_of}
+use Rattle.newt_spec_world.specs.Changed.{changed, mark, Step, stepped, step_from, open_cursor, open_at, query_of, put_on, cloned, go_to, hit_for, hit_in, go_to_key, to_key, key_from, sig_of, info_from}
 use Rattle.newt_spec_graph.specs.Lists.{Each, Pairs, Among}
 use Rattle.newt_laws_world.specs.Worlds.{OnMedia, AllValid}
 use Rattle.newt_laws_world.specs.Settled.{IsSettled, MountedApart, moves_keys}
@@ -68,7 +69,7 @@ shrinks-not s = record { sig_same = refl; each = itself s }
 shrinks-make : (name : List ℕ) (s : Store) → Shrinks (make_soup name s) s
 shrinks-make name s = record { sig_same = refl; each = λ p m e n. go p e n (among-append s.soups _ p m) }
   where
-    go : (p : Soup) (e : Entry) → Among p.entries e → Among s.soups p ⊎ Among (record { name = name; sig = s.next_soup; next_uid = 0; specs = []; tags = None; entries = [] } ∷ []) p → Keeps s p e
+    go : (p : Soup) (e : Entry) → Among p.entries e → Among s.soups p ⊎ Among (record { name = name; sig = s.next_soup; next_uid = 0; specs = []; tags = None; info = None; entries = [] } ∷ []) p → Keeps s p e
     go p e n (inl m) = itself s p m e n
     go p e n (inr (inl is)) = absurd (subst (λ es. Among es e) (sym (ap (λ (q : Soup). q.entries) is)) n)
     go p e n (inr (inr m)) = absurd m
@@ -120,6 +121,25 @@ shrinks-remove name uid s = record { sig_same = refl; each = λ p m e n. go p e 
       tags_same = ap (λ (q : Soup). q.tags) r.2;
       has = (among-filter (λ (x : Entry). not (x.uid == uid)) r.0.entries e (subst (λ es. Among es e) (sym (ap (λ (q : Soup). q.entries) r.2)) n)).0;
       carried = λ index h. carries-same index uid r.0 (ap (carries index) r.2 ∙ h);
+    }
+
+carries-info : (index : IndexSpec) (info : Option RawGraph) (p : Soup) → carries index (with_info info p) ≡ true → carries index p ≡ true
+carries-info [] info p h = refl
+carries-info (i ∷ index) info p h = h
+
+shrinks-info : (name : List ℕ) (info : Option RawGraph) (s : Store) → Shrinks (change_soup name (with_info info) s) s
+shrinks-info name info s = record { sig_same = refl; each = λ p m e n. go p e n (among-first _ (with_info info) s.soups p m) }
+  where
+    go : (p : Soup) (e : Entry) → Among p.entries e → Among s.soups p ⊎ ((x : Soup) × Among s.soups x × (with_info info x ≡ p)) → Keeps s p e
+    go p e n (inl m) = itself s p m e n
+    go p e n (inr r) = record {
+      from = r.0;
+      is_there = r.1;
+      name_same = ap (λ (q : Soup). q.name) r.2;
+      sig_same = ap (λ (q : Soup). q.sig) r.2;
+      tags_same = ap (λ (q : Soup). q.tags) r.2;
+      has = subst (λ es. Among es e) (sym (ap (λ (q : Soup). q.entries) r.2)) n;
+      carried = λ index h. carries-info index info r.0 (ap (carries index) r.2 ∙ h);
     }
 
 -- ---- fewer hits
@@ -265,6 +285,7 @@ row-settled w (command.Drop u s) all apart h k = fewer-settled (change_store w u
 row-settled w (command.Unindex u s paths) all apart h k = fewer-settled (change_store w u (change_soup s (without_index paths))) w refl (store-fewer w u (change_soup s (without_index paths)) (shrinks-unindex s paths)) all apart h
 row-settled w (command.Index _ _ _) all apart h k = cc
 row-settled w (command.SetTags _ _ _ _) all apart h k = cc
+row-settled w (command.SetInfo u s g) all apart h k = fewer-settled (change_store w u (change_soup s (with_info (info_from g)))) w refl (store-fewer w u (change_soup s (with_info (info_from g))) (shrinks-info s (info_from g))) all apart h
 row-settled w (command.Add _ _ _) all apart h k = cc
 row-settled w (command.Addx _ _ _) all apart h k = cc
 row-settled w (command.Addu _ _) all apart h k = cc

@@ -4,7 +4,7 @@ use Rattle.std.specs.Bool.{⊤}
 use Rattle.std.proofs.lemmas.Bool.{ltb-false, le-leb, and_parts}
 use Rattle.newt_base.specs.Refusals.{first_of}
 use Rattle.newt_base.specs.declared.Refusal.{Refusal}
-use Rattle.newt_spec_store.specs.Store.{Store, Entry, change_soup, change_entry, make_soup, drop_soup, add_entry, remove_entry, new_store, with_index, without_index, with_graph, with_tags}
+use Rattle.newt_spec_store.specs.Store.{Store, Entry, change_soup, change_entry, make_soup, drop_soup, add_entry, remove_entry, new_store, with_index, without_index, with_graph, with_tags, with_info}
 use Rattle.newt_spec_image.specs.Pages.{cap}
 use Rattle.newt_spec_store.specs.Cost.{cost}
 use Rattle.newt_base.specs.Names.{is_name}
@@ -13,7 +13,7 @@ use Rattle.newt_spec_world.specs.declared.command.Command.{Command}
 use Rattle.newt_spec_world.specs.declared.command.Command.TheVariants as command
 use Rattle.newt_spec_world.specs.World.{World, Device, Media, blank, one, device, default_unit, store_of, entry_in, change_store, change_media, change_soup_in, settle}
 use Rattle.newt_spec_graph.specs.Larges.{large_at, large_bytes}
-use Rattle.newt_spec_world.specs.Changed.{changed, spec_of_words, graph_after_set, copy_to, patched}
+use Rattle.newt_spec_world.specs.Changed.{changed, spec_of_words, graph_after_set, copy_to, patched, info_from}
 use Rattle.newt_spec_world.specs.Refused.{checks, on_some}
 use Rattle.newt_spec_world.specs.Answer.{answer, answered}
 use Rattle.newt_laws_world.specs.Worlds.{OnMedia, AllValid, has_form}
@@ -84,6 +84,7 @@ ft-row w (command.Drop u s) all form h = change-store (λ _. ⊤) Ft w u (drop_s
 ft-row w (command.Index u s parts) all form h = checked-store w u (change_soup s (with_index (spec_of_words parts))) all h.1.1.1.1.1.1.0
 ft-row w (command.Unindex u s paths) all form h = change-store (λ _. ⊤) Ft w u (change_soup s (without_index paths)) all (inl tt) (λ blocks t has ok. fits-without-index blocks s paths t ok)
 ft-row w (command.SetTags u s path symbols) all form h = checked-store w u (change_soup s (with_tags (Some (record { path = path; symbols = symbols })))) all h.1.1.1.1.0
+ft-row w (command.SetInfo u s g) all form h = checked-store w u (change_soup s (with_info (info_from g))) all h.1.1.1.1.1.0
 ft-row w (command.Add u s g) all form h = checked-store w u (change_soup s (add_entry w.minute g)) all h.1.1.1.1.1.1.0
 ft-row w (command.Addx u s g) all form h = checked-store w u (change_soup s (add_entry w.minute g)) all h.1.1.1.1.1.1.0
 ft-row w (command.Addu s g) all form h = checked-store w (default_unit w) (change_soup s (add_entry w.minute g)) all h.1.1.1.1.1.0

@@ -17,7 +17,7 @@ use Rattle.newt_spec_world.specs.declared.command.Command.{Command}
 use Rattle.newt_spec_world.specs.declared.command.Command.TheVariants as command
 use Rattle.newt_spec_world.specs.declared.command.PartWord.{PartWord}
 use Rattle.newt_spec_script.specs.Words.{Reader, then_read, of1, of2, of3, of4, of5, of6, or_not_the_form, word, decimal_to, only, bare_name, quoted, if_name, name_from, name, ends_word, skip_blanks, is_blank, part, part_of, kind_word, order_word, split_at, words, all_words, several, symbol}
-use Rattle.newt_spec_script.specs.Line.{Parsed, ready, literal, stream, bytes, ended, with_literal, with_stream, with_bytes, whole, and_literal, and_stream, and_bytes, alone, unit, number, sig, len, cursor, if_distinct, distinct, or_row, tags_row, star, query_by, query_row, Row, rows, read_row, row_of, within_length, if_said, parsed, says_nothing, first_word}
+use Rattle.newt_spec_script.specs.Line.{Parsed, ready, literal, stream, bytes, ended, with_literal, with_stream, with_bytes, whole, and_literal, and_stream, and_bytes, alone, unit, number, sig, len, cursor, if_distinct, distinct, or_row, tags_row, star, query_by, query_row, Row, rows, read_row, row_of, within_length, if_said, parsed, says_nothing, first_word, info_row}
 use Rattle.newt_spec_script.specs.Script.{Item, Readers, literal_item, stream_item, hex_item, bytes_item, item_of}
 use Rattle.newt_laws_world.specs.Worlds.{has_form, parts_fit}
 use Rattle.newt_laws_world.proofs.Settled.{find-passes}
@@ -301,6 +301,12 @@ tags-good cs = or-row (whole (of2 unit name command.Tags) cs) (whole (of4 unit n
     (gives-4 Form (λ u. ⊤) (λ s. ⊤) (λ p. valid_path p ≡ true) (λ names. (list_all is_identifier names ≡ true) × (all_apart same_name names ≡ true))
     unit name (word path_of) distinct command.SetTags (gives-any unit) (gives-any name) gives-path gives-distinct (λ u s p names _ _ h k. tags-form u s p names h k)) cs)
 
+info-good : (cs : List ℕ) → Good (info_row cs)
+unfolding has_form
+info-good cs = or-row (whole (of2 unit name command.Info) cs) (and_literal (of2 unit name (λ u s g. command.SetInfo u s g)) cs)
+    (row-whole (of2 unit name command.Info) (all-2 Form unit name command.Info (λ u s. refl)) cs)
+    (row-literal (of2 unit name (λ u s g. command.SetInfo u s g)) (all-2 FormWith unit name (λ u s g. command.SetInfo u s g) (λ u s g h. h)) cs)
+
 query-good : (cs : List ℕ) → Good (query_row cs)
 unfolding has_form
 query-good cs = go (word star cs)
@@ -342,62 +348,65 @@ rows-good = (
                             (
                               tags-good,
                               (
-                                row-literal (of2 unit name (λ u s g. command.Add u s g)) (all-2 FormWith unit name (λ u s g. command.Add u s g) (λ u s g h. h)),
+                                info-good,
                                 (
-                                  row-stream (of2 unit name (λ u s g. command.Addx u s g)) (all-2 FormWith unit name (λ u s g. command.Addx u s g) (λ u s g h. h)),
+                                  row-literal (of2 unit name (λ u s g. command.Add u s g)) (all-2 FormWith unit name (λ u s g. command.Add u s g) (λ u s g h. h)),
                                   (
-                                    row-literal (of1 name (λ s g. command.Addu s g)) (all-1 FormWith name (λ s g. command.Addu s g) (λ s g h. h)),
+                                    row-stream (of2 unit name (λ u s g. command.Addx u s g)) (all-2 FormWith unit name (λ u s g. command.Addx u s g) (λ u s g h. h)),
                                     (
-                                      row-whole (of3 unit name number command.Get) (all-3 Form unit name number command.Get (λ u s n. refl)),
+                                      row-literal (of1 name (λ s g. command.Addu s g)) (all-1 FormWith name (λ s g. command.Addu s g) (λ s g h. h)),
                                       (
-                                        row-whole (of3 unit name number command.Getx) (all-3 Form unit name number command.Getx (λ u s n. refl)),
+                                        row-whole (of3 unit name number command.Get) (all-3 Form unit name number command.Get (λ u s n. refl)),
                                         (
-                                          row-literal (of4 unit name number (word path_of) (λ u s n p g. command.Set u s n p g)) (all-4 FormWith unit name number (word path_of) (λ u s n p g. command.Set u s n p g) (λ u s n p g h. refl)),
+                                          row-whole (of3 unit name number command.Getx) (all-3 Form unit name number command.Getx (λ u s n. refl)),
                                           (
-                                            row-literal (of3 unit name number (λ u s n g. command.Change u s n g)) (all-3 FormWith unit name number (λ u s n g. command.Change u s n g) (λ u s n g h. h)),
+                                            row-literal (of4 unit name number (word path_of) (λ u s n p g. command.Set u s n p g)) (all-4 FormWith unit name number (word path_of) (λ u s n p g. command.Set u s n p g) (λ u s n p g h. refl)),
                                             (
-                                              row-whole (of3 unit name number command.Remove) (all-3 Form unit name number command.Remove (λ u s n. refl)),
+                                              row-literal (of3 unit name number (λ u s n g. command.Change u s n g)) (all-3 FormWith unit name number (λ u s n g. command.Change u s n g) (λ u s n g h. h)),
                                               (
-                                                row-whole (of5 unit name number unit name command.Copy) (all-5 Form unit name number unit name command.Copy (λ u s n v t. refl)),
+                                                row-whole (of3 unit name number command.Remove) (all-3 Form unit name number command.Remove (λ u s n. refl)),
                                                 (
-                                                  row-whole (of5 unit name number unit name command.Move) (all-5 Form unit name number unit name command.Move (λ u s n v t. refl)),
+                                                  row-whole (of5 unit name number unit name command.Copy) (all-5 Form unit name number unit name command.Copy (λ u s n v t. refl)),
                                                   (
-                                                    row-whole (of6 unit name number (word path_of) number len command.Vread) (all-6 Form unit name number (word path_of) number len command.Vread (λ u s n p a l. refl)),
+                                                    row-whole (of5 unit name number unit name command.Move) (all-5 Form unit name number unit name command.Move (λ u s n v t. refl)),
                                                     (
-                                                      row-bytes (of5 unit name number (word path_of) number (λ u s n p a b. command.Vwrite u s n p a b)) (all-5 (λ f. (bs : List ℕ) → Form (f bs)) unit name number (word path_of) number (λ u s n p a b. command.Vwrite u s n p a b) (λ u s n p a b. refl)),
+                                                      row-whole (of6 unit name number (word path_of) number len command.Vread) (all-6 Form unit name number (word path_of) number len command.Vread (λ u s n p a l. refl)),
                                                       (
-                                                        row-whole (of3 unit name number command.Alias) (all-3 Form unit name number command.Alias (λ u s n. refl)),
+                                                        row-bytes (of5 unit name number (word path_of) number (λ u s n p a b. command.Vwrite u s n p a b)) (all-5 (λ f. (bs : List ℕ) → Form (f bs)) unit name number (word path_of) number (λ u s n p a b. command.Vwrite u s n p a b) (λ u s n p a b. refl)),
                                                         (
-                                                          row-literal (alone command.Resolve) (gives-alone FormWith command.Resolve (λ g h. refl)),
+                                                          row-whole (of3 unit name number command.Alias) (all-3 Form unit name number command.Alias (λ u s n. refl)),
                                                           (
-                                                            query-good,
+                                                            row-literal (alone command.Resolve) (gives-alone FormWith command.Resolve (λ g h. refl)),
                                                             (
-                                                              row-whole (of1 cursor command.Entry) (all-1 Form cursor command.Entry (λ c. refl)),
+                                                              query-good,
                                                               (
-                                                                row-whole (of1 cursor command.Next) (all-1 Form cursor command.Next (λ c. refl)),
+                                                                row-whole (of1 cursor command.Entry) (all-1 Form cursor command.Entry (λ c. refl)),
                                                                 (
-                                                                  row-whole (of1 cursor command.Prev) (all-1 Form cursor command.Prev (λ c. refl)),
+                                                                  row-whole (of1 cursor command.Next) (all-1 Form cursor command.Next (λ c. refl)),
                                                                   (
-                                                                    row-whole (of1 cursor command.Reset) (all-1 Form cursor command.Reset (λ c. refl)),
+                                                                    row-whole (of1 cursor command.Prev) (all-1 Form cursor command.Prev (λ c. refl)),
                                                                     (
-                                                                      row-whole (of1 cursor command.End) (all-1 Form cursor command.End (λ c. refl)),
+                                                                      row-whole (of1 cursor command.Reset) (all-1 Form cursor command.Reset (λ c. refl)),
                                                                       (
-                                                                        row-whole (of2 cursor (word signed_value) command.Moveby) (all-2 Form cursor (word signed_value) command.Moveby (λ c k. refl)),
+                                                                        row-whole (of1 cursor command.End) (all-1 Form cursor command.End (λ c. refl)),
                                                                         (
-                                                                          row-whole (of3 cursor unit number command.Goto) (all-3 Form cursor unit number command.Goto (λ c u n. refl)),
+                                                                          row-whole (of2 cursor (word signed_value) command.Moveby) (all-2 Form cursor (word signed_value) command.Moveby (λ c k. refl)),
                                                                           (
-                                                                            row-literal (of1 cursor (λ c g. command.Gotokey c g)) (all-1 FormWith cursor (λ c g. command.Gotokey c g) (λ c g h. refl)),
+                                                                            row-whole (of3 cursor unit number command.Goto) (all-3 Form cursor unit number command.Goto (λ c u n. refl)),
                                                                             (
-                                                                              row-whole (of1 cursor command.Count) (all-1 Form cursor command.Count (λ c. refl)),
+                                                                              row-literal (of1 cursor (λ c g. command.Gotokey c g)) (all-1 FormWith cursor (λ c g. command.Gotokey c g) (λ c g h. refl)),
                                                                               (
-                                                                                row-whole (of1 cursor command.Which) (all-1 Form cursor command.Which (λ c. refl)),
+                                                                                row-whole (of1 cursor command.Count) (all-1 Form cursor command.Count (λ c. refl)),
                                                                                 (
-                                                                                  row-whole (of1 cursor command.Clone) (all-1 Form cursor command.Clone (λ c. refl)),
+                                                                                  row-whole (of1 cursor command.Which) (all-1 Form cursor command.Which (λ c. refl)),
                                                                                   (
-                                                                                    row-whole (of1 cursor command.Close) (all-1 Form cursor command.Close (λ c. refl)),
+                                                                                    row-whole (of1 cursor command.Clone) (all-1 Form cursor command.Clone (λ c. refl)),
                                                                                     (
-                                                                                      row-whole (alone command.Quit) (gives-alone Form command.Quit refl),
-                                                                                      tt,
+                                                                                      row-whole (of1 cursor command.Close) (all-1 Form cursor command.Close (λ c. refl)),
+                                                                                      (
+                                                                                        row-whole (alone command.Quit) (gives-alone Form command.Quit refl),
+                                                                                        tt,
+                                                                                      ),
                                                                                     ),
                                                                                   ),
                                                                                 ),

@@ -4,11 +4,11 @@ use Rattle.std.specs.Prelude.{slice_get}
 use Rattle.std.specs.Option.{is_some}
 use Rattle.newt_base.specs.Refusals.{first_of}
 use Rattle.newt_base.specs.declared.Refusal.{Refusal}
-use Rattle.newt_spec_store.specs.Store.{Store, Soup, Entry, change_soup, change_entry, make_soup, drop_soup, add_entry, remove_entry, new_store, with_index, without_index, with_graph, with_tags}
+use Rattle.newt_spec_store.specs.Store.{Store, Soup, Entry, change_soup, change_entry, make_soup, drop_soup, add_entry, remove_entry, new_store, with_index, without_index, with_graph, with_tags, with_info}
 use Rattle.newt_spec_world.specs.declared.command.Command.{Command}
 use Rattle.newt_spec_world.specs.declared.command.Command.TheVariants as command
 use Rattle.newt_spec_world.specs.World.{World, Device, Media, blank, one, device, default_unit, store_of, store_on_unit, entry_in, flat, change_device, change_store, change_media, change_soup_in}
-use Rattle.newt_spec_world.specs.Changed.{changed, copy_to, spec_of_words, graph_after_set, patched}
+use Rattle.newt_spec_world.specs.Changed.{changed, copy_to, spec_of_words, graph_after_set, patched, info_from}
 use Rattle.newt_spec_world.specs.Refused.{checks}
 use Rattle.newt_spec_world.specs.Answer.{answer, answered, after}
 use Rattle.newt_laws_changes.specs.Later.{SoupLater, StoreLater}
@@ -74,6 +74,7 @@ row-later w (command.Drop u s) h = store-later w u (drop_soup s) (later-drop s)
 row-later w (command.Index u s parts) h = soup-later w u s (with_index (spec_of_words parts)) (λ p. soup-same p _ refl refl refl)
 row-later w (command.Unindex u s paths) h = soup-later w u s (without_index paths) (λ p. soup-same p _ refl refl refl)
 row-later w (command.SetTags u s path symbols) h = soup-later w u s (with_tags (Some (record { path = path; symbols = symbols }))) (λ p. soup-same p _ refl refl refl)
+row-later w (command.SetInfo u s g) h = soup-later w u s (with_info (info_from g)) (λ p. soup-same p _ refl refl refl)
 row-later w (command.Add u s g) h = soup-later w u s (add_entry w.minute g) (later-add w.minute g)
 row-later w (command.Addx u s g) h = soup-later w u s (add_entry w.minute g) (later-add w.minute g)
 row-later w (command.Addu s g) h = soup-later w (default_unit w) s (add_entry w.minute g) (later-add w.minute g)

@@ -150,6 +150,7 @@ row-apart w (command.Drop u s) h k = sigs-apart (changed w (command.Drop u s)) w
 row-apart w (command.Index u s parts) h k = sigs-apart (changed w (command.Index u s parts)) w (soup-sigs w u s _) h
 row-apart w (command.Unindex u s paths) h k = sigs-apart (changed w (command.Unindex u s paths)) w (soup-sigs w u s _) h
 row-apart w (command.SetTags u s path symbols) h k = sigs-apart (changed w (command.SetTags u s path symbols)) w (soup-sigs w u s _) h
+row-apart w (command.SetInfo u s g) h k = sigs-apart (changed w (command.SetInfo u s g)) w (soup-sigs w u s _) h
 row-apart w (command.Add u s g) h k = sigs-apart (changed w (command.Add u s g)) w (soup-sigs w u s _) h
 row-apart w (command.Addx u s g) h k = sigs-apart (changed w (command.Addx u s g)) w (soup-sigs w u s _) h
 row-apart w (command.Addu s g) h k = sigs-apart (changed w (command.Addu s g)) w (soup-sigs w (default_unit w) s _) h

@@ -1,24 +1,29 @@
 -- The table of changes, row by row: stores stay well formed, and fit.
-use Rattle.std.proofs.Common.{arith, ◌≡◌, refl, ap, sym, ◌∙◌, subst, ℕ, ◌+◌, List, [], ◌∷◌, true, false, Bool, ◌&&◌, inl, Option, Some, None, map, length, nat_le, nat_lt, ◌==◌}
+use Rattle.newt_spec_query.specs.Spec.{is_nil}
+use Rattle.newt_spec_nsof.specs.Flat.{flat}
+use Rattle.newt_spec_graph.specs.Limits.{within_limits}
+use Rattle.newt_spec_graph.specs.Graph.{is_frame, object}
+use Rattle.newt_graph.specs.Graph.{RawGraph}
+use Rattle.std.proofs.Common.{arith, ◌≡◌, refl, ap, sym, ◌∙◌, subst, ℕ, ◌+◌, List, [], ◌∷◌, true, false, Bool, not, ◌||◌, ◌&&◌, cond, inl, Option, Some, None, map, length, nat_le, nat_lt, ◌==◌}
 use Rattle.std.specs.Option.{is_none, is_some}
 use Rattle.std.specs.Bool.{⊤}
 use Rattle.std.specs.List.{list_all, list_any}
 use Rattle.std.proofs.lemmas.Bool.{eqb-false, ltb-false, leb-false, and_parts}
 use Rattle.newt_base.specs.Names.{same_name, is_identifier, valid_path}
 use Rattle.newt_spec_store.specs.Keys.{Path, paths_of, same_paths}
-use Rattle.newt_spec_store.specs.Store.{Store, Soup, soup_named, change_soup, make_soup, drop_soup, remove_entry, new_store, with_index, without_index, with_graph, with_tags}
+use Rattle.newt_spec_store.specs.Store.{Store, Soup, soup_named, change_soup, make_soup, drop_soup, remove_entry, new_store, with_index, without_index, with_graph, with_tags, with_info}
 use Rattle.newt_spec_graph.specs.Lists.{all_apart}
-use Rattle.newt_spec_store.specs.Valid.{valid_spec, valid_tags}
+use Rattle.newt_spec_store.specs.Valid.{valid_spec, valid_tags, is_no_large, valid_info}
 use Rattle.newt_spec_world.specs.declared.command.Command.{Command}
 use Rattle.newt_spec_world.specs.declared.command.Command.TheVariants as command
 use Rattle.newt_spec_world.specs.declared.command.PartWord.{PartWord}
 use Rattle.newt_spec_world.specs.World.{World, one, default_unit, mounted_store, soup_in, entry_in, change_soup_in}
 use Rattle.newt_spec_graph.specs.Larges.{large_at, large_bytes}
-use Rattle.newt_spec_world.specs.Changed.{changed, mark, spec_of_words, graph_after_set, copy_to, patched}
+use Rattle.newt_spec_world.specs.Changed.{changed, mark, spec_of_words, graph_after_set, copy_to, patched, info_from}
 use Rattle.newt_spec_world.specs.Refused.{checks, on_some}
 use Rattle.newt_laws_world.specs.Worlds.{has_form, parts_fit}
 use Rattle.newt_laws_world.proofs.Units.{change-device, change-store, mounted-has, soup-has}
-use Rattle.newt_laws_world.proofs.Soups.{with-soup, with-index, without-index, with-tags, without-entry, with-new-soup, without-soup, new-store}
+use Rattle.newt_laws_world.proofs.Soups.{with-soup, with-index, without-index, with-tags, with-info, without-entry, with-new-soup, without-soup, new-store}
 use Rattle.newt_laws_world.proofs.Kept.{AllFalse, on-some, not-none, Wf, Every, same-units, on_units, changed-units, wf-soup, entry-valid, wf-entry, wf-add, new-entry, set-entry, patched-good, or-right}
 
 -- ---- devices
@@ -51,6 +56,15 @@ tags-good : (path : Path) (symbols : List (List ℕ)) → (valid_path path && li
     → valid_tags (Some (record { path = path; symbols = symbols })) ≡ true
 tags-good path symbols h k = grind (arith, h, k)
 
+-- the info frame that a literal gives is valid
+info-good : (g : RawGraph) → within_limits g ≡ true → not (is_nil g.root || (is_frame (object g.nodes g.root) && list_all is_no_large g.nodes)) ≡ false → nat_lt 4_000 (length (flat g)) ≡ false
+    → valid_info (info_from g) ≡ true
+info-good g form frame size = go (is_nil g.root) frame
+  where
+    go : (b : Bool) → not (b || (is_frame (object g.nodes g.root) && list_all is_no_large g.nodes)) ≡ false → valid_info (cond b None (Some g)) ≡ true
+    go true h = refl
+    go false h = grind (arith, form, h, size)
+
 pub and-left : (a b : Bool) → (a && b) ≡ true → a ≡ true
 and-left a b h = (and_parts a b h).0
 
@@ -74,7 +88,7 @@ wf-row w (command.Mount u) all form h = mount-row Wf w u all
 wf-row w (command.Unmount u) all form h = marked Wf w u false all
 wf-row w (command.Soup u name) all form h = change-store (λ _. ⊤) Wf w u (make_soup name) all (inl tt) (λ blocks s has ok.
     let m = mounted-has w u blocks s has h.1.0 in
-    with-new-soup name s ok form (no-soup s m) (leb-false 64 (length s.soups) (on-some (mounted_store w u) (λ t. nat_le 64 (length t.soups)) s m h.1.1.1.0))
+    with-new-soup name s ok form (no-soup s m) (leb-false 250 (length s.soups) (on-some (mounted_store w u) (λ t. nat_le 250 (length t.soups)) s m h.1.1.1.0))
     (eqb-false s.next_soup 65535 (on-some (mounted_store w u) (λ t. t.next_soup == 65_535) s m h.1.1.1.1.0)))
   where
     no-soup : (s : Store) → mounted_store w u ≡ Some s → soup_named name s ≡ None
@@ -89,6 +103,7 @@ wf-row w (command.Index u s parts) all form h = wf-soup w u s (with_index (spec_
     (ap (λ ps. list_any (λ t. same_paths (paths_of t) ps) p.specs) (parts-same parts) ∙ on-some (soup_in w u s) (λ p. list_any (λ t. same_paths (paths_of t) (map (λ (p : PartWord). p.path) parts)) p.specs) p found h.1.1.1.0))
 wf-row w (command.Unindex u s paths) all form h = wf-soup w u s (without_index paths) all h.1.0 (λ p. refl) (λ p. refl) (λ p found ok. without-index paths p ok)
 wf-row w (command.SetTags u s path symbols) all form h = wf-soup w u s (with_tags (Some (record { path = path; symbols = symbols }))) all h.1.0 (λ p. refl) (λ p. refl) (λ p found ok. with-tags (Some (record { path = path; symbols = symbols })) p (tags-good path symbols form h.1.1.1.0) ok)
+wf-row w (command.SetInfo u s g) all form h = wf-soup w u s (with_info (info_from g)) all h.1.0 (λ p. refl) (λ p. refl) (λ p found ok. with-info (info_from g) p (info-good g form h.1.1.1.0 h.1.1.1.1.0) ok)
 wf-row w (command.Add u s g) all form h = wf-add w u s w.minute g all h.1.0 h.1.1.1.1.1.0 (λ uid. new-entry g uid w.minute form h.1.1.1.0 h.1.1.1.1.0)
 wf-row w (command.Addx u s g) all form h = wf-add w u s w.minute g all h.1.0 h.1.1.1.1.1.0 (λ uid. new-entry g uid w.minute form h.1.1.1.0 h.1.1.1.1.0)
 wf-row w (command.Addu s g) all form h = wf-add w (default_unit w) s w.minute g all h.0 h.1.1.1.1.0 (λ uid. new-entry g uid w.minute form h.1.1.0 h.1.1.1.0)

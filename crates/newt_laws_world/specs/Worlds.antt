@@ -43,6 +43,7 @@ has_form (command.Format u name sig) = is_name name && sig_fits sig
 has_form (command.Soup u name) = is_name name
 has_form (command.Index u s parts) = parts_fit parts
 has_form (command.SetTags u s path symbols) = tags_fit path symbols
+has_form (command.SetInfo u s g) = within_limits g
 has_form (command.Add u s g) = within_limits g
 has_form (command.Addx u s g) = within_limits g
 has_form (command.Addu s g) = within_limits g

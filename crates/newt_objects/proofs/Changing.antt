@@ -1,4 +1,5 @@
 -- The way of a change: planned, committed, taken over; and what a crash leaves meanwhile.
+use Rattle.newt_spec_image.specs.Records.{version}
 use Rattle.std.proofs.Common.{IsTrue, ◌≡◌, ◌⊎◌, inl, inr, ℕ, suc, ◌==◌, Bool, true, false, cond, ◌||◌, List, [], ◌∷◌, ◌++◌, length, take, map as map_list, slice_get, Option, Some, None, refl, sym, ◌∙◌, ap, subst, ⊎_elim}
 use Rattle.std.specs.List.{list_any}
 use Rattle.std.specs.Map.{lookup}
@@ -152,17 +153,13 @@ changed_holds objects change live texts before now of_image would changed = reco
   are = would_be_objects objects change live texts would;
 }
 
--- Each image that a crash may leave holds the objects before or those after.
+-- Each image that a crash may leave holds the objects before, in the version before, or those after, in version 2.
 pub left_holds : (objects : Held) (change : Change) (live : Pages) (texts texts' : Objects) (before left : List ℕ) → pages before ≡ Some live → AreObjectsOf live texts → WouldHold objects change live texts'
-    → IsBeforeOrAfter change before left → HoldsObjects left texts ⊎ HoldsObjects left texts'
+    → IsBeforeOrAfter change before left → (HoldsObjects left texts × (version left ≡ version before)) ⊎ (HoldsObjects left texts' × (version left ≡ 2))
 left_holds objects change live texts texts' before left of_image are would either = ⊎_elim
-    (λ (same : pages left ≡ pages before). inl (record { live = live; of_image = same ∙ of_image; are = are }))
-    (λ (changed : ReadsChanged change before left). inr (changed_holds objects change live texts' before left of_image would changed))
+    (λ (same : (pages left ≡ pages before) × (version left ≡ version before)). inl (record { live = live; of_image = same.0 ∙ of_image; are = are }, same.1))
+    (λ (changed : ReadsChanged change before left × (version left ≡ 2)). inr (changed_holds objects change live texts' before left of_image would changed.0, changed.1))
     either
-
-pub leaves_holds : (objects : Held) (change : Change) (live : Pages) (texts texts' : Objects) (unit : ℕ) (before : List ℕ) (old new : Moment) → pages before ≡ Some live → AreObjectsOf live texts → WouldHold objects change live texts'
-    → Leaves unit (IsBeforeOrAfter change before) old new → Leaves unit (λ left. HoldsObjects left texts ⊎ HoldsObjects left texts') old new
-leaves_holds objects change live texts texts' unit before old new of_image are would leaves = Leaves-weaken (λ left either. left_holds objects change live texts texts' before left of_image are would either) leaves
 
 -- The table of a unit, where nothing of it is other than it was: after a call that reads, after `forget`, after a refused commit.
 pub are_still : (told : Bool) (table table' : Table) (numbers numbers' : Numbers) (unit : ℕ) (old new : Outside) → ((id : ℕ) → table' id ≡ table id) → numbers' ≡ numbers → changes unit new.now ≡ changes unit old.now

@@ -1,4 +1,5 @@
 -- What the clauses of a commit say together.
+use Rattle.newt_spec_image.specs.Records.{version}
 use Rattle.std.proofs.Common.{IsTrue, ◌≡◌, inl, inr, ℕ, ◌*◌, ◌/◌, ◌<◌, ◌≤◌, Bool, List, length, Option, Some, None, IsSome, refl, sym, ◌∙◌, ap, arith, ⊎_elim}
 use Rattle.std.specs.FinSet as set
 use Rattle.newt_host.specs.Moments.{Moment, image, changes, IsDurable, Leaves}
@@ -43,7 +44,7 @@ module _ (told : Bool) (objects : Held) (change : Change) (numbers : Numbers) (n
     leaves-either unit old new fits leaves = Leaves-weaken
         (λ left both. record {
           size = both.0;
-          holds = ⊎_elim (λ was. inl was) (λ is. inr (is, fits)) (left_holds objects change p.live before after now left (p.are.of_image tells) p.were p.way.would both.1);
+          holds = ⊎_elim (λ was. inl was) (λ is. inr (is.0, fits, is.1)) (left_holds objects change p.live before after now left (p.are.of_image tells) p.were p.way.would both.1);
         })
         leaves
 
@@ -53,7 +54,7 @@ module _ (told : Bool) (objects : Held) (change : Change) (numbers : Numbers) (n
       let same : left ≡ now = durable left may ∙ sym is in
       record {
         size = ap (λ (l : List ℕ). length l) same;
-        holds = inl (record { live = p.live; of_image = ap pages same ∙ p.are.of_image tells; are = p.were });
+        holds = inl (record { live = p.live; of_image = ap pages same ∙ p.are.of_image tells; are = p.were }, ap version same);
       })
 
   pub holds-after : (new : List ℕ) → ReadsChanged change now new → HoldsObjects new after

@@ -73,7 +73,7 @@ few-bytes batch first count none few same =
     omega (arith, few, ap (λ (c : Change). length c.puts) none, ap (λ (l : List ℕ). length l) same, ap (λ (c : Change). length c.deletes) none)
 
 pub open-for-less : (less more : ℕ) (image : List ℕ) → less ≤ more → IsOpenFor more image → IsOpenFor less image
-open-for-less less more image low ready = record { room = omega (arith, low, ready.room); blank = ready.blank }
+open-for-less less more image low ready = record { is_open = ready.is_open; room = omega (arith, low, ready.room) }
 
 -- pages are read, and then a batch is written
 pub spends-both : (unit fetches bytes programs : ℕ) (old between new : Outside) → bytes ≤ programs → Spends unit 0 fetches old between → Spends unit bytes 0 between new → Spends unit programs fetches old new

@@ -1,4 +1,5 @@
 -- Bytes of one object that are overwritten: what the clauses of a plan and of its commit say together.
+use Rattle.newt_spec_image.specs.Records.{version}
 use Rattle.std.proofs.Common.{◌≡◌, inl, ℕ, List, [], length, Option, Some, None, IsSome, refl, sym, ◌∙◌, ap}
 use Rattle.std.specs.FinMap as map
 use Rattle.std.specs.Option.{option_map}
@@ -26,7 +27,7 @@ patch-nothing live before after unit old of_image were durable = Leaves-start (�
     let same : left ≡ image unit old = durable left may in
     record {
       size = ap (λ (l : List ℕ). length l) same;
-      holds = inl (record { live = live; of_image = ap pages same ∙ of_image; are = were });
+      holds = inl (record { live = live; of_image = ap pages same ∙ of_image; are = were }, ap version same);
     })
 
 -- what a crash leaves within the commit

@@ -1,4 +1,5 @@
 -- What a batch that is committed promises, exit by exit.
+use Rattle.newt_spec_image.specs.Records.{version}
 use Rattle.std.proofs.Common.{◌≡◌, inl, ℕ, ◌*◌, ◌<◌, ◌≤◌, Bool, IsTrue, List, length, Option, IsSome, None, Result, Ok, Err, refl, sym, ◌∙◌, ap, subst, arith}
 use Rattle.newt_base.specs.declared.Refusal.TheVariants.{Full as IsFull}
 use Rattle.newt_host.specs.Moments.{image, changes, IsDurable, IsHistory, Leaves}
@@ -65,7 +66,7 @@ module _ {B : Type 0} (place : B → ℕ) (numbers : B → Numbers) (shown : B �
     committed = λ tells. no-value r (Stop Memory) (λ x. ReadsChanged batch (image unit outside.now) (image unit outside.now)) fails;
     any_moment = λ tells. Leaves-start (λ left may.
         let same : left ≡ image unit outside.now = durable tells left may in
-        (ap (λ (l : List ℕ). length l) same, inl (ap pages same)));
+        (ap (λ (l : List ℕ). length l) same, inl (ap pages same, ap version same)));
     fits = no-value r (Stop Memory) (λ x. live_after batch was ≤ cap (outside.blocks unit)) fails;
     full = λ is. absurd (not-refused r IsFull fails is);
     only = by-fault r (Stop Memory) (RefusesOnly IsFull) fails tt;

@@ -14,7 +14,7 @@ use Rattle.newt_store_change.specs.declared.fault.StoreFault.TheVariants.{Refuse
 use Rattle.newt_objects_commit.specs.Commit.{AreKept}
 use Rattle.newt_objects_commit.specs.Faults.{RefusesOnly}
 
--- as many bytes, which hold the pages before a change or after it
+-- as many bytes, which hold the pages before a change, in the version before it, or after it, in version 2
 abbrev pub IsEitherSide : Change → (now left : List ℕ) → Type 0
 IsEitherSide batch now left = (length left ≡ length now) × IsBeforeOrAfter batch now left
 

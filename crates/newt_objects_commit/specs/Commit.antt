@@ -1,4 +1,5 @@
 -- Objects of a unit as they are planned, committed and kept. This project's own.
+use Rattle.newt_spec_image.specs.Records.{version}
 use Rattle.std.specs.Prelude.{◌≡◌, ◌⊎◌, ℕ, ◌<◌, ◌≤◌, Bool, IsTrue, List, [], length, Result, OnOk, IfErr, IsErrOf}
 use Rattle.newt_base.specs.declared.Refusal.TheVariants.{Full}
 use Rattle.newt_host.specs.Moments.{image, Leaves}
@@ -31,10 +32,11 @@ pub record IsPlanned (told : Bool) (objects : Held) (change : Change) (numbers :
 abbrev pub Fit : Objects → List ℕ → Type 0
 Fit texts now = total_pages texts ≤ cap (blocks_of now)
 
--- What a crash may leave of an image within a commit: as many bytes, which hold the objects before it, or those after it where they fit.
+-- What a crash may leave of an image within a commit: as many bytes, which hold the objects before it, in the version before it, or those after it, where they
+-- fit, in version 2.
 pub record IsEither (now : List ℕ) (before after : Objects) (left : List ℕ) : Type 0 where
   pub size : length left ≡ length now
-  pub holds : HoldsObjects left before ⊎ (HoldsObjects left after × Fit after now)
+  pub holds : (HoldsObjects left before × (version left ≡ version now)) ⊎ (HoldsObjects left after × Fit after now × (version left ≡ 2))
 
 -- what is claimed, where bytes are told, of all objects that the batch and the plans change
 abbrev pub ForPlanned : Bool → Held → Change → Numbers → List ℕ →
@@ -51,7 +53,8 @@ pub record MakesPlanned (told : Bool) (unit : ℕ) (batch : Change) (numbers : N
   pub still : IsRefused result → (id : ℕ) → held next id ≡ held objects id
   pub only : IfErr result (RefusesOnly Full)
   pub holds : ForPlanned told objects batch numbers (image unit before.now) (λ was will.
-      OnOk result (HoldsObjects (image unit after.now) will × Fit will (image unit before.now)))
+      OnOk result (HoldsObjects (image unit after.now) will × Fit will (image unit before.now) ×
+      (version (image unit after.now) ≡ 2)))
   pub full : IsErrOf result (Refused Full) →
       ForPlanned told objects batch numbers (image unit before.now) (λ was will.
       cap (blocks_of (image unit before.now)) < total_pages will)

@@ -1,4 +1,5 @@
 -- Bytes of one object that are overwritten.
+use Rattle.newt_spec_image.specs.Records.{version}
 use Rattle.std.specs.Prelude.{◌≡◌, ◌⊎◌, ℕ, ◌+◌, ◌<◌, ◌≤◌, Bool, IsTrue, List, length, Some, Result, OnOk, IfErr, IsErrOf}
 use Rattle.std.specs.FinMap as map
 use Rattle.std.specs.FinSet as set
@@ -12,10 +13,10 @@ use Rattle.newt_objects.specs.Changing.{HoldsObjects}
 use Rattle.newt_store_change.specs.declared.fault.StoreFault.{StoreFault}
 use Rattle.newt_store_change.specs.declared.fault.StoreFault.TheVariants.{Refused, Stop}
 
--- What a crash may leave of an image within a patch: as many bytes, which hold the objects before it, or those after it.
+-- What a crash may leave of an image within a patch: as many bytes, which hold the objects before it, in the version before it, or those after it, in version 2.
 pub record IsBeforeOrPatched (now : List ℕ) (before after : Objects) (left : List ℕ) : Type 0 where
   pub size : length left ≡ length now
-  pub holds : HoldsObjects left before ⊎ HoldsObjects left after
+  pub holds : (HoldsObjects left before × (version left ≡ version now)) ⊎ (HoldsObjects left after × (version left ≡ 2))
 
 -- the only refusals are these two
 abbrev pub IsRangeOrFull : StoreFault → Type 0
@@ -37,7 +38,7 @@ pub record Overwrites (told : Bool) (unit id at : ℕ) (bytes : List ℕ) (numbe
     (before after : Outside) (result : Result (Unit {0}) StoreFault) : Type 0 where
   pub patched : ForText told id (image unit before.now) (λ was text. OnOk result
       (HoldsObjects (image unit after.now) (patched_text id at bytes was text)
-      × (at + length bytes ≤ length text)))
+      × (at + length bytes ≤ length text) × (version (image unit after.now) ≡ 2)))
   pub range : IsErrOf result (Refused Range) →
       ForText told id (image unit before.now) (λ was text. length text < at + length bytes)
   pub past : ForText told id (image unit before.now) (λ was text.

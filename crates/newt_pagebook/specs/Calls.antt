@@ -60,8 +60,9 @@ module _ {B : Type 0} (place : B → ℕ) (numbers : B → Numbers) (shown : B �
     pub wears : Wears (place old) 0 0 before after
     pub no_fault : NoFault before after
 
-  -- A commit: the pages are changed as the batch says, or, where more of them would be live than
-  -- the unit takes, nothing is. At each moment a crash leaves the pages before it or after it.
+  -- A commit: the pages are changed as the batch says, and the image has version 2, or, where more
+  -- of them would be live than the unit takes, nothing is. At each moment a crash leaves the pages
+  -- before it, in the version before it, or after it, in version 2.
   pub record Commits (told : Bool) (batch : Change) (old new : B) (before after : Outside) (result : Result (Unit {0}) CommitFault) : Type 0 where
     pub stands : OnOk result (standing told new after)
     pub same_place : place new ≡ place old

@@ -7,10 +7,9 @@ use Rattle.std.specs.Int.{to_be_bytes, w16, w32}
 use Rattle.std.proofs.lemmas.List.Elements.{filter-append}
 use Rattle.newt_host.proofs.Outside.{Touches-refl, Touches-append, Spends-refl, Spends-append, Spends-widen, Wears-refl, Wears-append, Wears-widen}
 use Rattle.newt_host.proofs.Moments.{Always-last, Leaves-append, Leaves-weaken, Leaves-start}
-use Rattle.newt_spec_image.specs.Records.{records}
 use Rattle.newt_spec_image.specs.Pages.{Change, written_put, written_delete, written_change}
 use Rattle.newt_journal.specs.Calls.{Programs, writing}
-use Rattle.newt_journal.specs.Journal.{ReadsAs}
+use Rattle.newt_journal.specs.Journal.{reading, ReadsAs}
 use Rattle.newt_journal.specs.Draft.{IsDraftOf, IsSameRecord, HasPut, journal_of, unit_of, len_of, put_of, is_switch, payload_of, rest_of}
 use Rattle.newt_journal.specs.declared.draft.Draft.{Draft}
 use Rattle.newt_pagelog.specs.Steps.{IsSteady, Stays, Keeps, WritesMore, done}
@@ -110,7 +109,7 @@ module _ {told : Bool} {unit : ℕ} where
 
   -- calls that leave the records as they were
   pub stays-two : {T E : Type 0} {r : Result T E} {a b c : Outside} (w v : Work)
-      → (IsTrue told → records (image unit b.now) ≡ records (image unit a.now))
+      → (IsTrue told → reading (image unit b.now) ≡ reading (image unit a.now))
       → Stays told unit w done a b → Stays told unit v r b c → Stays told unit (both w v) r a c
   stays-two w v same p q = writes-two w v p (writes-weaken (λ tells left e. e ∙ same tells) q)
 
@@ -138,7 +137,7 @@ keeps-start told unit o steady = record {
 }
 
 pub keeps-two : {T E : Type 0} {r : Result T E} (told : Bool) (unit m n : ℕ) (a b c : Outside)
-    → (IsTrue told → records (image unit b.now) ≡ records (image unit a.now))
+    → (IsTrue told → reading (image unit b.now) ≡ reading (image unit a.now))
     → Keeps told unit m done a b → Keeps told unit n r b c → Keeps told unit (m + n) r a c
 keeps-two told unit m n a b c same first second =
     stays-two (writing m 0 0) (writing n 0 0) same first second
@@ -149,7 +148,7 @@ keeps-widen told unit m n a b le k = writes-widen (writing m 0 0) (writing n 0 0
     (record { programs = le; fetches = omega arith; erases = omega arith; syncs = omega arith }) k
 
 -- at the end of a call that kept the records, a crash leaves them
-pub steady-after : (unit : ℕ) (old new : Moment) → Leaves unit (ReadsAs (records (image unit old))) old new → records (image unit new) ≡ records (image unit old) → IsSteady unit new
+pub steady-after : (unit : ℕ) (old new : Moment) → Leaves unit (ReadsAs (reading (image unit old))) old new → reading (image unit new) ≡ reading (image unit old) → IsSteady unit new
 steady-after unit old new leaves same left may = (Always-last leaves).crash left may ∙ sym same
 
 pub writes-none : (told : Bool) (d : Draft) (o : Outside) → IsDraftOf told d o → (IsTrue told → IsSteady (unit_of d) o.now) → WritesMore told (unit_of d) [] d d o o
@@ -186,7 +185,7 @@ pub writes-same : (told : Bool) (unit : ℕ) (bytes other : List ℕ) (x y : Dra
 writes-same told unit bytes other x y a b is w = subst (λ (l : List ℕ). WritesMore told unit l x y a b) is w
 
 pub put-writes : (told : Bool) (bytes : List ℕ) (x y : Draft) (a b : Outside) → IsSameRecord x y → HasPut told bytes x y a b
-    → (IsTrue told → Leaves (unit_of x) (ReadsAs (records (image (unit_of x) a.now))) a.now b.now) → WritesMore told (unit_of x) bytes x y a b
+    → (IsTrue told → Leaves (unit_of x) (ReadsAs (reading (image (unit_of x) a.now))) a.now b.now) → WritesMore told (unit_of x) bytes x y a b
 put-writes told bytes x y a b one more leaves = record {
   draft = more.draft_of;
   put = more.put;

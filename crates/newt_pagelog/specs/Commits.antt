@@ -10,7 +10,7 @@ use Rattle.newt_host.specs.Outside.{Outside, Spends, Wears, Work}
 use Rattle.newt_spec_image.specs.Records.{bank_blocks, records}
 use Rattle.newt_spec_image.specs.Pages.{Change, cap}
 use Rattle.newt_journal.specs.Calls.{Programs, writing}
-use Rattle.newt_journal.specs.Journal.{Stands, ReadsAsEither}
+use Rattle.newt_journal.specs.Journal.{Stands, reading, ReadsAsEither}
 use Rattle.newt_journal.specs.declared.journal.Journal.{Journal}
 use Rattle.newt_pagebook.specs.Book.{IsOpenFor, IsBeforeOrAfter, ReadsChanged, batch_bytes, changed_numbers, switch_bytes}
 use Rattle.newt_pagelog.specs.Kept.{numbers_in}
@@ -20,16 +20,16 @@ pub record HasRoomFor {V : Type 0} (batch : Change) (blocks : ℕ) (pages : Hash
   pub spare : length batch.puts ≤ hash.spare pages
   pub live : set.len (changed_numbers batch (numbers_in pages.entries)) ≤ cap blocks
 
--- The records of a journal become these others at one moment, before and after which a crash
--- leaves the old ones or these. The journal that is given back stands for them on the same unit,
--- with blank bytes behind them.
+-- The records of a journal become these others, in version 2, at one moment, before and after which
+-- a crash leaves the old ones, in the version before, or these. The journal that is given back
+-- stands for them on the same unit, with blank bytes behind them.
 pub record Rewrites {E : Type 0} (told : Bool) (journal : Journal) (work : Work)
     (after : Option (List (List ℕ))) (result : Result Journal E) (old new : Outside) : Type 0 where
   pub stands : IfOk result (λ next. Stands told next new × (next.unit ≡ journal.unit))
   pub committed : IsTrue told → OnOk result (records (image journal.unit new.now) ≡ after)
   pub open_after : IsTrue told → OnOk result (IsOpenFor 0 (image journal.unit new.now))
   pub writes : Programs told journal.unit work
-      (ReadsAsEither (records (image journal.unit old.now)) after) result old new
+      (ReadsAsEither (reading (image journal.unit old.now)) (2, after)) result old new
 
 -- The same of the pages: those of the unit become those after a batch.
 pub record Commits {E : Type 0} (told : Bool) (journal : Journal) (work : Work) (batch : Change)

@@ -7,8 +7,7 @@ use Rattle.newt_host.specs.Moments.{image}
 use Rattle.newt_host.specs.Outside.{Outside}
 use Rattle.newt_spec_image.specs.Records.{records}
 use Rattle.newt_spec_image.specs.Pages.{Pages, Change, after, change_in, written_change}
-use Rattle.newt_journal.specs.Journal.{written, Stands, appended}
-use Rattle.newt_journal.specs.Bank.{start_of}
+use Rattle.newt_journal.specs.Journal.{records_bytes, Stands, appended}
 use Rattle.newt_journal.specs.Places.{first_place}
 use Rattle.newt_journal.specs.declared.journal.Journal.{Journal}
 use Rattle.newt_journal.proofs.Recorded.{recorded-front, recorded-last, recorded-moved, end-told}
@@ -30,13 +29,13 @@ payloads_of true j places o holds = ((holds refl).payloads, λ _. (holds refl).r
 payloads_of false j places o holds = ([], λ tells. absurd (cc))
 
 -- where the pages of a record stand that is behind others
-pub stand-appended : (j : Journal) (passed : List (List ℕ)) (payload : List ℕ) (change : Change) (first : ℕ) → change_in payload ≡ Some change → first ≡ start_of j.blocks j.bank + length (written passed) + 13
+pub stand-appended : (j : Journal) (passed : List (List ℕ)) (payload : List ℕ) (change : Change) (first : ℕ) → change_in payload ≡ Some change → first ≡ first_place j + length (records_bytes passed) + 13
     → StandAt (page_of j (passed ++ payload ∷ [])) first change.puts
 stand-appended j passed payload change first says place i low =
     recorded-last j passed payload (first + 516 * i) 512 (8 + 516 * i) (omega (arith, place)) ∙ page-put payload change says i no_put low
 
 -- the pages that stood there before
-pub front-same : (j : Journal) (passed : List (List ℕ)) (payload : List ℕ) (places : Places) (end : ℕ) → end ≡ start_of j.blocks j.bank + length (written passed)
+pub front-same : (j : Journal) (passed : List (List ℕ)) (payload : List ℕ) (places : Places) (end : ℕ) → end ≡ first_place j + length (records_bytes passed)
     → ((q at : ℕ) → lookup (nat_eq q) places ≡ Some at → (first_place j ≤ at) × (at + 512 ≤ end)) → map_of (lifted (page_of j (passed ++ payload ∷ [])) places) ≡ map_of (lifted (page_of j passed) places)
 front-same j passed payload places end end_is placed =
     lifted-same (page_of j (passed ++ payload ∷ [])) (page_of j passed) places (λ q at there. let p = placed q at there in recorded-front j passed payload at 512 p.0 (omega (arith, p.1, end_is)))

@@ -12,7 +12,7 @@ use Rattle.newt_host.proofs.Moments.{Leaves-start}
 use Rattle.newt_spec_image.specs.Records.{records}
 use Rattle.newt_spec_image.specs.Pages.{written_put}
 use Rattle.newt_journal.specs.Calls.{Reads}
-use Rattle.newt_journal.specs.Journal.{ReadsAs}
+use Rattle.newt_journal.specs.Journal.{Reading, reading, ReadsAs}
 use Rattle.newt_journal.specs.Appending.{IsDrafted}
 use Rattle.newt_journal.specs.Switch.{IsSwitching}
 use Rattle.newt_journal.specs.Draft.{IsDraftOf, journal_of, unit_of, payload_of}
@@ -32,7 +32,7 @@ stays-start told unit o steady = keeps-start told unit o steady
 pub stays-looked : {T E : Type 0} {r : Result T E} (told : Bool) (unit n : ℕ) (a b : Outside)
     → (IsTrue told → IsSteady unit a.now) → Reads unit n r a b → Stays told unit (fetching n) r a b
 stays-looked told unit n a b steady reads = record {
-  any_moment = λ tells. subst (λ (m : Moment). Leaves unit (ReadsAs (records (image unit a.now))) a.now m) (sym reads.moment) (Leaves-start (steady tells));
+  any_moment = λ tells. subst (λ (m : Moment). Leaves unit (ReadsAs (reading (image unit a.now))) a.now m) (sym reads.moment) (Leaves-start (steady tells));
   alone = reads.alone;
   costs = reads.costs;
   wears = reads.wears;
@@ -55,7 +55,7 @@ writes-looked told unit bytes x y a b c moment w = record {
   kind = w.kind;
   rest = w.rest;
   more = λ tells. w.more tells ∙ ap (λ (m : Moment). payload_of x (image unit m) ++ bytes) moment;
-  same = λ tells. w.same tells ∙ ap (λ (m : Moment). records (image unit m)) moment;
+  same = λ tells. w.same tells ∙ ap (λ (m : Moment). reading (image unit m)) moment;
   steady = w.steady;
 }
 
@@ -83,7 +83,7 @@ pub copies-two : (told : Bool) (unit : ℕ) (first second all : Places) (x y z :
 copies-two told unit first second all x y z a b c is one other =
     let front = one.writes in
     let unit_is : unit_of y ≡ unit = front.on in
-    let same : IsTrue told → records (image (unit_of y) b.now) ≡ records (image unit a.now) = λ tells. ap (λ (u : ℕ). records (image u b.now)) unit_is ∙ front.same tells in
+    let same : IsTrue told → records (image (unit_of y) b.now) ≡ records (image unit a.now) = λ tells. ap (λ (u : ℕ). records (image u b.now)) unit_is ∙ ap (λ (r : Reading). r.1) (front.same tells) in
     record {
       pages = one.pages ++ other.pages;
       count = omega (arith, one.count, other.count, length-append one.pages other.pages, ap (λ (l : Places). length l) is, length-append first second);

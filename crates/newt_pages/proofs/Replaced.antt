@@ -13,11 +13,10 @@ use Rattle.newt_host.specs.Moments.{image}
 use Rattle.newt_host.specs.Outside.{Outside}
 use Rattle.newt_spec_image.specs.Records.{records}
 use Rattle.newt_spec_image.specs.Pages.{Pages, Put, Change, all_distinct, with_puts, after, change_in, written_change}
-use Rattle.newt_journal.specs.Journal.{written, Stands}
-use Rattle.newt_journal.specs.Bank.{start_of}
+use Rattle.newt_journal.specs.Journal.{records_bytes, Stands}
 use Rattle.newt_journal.specs.Places.{first_place}
 use Rattle.newt_journal.specs.declared.journal.Journal.{Journal}
-use Rattle.newt_journal.proofs.Recorded.{end-told, first-written}
+use Rattle.newt_journal.proofs.Recorded.{end-told}
 use Rattle.newt_pagebook.specs.Batch.{IsBatch}
 use Rattle.newt_pagebook.specs.Book.{Numbers, changed_numbers}
 use Rattle.newt_pagebook.proofs.Batches.{distinct-middle}
@@ -208,10 +207,10 @@ module _ (batch : Change) (is : IsBatch batch) (old left : Places) (numbered : A
         ∙ other_way (put_there batch q) (gone_there batch q) (page_in batch.puts q) (page_in (lifted f old) q) (put_some batch q) (not_both batch is q) ∙ sym (after-at f q))
 
 -- the pages at places of the records are whole
-pub length-recorded : (j : Journal) (payloads : List (List ℕ)) (at : ℕ) → j.end ≡ start_of j.blocks j.bank + length (written payloads) → first_place j ≤ at → at + 512 ≤ j.end → length (page_of j payloads at) ≡ 512
+pub length-recorded : (j : Journal) (payloads : List (List ℕ)) (at : ℕ) → j.end ≡ first_place j + length (records_bytes payloads) → first_place j ≤ at → at + 512 ≤ j.end → length (page_of j payloads at) ≡ 512
 length-recorded j payloads at end low high =
-    let k = at - start_of j.blocks j.bank in
-    omega (arith, end, low, high, length-take 512 (drop k (written payloads)), length-drop k (written payloads))
+    let k = at - first_place j in
+    omega (arith, end, low, high, length-take 512 (drop k (records_bytes payloads)), length-drop k (records_bytes payloads))
 
 pub sound-lifted : (told : Bool) (j : Journal) (o : Outside) (payloads : List (List ℕ)) (places : Places) → Stands told j o → IsTrue told → records (image j.unit o.now) ≡ Some payloads → AreNumbered places → ArePlaced j places → AreSound (lifted (page_of j payloads) places)
 sound-lifted told j o payloads places stands tells is numbered placed =
@@ -232,7 +231,7 @@ sound-lifted told j o payloads places stands tells is numbered placed =
 pub stand-alone : (k : Journal) (entries : Entries) (first : ℕ) → AreSound entries → first ≡ first_place k + 13 → StandAt (page_of k (written_change (all_of entries) ∷ [])) first entries
 stand-alone k entries first sound place =
     let says : change_in (written_change (all_of entries)) ≡ Some (all_of entries) = written-says (all_of entries) (all_is_batch entries sound) sound.few (omega arith) in
-    stand-appended k [] (written_change (all_of entries)) (all_of entries) first says (omega (arith, place, first-written k))
+    stand-appended k [] (written_change (all_of entries)) (all_of entries) first says (omega (arith, place))
 
 -- what the two removals leave
 pub left-of : (batch : Change) (puts : List Put) (deletes : List ℕ) (old mid left : Places) → puts ≡ batch.puts → deletes ≡ batch.deletes

@@ -116,6 +116,14 @@ impl PageBook for DiskBook {
         self.unit
     }
 
+    fn version(&self) -> u16 {
+        match &self.journal {
+            Some(journal) => journal.version(),
+            // A spent book stands for no image: the version that commits write.
+            None => 2,
+        }
+    }
+
     fn reserve(&mut self, puts: u32) -> Result<(), AllocError> {
         self.places.reserve(puts as usize)?;
         self.room = self.room.max(puts);

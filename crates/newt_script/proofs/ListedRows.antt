@@ -1,4 +1,4 @@
--- What the rows on indexes and tags read, over the readers that stay closed.
+-- What the rows on indexes, tags and info frames read, over the readers that stay closed.
 use Rattle.std.proofs.Common.{◌≡◌, ℕ, Bool, true, false, ◌==◌, List, [], length, Option, Some, None, Result, Ok, Err, if◌then◌else◌, codes, refl, ap, ◌∙◌}
 use Rattle.newt_base.specs.Names.{same_name}
 use Rattle.newt_base.specs.declared.Refusal.{Refusal}
@@ -7,13 +7,14 @@ use Rattle.newt_spec_graph.specs.Lists.{all_apart}
 use Rattle.newt_spec_world.specs.declared.command.Command.{Command}
 use Rattle.newt_spec_world.specs.declared.command.Command.TheVariants as command
 use Rattle.newt_spec_script.specs.Words.{then_read, trimmed, of1, of2, of3, of4, word, words, name, part, symbol, several, all_words, or_not_the_form}
-use Rattle.newt_spec_script.specs.Line.{Parsed, unit, ended, whole, distinct, if_distinct, or_row}
+use Rattle.newt_spec_script.specs.Line.{Parsed, unit, ended, with_literal, and_literal, whole, distinct, if_distinct, or_row}
 use Rattle.newt_script_words.specs.Listed.{of_form, in_number, values, apart, parts_in, paths_in, symbols_in}
 use Rattle.newt_script_words.specs.Readers.{unit_of, name_of, soup_of, path_word, rest_of, is_ended}
 use Rattle.newt_script.specs.Rows.{Reading, reading, row_reading}
 use Rattle.newt_script_words.specs.declared.fault.WordFault.{WordFault}
 use Rattle.newt_script.specs.Faults.{of_words}
-use Rattle.newt_script.proofs.RowTable.{after, finished, mapped, after_same, soup_and_word, one_word, then_after, two, two_then}
+use Rattle.newt_script.specs.Graphs.{literal_word}
+use Rattle.newt_script.proofs.RowTable.{after, finished, mapped, with_graph, after_same, soup_and_word, one_word, then_after, literal_after, two, two_then}
 
 -- the command with a list
 abbrev pub with_list : {A : Type 0} → Result A WordFault → (A → Command) → Reading
@@ -97,3 +98,34 @@ row_tags cs =
     ∙ (ap (λ r. reading (or_row (ended (mapped (λ (x : ℕ × List ℕ). command.Tags x.0 x.1) (of2 unit name (λ a b. (a, b)) cs))) (ended r)))
     (two_then unit name (λ u s. of2 (word path_of) distinct (command.SetTags u s)) cs)
     ∙ both_rows (of2 unit name (λ a b. (a, b)) cs))
+
+-- ---- the two rows of `info`
+
+-- what follows a soup that is not all
+abbrev setting : ℕ → List ℕ → List ℕ → Reading
+setting u s rest = with_graph (literal_word (trimmed rest)) (command.SetInfo u s)
+
+info_after : (u : ℕ) (s rest : List ℕ) (other : Parsed) → reading other ≡ setting u s rest
+    → reading (or_row (ended (Ok (command.Info u s, rest))) other) ≡ (if length (trimmed rest) == 0 then Ok (command.Info u s) else setting u s rest)
+info_after u s rest other is = go (length (trimmed rest) == 0) refl
+  where
+    go : (b : Bool) → (length (trimmed rest) == 0) ≡ b
+        → reading (or_row (ended (Ok (command.Info u s, rest))) other) ≡ (if length (trimmed rest) == 0 then Ok (command.Info u s) else setting u s rest)
+    go true found = rw found refl
+    go false found = rw found is
+
+info_rows : (r : Result ((ℕ × List ℕ) × List ℕ) Refusal)
+    → reading (or_row (ended (mapped (λ (x : ℕ × List ℕ). command.Info x.0 x.1) r)) (with_literal (mapped (λ (x : ℕ × List ℕ) g. command.SetInfo x.0 x.1 g) r)))
+    ≡ after r (λ (x : ℕ × List ℕ) rest. if length (trimmed rest) == 0 then Ok (command.Info x.0 x.1) else setting x.0 x.1 rest)
+unfolding rest_of
+info_rows (Err refusal) = refl
+info_rows (Ok (x, rest)) = info_after x.0 x.1 rest (with_literal (Ok ((λ g. command.SetInfo x.0 x.1 g), rest))) (literal_after (λ (x : ℕ × List ℕ) g. command.SetInfo x.0 x.1 g) (Ok (x, rest)))
+
+pub row_info : (cs : List ℕ)
+    → row_reading (codes "info") cs
+    ≡ after (soup_of cs) (λ x rest. if is_ended rest then Ok (command.Info x.0 x.1) else with_graph (literal_word (rest_of rest)) (command.SetInfo x.0 x.1))
+unfolding row_reading soup_of unit_of name_of is_ended rest_of
+row_info cs =
+    ap (λ r. reading (or_row (ended r) (and_literal (of2 unit name (λ u s g. command.SetInfo u s g)) cs))) (two unit name command.Info cs)
+    ∙ (ap (λ r. reading (or_row (ended (mapped (λ (x : ℕ × List ℕ). command.Info x.0 x.1) (of2 unit name (λ a b. (a, b)) cs))) (with_literal r))) (two unit name (λ u s g. command.SetInfo u s g) cs)
+    ∙ info_rows (of2 unit name (λ a b. (a, b)) cs))

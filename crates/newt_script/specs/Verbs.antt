@@ -108,6 +108,7 @@ word_of verb.Vwrite = codes "vwrite"
 word_of verb.Index = codes "index"
 word_of verb.Unindex = codes "unindex"
 word_of verb.Tags = codes "tags"
+word_of verb.Info = codes "info"
 word_of verb.Query = codes "query"
 word_of verb.Moveby = codes "moveby"
 word_of verb.Goto = codes "goto"
@@ -126,7 +127,7 @@ memory_words =
     ∷ codes "gotokey" ∷ codes "add" ∷ codes "addx" ∷ codes "addu" ∷ codes "get" ∷ codes "getx"
     ∷ codes "set" ∷ codes "change" ∷ codes "remove"
     ∷ codes "copy" ∷ codes "move" ∷ codes "alias" ∷ codes "resolve" ∷ codes "vread" ∷ codes "vwrite"
-    ∷ codes "index" ∷ codes "unindex" ∷ codes "indexes" ∷ codes "tags" ∷ []
+    ∷ codes "index" ∷ codes "unindex" ∷ codes "indexes" ∷ codes "tags" ∷ codes "info" ∷ []
 
 abbrev pub is_memory_word : List ℕ → Bool
 is_memory_word word = list_any (bytes_eq word) memory_words

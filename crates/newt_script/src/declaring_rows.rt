@@ -1,8 +1,10 @@
-//! The rows of the table of commands that speak of the indexes and tags of a soup.
+//! The rows of the table of commands that speak of the indexes, the tags and the info
+//! frame of a soup.
 ghost use Rattle.std.specs.Prelude.{◌≡◌, ◌≢◌, codes};
 ghost use Rattle.newt_script.specs.Rows.{row_reading};
 
 use crate::fault::LineFault;
+use crate::graphs::last_literal;
 use newt_script_words::Words;
 use newt_spec_world::Command;
 use std::alloc::Global;
@@ -36,4 +38,16 @@ pub fn tags(alloc: Global, words: &mut Words) -> Result<Command, LineFault>
     }
     let path = words.path(alloc)?;
     Ok(Command::SetTags(unit, name, path, words.symbols(alloc)?))
+}
+
+/// `info U S` and `info U S LIT`
+#[tactic(auto, using(crate::proofs::ListedRows::row_info))]
+pub fn info(alloc: Global, words: &mut Words) -> Result<Command, LineFault>
+    ensures { result ≢ Err LineFault.Memory → result ≡ row_reading (codes "info") words.old }
+{
+    let (unit, name) = words.soup(alloc)?;
+    if words.is_ended() {
+        return Ok(Command::Info(unit, name));
+    }
+    Ok(Command::SetInfo(unit, name, last_literal(alloc, words)?))
 }

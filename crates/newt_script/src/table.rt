@@ -39,6 +39,7 @@ pub fn row(alloc: Global, verb: Verb, words: &mut Words) -> Result<Command, Line
         Verb::Index => declaring_rows::index(alloc, words),
         Verb::Unindex => declaring_rows::unindex(alloc, words),
         Verb::Tags => declaring_rows::tags(alloc, words),
+        Verb::Info => declaring_rows::info(alloc, words),
         Verb::Query => cursor_rows::query(alloc, words),
         Verb::Moveby => cursor_rows::moveby(words),
         Verb::Goto => cursor_rows::goto(words),

@@ -30,6 +30,7 @@ pub enum Verb {
     Index,
     Unindex,
     Tags,
+    Info,
     Query,
     Moveby,
     Goto,
@@ -90,7 +91,7 @@ pub enum CursorVerb {
 
 /// All first words. A search looks at them one after another, so those that scripts repeat stand
 /// first.
-const VERBS: [Verb; 43] = [
+const VERBS: [Verb; 44] = [
     Verb::Cursor(CursorVerb::Next),
     Verb::Entry(EntryVerb::Get),
     Verb::Add,
@@ -124,6 +125,7 @@ const VERBS: [Verb; 43] = [
     Verb::Unindex,
     Verb::Soup(SoupVerb::Indexes),
     Verb::Tags,
+    Verb::Info,
     Verb::Query,
     Verb::Cursor(CursorVerb::Reset),
     Verb::Cursor(CursorVerb::End),
@@ -166,6 +168,7 @@ impl Verb {
             Verb::Index => b"index",
             Verb::Unindex => b"unindex",
             Verb::Tags => b"tags",
+            Verb::Info => b"info",
             Verb::Query => b"query",
             Verb::Moveby => b"moveby",
             Verb::Goto => b"goto",

@@ -3,6 +3,8 @@ use Rattle.std.proofs.Common.{◌≡◌, ℕ, ◌≤◌, zero, suc, Bool, true, 
 use Rattle.std.specs.Prelude.{IsTrue, nat_le}
 use Rattle.std.specs.List.{list_all}
 use Rattle.std.proofs.lemmas.Bool.{and_from, le-leb}
+use Rattle.newt_graph.specs.Graph.{RawGraph}
+use Rattle.newt_nsof_flat.specs.Stream.{stream_graph}
 use Rattle.newt_base.specs.Names.{same_name, is_identifier, valid_path}
 use Rattle.newt_path.specs.Names.{IsPath}
 use Rattle.newt_spec_graph.specs.Lists.{all_apart}
@@ -11,11 +13,11 @@ use Rattle.newt_spec_store.specs.declared.Order.{Order}
 use Rattle.newt_spec_store.specs.Keys as keys
 use Rattle.newt_spec_store.specs.Keys.{IndexSpec, Path}
 use Rattle.newt_spec_store.specs.Store.{TagTable}
-use Rattle.newt_spec_store.specs.Reading.{Take, ◌>>=◌, give, number, times, counted, text, path, kind_of, direction_of, part, tags_of}
+use Rattle.newt_spec_store.specs.Reading.{Take, ◌>>=◌, give, number, times, counted, text, path, kind_of, direction_of, part, table as their_table, info, extra_of}
 use Rattle.newt_spec_store.specs.Valid.{valid_spec, valid_tags}
 use Rattle.newt_keys.specs.Seen.{declared, declared_all}
 use Rattle.newt_keys.specs.declared.types.IndexPart.{IndexPart}
-use Rattle.newt_soupdir.specs.Reading.{is_count, byte_at, text_at, symbol_at, path_at, kind_at, order_at, part_at, spec_at, specs_at, tag_symbols_at, table_at, tags_from, tags_at}
+use Rattle.newt_soupdir.specs.Reading.{is_count, byte_at, text_at, symbol_at, path_at, kind_at, order_at, part_at, spec_at, specs_at, tag_symbols_at, table_at, number16_at, info_at, extra_from, extra_at}
 use Rattle.newt_path.proofs.Reading.{names_are_path}
 use Rattle.newt_soupdir.proofs.Spelled.{length_rows}
 use Rattle.newt_soupdir.proofs.Sifting.{Sifts, formed, sieved, next, bind, never, times-sifts, passed, tested, narrowed, same_test, as_given, plain}
@@ -123,35 +125,58 @@ table path symbols = record { path = path; symbols = symbols }
 valid_table : (path : Path) (symbols : List (List ℕ)) → valid_tags (Some (table path symbols)) ≡ (valid_path path && valid_symbols symbols)
 valid_table path symbols = regrouped (valid_path path) (nat_le (length symbols) 64) (list_all is_identifier symbols) (all_apart same_name symbols)
 
-abbrev some_table : TagTable → Option TagTable
-some_table t = Some t
+abbrev valid_one : TagTable → Bool
+valid_one t = valid_tags (Some t)
 
 -- what a table's test answers
 kept : (path : Path) (symbols : List (List ℕ)) (rest : List ℕ) (b : Bool) → (valid_path path && valid_symbols symbols) ≡ b
-    → sieved valid_tags (Some (some_table (table path symbols), rest)) ≡ cond b (Some (some_table (table path symbols), rest)) None
-kept path symbols rest b e = ap (λ v. cond v (Some (some_table (table path symbols), rest)) None) (valid_table path symbols ∙ e)
+    → sieved valid_one (Some (table path symbols, rest)) ≡ cond b (Some (table path symbols, rest)) None
+kept path symbols rest b e = ap (λ v. cond v (Some (table path symbols, rest)) None) (valid_table path symbols ∙ e)
 
-table-sifts : (bytes : List ℕ) → Sifts some_table valid_tags (table_at bytes) (tags_of (suc zero) bytes)
+table-sifts : (bytes : List ℕ) → Sifts (λ (t : TagTable). t) valid_one (table_at bytes) (their_table bytes)
 unfolding table_at
 table-sifts bytes =
-    bind (λ (p : Path). p) valid_path some_table valid_tags (path_at bytes) (path bytes) (λ p. (tag_symbols_at >>= λ symbols. give (table p.0 symbols)) p.1)
-    (λ p. (counted text >>= λ symbols. give (some_table (table p.0 symbols))) p.1) (path-sifts bytes)
-    (λ p good. bind (λ (ss : List (List ℕ)). ss) valid_symbols some_table valid_tags (tag_symbols_at p.1) (counted text p.1) (λ ss. Some (table p.0 ss.0, ss.1))
-    (λ ss. Some (some_table (table p.0 ss.0), ss.1)) (tag_symbols-sifts p.1)
+    bind (λ (p : Path). p) valid_path (λ (t : TagTable). t) valid_one (path_at bytes) (path bytes) (λ p. (tag_symbols_at >>= λ symbols. give (table p.0 symbols)) p.1)
+    (λ p. (counted text >>= λ symbols. give (table p.0 symbols)) p.1) (path-sifts bytes)
+    (λ p good. bind (λ (ss : List (List ℕ)). ss) valid_symbols (λ (t : TagTable). t) valid_one (tag_symbols_at p.1) (counted text p.1) (λ ss. Some (table p.0 ss.0, ss.1))
+    (λ ss. Some (table p.0 ss.0, ss.1)) (tag_symbols-sifts p.1)
     (λ ss fine. sym (kept p.0 ss.0 ss.1 true (and_from (valid_path p.0) (valid_symbols ss.0) good fine)))
     (λ ss bad. kept p.0 ss.0 ss.1 false (ap (λ v. v && valid_symbols ss.0) good ∙ bad)))
-    (λ p bad. never valid_tags (counted text p.1) (λ (ss : List (List ℕ) × List ℕ). Some (some_table (table p.0 ss.0), ss.1))
+    (λ p bad. never valid_one (counted text p.1) (λ (ss : List (List ℕ) × List ℕ). Some (table p.0 ss.0, ss.1))
     (λ ss. kept p.0 ss.0 ss.1 false (ap (λ v. v && valid_symbols ss.0) bad)))
 
-pub tags-sifts : (bytes : List ℕ) → Sifts (λ (t : Option TagTable). t) valid_tags (tags_at bytes) ((number 1 >>= tags_of) bytes)
-unfolding tags_at byte_at
-tags-sifts bytes = go (number 1 bytes)
+-- ---- tags and info
+
+-- what a soup has of a tags declaration and an info frame
+abbrev pub Extra : Type 0
+Extra = Option TagTable × Option RawGraph
+
+abbrev pub valid_extra : Extra → Bool
+valid_extra x = valid_tags x.0
+
+-- a table and an info frame or none
+abbrev with_info : Option RawGraph → TagTable × List ℕ → Option (Extra × List ℕ)
+with_info info t = Some ((Some t.0, info), t.1)
+
+pub extra-sifts : (bytes : List ℕ) → Sifts (λ (x : Extra). x) valid_extra (extra_at bytes) ((number 1 >>= extra_of stream_graph) bytes)
+unfolding extra_at info_at byte_at number16_at
+extra-sifts bytes = next (λ (x : Extra). x) valid_extra (number 1 bytes) (λ n. extra_from n.0 n.1) (λ n. extra_of stream_graph n.0 n.1) (λ n. go n.0 n.1)
   where
-    go : (o : Option (ℕ × List ℕ)) → formed (λ (t : Option TagTable). t) (option_and_then (λ (r : ℕ × List ℕ). tags_from r.0 r.1) o) ≡ sieved valid_tags (option_and_then (λ (r : ℕ × List ℕ). tags_of r.0 r.1) o)
-    go None = refl
-    go (Some (zero, rest)) = refl
-    go (Some (suc zero, rest)) = as_given some_table valid_tags (table_at rest) (tags_of (suc zero) rest) (table-sifts rest)
-    go (Some (suc (suc n), rest)) = refl
+    go : (n : ℕ) (rest : List ℕ) → Sifts (λ (x : Extra). x) valid_extra (extra_from n rest) (extra_of stream_graph n rest)
+    go zero rest = refl
+    go (suc zero) rest =
+        bind (λ (t : TagTable). t) valid_one (λ (x : Extra). x) valid_extra (table_at rest) (their_table rest) (with_info None) (with_info None) (table-sifts rest)
+        (λ t good. ap (λ b. cond b (with_info None t) None) (sym good)) (λ t bad. ap (λ b. cond b (with_info None t) None) bad)
+    go (suc (suc zero)) rest =
+        next (λ (x : Extra). x) valid_extra (info stream_graph rest) (λ (g : RawGraph × List ℕ). Some ((None, Some g.0), g.1)) (λ (g : RawGraph × List ℕ). Some ((None, Some g.0), g.1)) (λ g. refl)
+    go (suc (suc (suc zero))) rest =
+        bind (λ (t : TagTable). t) valid_one (λ (x : Extra). x) valid_extra (table_at rest) (their_table rest)
+        (λ t. option_and_then (λ (g : RawGraph × List ℕ). with_info (Some g.0) (t.0, g.1)) (info stream_graph t.1))
+        (λ t. option_and_then (λ (g : RawGraph × List ℕ). with_info (Some g.0) (t.0, g.1)) (info stream_graph t.1)) (table-sifts rest)
+        (λ t good. next (λ (x : Extra). x) valid_extra (info stream_graph t.1) (λ g. with_info (Some g.0) (t.0, g.1)) (λ g. with_info (Some g.0) (t.0, g.1))
+        (λ g. ap (λ b. cond b (with_info (Some g.0) (t.0, g.1)) None) (sym good)))
+        (λ t bad. never valid_extra (info stream_graph t.1) (λ g. with_info (Some g.0) (t.0, g.1)) (λ g. ap (λ b. cond b (with_info (Some g.0) (t.0, g.1)) None) bad))
+    go (suc (suc (suc (suc n)))) rest = refl
 
 -- ---- what is read is valid
 

@@ -1,3 +1,4 @@
+pub mod Frames
 pub mod Numbers
 pub mod Spelled
 pub mod Lists

@@ -4,14 +4,16 @@ use Rattle.std.specs.Prelude.{IsTrue, IfSome, nat_le, slice_set}
 use Rattle.std.specs.List.{AllByRecursion, list_all, find, position_from}
 use Rattle.std.proofs.lemmas.Bool.{and_parts, leb-true, ltb-true}
 use Rattle.std.proofs.lemmas.List.Elements.{All-from_recursion}
+use Rattle.newt_graph.specs.Graph.{RawGraph}
+use Rattle.newt_spec_nsof.specs.Flat.{flat}
 use Rattle.newt_base.specs.Names.{is_name, equal_text}
 use Rattle.newt_spec_graph.specs.Lists.{rises, all_apart}
 use Rattle.newt_spec_store.specs.Store.{Soup, Store, change_first}
-use Rattle.newt_spec_store.specs.Valid.{well_formed, valid_soup, valid_spec, valid_tags, valid_entry}
+use Rattle.newt_spec_store.specs.Valid.{well_formed, valid_soup, valid_spec, valid_tags, valid_info, valid_entry}
 use Rattle.newt_spec_store.specs.Keys.{paths_of, same_paths}
 use Rattle.newt_soupdir.specs.declared.rows.SoupRow.{SoupRow}
 use Rattle.newt_soupdir.specs.declared.rows.Directory.{Directory}
-use Rattle.newt_soupdir.specs.Bare.{bare_soup, bare_store}
+use Rattle.newt_soupdir.specs.Bare.{bare_soup, bare_store, fits}
 
 pub filter_rows : {X Y : Type 0} (test : Y → Bool) (g : X → Y) (xs : List X) → map g (filter (λ x. test (g x)) xs) ≡ filter test (map g xs)
 filter_rows test g [] = refl
@@ -24,10 +26,10 @@ filter_rows test g (x ∷ xs) = go (test (g x)) (filter_rows test g xs)
 -- the parts of what holds of every store
 pub well_formed_parts : (s : Store) → well_formed s ≡ true → (is_name s.name ≡ true) × (nat_le s.next_soup 65_535 ≡ true) × (rises 0 s.next_soup (map (λ p. p.sig) s.soups) ≡ true) × (list_all valid_soup s.soups ≡ true)
 well_formed_parts s h =
-    let a = and_parts (is_name s.name && nat_le s.sig 536_870_911 && nat_le s.next_soup 65_535 && nat_le (length s.soups) 64 && rises 0 s.next_soup (map (λ p. p.sig) s.soups) && all_apart equal_text (map (λ p. p.name) s.soups)) (list_all valid_soup s.soups) h in
-    let b = and_parts (is_name s.name && nat_le s.sig 536_870_911 && nat_le s.next_soup 65_535 && nat_le (length s.soups) 64 && rises 0 s.next_soup (map (λ p. p.sig) s.soups)) (all_apart equal_text (map (λ p. p.name) s.soups)) a.0 in
-    let c = and_parts (is_name s.name && nat_le s.sig 536_870_911 && nat_le s.next_soup 65_535 && nat_le (length s.soups) 64) (rises 0 s.next_soup (map (λ p. p.sig) s.soups)) b.0 in
-    let d = and_parts (is_name s.name && nat_le s.sig 536_870_911 && nat_le s.next_soup 65_535) (nat_le (length s.soups) 64) c.0 in
+    let a = and_parts (is_name s.name && nat_le s.sig 536_870_911 && nat_le s.next_soup 65_535 && nat_le (length s.soups) 250 && rises 0 s.next_soup (map (λ p. p.sig) s.soups) && all_apart equal_text (map (λ p. p.name) s.soups)) (list_all valid_soup s.soups) h in
+    let b = and_parts (is_name s.name && nat_le s.sig 536_870_911 && nat_le s.next_soup 65_535 && nat_le (length s.soups) 250 && rises 0 s.next_soup (map (λ p. p.sig) s.soups)) (all_apart equal_text (map (λ p. p.name) s.soups)) a.0 in
+    let c = and_parts (is_name s.name && nat_le s.sig 536_870_911 && nat_le s.next_soup 65_535 && nat_le (length s.soups) 250) (rises 0 s.next_soup (map (λ p. p.sig) s.soups)) b.0 in
+    let d = and_parts (is_name s.name && nat_le s.sig 536_870_911 && nat_le s.next_soup 65_535) (nat_le (length s.soups) 250) c.0 in
     let e = and_parts (is_name s.name && nat_le s.sig 536_870_911) (nat_le s.next_soup 65_535) d.0 in
     let f = and_parts (is_name s.name) (nat_le s.sig 536_870_911) e.0 in
     (f.0, e.1, c.1, a.1)
@@ -39,6 +41,7 @@ pub record HasParts (p : Soup) : Type 0 where
   pub few : nat_le (length p.specs) 16 ≡ true
   pub specs : list_all valid_spec p.specs ≡ true
   pub tags : valid_tags p.tags ≡ true
+  pub info : valid_info p.info ≡ true
 
 pub soup_parts : (p : Soup) → valid_soup p ≡ true → HasParts p
 soup_parts p h =
@@ -46,17 +49,20 @@ soup_parts p h =
     let few = nat_le (length p.specs) 16 in
     let specs = list_all valid_spec p.specs in
     let apart = all_apart same_paths (map paths_of p.specs) in
-    let a = and_parts (is_name p.name && nat_le p.next_uid 536_870_911 && rising && few && specs && apart && valid_tags p.tags) (list_all valid_entry p.entries) h in
+    let o = and_parts (is_name p.name && nat_le p.next_uid 536_870_911 && rising && few && specs && apart && valid_tags p.tags && valid_info p.info) (list_all valid_entry p.entries) h in
+    let a = and_parts (is_name p.name && nat_le p.next_uid 536_870_911 && rising && few && specs && apart && valid_tags p.tags) (valid_info p.info) o.0 in
     let b = and_parts (is_name p.name && nat_le p.next_uid 536_870_911 && rising && few && specs && apart) (valid_tags p.tags) a.0 in
     let c = and_parts (is_name p.name && nat_le p.next_uid 536_870_911 && rising && few && specs) apart b.0 in
     let d = and_parts (is_name p.name && nat_le p.next_uid 536_870_911 && rising && few) specs c.0 in
     let e = and_parts (is_name p.name && nat_le p.next_uid 536_870_911 && rising) few d.0 in
     let f = and_parts (is_name p.name && nat_le p.next_uid 536_870_911) rising e.0 in
     let g = and_parts (is_name p.name) (nat_le p.next_uid 536_870_911) f.0 in
-    record { named = g.0; next = g.1; few = e.1; specs = d.1; tags = b.1 }
+    record { named = g.0; next = g.1; few = e.1; specs = d.1; tags = b.1; info = a.1 }
 
-abbrev pub fits : SoupRow → Type 0
-fits row = (row.sig < 65536) × (length row.specs < 256)
+-- the length of an info frame's text fits in two bytes
+short_info : (info : Option RawGraph) → valid_info info ≡ true → IfSome info (λ g. length (flat g) < 65536)
+short_info None h = tt
+short_info (Some g) h = grind (arith, h)
 
 all_fit : (high : ℕ) (rows : List SoupRow) (low : ℕ) → high ≤ 65_535 → rises low high (map (λ p. p.sig) (map bare_soup rows)) ≡ true → list_all valid_soup (map bare_soup rows) ≡ true
     → AllByRecursion fits rows
@@ -67,7 +73,7 @@ all_fit high (row ∷ rows) low le h v =
     let c = and_parts (valid_soup (bare_soup row)) (list_all valid_soup (map bare_soup rows)) v in
     let lt : row.sig < high = ltb-true row.sig high b.1 in
     let few : length row.specs ≤ 16 = leb-true (length row.specs) 16 (soup_parts (bare_soup row) c.0).few in
-    ((omega (arith, lt, le), omega (arith, few)), all_fit high rows (row.sig + 1) le a.1 c.1)
+    ((omega (arith, lt, le), omega (arith, few), short_info row.info (soup_parts (bare_soup row) c.0).info), all_fit high rows (row.sig + 1) le a.1 c.1)
 
 -- the signatures and the counts of indexes of a well formed directory fit in their bytes
 pub rows_fit : (d : Directory) → IsTrue (well_formed (bare_store d)) → All fits d.soups

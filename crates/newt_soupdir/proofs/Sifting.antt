@@ -1,7 +1,7 @@
 -- A program's reader gives what the store's reader gives, in another form, where that passes a test, and else nothing.
 use Rattle.std.proofs.Common.{◌≡◌, ℕ, zero, suc, Bool, true, false, cond, ◌&&◌, List, [], ◌∷◌, map, Option, Some, None, option_and_then, option_map, refl, sym, ap, subst, ◌∙◌}
 use Rattle.std.specs.List.{list_all}
-use Rattle.newt_spec_store.specs.Lies.{only}
+use Rattle.newt_spec_store.specs.StoreOf.{only}
 use Rattle.newt_spec_store.specs.Reading.{Take, ◌>>=◌, give, times, whole_of}
 
 -- what was read, in another form

@@ -1,14 +1,16 @@
 -- The rows of a directory, read from the front of bytes as a program reads them: names, symbols and counts are tested as they are met.
 use Rattle.std.specs.Prelude.{◌≡◌, ℕ, zero, suc, Bool, ◌&&◌, nat_le, List, length, Option, Some, None, Result, Ok, Err}
+use Rattle.newt_graph.specs.Graph.{RawGraph}
 use Rattle.newt_base.specs.Names.{is_name, same_name, is_identifier}
 use Rattle.newt_spec_graph.specs.Lists.{all_apart}
 use Rattle.newt_spec_store.specs.declared.Kind.{Kind}
 use Rattle.newt_spec_store.specs.declared.Order.{Order}
 use Rattle.newt_spec_store.specs.Keys.{IndexSpec, Path}
 use Rattle.newt_spec_store.specs.Store.{TagTable}
-use Rattle.newt_spec_store.specs.Lies.{only}
-use Rattle.newt_spec_store.specs.Reading.{Take, ◌>>=◌, give, refuse, number, some_bytes, times, whole, kind_of, direction_of}
-use Rattle.newt_spec_store.specs.Valid.{well_formed}
+use Rattle.newt_spec_store.specs.StoreOf.{only}
+use Rattle.newt_spec_store.specs.Reading.{Take, ◌>>=◌, give, refuse, number, some_bytes, times, whole, kind_of, direction_of, graph}
+use Rattle.newt_spec_store.specs.Valid.{well_formed, keeps_version}
+use Rattle.newt_nsof_flat.specs.Stream.{stream_graph}
 use Rattle.newt_keys.specs.Seen.{declared_all}
 use Rattle.newt_keys.specs.declared.types.IndexPart.{IndexPart}
 use Rattle.newt_soupdir.specs.declared.fault.DirFault.{DirFault}
@@ -89,14 +91,21 @@ table_at = do
   symbols ← tag_symbols_at
   give (record { path = path; symbols = symbols })
 
--- a tags declaration, by its first byte
-abbrev pub tags_from : ℕ → Take (Option TagTable)
-tags_from zero = give None
-tags_from (suc zero) = table_at >>= λ table. give (Some table)
-tags_from _ = refuse
+-- ---- info frames
 
-unfoldable pub tags_at : Take (Option TagTable)
-tags_at = byte_at >>= tags_from
+unfoldable pub info_at : Take RawGraph
+info_at = number16_at >>= graph stream_graph
+
+-- a tags declaration and an info frame, by the byte before them
+abbrev pub extra_from : ℕ → Take (Option TagTable × Option RawGraph)
+extra_from zero = give (None, None)
+extra_from (suc zero) = table_at >>= λ table. give (Some table, None)
+extra_from (suc (suc zero)) = info_at >>= λ info. give (None, Some info)
+extra_from (suc (suc (suc zero))) = table_at >>= λ table. info_at >>= λ info. give (Some table, Some info)
+extra_from _ = refuse
+
+unfoldable pub extra_at : Take (Option TagTable × Option RawGraph)
+extra_at = byte_at >>= extra_from
 
 -- ---- the directory
 
@@ -106,8 +115,8 @@ soup_at = do
   sig ← number16_at
   next ← number32_at
   specs ← specs_at
-  tags ← tags_at
-  give (record { name = name; sig = sig; next_uid = next; specs = specs; tags = tags })
+  extra ← extra_at
+  give (record { name = name; sig = sig; next_uid = next; specs = specs; tags = extra.0; info = extra.1 })
 
 unfoldable pub soups_at : Take (List SoupRow)
 soups_at = byte_at >>= λ n. times n soup_at
@@ -120,6 +129,6 @@ rows_at = do
   soups ← soups_at
   give (record { name = name; sig = sig; next_soup = next; soups = soups })
 
--- the rows that all of the bytes give, where they make a well formed store
-unfoldable pub directory_at : List ℕ → Option Directory
-directory_at bytes = only (λ d. well_formed (bare_store d)) (whole rows_at bytes)
+-- the rows that all of the bytes give, where they are ones of this version and make a well formed store
+unfoldable pub directory_at : ℕ → List ℕ → Option Directory
+directory_at version bytes = only (λ d. well_formed (bare_store d)) (only (λ d. keeps_version version (bare_store d)) (whole rows_at bytes))

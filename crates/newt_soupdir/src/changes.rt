@@ -4,7 +4,7 @@ ghost use Rattle.std.specs.Prelude.{option_map, option_and_then, OnErr, OnOk, If
 ghost use Rattle.std.specs.List.{find, position_from};
 ghost use Rattle.newt_spec_store.specs.Store.{soup_named, make_soup, change_first, soup_of};
 ghost use Rattle.newt_spec_store.specs.Store.{without_soup, uid_taken, take_uid_of, with_index};
-ghost use Rattle.newt_spec_store.specs.Store.{without_index, change_soup_of, with_tags};
+ghost use Rattle.newt_spec_store.specs.Store.{without_index, change_soup_of, with_tags, with_info};
 ghost use Rattle.newt_spec_store.specs.Valid.{well_formed};
 ghost use Rattle.newt_soupdir.specs.Bare.{bare_soup, bare_store};
 ghost use Rattle.newt_spec_store.specs.Keys.{paths_of, same_paths, same_spec};
@@ -13,6 +13,7 @@ use crate::form::MOST_SOUPS;
 use crate::indexes::Specs;
 use crate::rows::{Directory, SoupRow};
 use newt_base::{Name, Sig, Uid};
+use newt_graph::Graph;
 use newt_keys::IndexSpec;
 use newt_path::Path;
 use newt_tags::TagTable;
@@ -48,15 +49,15 @@ impl Directory {
         None
     }
 
-    /// Whether no further soup may be made: 64 are there.
+    /// Whether no further soup may be made: 250 are there.
     pub fn is_full(&self) -> bool
-        ensures { result ≡ nat_le 64 (length self.now.soups) }
+        ensures { result ≡ nat_le 250 (length self.now.soups) }
     {
         MOST_SOUPS <= self.soups.list().len()
     }
 
-    /// A new soup at the end, without entries, indexes and tags, with the next signature, which is
-    /// the answer. That the name is new and `is_full` is false is the caller's to see.
+    /// A new soup at the end, without entries, indexes, tags and info frame, with the next
+    /// signature, which is the answer. That the name is new and `is_full` is false is the caller's to see.
     #[tactic(auto, using(crate::proofs::Lists::next_fits))]
     pub fn make_soup(&mut self, name: Name) -> Result<Sig, AllocError>
         requires { IsTrue (well_formed (bare_store self.old)) }
@@ -71,6 +72,7 @@ impl Directory {
             next_uid: 0,
             specs: Specs::none(*self.soups.items.allocator()),
             tags: None,
+            info: None,
         };
         self.soups.items.push(row)?;
         self.next_soup += 1;
@@ -128,6 +130,14 @@ impl Directory {
         ensures { bare_store self.new ≡ change_soup_of sig (with_tags tags) (bare_store self.old) }
     {
         set_tags_in(self.soups.items.as_mut_slice(), sig, tags);
+    }
+
+    /// The info frame of the soup of this signature is this one, or none. Without such a soup
+    /// nothing changes.
+    pub fn set_info(&mut self, sig: Sig, info: Option<Graph>)
+        ensures { bare_store self.new ≡ change_soup_of sig (with_info info) (bare_store self.old) }
+    {
+        set_info_in(self.soups.items.as_mut_slice(), sig, info);
     }
 
     /// Takes the next entry id of the soup of this signature, which is the answer; none where there
@@ -252,5 +262,22 @@ fn set_tags_in(rows: &mut [SoupRow], sig: Sig, tags: Option<TagTable>)
 {
     if let Some(at) = place_of(rows, sig) {
         set_tags_of(&mut rows[at], tags);
+    }
+}
+
+/// The info frame of a row is this one, or none.
+fn set_info_of(row: &mut SoupRow, info: Option<Graph>)
+    ensures { bare_soup row.new ≡ with_info info (bare_soup row.old) }
+{
+    row.info = info;
+}
+
+/// The info frame of the first row of this signature is this one.
+fn set_info_in(rows: &mut [SoupRow], sig: Sig, info: Option<Graph>)
+    ensures { map bare_soup rows.new ≡ change_first (λ p. p.sig == sig) (with_info info)
+        (map bare_soup rows.old) }
+{
+    if let Some(at) = place_of(rows, sig) {
+        set_info_of(&mut rows[at], info);
     }
 }

@@ -1,19 +1,23 @@
-//! Declarations of indexes and tags, read from the front of bytes. A count is a byte before what it
-//! counts; paths, symbols and counts are tested as they are met.
+//! Declarations of indexes and tags, and info frames, read from the front of bytes. A count is a
+//! byte before what it counts; paths, symbols and counts are tested as they are met.
 ghost use Rattle.newt_spec_store.specs.Reading.{times};
 ghost use Rattle.newt_soupdir.specs.Reading.{Gives, symbol_at, path_at, kind_at, order_at, part_at};
-ghost use Rattle.newt_soupdir.specs.Reading.{spec_at, specs_at, tag_symbols_at, table_at, tags_at};
+ghost use Rattle.newt_soupdir.specs.Reading.{spec_at, specs_at, tag_symbols_at, table_at, extra_at};
 
 use crate::fault::DirFault;
 use crate::fields::{byte, text};
 use crate::form::{MOST_PARTS, MOST_TAGS};
 use crate::indexes::Specs;
+use crate::infos::info;
 use newt_base::is_identifier;
-use newt_graph::Bytes;
+use newt_graph::{Bytes, Graph};
 use newt_keys::{IndexPart, IndexSpec, Kind, Order};
 use newt_path::Path;
 use newt_tags::{TagTable, are_names_apart};
 use std::alloc::Global;
+
+/// What a soup has beside its indexes: its tags declaration, and its info frame.
+pub(crate) type Extra = (Option<TagTable>, Option<Graph>);
 
 /// The most names of a path.
 const MOST_NAMES: usize = 8;
@@ -172,17 +176,27 @@ fn table(alloc: Global, bytes: &[u8]) -> Result<(TagTable, &[u8]), DirFault>
     Ok((TagTable::new(path, symbols), rest))
 }
 
-/// The tags declaration of a soup: the byte 0 for none, or 1 and the declaration.
-#[tactic(auto, unfolding(crate::specs::Reading::tags_at))]
-pub(crate) fn tags(alloc: Global, bytes: &[u8]) -> Result<(Option<TagTable>, &[u8]), DirFault>
-    ensures { Gives (λ x. (x.0, x.1.now)) result (tags_at bytes.now) }
+/// What a soup has of a tags declaration and an info frame: a byte that is odd where there is a
+/// declaration and 2 or 3 where there is an info frame, the one, and the other.
+#[tactic(auto, unfolding(crate::specs::Reading::extra_at))]
+pub(crate) fn extra(alloc: Global, bytes: &[u8]) -> Result<(Extra, &[u8]), DirFault>
+    ensures { Gives (λ x. (x.0, x.1.now)) result (extra_at bytes.now) }
 {
-    let (flag, rest) = byte(bytes)?;
-    match flag {
-        0 => Ok((None, rest)),
+    let (flags, rest) = byte(bytes)?;
+    match flags {
+        0 => Ok(((None, None), rest)),
         1 => {
             let (table, rest) = table(alloc, rest)?;
-            Ok((Some(table), rest))
+            Ok(((Some(table), None), rest))
+        }
+        2 => {
+            let (info, rest) = info(alloc, rest)?;
+            Ok(((None, Some(info)), rest))
+        }
+        3 => {
+            let (table, rest) = table(alloc, rest)?;
+            let (info, rest) = info(alloc, rest)?;
+            Ok(((Some(table), Some(info)), rest))
         }
         _ => Err(DirFault::Bad),
     }

@@ -1,5 +1,6 @@
 //! Numbers, texts and names, read from the front of bytes: each function gives the value and the
 //! bytes behind it, and is `Bad` where there are too few.
+ghost use Rattle.newt_spec_store.specs.Reading.{some_bytes};
 ghost use Rattle.newt_soupdir.specs.Reading.{Gives, byte_at, number16_at, number32_at, text_at};
 ghost use Rattle.newt_soupdir.specs.Reading.{name_at};
 
@@ -40,17 +41,23 @@ pub(crate) fn number32(bytes: &[u8]) -> Result<(u32, &[u8]), DirFault>
     Ok((be32(bytes, 0), &bytes[4..]))
 }
 
+/// So many bytes.
+pub(crate) fn some_bytes(count: usize, bytes: &[u8]) -> Result<(&[u8], &[u8]), DirFault>
+    ensures { Gives (λ x. (x.0.now, x.1.now)) result (some_bytes count bytes.now) }
+{
+    if bytes.len() < count {
+        return Err(DirFault::Bad);
+    }
+    Ok(bytes.split_at(count))
+}
+
 /// A text: a byte that says its length, and as many bytes.
 #[tactic(auto, unfolding(crate::specs::Reading::text_at))]
 pub(crate) fn text(bytes: &[u8]) -> Result<(&[u8], &[u8]), DirFault>
     ensures { Gives (λ x. (x.0.now, x.1.now)) result (text_at bytes.now) }
 {
     let (len, rest) = byte(bytes)?;
-    let len = len as usize;
-    if rest.len() < len {
-        return Err(DirFault::Bad);
-    }
-    Ok(rest.split_at(len))
+    some_bytes(usize::from(len), rest)
 }
 
 /// A text that is a name of a store or soup.

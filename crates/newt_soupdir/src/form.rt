@@ -1,13 +1,15 @@
 //! Whether rows make a well formed store: the tests that are left to the whole directory. The forms
 //! of names, paths and symbols are kept by their types.
-ghost use Rattle.std.specs.Prelude.{◌≡◌, ◌&&◌, length, map, nat_le};
+ghost use Rattle.std.specs.Prelude.{◌≡◌, ◌&&◌, length, map, nat_le, is_none};
 ghost use Rattle.std.specs.List.{list_all, list_any};
 ghost use Rattle.newt_base.specs.Names.{equal_text, is_name};
 ghost use Rattle.newt_spec_graph.specs.Lists.{all_apart, rises};
 ghost use Rattle.newt_spec_store.specs.Keys.{paths_of, same_paths};
-ghost use Rattle.newt_spec_store.specs.Valid.{well_formed, valid_soup, valid_spec, valid_tags};
+ghost use Rattle.newt_spec_store.specs.Valid.{keeps_version, well_formed, valid_soup, valid_spec};
+ghost use Rattle.newt_spec_store.specs.Valid.{valid_tags};
 ghost use Rattle.newt_soupdir.specs.Bare.{bare_soup, bare_store};
 
+use crate::infos::is_valid_info;
 use crate::rows::{Directory, SoupRow};
 use newt_keys::IndexSpec;
 use newt_tags::TagTable;
@@ -19,7 +21,10 @@ const LARGEST_ID: u32 = 536_870_911;
 const LARGEST_NEXT_SOUP: u32 = 65_535;
 
 /// The most soups of a store.
-pub(crate) const MOST_SOUPS: usize = 64;
+pub(crate) const MOST_SOUPS: usize = 250;
+
+/// The most soups of a directory of version 1.
+const MOST_OLD_SOUPS: usize = 64;
 
 /// The most indexes of a soup.
 pub(crate) const MOST_SPECS: usize = 16;
@@ -49,18 +54,42 @@ impl Directory {
         are_valid(soups)
     }
 
+    /// Whether a directory of this version says no more: one of version 1 has at most 64 soups, none
+    /// of them with an info frame.
+    #[tactic(auto, using(crate::proofs::Spelled::length_rows))]
+    pub(crate) fn keeps_version(&self, version: u16) -> bool
+        ensures { result ≡ keeps_version version (bare_store self.now) }
+    {
+        let soups = self.soups.list();
+        version != 1 || (soups.len() <= MOST_OLD_SOUPS && have_no_infos(soups))
+    }
+
     /// The name and the limits of the store itself.
     #[tactic(auto, using(crate::proofs::Spelled::length_rows))]
     fn is_within_limits(&self) -> bool
         ensures { result ≡ is_name self.now.name && nat_le self.now.sig 536_870_911
             && nat_le self.now.next_soup 65_535
-            && nat_le (length (map bare_soup self.now.soups)) 64 }
+            && nat_le (length (map bare_soup self.now.soups)) 250 }
     {
         let _name = self.name.list();
         self.sig.0 <= LARGEST_ID
             && self.next_soup <= LARGEST_NEXT_SOUP
             && self.soups.list().len() <= MOST_SOUPS
     }
+}
+
+/// Whether no soup has an info frame.
+fn have_no_infos(soups: &[SoupRow]) -> bool
+    ensures { result ≡ list_all (λ p. is_none p.info) (map bare_soup soups.now) }
+{
+    let mut left = soups;
+    while let [row, rest @ ..] = left {
+        if row.info.is_some() {
+            return false;
+        }
+        left = rest;
+    }
+    true
 }
 
 /// Whether the signatures of soups rise and are below the next one.
@@ -108,12 +137,15 @@ fn are_apart(soups: &[SoupRow]) -> bool
     true
 }
 
-/// Whether a soup's next entry id, indexes and tags are within their limits.
+/// Whether a soup's next entry id, indexes, tags and info frame are within their limits.
 fn is_valid(row: &SoupRow) -> bool
     ensures { result ≡ valid_soup (bare_soup row.now) }
 {
     let _name = row.name.list();
-    row.next_uid <= LARGEST_ID && are_valid_specs(row.specs.list()) && is_valid_tags(&row.tags)
+    row.next_uid <= LARGEST_ID
+        && are_valid_specs(row.specs.list())
+        && is_valid_tags(&row.tags)
+        && is_valid_info(&row.info)
 }
 
 /// At most 16 indexes, no two with the same paths.

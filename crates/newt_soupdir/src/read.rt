@@ -1,21 +1,22 @@
 //! Reading a directory: its bytes from the front, field by field, in the layout of docs/FORMATS.md.
-//! What is left behind the last field, and rows that make no well formed store, are refused at the
-//! end.
-ghost use Rattle.std.specs.Prelude.{◌≡◌, Some, None, IfOk, IsErrOf};
+//! What is left behind the last field, rows that are not ones of the version, and rows that make no
+//! well formed store, are refused at the end.
+ghost use Rattle.std.specs.Prelude.{◌≡◌, ◌⊎◌, Some, None, IfOk, IsErrOf};
 ghost use Rattle.newt_spec_store.specs.Reading.{times};
 ghost use Rattle.newt_spec_store.specs.Lies.{directory_read};
+ghost use Rattle.newt_nsof_flat.specs.Stream.{stream_graph};
 ghost use Rattle.newt_soupdir.specs.Bare.{bare_store};
 ghost use Rattle.newt_soupdir.specs.Reading.{Gives, soup_at, soups_at, rows_at, directory_at};
 
-use crate::declarations::{specs, tags};
+use crate::declarations::{extra, specs};
 use crate::fault::DirFault;
 use crate::fields::{byte, name, number16, number32};
 use crate::rows::{Directory, SoupRow, Soups};
 use newt_base::Sig;
 use std::alloc::Global;
 
-/// A soup: its name, two bytes of its signature, four of its next entry id, its indexes and its
-/// tags.
+/// A soup: its name, two bytes of its signature, four of its next entry id, its indexes, its tags
+/// and its info frame.
 #[tactic(auto, unfolding(crate::specs::Reading::soup_at))]
 fn soup(alloc: Global, bytes: &[u8]) -> Result<(SoupRow, &[u8]), DirFault>
     ensures { Gives (λ x. (x.0, x.1.now)) result (soup_at bytes.now) }
@@ -24,7 +25,7 @@ fn soup(alloc: Global, bytes: &[u8]) -> Result<(SoupRow, &[u8]), DirFault>
     let (sig, rest) = number16(rest)?;
     let (next_uid, rest) = number32(rest)?;
     let (specs, rest) = specs(alloc, rest)?;
-    let (tags, rest) = tags(alloc, rest)?;
+    let ((tags, info), rest) = extra(alloc, rest)?;
     let sig = Sig(u32::from(sig));
     Ok((
         SoupRow {
@@ -33,6 +34,7 @@ fn soup(alloc: Global, bytes: &[u8]) -> Result<(SoupRow, &[u8]), DirFault>
             next_uid,
             specs,
             tags,
+            info,
         },
         rest,
     ))
@@ -83,23 +85,27 @@ fn rows(alloc: Global, bytes: &[u8]) -> Result<(Directory, &[u8]), DirFault>
     ))
 }
 
-/// The rows that all of the bytes are, where they make a well formed store.
+/// The rows that all of the bytes are, where they are ones of this version and make a well formed
+/// store.
 #[tactic(auto, unfolding(crate::specs::Reading::directory_at))]
-fn whole(alloc: Global, bytes: &[u8]) -> Result<Directory, DirFault>
-    ensures { Gives (λ d. d) result (directory_at bytes.now) }
+fn whole(alloc: Global, bytes: &[u8], version: u16) -> Result<Directory, DirFault>
+    ensures { Gives (λ d. d) result (directory_at version bytes.now) }
 {
     let (directory, rest) = rows(alloc, bytes)?;
-    if !rest.is_empty() || !directory.is_well_formed() {
+    if !rest.is_empty() || !directory.keeps_version(version) || !directory.is_well_formed() {
         return Err(DirFault::Bad);
     }
     Ok(directory)
 }
 
-/// The directory that all of the bytes are read as. `Bad` comes only where they are none: also
-/// where a name, a path or a limit has not its form.
-pub fn read_directory(alloc: Global, bytes: &[u8]) -> Result<Directory, DirFault>
-    ensures found { IfOk result (λ d. directory_read bytes.now ≡ Some (bare_store d)) }
-    ensures bad { IsErrOf result DirFault.Bad → directory_read bytes.now ≡ None }
+/// The directory that all of the bytes are read as, in the form of this version. `Bad` comes only
+/// where they are none: also where a name, a path or a limit has not its form.
+pub fn read_directory(alloc: Global, bytes: &[u8], version: u16) -> Result<Directory, DirFault>
+    requires { (version ≡ 1) ⊎ (version ≡ 2) }
+    ensures found { IfOk result (λ d. directory_read stream_graph version bytes.now
+        ≡ Some (bare_store d)) }
+    ensures bad { IsErrOf result DirFault.Bad → directory_read stream_graph version bytes.now
+        ≡ None }
 {
-    whole(alloc, bytes)
+    whole(alloc, bytes, version)
 }

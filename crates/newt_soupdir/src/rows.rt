@@ -3,13 +3,14 @@ ghost use Rattle.std.specs.Prelude.{◌≡◌, IfOk};
 
 use crate::indexes::Specs;
 use newt_base::{Name, Sig};
+use newt_graph::Graph;
 use newt_tags::TagTable;
 use std::alloc::AllocError;
 use std::marker::Model;
 
 /// A soup without its entries: its name, its signature, below the store's next one; the id of its
-/// next entry, at most 536,870,911; its indexes; and its tags declaration, or none. A row by itself
-/// may pass these limits: `Directory::is_well_formed` tests them.
+/// next entry, at most 536,870,911; its indexes; its tags declaration, or none; and its info frame,
+/// or none. A row by itself may pass these limits: `Directory::is_well_formed` tests them.
 #[derive(Drop)]
 pub struct SoupRow {
     pub name: Name,
@@ -17,6 +18,7 @@ pub struct SoupRow {
     pub next_uid: u32,
     pub specs: Specs,
     pub tags: Option<TagTable>,
+    pub info: Option<Graph>,
 }
 
 impl SoupRow {
@@ -30,6 +32,7 @@ impl SoupRow {
             next_uid: self.next_uid,
             specs: self.specs.copy()?,
             tags: copied_tags(&self.tags)?,
+            info: copied_info(&self.info)?,
         })
     }
 }
@@ -40,6 +43,16 @@ fn copied_tags(tags: &Option<TagTable>) -> Result<Option<TagTable>, AllocError>
 {
     match tags {
         Some(tags) => Ok(Some(tags.copy()?)),
+        None => Ok(None),
+    }
+}
+
+/// An equal info frame, or none.
+fn copied_info(info: &Option<Graph>) -> Result<Option<Graph>, AllocError>
+    ensures { IfOk result (λ copy. copy ≡ info.now) }
+{
+    match info {
+        Some(info) => Ok(Some(info.copy()?)),
         None => Ok(None),
     }
 }
@@ -94,7 +107,7 @@ impl Soups {
 }
 
 /// The directory of a store: its name; its signature, at most 536,870,911; the signature of the
-/// next soup, at most 65,535; and at most 64 soups. As long as it is built of its fields nothing of
+/// next soup, at most 65,535; and at most 250 soups. As long as it is built of its fields nothing of
 /// this is sure: `is_well_formed` tests it, and what `read_directory` gives has it.
 #[derive(Drop)]
 pub struct Directory {

@@ -1,17 +1,19 @@
 //! Writing a directory: what `read` reads, field by field, behind the bytes that are there.
 ghost use Rattle.std.specs.Prelude.{◌≡◌, ◌<◌, ◌^◌, ◌++◌, length, map, All, OnOk, IfOk, IsTrue};
-ghost use Rattle.std.specs.Prelude.{Some};
+ghost use Rattle.std.specs.Prelude.{IfSome};
+ghost use Rattle.newt_spec_nsof.specs.Flat.{flat};
 ghost use Rattle.newt_spec_store.specs.Cost.{text_bytes, path_bytes, kind_byte, direction_byte};
-ghost use Rattle.newt_spec_store.specs.Cost.{part_bytes, tags_bytes, soup_bytes, directory_bytes};
-ghost use Rattle.newt_spec_store.specs.Cost.{counted};
+ghost use Rattle.newt_spec_store.specs.Cost.{part_bytes, table_bytes, info_bytes, extra_bytes};
+ghost use Rattle.newt_spec_store.specs.Cost.{soup_bytes, directory_bytes, counted};
 ghost use Rattle.newt_spec_store.specs.Valid.{well_formed};
 ghost use Rattle.newt_keys.specs.Seen.{declared};
-ghost use Rattle.newt_soupdir.specs.Bare.{bare_soup, bare_store};
+ghost use Rattle.newt_soupdir.specs.Bare.{bare_soup, bare_store, fits};
 
 use crate::rows::{Directory, SoupRow};
 use newt_base::{push16, push32};
-use newt_graph::Bytes;
+use newt_graph::{Bytes, Graph};
 use newt_keys::{IndexPart, IndexSpec, Kind, Order};
+use newt_nsof_write::encode_flat;
 use newt_path::Path;
 use newt_tags::TagTable;
 use std::alloc::{AllocError, Global};
@@ -103,45 +105,73 @@ fn put_specs(out: &mut Vec<u8>, specs: &[IndexSpec]) -> Result<(), AllocError>
     Ok(())
 }
 
-/// A tags declaration behind the byte 1: its path and its symbols.
+/// A tags declaration: its path and its symbols.
 fn put_table(out: &mut Vec<u8>, table: &TagTable) -> Result<(), AllocError>
-    ensures { OnOk result (out.new.items ≡ out.old.items ++ tags_bytes (Some table.now)) }
+    ensures { OnOk result (out.new.items ≡ out.old.items ++ table_bytes table.now) }
 {
-    out.push(1)?;
     put_path(out, table.path())?;
     put_texts(out, table.symbols())
 }
 
-/// A tags declaration, or the byte 0 for none.
-fn put_tags(out: &mut Vec<u8>, tags: &Option<TagTable>) -> Result<(), AllocError>
-    ensures { OnOk result (out.new.items ≡ out.old.items ++ tags_bytes tags.now) }
+/// An info frame: two bytes of the length of its flat text, and the text.
+fn put_info(out: &mut Vec<u8>, info: &Graph) -> Result<(), AllocError>
+    requires { length (flat info.now) < 2 ^ 16 }
+    ensures { OnOk result (out.new.items ≡ out.old.items ++ info_bytes info.now) }
 {
-    match tags {
-        Some(table) => put_table(out, table),
-        None => {
+    let text = encode_flat(*out.allocator(), info)?;
+    push16(out, text.len() as u16)?;
+    out.extend_from_slice(&text)?;
+    Ok(())
+}
+
+/// What there is of a tags declaration and an info frame, behind a byte that says it.
+fn put_extra(
+    out: &mut Vec<u8>,
+    tags: &Option<TagTable>,
+    info: &Option<Graph>,
+) -> Result<(), AllocError>
+    requires { IfSome info.now (λ g. length (flat g) < 2 ^ 16) }
+    ensures { OnOk result (out.new.items ≡ out.old.items ++ extra_bytes tags.now info.now) }
+{
+    match (tags, info) {
+        (None, None) => {
             out.push(0)?;
             Ok(())
+        }
+        (Some(table), None) => {
+            out.push(1)?;
+            put_table(out, table)
+        }
+        (None, Some(info)) => {
+            out.push(2)?;
+            put_info(out, info)
+        }
+        (Some(table), Some(info)) => {
+            out.push(3)?;
+            put_table(out, table)?;
+            put_info(out, info)
         }
     }
 }
 
-/// A soup: its name, signature, next entry id, indexes and tags.
+/// A soup: its name, signature, next entry id, indexes, tags and info frame.
 fn put_soup(out: &mut Vec<u8>, row: &SoupRow) -> Result<(), AllocError>
     requires sig { row.now.sig < 2 ^ 16 }
     requires few { length row.now.specs < 256 }
+    requires info { IfSome row.now.info (λ g. length (flat g) < 2 ^ 16) }
     ensures { OnOk result (out.new.items ≡ out.old.items ++ soup_bytes (bare_soup row.now)) }
 {
     put_text(out, row.name.list())?;
     push16(out, row.sig.0 as u16)?;
     push32(out, row.next_uid)?;
     put_specs(out, row.specs.list())?;
-    put_tags(out, &row.tags)
+    put_extra(out, &row.tags, &row.info)
 }
 
 /// Soups behind their count.
 fn put_soups(out: &mut Vec<u8>, soups: &[SoupRow]) -> Result<(), AllocError>
     requires few { length soups.now < 256 }
-    requires fit { All (λ row. (row.sig < 2 ^ 16) × (length row.specs < 256)) soups.now }
+    requires fit { All fits soups.now }
     ensures { OnOk result (out.new.items ≡ out.old.items ++ counted soup_bytes
         (map bare_soup soups.now)) }
 {
@@ -152,7 +182,7 @@ fn put_soups(out: &mut Vec<u8>, soups: &[SoupRow]) -> Result<(), AllocError>
     Ok(())
 }
 
-/// The bytes of a directory, as they stand in its object.
+/// The bytes of a directory of version 2, as they stand in its object.
 #[tactic(auto, using(crate::proofs::Lists::rows_fit))]
 pub fn write_directory(alloc: Global, directory: &Directory) -> Result<Vec<u8>, AllocError>
     requires { IsTrue (well_formed (bare_store directory.now)) }

@@ -119,6 +119,13 @@ tags_row cs =
     (whole (of2 unit name command.Tags) cs)
     (whole (of4 unit name (word path_of) distinct command.SetTags) cs)
 
+-- the two rows of `info`: the first where nothing follows the soup's name (this project's own)
+abbrev pub info_row : List ℕ → Parsed
+info_row cs =
+    or_row
+    (whole (of2 unit name command.Info) cs)
+    (and_literal (of2 unit name (λ u s g. command.SetInfo u s g)) cs)
+
 -- the word that stands for all mounted stores (this project's own)
 abbrev pub star : List ℕ → Option ℕ
 star w = if bytes_eq w (codes "*") then Some 0 else None
@@ -154,6 +161,7 @@ rows =
     ∷ (codes "unindex", whole (of3 unit name (several 4 path_of) command.Unindex))
     ∷ (codes "indexes", whole (of2 unit name command.Indexes))
     ∷ (codes "tags", tags_row)
+    ∷ (codes "info", info_row)
     ∷ (codes "add", and_literal (of2 unit name (λ u s g. command.Add u s g)))
     ∷ (codes "addx", and_stream (of2 unit name (λ u s g. command.Addx u s g)))
     ∷ (codes "addu", and_literal (of1 name (λ s g. command.Addu s g)))

@@ -44,15 +44,26 @@ direction_byte order.Descend = 1
 abbrev pub part_bytes : IndexPart → List ℕ
 part_bytes p = kind_byte p.kind ∷ direction_byte p.direction ∷ path_bytes p.path
 
--- a tags declaration: 0 for none, or 1, its path and its symbols (this project's own)
-abbrev pub tags_bytes : Option TagTable → List ℕ
-tags_bytes None = 0 ∷ []
-tags_bytes (Some t) = 1 ∷ path_bytes t.path ++ counted text_bytes t.symbols
+-- a tags declaration: its path and its symbols (this project's own)
+abbrev pub table_bytes : TagTable → List ℕ
+table_bytes t = path_bytes t.path ++ counted text_bytes t.symbols
 
--- a soup in the directory: name, signature in two bytes, next entry id in four, indexes, tags (this project's own)
+-- an info frame: the length of its flat text in two bytes, and the text (this project's own)
+abbrev pub info_bytes : RawGraph → List ℕ
+info_bytes g = be16 (length (flat g)) ++ flat g
+
+-- what a soup has of a tags declaration and an info frame: a byte that is odd where there is a declaration and 2 or 3 where there is an info frame, the one, and
+-- the other (this project's own)
+abbrev pub extra_bytes : Option TagTable → Option RawGraph → List ℕ
+extra_bytes None None = 0 ∷ []
+extra_bytes (Some t) None = 1 ∷ table_bytes t
+extra_bytes None (Some g) = 2 ∷ info_bytes g
+extra_bytes (Some t) (Some g) = 3 ∷ table_bytes t ++ info_bytes g
+
+-- a soup in the directory: name, signature in two bytes, next entry id in four, indexes, tags and info (this project's own)
 abbrev pub soup_bytes : Soup → List ℕ
 soup_bytes p =
-    text_bytes p.name ++ be16 p.sig ++ be32 p.next_uid ++ counted (counted part_bytes) p.specs ++ tags_bytes p.tags
+    text_bytes p.name ++ be16 p.sig ++ be32 p.next_uid ++ counted (counted part_bytes) p.specs ++ extra_bytes p.tags p.info
 
 -- the directory: the name of the store, its signature in four bytes, the next soup signature in two, and the soups (this project's own)
 abbrev pub directory_bytes : Store → List ℕ

@@ -4,6 +4,7 @@ use Rattle.std.specs.List.{list_all, range_with_len}
 use Rattle.std.specs.Option.{unwrap_or}
 use Rattle.std.specs.FinMap as map
 use Rattle.newt_graph.specs.Graph.{RawGraph}
+use Rattle.newt_spec_image.specs.Records.{version}
 use Rattle.newt_spec_image.specs.Pages.{Pages, pages, object_id, part_number, object_length}
 use Rattle.newt_spec_image.specs.Objects.{Extent, Table, Objects, joined, pages_for}
 use Rattle.newt_spec_graph.specs.Graph.{every}
@@ -48,4 +49,4 @@ objects_of live =
 -- The store that an image is read as, where `graph_of` reads the texts of entries; none where it is no readable store.
 abbrev pub store_of_image : (List ℕ → Option RawGraph) → List ℕ → Option Store
 store_of_image graph_of image =
-    option_and_then (λ live. option_and_then (λ objects. store_of graph_of (map.entries objects) (blocks_of image)) (objects_of live)) (pages image)
+    option_and_then (λ live. option_and_then (λ objects. store_of graph_of (version image) (map.entries objects) (blocks_of image)) (objects_of live)) (pages image)

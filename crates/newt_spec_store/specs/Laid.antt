@@ -67,10 +67,16 @@ pub record Laid : Type 0 where
 abbrev pub record_of : Laid → ℕ × List ℕ
 record_of x = (x.object, entry_bytes x.soup x.entry x.ids)
 
+-- each info frame is read back from its text (a word of these definitions)
+abbrev pub AreInfosRead : (List ℕ → Option RawGraph) → Store → Type 0
+AreInfosRead graph_of s = (p : Soup) (g : RawGraph) → Among s.soups p → p.info ≡ Some g → graph_of (flat g) ≡ Some g
+
 -- The objects write down this store: the directory is object 0, the objects with odd ids are the records of these entries, their numbers fit their fields, each
--- skeleton is read back from its text, each large binary is there and named once, and the entries are exactly the store's. (this project's own)
+-- info frame and each skeleton is read back from its text, each large binary is there and named once, and the entries are exactly the store's.
+-- (this project's own)
 pub record IsLaid (graph_of : List ℕ → Option RawGraph) (objects : Objects) (s : Store) (laid : List Laid) : Type 0 where
   pub written : object_bytes objects 0 ≡ Some (directory_bytes s)
+  pub infos : AreInfosRead graph_of s
   pub records : filter (λ o. o.0 % 2 == 1) objects ≡ map record_of laid
   pub fit : Each (λ x. FitsRecord x.soup x.entry x.ids) laid
   pub decoded : Each (λ x. graph_of (flat (skeleton x.entry.graph)) ≡ Some (skeleton x.entry.graph)) laid

@@ -1,5 +1,5 @@
 -- How a store lies in objects, and what one object is read as. All of it is this project's own.
-use Rattle.std.specs.Prelude.{◌≡◌, ◌≢◌, ◌⊎◌, ◌==◌, ◌&&◌, ℕ, ◌%◌, ◌<◌, nat_lt, Bool, List, length, fold, zip, replicate, map as list_map, Option, Some, None, if◌then◌else◌, option_and_then, option_map}
+use Rattle.std.specs.Prelude.{◌≡◌, ◌≢◌, ◌⊎◌, ◌==◌, ◌&&◌, ℕ, ◌%◌, ◌<◌, nat_lt, Bool, List, length, fold, zip, replicate, map as list_map, Option, Some, option_and_then, option_map}
 use Rattle.std.specs.List.{list_all}
 use Rattle.std.specs.FinMap as map
 use Rattle.newt_graph.specs.Graph.{RawGraph, IsGraph}
@@ -10,19 +10,14 @@ use Rattle.newt_spec_graph.specs.Lists.{Each, Pairs, Among}
 use Rattle.newt_spec_store.specs.Cost.{directory_bytes}
 use Rattle.newt_spec_store.specs.Image.{larges, entry_bytes}
 use Rattle.newt_spec_store.specs.Laid.{Named}
-use Rattle.newt_spec_store.specs.Reading.{whole, directory}
+use Rattle.newt_spec_store.specs.Reading.{whole, written, directory}
 use Rattle.newt_spec_store.specs.Store.{Entry, Soup, Store}
-use Rattle.newt_spec_store.specs.StoreOf.{LargeRow, EntryRow, entry_row, entry_of_row, fill, written, names_larges}
-use Rattle.newt_spec_store.specs.Valid.{valid_entry, well_formed}
+use Rattle.newt_spec_store.specs.StoreOf.{LargeRow, EntryRow, only, entry_row, entry_of_row, fill, names_larges}
+use Rattle.newt_spec_store.specs.Valid.{valid_entry, well_formed, keeps_version}
 
--- a value that passes a test, else none (a word of these definitions)
-abbrev pub only : {X : Type 0} → (X → Bool) → Option X → Option X
-only test None = None
-only test (Some x) = if test x then Some x else None
-
--- the directory that bytes are read as: a store without entries that is well formed (this project's own)
-abbrev pub directory_read : List ℕ → Option Store
-directory_read bytes = only well_formed (whole directory bytes)
+-- the directory that bytes of an image of this version are read as: a store without entries that is well formed (this project's own)
+abbrev pub directory_read : (List ℕ → Option RawGraph) → ℕ → List ℕ → Option Store
+directory_read graph_of version bytes = only well_formed (only (keeps_version version) (whole (directory graph_of) bytes))
 
 -- ---- one record
 
@@ -79,8 +74,8 @@ pub record AreLarges (objects : Objects) (g : RawGraph) (ids : List ℕ) : Type 
   pub apart : Pairs (λ a b. a ≢ b) ids
 
 -- How a store lies in objects: the directory is object 0; each entry's record is the object of its place, which has an odd id, and names the objects of the
--- entry's large binaries; no object is named by two records; and there are no other objects, no other places and no other names. Skeletons are in normal form, and a
--- minute fits in four bytes. `named` are the ids that the record of an object names. (this project's own)
+-- entry's large binaries; no object is named by two records; and there are no other objects, no other places and no other names. Info frames and skeletons are in
+-- normal form, and a minute fits in four bytes. `named` are the ids that the record of an object names. (this project's own)
 pub record LiesIn (objects : Objects) (place : Places) (s : Store) : Type 0 where
   pub named : ℕ → List ℕ
   pub directory : map.get objects 0 ≡ Some (directory_bytes s)
@@ -91,5 +86,6 @@ pub record LiesIn (objects : Objects) (place : Places) (s : Store) : Type 0 wher
       → ((sig : ℕ) × (e : Entry) × IsIn s sig e × (place sig e.uid ≡ Some id)) ⊎ ((r : ℕ) × Among (named r) id)
   pub names : (r o : ℕ) → Among (named r) o → (sig : ℕ) × (e : Entry) × IsIn s sig e × (place sig e.uid ≡ Some r)
   pub places : (sig uid id : ℕ) → place sig uid ≡ Some id → (e : Entry) × IsIn s sig e × (e.uid ≡ uid)
+  pub infos : (p : Soup) (g : RawGraph) → Among s.soups p → p.info ≡ Some g → IsGraph g
   pub skeletons : (sig : ℕ) (e : Entry) → IsIn s sig e → IsGraph (skeleton e.graph)
   pub times : (sig : ℕ) (e : Entry) → IsIn s sig e → e.time < 4294967296

@@ -3,6 +3,7 @@
 use Rattle.std.specs.Prelude.{◌≡◌, ℕ, ◌/◌, List, length, Option, Some}
 use Rattle.std.specs.FinMap.{entries}
 use Rattle.newt_graph.specs.Graph.{RawGraph}
+use Rattle.newt_spec_image.specs.Records.{version}
 use Rattle.newt_spec_image.specs.Pages.{Pages, pages}
 use Rattle.newt_spec_image.specs.Objects.{Objects, AreObjectsOf}
 use Rattle.newt_spec_store.specs.Store.{Store}
@@ -18,4 +19,4 @@ pub record IsStoreOf (graph_of : List ℕ → Option RawGraph) (image : List ℕ
   pub has_pages : pages image ≡ Some live
   pub objects : Objects
   pub has_objects : AreObjectsOf live objects
-  pub reads : store_of graph_of (entries objects) (blocks_of image) ≡ Some s
+  pub reads : store_of graph_of (version image) (entries objects) (blocks_of image) ≡ Some s

@@ -19,7 +19,7 @@ pub record TagTable : Type 0 where
   pub path : Path
   pub symbols : List (List ℕ)
 
--- a soup: its name, its signature, the id of the next entry, its indexes and tags declaration, and its entries in order of making
+-- a soup: its name, its signature, the id of the next entry, its indexes and tags declaration, its info frame or none, and its entries in order of making
 -- (Newton Programmer's Guide 2.0, soups; its signature and next id are this project's own)
 pub record Soup : Type 0 where
   pub name : List ℕ
@@ -27,6 +27,7 @@ pub record Soup : Type 0 where
   pub next_uid : ℕ
   pub specs : List IndexSpec
   pub tags : Option TagTable
+  pub info : Option RawGraph
   pub entries : List Entry
 
 -- a store: its name, its signature, the signature of the next soup, and its soups in order of making
@@ -60,11 +61,11 @@ change_soup name change s = record s { soups = change_first (λ p. equal_text p.
 abbrev pub change_entry : ℕ → (Entry → Entry) → Soup → Soup
 change_entry uid change p = record p { entries = change_first (λ e. e.uid == uid) change p.entries }
 
--- a new soup at the end, with the next signature, no indexes, no tags and no entries
+-- a new soup at the end, with the next signature, no indexes, no tags, no info and no entries
 -- (Newton Programmer's Guide 2.0, soups; the signature that it gets is this project's own)
 abbrev pub make_soup : List ℕ → Store → Store
 make_soup name s =
-    let soup : Soup = record { name = name; sig = s.next_soup; next_uid = 0; specs = []; tags = None; entries = [] } in
+    let soup : Soup = record { name = name; sig = s.next_soup; next_uid = 0; specs = []; tags = None; info = None; entries = [] } in
     record s { next_soup = s.next_soup + 1; soups = s.soups ++ soup ∷ [] }
 
 -- the soup of this name is gone with its entries (Newton Programmer's Guide 2.0, soups)
@@ -96,6 +97,10 @@ without_index paths p = record p { specs = filter (λ spec. not (same_paths (pat
 -- the tags declaration is this one, or none (this project's own)
 abbrev pub with_tags : Option TagTable → Soup → Soup
 with_tags tags p = record p { tags = tags }
+
+-- the info frame is this one, or none (Newton Programmer's Guide 2.0, soups)
+abbrev pub with_info : Option RawGraph → Soup → Soup
+with_info info p = record p { info = info }
 
 -- a store of this name and signature, without soups (Newton Programmer's Guide 2.0, stores)
 abbrev pub new_store : List ℕ → ℕ → Store

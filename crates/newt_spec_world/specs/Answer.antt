@@ -58,6 +58,7 @@ fields w v (command.Soup u s) = or_nil (λ t. Reply.number t.next_soup) (mounted
 fields w v (command.Soups u) = or_nil (λ t. Reply.soups (map (λ p. (p.name, p.sig, length p.entries)) t.soups)) (mounted_store w u)
 fields w v (command.Indexes u s) = or_nil (λ p. Reply.indexes p.specs) (soup_in w u s)
 fields w v (command.Tags u s) = or_nil (λ p. Reply.tags p.tags) (soup_in w u s)
+fields w v (command.Info u s) = or_nil (λ p. or_nil Reply.literal_of p.info) (soup_in w u s)
 fields w v (command.Add u s g) = Reply.number (new_uid w u s)
 fields w v (command.Addx u s g) = Reply.number (new_uid w u s)
 fields w v (command.Addu s g) = let u = default_unit w in Reply.added u (new_uid w u s)

@@ -1,9 +1,9 @@
 -- What each command is refused for: a test for each refusal, and the table of the tests in the order in which they are tried. Numbers, words and order of the
 -- refusals are this project's own.
-use Rattle.std.specs.Prelude.{ℕ, ◌+◌, Bool, true, false, not, ◌||◌, ◌==◌, nat_lt, nat_le, List, [], ◌∷◌, map, length, Option, Some, None, is_some, is_none}
-use Rattle.std.specs.List.{list_any}
+use Rattle.std.specs.Prelude.{ℕ, ◌+◌, Bool, true, false, not, ◌||◌, ◌&&◌, ◌==◌, nat_lt, nat_le, List, [], ◌∷◌, map, length, Option, Some, None, is_some, is_none}
+use Rattle.std.specs.List.{list_all, list_any}
 use Rattle.newt_base.specs.declared.Refusal.{Refusal}
-use Rattle.newt_base.specs.declared.Refusal.TheVariants.{Unit as NoUnit, Blocks, Mounted, Notmounted, Nostore, Store as HasStore, Stores as ManyStores, Signature, Cursor as NoCursor, Soup as NoSoup, Exists, Entry as NoEntry, Notframe, Path as NoPath, Range, Spec as BadSpec, Index as BadIndex, Key as BadKey, Limit, Size, Ids, Full}
+use Rattle.newt_base.specs.declared.Refusal.TheVariants.{Unit as NoUnit, Blocks, Mounted, Notmounted, Nostore, Store as HasStore, Stores as ManyStores, Signature, Cursor as NoCursor, Soup as NoSoup, Exists, Entry as NoEntry, Notframe, Info as BadInfo, Path as NoPath, Range, Spec as BadSpec, Index as BadIndex, Key as BadKey, Limit, Size, Ids, Full}
 use Rattle.newt_base.specs.Refusals.{Checks}
 use Rattle.newt_graph.specs.Graph.{RawGraph}
 use Rattle.newt_spec_graph.specs.Graph.{is_frame, object}
@@ -13,7 +13,9 @@ use Rattle.newt_spec_graph.specs.Slots.{put}
 use Rattle.newt_spec_store.specs.Keys.{Path, has_paths}
 use Rattle.newt_spec_image.specs.Pages.{cap}
 use Rattle.newt_spec_store.specs.Cost.{cost, skeleton_length}
-use Rattle.newt_spec_query.specs.Spec.{is_query, keys_fit}
+use Rattle.newt_spec_store.specs.Valid.{is_no_large}
+use Rattle.newt_spec_nsof.specs.Flat.{flat}
+use Rattle.newt_spec_query.specs.Spec.{is_query, keys_fit, is_nil}
 use Rattle.newt_spec_world.specs.declared.command.Command.{Command}
 use Rattle.newt_spec_world.specs.declared.command.Command.TheVariants as command
 use Rattle.newt_spec_world.specs.declared.command.PartWord.{PartWord}
@@ -88,9 +90,9 @@ no_more_ids w u name = (Ids, on_some (soup_in w u name) (λ p. p.next_uid == 536
 abbrev pub no_more_soups : World → ℕ → Check
 no_more_soups w u = (Ids, on_some (mounted_store w u) (λ s. s.next_soup == 65_535))
 
--- the store has 64 soups (this project's own)
+-- the store has 250 soups (this project's own)
 abbrev pub soup_limit : World → ℕ → Check
-soup_limit w u = (Limit, on_some (mounted_store w u) (λ s. nat_le 64 (length s.soups)))
+soup_limit w u = (Limit, on_some (mounted_store w u) (λ s. nat_le 250 (length s.soups)))
 
 -- the store after the command would cost more pages than the unit takes (this project's own)
 abbrev pub full : World → ℕ → Command → Check
@@ -106,6 +108,14 @@ not_frame g = (Notframe, not (is_frame (object g.nodes g.root)))
 -- the skeleton's flat text has more than 64,000 bytes (this project's own)
 abbrev pub too_large : RawGraph → Check
 too_large g = (Size, nat_lt 64_000 (skeleton_length g))
+
+-- the literal is neither nil nor a frame without large binaries (this project's own)
+abbrev pub bad_info : RawGraph → Check
+bad_info g = (BadInfo, not (is_nil g.root || (is_frame (object g.nodes g.root) && list_all is_no_large g.nodes)))
+
+-- the flat text of an info frame has more than 4,000 bytes (this project's own)
+abbrev pub info_too_large : RawGraph → Check
+info_too_large g = (Size, nat_lt 4_000 (length (flat g)))
 
 -- a slot before the last is missing, or a step is not taken from a frame (this project's own)
 abbrev pub no_path : World → ℕ → List ℕ → ℕ → Path → RawGraph → Check
@@ -207,6 +217,8 @@ checks w (command.Unindex u s paths) = no_unit w u ∷ not_mounted w u ∷ no_so
 checks w (command.Indexes u s) = no_unit w u ∷ not_mounted w u ∷ no_soup w u s ∷ []
 checks w (command.Tags u s) = no_unit w u ∷ not_mounted w u ∷ no_soup w u s ∷ []
 checks w (command.SetTags u s path symbols) = no_unit w u ∷ not_mounted w u ∷ no_soup w u s ∷ (Limit, nat_lt 64 (length symbols)) ∷ full w u (command.SetTags u s path symbols) ∷ []
+checks w (command.Info u s) = no_unit w u ∷ not_mounted w u ∷ no_soup w u s ∷ []
+checks w (command.SetInfo u s g) = no_unit w u ∷ not_mounted w u ∷ no_soup w u s ∷ bad_info g ∷ info_too_large g ∷ full w u (command.SetInfo u s g) ∷ []
 checks w (command.Add u s g) = no_unit w u ∷ not_mounted w u ∷ no_soup w u s ∷ not_frame g ∷ too_large g ∷ no_more_ids w u s ∷ full w u (command.Add u s g) ∷ []
 checks w (command.Addx u s g) = no_unit w u ∷ not_mounted w u ∷ no_soup w u s ∷ not_frame g ∷ too_large g ∷ no_more_ids w u s ∷ full w u (command.Addx u s g) ∷ []
 checks w (command.Addu s g) = let u = default_unit w in not_mounted w u ∷ no_soup w u s ∷ not_frame g ∷ too_large g ∷ no_more_ids w u s ∷ full w u (command.Addu s g) ∷ []

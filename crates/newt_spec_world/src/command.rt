@@ -48,6 +48,8 @@ pub enum Command {
     Indexes(Unit, Name),
     Tags(Unit, Name),
     SetTags(Unit, Name, Path, Syms),
+    Info(Unit, Name),
+    SetInfo(Unit, Name, Graph),
     Query(Unit, Name, Graph),
     QueryAll(Name, Graph),
     Entry(u8),

@@ -28,7 +28,7 @@ use Rattle.newt_store.specs.declared.next.Next.{Next}
 use Rattle.newt_store.specs.Next.{Goes, GoesAt, LosesNames, IsGoing, IsNew, IsNextOf, AreNext, ArePlacesNext, AreNamesNext, Turns, WritesNext, HoldsEither, IsEitherStore, names_replaced, all_gone}
 use Rattle.newt_store_catalog.specs.Readable.{readable}
 use Rattle.newt_store_catalog.specs.Stands.{Describes, StandsFor}
-use Rattle.newt_store.proofs.Reading.{read-back, total-cost, same-cap}
+use Rattle.newt_store.proofs.Reading.{read-back, total-cost, same-cap, keeps-same, keeps-all}
 
 -- ---- what goes
 
@@ -501,10 +501,11 @@ module _ (catalog : Catalog) (next : Next) (records : List ℕ) (places : AreSou
 
   either-store : (left : List ℕ) → HoldsEither now next ids stands.texts left → IsEitherStore now s t left
   either-store left e = ⊎_elim
-      (λ (was : HoldsObjects left stands.texts). inl (read-back catalog.directory (place_of catalog.places) (names_of catalog.names) stands.texts s left was stands.describes (same-cap now left (cost s) e.size stands.fits)))
+      (λ was. inl (read-back catalog.directory (place_of catalog.places) (names_of catalog.names) stands.texts s left was.0 stands.describes (same-cap now left (cost s) e.size stands.fits)
+      (keeps-same now left s was.1 stands.keeps)))
       (λ w.
       let low : cost t ≤ cap (blocks_of now) = subst (λ (n : ℕ). n ≤ cap (blocks_of now)) (cost-after w.0 w.2) w.3 in
-      inr (low, read-back next.directory (placed next (place_of catalog.places)) (renamed catalog next records places names is are) w.0 t left w.1 (described-after w.0 w.2) (same-cap now left (cost t) e.size low)))
+      inr (low, read-back next.directory (placed next (place_of catalog.places)) (renamed catalog next records places names is are) w.0 t left w.1 (described-after w.0 w.2) (same-cap now left (cost t) e.size low) (keeps-all left t w.4)))
       e.holds
 
   pub leaves-store : (unit : ℕ) (old new : Moment) → Leaves unit (HoldsEither now next ids stands.texts) old new → Leaves unit (IsEitherStore now s t) old new
@@ -513,4 +514,4 @@ module _ (catalog : Catalog) (next : Next) (records : List ℕ) (places : AreSou
 -- nothing was written
 pub leaves-same : (catalog : Catalog) (s t : Store) (unit : ℕ) (old : Moment) → StandsFor catalog s (image unit old) → IsDurable unit old → Leaves unit (IsEitherStore (image unit old) s t) old old
 leaves-same catalog s t unit old stands durable = Leaves-start (λ left may.
-    inl (ap readable (durable left may) ∙ read-back catalog.directory (place_of catalog.places) (names_of catalog.names) stands.texts s (image unit old) stands.holds stands.describes stands.fits))
+    inl (ap readable (durable left may) ∙ read-back catalog.directory (place_of catalog.places) (names_of catalog.names) stands.texts s (image unit old) stands.holds stands.describes stands.fits stands.keeps))

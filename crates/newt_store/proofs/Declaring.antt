@@ -1,35 +1,40 @@
--- A soup whose declarations change: its indexes and its tags.
-use Rattle.std.proofs.Common.{◌≡◌, ℕ, ◌<◌, ◌≤◌, ◌==◌, IsTrue, true, false, not, nat_le, List, [], ◌∷◌, length, Option, Some, None, refl, sym, ◌∙◌, ap, subst, arith}
+-- A soup whose declarations change: its indexes, its tags and its info frame.
+use Rattle.std.proofs.Common.{◌≡◌, ℕ, ◌<◌, ◌≤◌, ◌==◌, IsTrue, true, false, not, nat_le, List, [], ◌∷◌, length, Option, Some, None, refl, sym, ◌∙◌, ap, subst, arith, Bool, ◌&&◌}
 use Rattle.std.specs.Option.{is_some, is_none}
+use Rattle.std.specs.Prelude.{IfSome}
+use Rattle.std.specs.List.{list_all}
 use Rattle.std.proofs.lemmas.Bool.{eq-eqb, eqb-true}
 use Rattle.std.proofs.lemmas.Bool.Decides.{nat_tests}
 use Rattle.newt_base.specs.Names.{equal_text}
 use Rattle.newt_base.specs.Refusals.{Checks, first_of}
-use Rattle.newt_base.specs.declared.Refusal.TheVariants.{Soup as NoSoup, Limit, Index as BadIndex}
+use Rattle.newt_base.specs.declared.Refusal.TheVariants.{Soup as NoSoup, Limit, Info as BadInfo, Size, Index as BadIndex}
 use Rattle.newt_spec_image.specs.Objects.{Objects}
 use Rattle.newt_pagebook.proofs.Tests.{some_inj, the_some}
+use Rattle.newt_graph.specs.Graph.{RawGraph, IsGraph}
+use Rattle.newt_spec_graph.specs.Graph.{is_frame, object}
 use Rattle.newt_spec_graph.specs.Lists.{Each}
 use Rattle.newt_spec_graph.proofs.Lists.{each-from}
 use Rattle.newt_spec_store.specs.Cost.{cost, counted, part_bytes, soup_bytes, soup_pages}
 use Rattle.newt_spec_store.specs.Keys.{IndexSpec, Path, paths_of, same_paths, has_paths}
 use Rattle.newt_spec_store.specs.Laid.{bare, bare_soup}
-use Rattle.newt_spec_store.specs.Store.{Soup, Store, TagTable, change_soup, soup_of, change_soup_of, with_index, without_index, with_tags}
-use Rattle.newt_spec_store.specs.Valid.{well_formed, valid_soup, valid_spec, valid_tags}
+use Rattle.newt_spec_store.specs.Store.{Soup, Store, TagTable, change_soup, soup_of, change_soup_of, with_index, without_index, with_tags, with_info}
+use Rattle.newt_spec_store.specs.Valid.{well_formed, valid_soup, valid_spec, valid_tags, valid_info, is_no_large}
 use Rattle.newt_soupdir.specs.Bare.{bare_store}
 use Rattle.newt_soupdir.specs.declared.rows.Directory.{Directory}
 use Rattle.newt_laws_images.proofs.Known.{bare-good}
+use Rattle.newt_laws_images.proofs.Within.{graph-within}
 use Rattle.newt_laws_changes.proofs.Bare.{change-map, bool-same}
 use Rattle.newt_laws_images.proofs.Chosen.{same-text, soup-there, found_by_name}
 use Rattle.newt_laws_changes.proofs.Costs.{costs-less, directory-length, soup-length, total-filter, total-first}
 use Rattle.newt_laws_changes.proofs.Members.{same-sig, same-name}
 use Rattle.newt_laws_changes.proofs.Replaced.{declared_lies}
-use Rattle.newt_laws_changes.proofs.Soups.{with-soup, with-index, without-index, with-tags}
+use Rattle.newt_laws_changes.proofs.Soups.{with-soup, with-index, without-index, with-tags, with-info}
 use Rattle.newt_objects_commit.specs.Names.{names_of}
 use Rattle.newt_objects_commit.specs.Places.{place_of}
 use Rattle.newt_store_catalog.specs.declared.catalog.Catalog.{Catalog}
-use Rattle.newt_store_change.specs.declared.change.Change.TheVariants.{AddIndex, DropIndex, SetTags}
+use Rattle.newt_store_change.specs.declared.change.Change.TheVariants.{AddIndex, DropIndex, SetTags, SetInfo}
 use Rattle.newt_store.specs.declared.next.Gone.TheVariants.{Nothing}
-use Rattle.newt_store_change.specs.Change.{first_checks, changed_soup, specs_of}
+use Rattle.newt_store_change.specs.Change.{first_checks, changed_soup, specs_of, is_bad_info, is_large_info}
 use Rattle.newt_store.specs.Next.{Turns, IsPlanOf}
 use Rattle.newt_store_catalog.specs.Stands.{Describes}
 use Rattle.newt_store.proofs.Found.{emptied-some, soup-same, soup-some}
@@ -38,7 +43,7 @@ use Rattle.newt_store.proofs.Turning.{bytes-of, next-alone, others-alone, names-
 
 -- ---- a change of declarations alone
 
--- the change keeps a soup but for its indexes and its tags, and does the same to it without its entries
+-- the change keeps a soup but for its indexes, its tags and its info frame, and does the same to it without its entries
 pub record Declares (f : Soup → Soup) : Type 0 where
   pub name : (q : Soup) → (f q).name ≡ q.name
   pub sig : (q : Soup) → (f q).sig ≡ q.sig
@@ -53,6 +58,28 @@ drops-index paths = record { name = λ q. refl; sig = λ q. refl; entries = λ q
 
 pub sets-tags : (tags : Option TagTable) → Declares (with_tags tags)
 sets-tags tags = record { name = λ q. refl; sig = λ q. refl; entries = λ q. refl; bare = λ q. refl }
+
+pub sets-info : (info : Option RawGraph) → Declares (with_info info)
+sets-info info = record { name = λ q. refl; sig = λ q. refl; entries = λ q. refl; bare = λ q. refl }
+
+-- ---- which graphs are info frames
+
+not-either : (a b : Bool) → not (a && b) ≡ false → (a ≡ true) × (b ≡ true)
+not-either true true e = (refl, refl)
+not-either true false e = absurd (cc)
+not-either false b e = absurd (cc)
+
+pub no_large : (g : RawGraph) → is_bad_info (Some g) ≡ false → list_all is_no_large g.nodes ≡ true
+no_large g good = (not-either (is_frame (object g.nodes g.root)) (list_all is_no_large g.nodes) good).1
+
+pub info-valid : (info : Option RawGraph) → IfSome info IsGraph → is_bad_info info ≡ false → is_large_info info ≡ false → valid_info info ≡ true
+info-valid None is good short = refl
+info-valid (Some g) is good short =
+    let k = not-either (is_frame (object g.nodes g.root)) (list_all is_no_large g.nodes) good in
+    let frame = k.0 in
+    let large = k.1 in
+    let within = graph-within g is in
+    grind (arith, nat_tests, frame, large, within, short)
 
 -- ---- the soups stay valid
 
@@ -102,6 +129,7 @@ formed-declared d e sig p f is formed found good made =
 -- ---- from one store to another
 
 module _ (catalog : Catalog) (s : Store) (sig : ℕ) (p : Soup) (found : soup_of sig s ≡ Some p) (f : Soup → Soup) (declares : Declares f) (good : valid_soup p ≡ true → valid_soup (f p) ≡ true)
+    (normal : ((g : RawGraph) → p.info ≡ Some g → IsGraph g) → (g : RawGraph) → (f p).info ≡ Some g → IsGraph g)
     (dir : Directory) (made : bare_store dir ≡ change_soup_of sig f (bare_store catalog.directory)) where
   abbrev then : Store
   then = change_soup p.name f s
@@ -117,7 +145,8 @@ module _ (catalog : Catalog) (s : Store) (sig : ℕ) (p : Soup) (found : soup_of
         describes dir after place names then
         (names-over after place d.lies.named names then (λ r. names-alone dir 0 (place_of catalog.places) (names_of catalog.names) names named r ∙ d.names_are r)
         (lies-over after (place_of catalog.places) place d.lies.named then same
-        (declared_lies sig f before after (place_of catalog.places) s p d.lies d.formed found (declares.sig p) (declares.entries p) (record {
+        (declared_lies sig f before after (place_of catalog.places) s p d.lies d.formed found (declares.sig p) (declares.entries p)
+        (normal (λ g e. d.lies.infos p g (soup-there sig s p found).1 e)) (record {
           head_is = are.directory ∙ ap Some (bytes-of dir then is);
           others = others-alone dir 0 (place_of catalog.places) (names_of catalog.names) before after are;
         }))))
@@ -146,7 +175,7 @@ module _ (catalog : Catalog) (texts : Objects) (s : Store) (d : Describes catalo
         accepted = first-not NoSoup (is_none (soup_of sig s)) [] (ap not (some-as ∙ some));
         answer = refl;
         turns = subst (λ (t : Store). Turns catalog (record { directory = dir; entry = None; gone = Nothing; answer = 0 }) s t) (ap (λ (o : Option Soup). changed_soup o (without_index paths) s) (sym w.1))
-            (turns-declared catalog s sig w.0 w.1 (without_index paths) (drops-index paths) (without-index paths w.0) dir made);
+            (turns-declared catalog s sig w.0 w.1 (without_index paths) (drops-index paths) (without-index paths w.0) (λ old. old) dir made);
         added = refl;
         removed = none-over _;
       }
@@ -164,10 +193,44 @@ module _ (catalog : Catalog) (texts : Objects) (s : Store) (d : Describes catalo
         accepted = first-not NoSoup (is_none (soup_of sig s)) [] (ap not (some-as ∙ some));
         answer = refl;
         turns = subst (λ (t : Store). Turns catalog (record { directory = dir; entry = None; gone = Nothing; answer = 0 }) s t) (ap (λ (o : Option Soup). changed_soup o (with_tags (Some table)) s) (sym w.1))
-            (turns-declared catalog s sig w.0 w.1 (with_tags (Some table)) (sets-tags (Some table)) (with-tags (Some table) w.0 fits) dir made);
+            (turns-declared catalog s sig w.0 w.1 (with_tags (Some table)) (sets-tags (Some table)) (with-tags (Some table) w.0 fits) (λ old. old) dir made);
         added = refl;
         removed = none-over _;
       }
+
+  -- another info frame
+
+  module _ (info : Option RawGraph) where
+    abbrev of-info : Checks
+    of-info = (BadInfo, is_bad_info info) ∷ (Size, is_large_info info) ∷ []
+
+    pub info-no-soup : is_some (soup_of sig (bare_store catalog.directory)) ≡ false → first_of (first_checks (SetInfo sig info) s) ≡ Some NoSoup
+    info-no-soup none = first-holds NoSoup (is_none (soup_of sig s)) of-info (ap not (some-as ∙ none))
+
+    module _ (some : is_some (soup_of sig (bare_store catalog.directory)) ≡ true) where
+      with-soup-there : first_of (first_checks (SetInfo sig info) s) ≡ first_of of-info
+      with-soup-there = first-not NoSoup (is_none (soup_of sig s)) of-info (ap not (some-as ∙ some))
+
+      pub info-bad : is_bad_info info ≡ true → first_of (first_checks (SetInfo sig info) s) ≡ Some BadInfo
+      info-bad bad = with-soup-there ∙ first-holds BadInfo (is_bad_info info) ((Size, is_large_info info) ∷ []) bad
+
+      module _ (good : is_bad_info info ≡ false) where
+        pub info-large : is_large_info info ≡ true → first_of (first_checks (SetInfo sig info) s) ≡ Some Size
+        info-large large = with-soup-there ∙ first-not BadInfo (is_bad_info info) ((Size, is_large_info info) ∷ []) good ∙ first-holds Size (is_large_info info) [] large
+
+        pub info-planned : IfSome info IsGraph → is_large_info info ≡ false → (now : ℕ) (dir : Directory) → bare_store dir ≡ change_soup_of sig (with_info info) (bare_store catalog.directory)
+            → IsPlanOf catalog (SetInfo sig info) now s (record { directory = dir; entry = None; gone = Nothing; answer = 0 })
+        info-planned is short now dir made =
+            let w = the_some (soup_of sig s) (some-as ∙ some) in
+            record {
+              accepted = with-soup-there ∙ first-not BadInfo (is_bad_info info) ((Size, is_large_info info) ∷ []) good ∙ first-not Size (is_large_info info) [] short;
+              answer = refl;
+              turns = subst (λ (t : Store). Turns catalog (record { directory = dir; entry = None; gone = Nothing; answer = 0 }) s t) (ap (λ (o : Option Soup). changed_soup o (with_info info) s) (sym w.1))
+                  (turns-declared catalog s sig w.0 w.1 (with_info info) (sets-info info) (with-info info w.0 (info-valid info is good short))
+                  (λ old g e. subst (λ (o : Option RawGraph). IfSome o IsGraph) e is) dir made);
+              added = refl;
+              removed = none-over _;
+            }
 
   -- an index more
 
@@ -207,7 +270,7 @@ module _ (catalog : Catalog) (texts : Objects) (s : Store) (d : Describes catalo
                   ∙ first-not Limit (nat_le 16 (length row.specs)) [] few;
               answer = refl;
               turns = subst (λ (t : Store). Turns catalog (record { directory = dir; entry = None; gone = Nothing; answer = 0 }) s t) (ap (λ (o : Option Soup). changed_soup o (with_index spec) s) (sym the-soup.1))
-                  (turns-declared catalog s sig p the-soup.1 (with_index spec) (adds-index spec) good dir made);
+                  (turns-declared catalog s sig p the-soup.1 (with_index spec) (adds-index spec) good (λ old. old) dir made);
               added = refl;
               removed = none-over _;
             }

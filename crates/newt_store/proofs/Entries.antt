@@ -7,9 +7,9 @@ use Rattle.newt_spec_nsof.specs.Lengths.{skeleton}
 use Rattle.newt_spec_graph.proofs.Lists.{each-more}
 use Rattle.newt_spec_store.specs.Image.{entry_bytes, larges}
 use Rattle.newt_spec_store.specs.Laid.{IsThere}
-use Rattle.newt_spec_store.specs.Lies.{Places, IsIn, AreLarges, only}
+use Rattle.newt_spec_store.specs.Lies.{Places, IsIn, AreLarges}
 use Rattle.newt_spec_store.specs.Store.{Soup, Store, Entry, entry_of, entry_at}
-use Rattle.newt_spec_store.specs.StoreOf.{entry_of_row}
+use Rattle.newt_spec_store.specs.StoreOf.{entry_of_row, only}
 use Rattle.newt_spec_store.specs.Valid.{valid_entry}
 use Rattle.newt_laws_images.proofs.Finite.{object-get}
 use Rattle.newt_laws_images.proofs.Placed.{entry-fits}
@@ -19,8 +19,8 @@ use Rattle.newt_laws_changes.proofs.Fresh.{in_valid}
 use Rattle.newt_laws_changes.proofs.Members.{is_in_found}
 use Rattle.newt_laws_changes.proofs.Places.{place-there}
 use Rattle.newt_soupdir.specs.declared.rows.Directory.{Directory}
-use Rattle.newt_entries.specs.Entry.{stream_graph}
-use Rattle.newt_entries.proofs.Streams.{reads_graphs}
+use Rattle.newt_nsof_flat.specs.Stream.{stream_graph}
+use Rattle.newt_nsof_flat.proofs.Streams.{reads_graphs}
 use Rattle.newt_store_catalog.specs.Reading.{IsLaidAt}
 use Rattle.newt_store_catalog.specs.Stands.{Describes}
 use Rattle.newt_store.proofs.Found.{placed-entry, entry-placed}

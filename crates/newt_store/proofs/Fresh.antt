@@ -1,11 +1,11 @@
 -- A fresh store.
-use Rattle.std.proofs.Common.{◌≡◌, ℕ, ◌+◌, ◌≤◌, true, List, [], length, Option, Some, None, refl, sym, ◌∙◌, ap, arith}
+use Rattle.std.proofs.Common.{◌≡◌, ℕ, ◌+◌, ◌≤◌, true, false, List, [], length, Option, Some, None, refl, sym, ◌∙◌, ap, arith, Bool, not, ◌||◌, ◌==◌}
 use Rattle.std.specs.FinMap as map
 use Rattle.std.proofs.lemmas.Bool.Decides.{nat_tests}
 use Rattle.std.specs.Ordering.{nat_cmp}
 use Rattle.std.specs.Option.{option_map}
 use Rattle.newt_base.specs.Names.{is_name}
-use Rattle.newt_spec_image.specs.Records.{and_then}
+use Rattle.newt_spec_image.specs.Records.{and_then, version}
 use Rattle.newt_spec_image.specs.Pages.{Change, pages_after, after, cap}
 use Rattle.newt_spec_image.specs.Objects.{IsTableOf, joined, pages_for, Objects}
 use Rattle.newt_pagebook.specs.Batch.{no_change}
@@ -25,8 +25,8 @@ use Rattle.newt_laws_changes.proofs.Fresh.{fresh_lies, fresh_formed}
 use Rattle.newt_laws_changes.proofs.Moved.{inserted-at, inserted-other}
 use Rattle.newt_laws_images.proofs.Totals.{total}
 use Rattle.newt_laws_changes.proofs.Costs.{directory-length}
-use Rattle.newt_entries.specs.Entry.{stream_graph}
-use Rattle.newt_entries.proofs.Streams.{reads_graphs}
+use Rattle.newt_nsof_flat.specs.Stream.{stream_graph}
+use Rattle.newt_nsof_flat.proofs.Streams.{reads_graphs}
 use Rattle.newt_store.proofs.Reading.{is-valid}
 
 -- no objects are the objects of no pages
@@ -70,7 +70,11 @@ fresh-lies name sig bytes is = fresh_lies (map.insert map.empty 0 bytes) (new_st
   no_others = λ id ne. inserted-other map.empty 0 bytes id ne ∙ map.get-empty nat_cmp id;
 })
 
--- and is read as the fresh store
+or-true : (b : Bool) → (b || true) ≡ true
+or-true true = refl
+or-true false = refl
+
+-- and is read as the fresh store, whatever the image's version
 pub fresh-read : (name : List ℕ) (sig : ℕ) (bytes image : List ℕ) → is_name name ≡ true → length name ≤ 39 → sig ≤ 536870911 → 13 ≤ blocks_of image → bytes ≡ directory_bytes (new_store name sig)
     → HoldsObjects image (map.insert map.empty 0 bytes) → store_of_image stream_graph image ≡ Some (new_store name sig)
 fresh-read name sig bytes image good short few many is holds =
@@ -78,7 +82,7 @@ fresh-read name sig bytes image good short few many is holds =
     let s : Store = new_store name sig in
     let lies = (fresh-lies name sig bytes is).0 in
     image-by-objects stream_graph image holds.live texts holds.of_image holds.are
-    ∙ lies-read stream_graph texts (λ t u. None) (blocks_of image) s reads_graphs lies (is-valid (blocks_of image) s (fresh_formed name sig good few) (fresh-cost name sig (blocks_of image) short many))
+    ∙ lies-read stream_graph (version image) texts (λ t u. None) (blocks_of image) s reads_graphs lies (or-true (not (version image == 1))) (is-valid (blocks_of image) s (fresh_formed name sig good few) (fresh-cost name sig (blocks_of image) short many))
 
 pub short-name : (name : List ℕ) → is_name name ≡ true → length name ≤ 39
 short-name name good = grind (arith, nat_tests, good)

@@ -1,4 +1,5 @@
 -- What was gathered where the records of entries were read is gathered of the store.
+use Rattle.newt_spec_store.specs.Reading.{written}
 use Rattle.std.proofs.Common.{◌≡◌, ℕ, cond, List, Option, Some, None, option_map, option_and_then, refl, sym, ◌∙◌, ap, subst}
 use Rattle.std.specs.FinMap as map
 use Rattle.std.specs.Prelude.{bytes_eq}
@@ -11,7 +12,7 @@ use Rattle.newt_spec_store.specs.Image.{entry_bytes}
 use Rattle.newt_spec_store.specs.Laid.{row_of}
 use Rattle.newt_spec_store.specs.Lies.{Places, IsIn, record_read}
 use Rattle.newt_spec_store.specs.Store.{Store, Entry, entry_at}
-use Rattle.newt_spec_store.specs.StoreOf.{EntryRow as PlainRow, written}
+use Rattle.newt_spec_store.specs.StoreOf.{EntryRow as PlainRow}
 use Rattle.newt_laws_images.proofs.Alone.{alone, bad-alone}
 use Rattle.newt_laws_images.proofs.Records.{record-back, bytes-same}
 use Rattle.newt_laws_changes.specs.Written.{Names}
@@ -20,8 +21,8 @@ use Rattle.newt_objects_commit.specs.Names.{names_of}
 use Rattle.newt_objects_commit.specs.Places.{place_of}
 use Rattle.newt_soupdir.specs.Bare.{bare_store}
 use Rattle.newt_soupdir.specs.declared.rows.Directory.{Directory}
-use Rattle.newt_entries.specs.Entry.{stream_graph}
-use Rattle.newt_entries.proofs.Streams.{reads_graphs}
+use Rattle.newt_nsof_flat.specs.Stream.{stream_graph}
+use Rattle.newt_nsof_flat.proofs.Streams.{reads_graphs}
 use Rattle.newt_store_catalog.specs.Gathering.{Graphs, HasGathered, skeleton_read, skeleton_at}
 use Rattle.newt_store_catalog.specs.Reading.{IsLaidAt}
 use Rattle.newt_store_catalog.specs.Stands.{Describes, StandsFor}

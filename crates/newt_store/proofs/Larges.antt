@@ -1,4 +1,5 @@
 -- The large binary that a path reaches, in a record's graph and in the entry's, and bytes of it.
+use Rattle.newt_spec_store.specs.Reading.{written}
 use Rattle.std.proofs.Common.{IsTrue, ◌≡◌, ℕ, zero, suc, ◌+◌, ◌*◌, ◌<◌, ◌≤◌, ◌==◌, Bool, true, false, cond, List, [], ◌∷◌, map as map_list, length, Option, Some, None, Result, Ok, Err, IsErrOf, refl, sym, ◌∙◌, ap, subst, arith, ⊎_elim}
 use Rattle.std.specs.Prelude.{slice_get, nat_lt, bytes_eq}
 use Rattle.std.specs.List.{find, position}
@@ -33,14 +34,15 @@ use Rattle.newt_spec_store.specs.Cost.{range_pages}
 use Rattle.newt_spec_store.specs.Image.{entry_bytes}
 use Rattle.newt_spec_store.specs.Keys.{Path}
 use Rattle.newt_spec_store.specs.Laid.{row_of, FitsRecord}
-use Rattle.newt_spec_store.specs.Lies.{only, is_record, record_read}
+use Rattle.newt_spec_store.specs.Lies.{is_record, record_read}
 use Rattle.newt_spec_store.specs.Store.{Soup, Store, Entry, entry_of, entry_at}
-use Rattle.newt_spec_store.specs.StoreOf.{EntryRow as PlainRow, written}
+use Rattle.newt_spec_store.specs.StoreOf.{EntryRow as PlainRow, only}
 use Rattle.newt_laws_images.proofs.Records.{record-back}
-use Rattle.newt_entries.specs.Entry.{stream_graph, said}
+use Rattle.newt_nsof_flat.specs.Stream.{stream_graph}
+use Rattle.newt_entries.specs.Entry.{said}
 use Rattle.newt_entries.specs.declared.row.EntryRow.{EntryRow}
 use Rattle.newt_entries.specs.declared.row.LargeAt.{LargeAt}
-use Rattle.newt_entries.proofs.Streams.{reads_graphs}
+use Rattle.newt_nsof_flat.proofs.Streams.{reads_graphs}
 use Rattle.newt_objects_commit.specs.Commit.{AreKept}
 use Rattle.newt_objects_commit.specs.Names.{names_of}
 use Rattle.newt_objects_commit.specs.Places.{place_of}

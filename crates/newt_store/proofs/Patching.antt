@@ -1,4 +1,6 @@
 -- A patch of a large binary: where it goes, and the store after it.
+use Rattle.newt_spec_store.specs.Reading.{written}
+use Rattle.newt_spec_image.specs.Records.{version}
 use Rattle.std.proofs.Common.{IsTrue, ◌≡◌, inl, inr, ℕ, zero, suc, ◌+◌, ◌*◌, ◌<◌, ◌≤◌, ◌==◌, Bool, true, false, cond, not, List, [], ◌∷◌, map as map_list, zip, length, sum, Option, Some, None, IsSome, Result, Err, refl, sym, ◌∙◌, ap, subst, arith, ⊎_elim}
 use Rattle.std.specs.Prelude.{slice_get}
 use Rattle.std.specs.List.{find}
@@ -30,10 +32,10 @@ use Rattle.newt_spec_graph.proofs.Lists.{each-at, get-among, some-same, none-som
 use Rattle.newt_spec_store.specs.Cost.{cost, large_lengths, patch_bytes}
 use Rattle.newt_spec_store.specs.Image.{larges, entry_bytes}
 use Rattle.newt_spec_store.specs.Laid.{bare, row_of, row_of_large, FitsRecord, bare_soup}
-use Rattle.newt_spec_store.specs.Lies.{AreLarges, HasLarge, only, is_record, record_read}
+use Rattle.newt_spec_store.specs.Lies.{AreLarges, HasLarge, is_record, record_read}
 use Rattle.newt_spec_store.specs.OfImage.{blocks_of}
 use Rattle.newt_spec_store.specs.Store.{Soup, Store, Entry, entry_of, soup_named, change_soup, change_entry, soup_of, entry_at}
-use Rattle.newt_spec_store.specs.StoreOf.{EntryRow as PlainRow, LargeRow, fill, written}
+use Rattle.newt_spec_store.specs.StoreOf.{EntryRow as PlainRow, LargeRow, fill, only}
 use Rattle.newt_laws_images.proofs.Made.{map-length}
 use Rattle.newt_laws_images.proofs.Records.{larges_from, record-back, entry-length}
 use Rattle.newt_laws_images.proofs.Chosen.{found_by_name}
@@ -44,7 +46,8 @@ use Rattle.newt_laws_changes.proofs.Replaced.{patched_lies}
 use Rattle.newt_laws_changes.proofs.Soups.{first-map}
 use Rattle.newt_laws_changes.proofs.Moved.{inserted-at, inserted-other}
 use Rattle.newt_soupdir.specs.Bare.{bare_store}
-use Rattle.newt_entries.specs.Entry.{stream_graph, row_at, said}
+use Rattle.newt_nsof_flat.specs.Stream.{stream_graph}
+use Rattle.newt_entries.specs.Entry.{row_at, said}
 use Rattle.newt_entries.specs.declared.row.EntryRow.{EntryRow}
 use Rattle.newt_entries.specs.declared.row.LargeAt.{LargeAt}
 use Rattle.newt_objects_commit.specs.Commit.{AreKept}
@@ -67,7 +70,7 @@ use Rattle.newt_store.proofs.Found.{soup-some, entry-placed}
 use Rattle.newt_store.proofs.Ids.{lengths-from}
 use Rattle.newt_store_catalog.proofs.OpeningPlaces.{counted}
 use Rattle.newt_store.proofs.Planned.{first-holds, first-not, no-entry, an-entry}
-use Rattle.newt_store.proofs.Reading.{read-back, total-cost, same-cap}
+use Rattle.newt_store.proofs.Reading.{read-back, total-cost, same-cap, keeps-same, keeps-all}
 
 -- ---- the large binaries of a graph, and its nodes
 
@@ -413,21 +416,23 @@ module _ (catalog : Catalog) (s : Store) (now : List ℕ) (stands : StandsFor ca
       still-fits = subst (λ (n : ℕ). n ≤ cap (blocks_of now)) (sym same-cost) stands.fits
 
       -- the unit stands for the changed store
-      pub stands-after : (minute : ℕ) (later : List ℕ) → HoldsObjects later texts-after → length later ≡ length now → StandsFor catalog (changed_by (Patch sig uid node at bytes) minute s) later
-      stands-after minute later holds size = subst (λ (t : Store). StandsFor catalog t later) (sym (is-then minute)) (record {
+      pub stands-after : (minute : ℕ) (later : List ℕ) → HoldsObjects later texts-after → version later ≡ 2 → length later ≡ length now → StandsFor catalog (changed_by (Patch sig uid node at bytes) minute s) later
+      stands-after minute later holds second size = subst (λ (t : Store). StandsFor catalog t later) (sym (is-then minute)) (record {
         texts = texts-after;
         holds = holds;
         describes = described;
         fits = same-cap now later (cost then) size still-fits;
+        keeps = keeps-all later then second;
       })
 
       -- what a crash leaves is read as the one store or the other
       pub read-either : (minute : ℕ) (left : List ℕ) → IsBeforeOrPatched now stands.texts texts-after left → IsBeforeOrChanged (Patch sig uid node at bytes) (blocks_of now) minute s left
       read-either minute left e = ⊎_elim
-          (λ was. inl (read-back catalog.directory (place_of catalog.places) (names_of catalog.names) stands.texts s left was stands.describes (same-cap now left (cost s) e.size stands.fits)))
+          (λ was. inl (read-back catalog.directory (place_of catalog.places) (names_of catalog.names) stands.texts s left was.0 stands.describes (same-cap now left (cost s) e.size stands.fits)
+          (keeps-same now left s was.1 stands.keeps)))
           (λ is. inr (
             none-due (blocks_of now) minute,
-            read-back catalog.directory (place_of catalog.places) (names_of catalog.names) texts-after then left is described (same-cap now left (cost then) e.size still-fits) ∙ ap (λ (t : Store). Some t) (sym (is-then minute)),
+            read-back catalog.directory (place_of catalog.places) (names_of catalog.names) texts-after then left is.0 described (same-cap now left (cost then) e.size still-fits) (keeps-all left then is.1) ∙ ap (λ (t : Store). Some t) (sym (is-then minute)),
           ))
           e.holds
 

@@ -136,22 +136,22 @@ remove-planned catalog texts s sig uid now dir d some placed same =
 
 pub make-exists : (catalog : Catalog) (texts : Objects) (s : Store) (name : List ℕ) → Describes catalog.directory (place_of catalog.places) (names_of catalog.names) texts s → is_some (soup_named name (bare_store catalog.directory)) ≡ true
     → first_of (first_checks (MakeSoup name) s) ≡ Some Exists
-make-exists catalog texts s name d some = first-holds Exists (is_some (soup_named name s)) ((Limit, nat_le 64 (length s.soups)) ∷ (Ids, s.next_soup == 65_535) ∷ []) (named-some catalog.directory (place_of catalog.places) (names_of catalog.names) texts s d name ∙ some)
+make-exists catalog texts s name d some = first-holds Exists (is_some (soup_named name s)) ((Limit, nat_le 250 (length s.soups)) ∷ (Ids, s.next_soup == 65_535) ∷ []) (named-some catalog.directory (place_of catalog.places) (names_of catalog.names) texts s d name ∙ some)
 
 pub make-limit : (catalog : Catalog) (texts : Objects) (s : Store) (name : List ℕ) → Describes catalog.directory (place_of catalog.places) (names_of catalog.names) texts s → is_some (soup_named name (bare_store catalog.directory)) ≡ false
-    → nat_le 64 (length catalog.directory.soups) ≡ true → first_of (first_checks (MakeSoup name) s) ≡ Some Limit
+    → nat_le 250 (length catalog.directory.soups) ≡ true → first_of (first_checks (MakeSoup name) s) ≡ Some Limit
 make-limit catalog texts s name d none many =
-    first-not Exists (is_some (soup_named name s)) ((Limit, nat_le 64 (length s.soups)) ∷ (Ids, s.next_soup == 65_535) ∷ []) (named-some catalog.directory (place_of catalog.places) (names_of catalog.names) texts s d name ∙ none)
-    ∙ first-holds Limit (nat_le 64 (length s.soups)) ((Ids, s.next_soup == 65_535) ∷ []) (ap (nat_le 64) (as-many catalog.directory (place_of catalog.places) (names_of catalog.names) texts s d) ∙ many)
+    first-not Exists (is_some (soup_named name s)) ((Limit, nat_le 250 (length s.soups)) ∷ (Ids, s.next_soup == 65_535) ∷ []) (named-some catalog.directory (place_of catalog.places) (names_of catalog.names) texts s d name ∙ none)
+    ∙ first-holds Limit (nat_le 250 (length s.soups)) ((Ids, s.next_soup == 65_535) ∷ []) (ap (nat_le 250) (as-many catalog.directory (place_of catalog.places) (names_of catalog.names) texts s d) ∙ many)
 
 pub make-ids : (catalog : Catalog) (texts : Objects) (s : Store) (name : List ℕ) → Describes catalog.directory (place_of catalog.places) (names_of catalog.names) texts s → is_some (soup_named name (bare_store catalog.directory)) ≡ false
-    → nat_le 64 (length catalog.directory.soups) ≡ false → catalog.directory.next_soup ≡ 65535 → first_of (first_checks (MakeSoup name) s) ≡ Some Ids
+    → nat_le 250 (length catalog.directory.soups) ≡ false → catalog.directory.next_soup ≡ 65535 → first_of (first_checks (MakeSoup name) s) ≡ Some Ids
 make-ids catalog texts s name d none few last =
-    first-not Exists (is_some (soup_named name s)) ((Limit, nat_le 64 (length s.soups)) ∷ (Ids, s.next_soup == 65_535) ∷ []) (named-some catalog.directory (place_of catalog.places) (names_of catalog.names) texts s d name ∙ none)
-    ∙ first-not Limit (nat_le 64 (length s.soups)) ((Ids, s.next_soup == 65_535) ∷ []) (ap (nat_le 64) (as-many catalog.directory (place_of catalog.places) (names_of catalog.names) texts s d) ∙ few)
+    first-not Exists (is_some (soup_named name s)) ((Limit, nat_le 250 (length s.soups)) ∷ (Ids, s.next_soup == 65_535) ∷ []) (named-some catalog.directory (place_of catalog.places) (names_of catalog.names) texts s d name ∙ none)
+    ∙ first-not Limit (nat_le 250 (length s.soups)) ((Ids, s.next_soup == 65_535) ∷ []) (ap (nat_le 250) (as-many catalog.directory (place_of catalog.places) (names_of catalog.names) texts s d) ∙ few)
     ∙ first-holds Ids (s.next_soup == 65_535) [] (ap (λ (n : ℕ). n == 65_535) (next-same catalog.directory (place_of catalog.places) (names_of catalog.names) texts s d ∙ last))
 
-few-soups : (n : ℕ) → nat_le 64 n ≡ false → n < 64
+few-soups : (n : ℕ) → nat_le 250 n ≡ false → n < 250
 few-soups n e = grind (arith, nat_tests, e)
 
 not-last : (n : ℕ) → n ≢ 65535 → (n == 65_535) ≡ false
@@ -161,16 +161,16 @@ below-last : (s : Store) → well_formed s ≡ true → s.next_soup ≢ 65535 �
 below-last s w e = let r = is-store s w in omega (arith, r.next, e)
 
 pub make-planned : (catalog : Catalog) (texts : Objects) (s : Store) (name : List ℕ) (now a : ℕ) (dir : Directory) → Describes catalog.directory (place_of catalog.places) (names_of catalog.names) texts s → IsTrue (is_name name)
-    → is_some (soup_named name (bare_store catalog.directory)) ≡ false → nat_le 64 (length catalog.directory.soups) ≡ false → catalog.directory.next_soup ≢ 65535 → bare_store dir ≡ make_soup name (bare_store catalog.directory) → a ≡ catalog.directory.next_soup
+    → is_some (soup_named name (bare_store catalog.directory)) ≡ false → nat_le 250 (length catalog.directory.soups) ≡ false → catalog.directory.next_soup ≢ 65535 → bare_store dir ≡ make_soup name (bare_store catalog.directory) → a ≡ catalog.directory.next_soup
     → IsPlanOf catalog (MakeSoup name) now s (record { directory = dir; entry = None; gone = Nothing; answer = a })
 make-planned catalog texts s name now a dir d good none few last made answer =
     let p = place_of catalog.places in
     let new : soup_named name s ≡ None = none_is (soup_named name s) (named-some catalog.directory p (names_of catalog.names) texts s d name ∙ none) in
-    let room : length s.soups < 64 = few-soups (length s.soups) (ap (nat_le 64) (as-many catalog.directory p (names_of catalog.names) texts s d) ∙ few) in
+    let room : length s.soups < 250 = few-soups (length s.soups) (ap (nat_le 250) (as-many catalog.directory p (names_of catalog.names) texts s d) ∙ few) in
     let next : s.next_soup ≢ 65535 = λ is. last (sym (next-same catalog.directory p (names_of catalog.names) texts s d) ∙ is) in
     record {
-      accepted = first-not Exists (is_some (soup_named name s)) ((Limit, nat_le 64 (length s.soups)) ∷ (Ids, s.next_soup == 65_535) ∷ []) (ap is_some new)
-          ∙ first-not Limit (nat_le 64 (length s.soups)) ((Ids, s.next_soup == 65_535) ∷ []) (ap (nat_le 64) (as-many catalog.directory p (names_of catalog.names) texts s d) ∙ few)
+      accepted = first-not Exists (is_some (soup_named name s)) ((Limit, nat_le 250 (length s.soups)) ∷ (Ids, s.next_soup == 65_535) ∷ []) (ap is_some new)
+          ∙ first-not Limit (nat_le 250 (length s.soups)) ((Ids, s.next_soup == 65_535) ∷ []) (ap (nat_le 250) (as-many catalog.directory p (names_of catalog.names) texts s d) ∙ few)
           ∙ first-not Ids (s.next_soup == 65_535) [] (not-last s.next_soup next);
       answer = answer ∙ sym (next-same catalog.directory p (names_of catalog.names) texts s d);
       turns = turns-made catalog s name dir a made good new room (below-last s d.formed next);
@@ -178,11 +178,11 @@ make-planned catalog texts s name now a dir d good none few last made answer =
       removed = none-over _;
     }
 
-pub formed-made : (d e : Directory) (name : List ℕ) → well_formed (bare_store d) ≡ true → IsTrue (is_name name) → is_some (soup_named name (bare_store d)) ≡ false → nat_le 64 (length d.soups) ≡ false → d.next_soup ≢ 65535
+pub formed-made : (d e : Directory) (name : List ℕ) → well_formed (bare_store d) ≡ true → IsTrue (is_name name) → is_some (soup_named name (bare_store d)) ≡ false → nat_le 250 (length d.soups) ≡ false → d.next_soup ≢ 65535
     → bare_store e ≡ make_soup name (bare_store d) → well_formed (bare_store e) ≡ true
 formed-made d e name formed good none few last is =
     ap well_formed is ∙ made_formed name (bare_store d) formed good (none_is (soup_named name (bare_store d)) none)
-    (subst (λ (n : ℕ). n < 64) (sym (map-length bare_soup d.soups)) (few-soups (length d.soups) few)) (below-last (bare_store d) formed last)
+    (subst (λ (n : ℕ). n < 250) (sym (map-length bare_soup d.soups)) (few-soups (length d.soups) few)) (below-last (bare_store d) formed last)
 
 pub made-is : (d copy e : Directory) (name given : List ℕ) → bare_store e ≡ make_soup given (bare_store copy) → given ≡ name → copy ≡ d → bare_store e ≡ make_soup name (bare_store d)
 made-is d copy e name given made n c = made ∙ ap (λ (x : List ℕ). make_soup x (bare_store copy)) n ∙ ap (λ (x : Directory). make_soup name (bare_store x)) c

@@ -1,5 +1,6 @@
 -- What an image is read as, where a store lies in its objects.
-use Rattle.std.proofs.Common.{◌≡◌, ℕ, ◌≤◌, ◌/◌, ◌&&◌, Bool, true, false, List, length, Some, refl, sym, ◌∙◌, ap, subst, arith}
+use Rattle.newt_spec_image.specs.Records.{version}
+use Rattle.std.proofs.Common.{◌≡◌, ℕ, ◌≤◌, ◌/◌, ◌&&◌, Bool, true, false, List, length, Some, refl, sym, ◌∙◌, ap, subst, arith, IsTrue}
 use Rattle.std.proofs.lemmas.Bool.Decides.{nat_tests}
 use Rattle.newt_spec_image.specs.Objects.{Objects}
 use Rattle.newt_spec_image.specs.Pages.{cap}
@@ -8,14 +9,14 @@ use Rattle.newt_spec_store.specs.Store.{Store}
 use Rattle.newt_spec_store.specs.Cost.{cost}
 use Rattle.newt_spec_store.specs.Lies.{Places}
 use Rattle.newt_spec_store.specs.OfImage.{blocks_of}
-use Rattle.newt_spec_store.specs.Valid.{valid, fits, well_formed}
+use Rattle.newt_spec_store.specs.Valid.{valid, fits, well_formed, keeps_version}
 use Rattle.newt_laws_images.proofs.Gathering.{image-by-objects}
 use Rattle.newt_laws_images.proofs.Whole.{lies-read}
 use Rattle.newt_laws_images.proofs.Totals.{lies-total}
 use Rattle.newt_laws_changes.specs.Written.{Names}
 use Rattle.newt_soupdir.specs.declared.rows.Directory.{Directory}
-use Rattle.newt_entries.specs.Entry.{stream_graph}
-use Rattle.newt_entries.proofs.Streams.{reads_graphs}
+use Rattle.newt_nsof_flat.specs.Stream.{stream_graph}
+use Rattle.newt_nsof_flat.proofs.Streams.{reads_graphs}
 use Rattle.newt_store_catalog.specs.Readable.{readable}
 use Rattle.newt_store_catalog.specs.Stands.{Describes}
 
@@ -32,11 +33,19 @@ fits-test blocks s low = grind (arith, nat_tests)
 pub is-valid : (blocks : ℕ) (s : Store) → well_formed s ≡ true → cost s ≤ cap blocks → valid blocks s ≡ true
 is-valid blocks s formed low = join (well_formed s) (fits blocks s) formed (fits-test blocks s low)
 
--- an image that holds objects which write down a store that fits is read as this store
-pub read-back : (directory : Directory) (place : Places) (names : Names) (texts : Objects) (s : Store) (left : List ℕ) → HoldsObjects left texts → Describes directory place names texts s → cost s ≤ cap (blocks_of left) → readable left ≡ Some s
-read-back directory place names texts s left holds describes low =
+-- an image that holds objects which write down a store that fits, and that its version keeps, is read as this store
+pub read-back : (directory : Directory) (place : Places) (names : Names) (texts : Objects) (s : Store) (left : List ℕ) → HoldsObjects left texts → Describes directory place names texts s → cost s ≤ cap (blocks_of left)
+    → IsTrue (keeps_version (version left) s) → readable left ≡ Some s
+read-back directory place names texts s left holds describes low keeps =
     image-by-objects stream_graph left holds.live texts holds.of_image holds.are
-    ∙ lies-read stream_graph texts place (blocks_of left) s reads_graphs describes.lies (is-valid (blocks_of left) s describes.formed low)
+    ∙ lies-read stream_graph (version left) texts place (blocks_of left) s reads_graphs describes.lies keeps (is-valid (blocks_of left) s describes.formed low)
+
+-- an image of the same version keeps the store, and one of version 2 keeps each
+pub keeps-same : (now left : List ℕ) (s : Store) → version left ≡ version now → IsTrue (keeps_version (version now) s) → IsTrue (keeps_version (version left) s)
+keeps-same now left s same keeps = subst (λ (v : ℕ). IsTrue (keeps_version v s)) (sym same) keeps
+
+pub keeps-all : (left : List ℕ) (s : Store) → version left ≡ 2 → IsTrue (keeps_version (version left) s)
+keeps-all left s is = subst (λ (v : ℕ). IsTrue (keeps_version v s)) (sym is) refl
 
 -- as many pages as the store costs
 pub total-cost : (directory : Directory) (place : Places) (names : Names) (texts : Objects) (s : Store) → Describes directory place names texts s → total_pages texts ≡ cost s

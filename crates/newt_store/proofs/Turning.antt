@@ -93,7 +93,7 @@ module _ (catalog : Catalog) (s : Store) where
 
   -- ---- a soup more
 
-  module _ (name : List ℕ) (dir : Directory) (a : ℕ) (made : bare_store dir ≡ make_soup name (bare_store catalog.directory)) (good : IsTrue (is_name name)) (new : soup_named name s ≡ None) (room : length s.soups < 64) (ids : s.next_soup < 65535) where
+  module _ (name : List ℕ) (dir : Directory) (a : ℕ) (made : bare_store dir ≡ make_soup name (bare_store catalog.directory)) (good : IsTrue (is_name name)) (new : soup_named name s ≡ None) (room : length s.soups < 250) (ids : s.next_soup < 65535) where
     pub turns-made : Turns catalog (next-alone dir a) s (make_soup name s)
     turns-made = record {
       described = λ old now place names d are places named.

@@ -1,4 +1,5 @@
 -- What a change writes, from what is planned of it.
+use Rattle.newt_spec_image.specs.Records.{version}
 use Rattle.std.proofs.Common.{◌≡◌, ◌≢◌, inl, inr, ℕ, ◌+◌, Bool, List, [], ◌∷◌, map as map_list, length, Option, Some, None, IsSome, IsTrue, Result, Ok, Err, OnOk, refl, sym, ◌∙◌, ap, subst, arith, ⊎_elim}
 use Rattle.std.specs.FinMap as map
 use Rattle.std.specs.Option.{option_map}
@@ -129,7 +130,7 @@ module _ (objects now : Held) (batch : Change) (live : Pages) (before after : Ob
 pub either-next : (now : List ℕ) (next : Next) (gone : List ℕ) (before after : Objects) (left : List ℕ) → WritesNext next gone before after → IsEither now before after left → HoldsEither now next gone before left
 either-next now next gone before after left wrote e = record {
   size = e.size;
-  holds = ⊎_elim (λ was. inl was) (λ is. inr (after, is.0, wrote, is.1)) e.holds;
+  holds = ⊎_elim (λ was. inl was) (λ is. inr (after, is.0, wrote, is.1, is.2)) e.holds;
 }
 
 pub leaves-next : (unit : ℕ) (now : List ℕ) (next : Next) (gone : List ℕ) (before after : Objects) (old new : Moment) → WritesNext next gone before after → Leaves unit (IsEither now before after) old new → Leaves unit (HoldsEither now next gone before) old new
@@ -139,7 +140,7 @@ leaves-next unit now next gone before after old new wrote leaves = Leaves-weaken
 pub leaves-none : (unit : ℕ) (next : Next) (gone : List ℕ) (before : Objects) (old : Moment) → HoldsObjects (image unit old) before → IsDurable unit old → Leaves unit (HoldsEither (image unit old) next gone before) old old
 leaves-none unit next gone before old holds durable = Leaves-start (λ left may.
     let same : left ≡ image unit old = durable left may in
-    record { size = ap (λ (l : List ℕ). length l) same; holds = inl (subst (λ (l : List ℕ). HoldsObjects l before) (sym same) holds) })
+    record { size = ap (λ (l : List ℕ). length l) same; holds = inl (subst (λ (l : List ℕ). HoldsObjects l before) (sym same) holds, ap version same) })
 
 -- ---- how many bytes
 
@@ -200,7 +201,7 @@ module _ (told : Bool) (objects : Held) (numbers : Numbers) (unit : ℕ) (outsid
         there = on-ok r _ _ (λ is id there stays. some id (planned-there objects planning batch live texts.0 made.0 _ next.entry gone start texts.1 made.1 made.2 id there stays) (is id)) makes.made;
         holds = λ tells was holds.
             let w = led leads was (held-are told objects numbers unit outside kept was tells holds) in
-            on-ok r _ _ (λ done. (w.0, done.0, w.2, done.1)) (makes.holds tells was w.0 w.1);
+            on-ok r _ _ (λ done. (w.0, done.0, w.2, done.1, done.2)) (makes.holds tells was w.0 w.1);
         full = λ is tells was holds.
             let w = led leads was (held-are told objects numbers unit outside kept was tells holds) in
             (w.0, w.2, makes.full is tells was w.0 w.1);

@@ -1,6 +1,6 @@
 -- What calls on a store promise. All of it is this project's own.
 use Rattle.std.specs.Prelude.{◌≡◌, ℕ, ◌*◌, Bool, IsTrue, List, Option, Some, None, option_map, Result, OnOk, IfOk, IfErr, IsErrOf}
-use Rattle.newt_entries.specs.Entry.{stream_graph}
+use Rattle.newt_nsof_flat.specs.Stream.{stream_graph}
 use Rattle.newt_host.specs.Moments.{Anything, IsDurable, image, Leaves}
 use Rattle.newt_host.specs.Outside.{Outside, NoFault, OnlyReads, Spends, Touches, Wears}
 use Rattle.newt_pagebook.specs.Book.{Numbers, IsOpenFor}

@@ -1,4 +1,5 @@
 -- What a change makes of a store, before it is written.
+use Rattle.newt_spec_image.specs.Records.{version}
 use Rattle.std.specs.Prelude.{◌≡◌, ◌≢◌, ◌⊎◌, ℕ, ◌+◌, ◌<◌, ◌≤◌, IsTrue, List, [], ◌∷◌, ◌++◌, length, flat_map, map as map_list, Option, Some, None}
 use Rattle.std.specs.FinMap as map
 use Rattle.newt_spec_image.specs.Objects.{Objects}
@@ -145,10 +146,12 @@ pub record IsPlanOf (catalog : Catalog) (change : Change) (now : ℕ) (s : Store
 abbrev pub WritesNext : Next → List ℕ → Objects → Objects → Type 0
 WritesNext next gone old new = AreWritten (directory_bytes (bare_store next.directory)) next.entry gone old new
 
--- What a crash may leave of an image: as many bytes, which hold the objects before a change, or those after it where they fit.
+-- What a crash may leave of an image: as many bytes, which hold the objects before a change, in the version before it, or those after it, where they fit, in
+-- version 2.
 pub record HoldsEither (now : List ℕ) (next : Next) (gone : List ℕ) (before : Objects) (left : List ℕ) : Type 0 where
   pub size : length left ≡ length now
-  pub holds : HoldsObjects left before ⊎ ((after : Objects) × HoldsObjects left after × WritesNext next gone before after × Fit after now)
+  pub holds : (HoldsObjects left before × (version left ≡ version now))
+      ⊎ ((after : Objects) × HoldsObjects left after × WritesNext next gone before after × Fit after now × (version left ≡ 2))
 
 -- an image is read as one store, or as the other, which then fits
 abbrev pub IsEitherStore : List ℕ → Store → Store → List ℕ → Type 0

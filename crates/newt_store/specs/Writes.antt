@@ -1,4 +1,5 @@
 -- What is promised of a change that is written. All of it is this project's own.
+use Rattle.newt_spec_image.specs.Records.{version}
 use Rattle.std.specs.Prelude.{◌≡◌, ◌≢◌, ℕ, ◌<◌, ◌≤◌, Bool, IsTrue, List, [], Option, Some, None, IsSome, Result, OnOk, IfOk, IfErr, IsErrOf}
 use Rattle.newt_base.specs.declared.Refusal.TheVariants.{Full}
 use Rattle.newt_host.specs.Moments.{image, Leaves}
@@ -44,7 +45,7 @@ pub record WritesObjects (told : Bool) (unit : ℕ) (next : Next) (gone : List �
       IsSome (held written id))
   pub holds : ForHeld told (image unit before.now) (λ was. OnOk result ((will : Objects) ×
       HoldsObjects (image unit after.now) will × WritesNext next gone was will ×
-      Fit will (image unit before.now)))
+      Fit will (image unit before.now) × (version (image unit after.now) ≡ 2)))
   pub full : IsErrOf result (Refused Full) → ForHeld told (image unit before.now) (λ was.
       (will : Objects) × WritesNext next gone was will ×
       (cap (blocks_of (image unit before.now)) < total_pages will))

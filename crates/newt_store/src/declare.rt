@@ -1,18 +1,23 @@
 // What each change of a soup's declarations makes of a store, or why it is refused.
-ghost use Rattle.std.specs.Prelude.{IsTrue, ◌≡◌, ℕ, Some, nat_le, length, IfOk, IfErr};
+ghost use Rattle.std.specs.Prelude.{IsTrue, ◌≡◌, ℕ, Some, false, nat_le, length, IfOk, IfErr};
+ghost use Rattle.std.specs.Prelude.{IfSome};
 ghost use Rattle.newt_base.specs.Refusals.{first_of};
+ghost use Rattle.newt_graph.specs.Graph.{IsGraph};
 ghost use Rattle.newt_soupdir.specs.Bare.{bare_store};
 ghost use Rattle.newt_spec_store.specs.Keys.{has_paths, paths_of};
 ghost use Rattle.newt_spec_store.specs.Valid.{well_formed, valid_spec};
-ghost use Rattle.newt_store_change.specs.Change.{first_checks};
+ghost use Rattle.newt_store_change.specs.Change.{first_checks, is_bad_info as bad_info};
+ghost use Rattle.newt_store_change.specs.Change.{is_large_info as large_info};
 ghost use Rattle.newt_store.specs.Calls.{ForDescribed};
 ghost use Rattle.newt_store.specs.Next.{IsNextOf, IsPlanOf, IsNoDevice};
 ghost use Rattle.newt_store_change.specs.Faults.{RefusesWith};
 
 use crate::next::{Gone, Next};
 use newt_base::{Refusal, Sig};
+use newt_graph::Graph;
 use newt_keys::IndexSpec;
 use newt_path::Paths;
+use newt_soupdir::{MOST_INFO, info_len, is_info};
 use newt_store_catalog::Catalog;
 use newt_store_change::{Change, StoreFault};
 use newt_tags::TagTable;
@@ -119,6 +124,63 @@ pub(crate) fn plan_set_tags(
     let _valid = table.symbols();
     let mut directory = catalog.directory.copy()?;
     directory.set_tags(sig, Some(table));
+    Ok(Next {
+        directory,
+        entry: None,
+        gone: Gone::Nothing,
+        answer: 0,
+    })
+}
+
+// Whether a graph is there that is no info frame.
+fn is_bad_info(info: &Option<Graph>) -> bool
+    ensures bad { result ≡ bad_info info.now }
+    ensures graph { IfSome info.now IsGraph }
+{
+    match info {
+        Some(graph) => !is_info(graph),
+        None => false,
+    }
+}
+
+// Whether an info frame's text is too long.
+#[tactic(auto, using(crate::proofs::Declaring::no_large))]
+fn is_large_info(info: &Option<Graph>) -> bool
+    requires { bad_info info.now ≡ false }
+    ensures { result ≡ large_info info.now }
+{
+    match info {
+        Some(graph) => MOST_INFO < info_len(graph),
+        None => false,
+    }
+}
+
+/// A soup gets this info frame in place of its own, or none. Soup where there is no such soup, Info
+/// where the graph is no info frame, Size where its text is too long.
+pub(crate) fn plan_set_info(
+    catalog: &Catalog,
+    sig: Sig,
+    info: Option<Graph>,
+) -> Result<Next, StoreFault>
+    requires { IsTrue (well_formed (bare_store catalog.now.directory)) }
+    ensures next { IfOk result (IsNextOf catalog.now) }
+    ensures planned { (now : ℕ) → ForDescribed catalog.now (λ s.
+        IfOk result (IsPlanOf catalog.now (Change.SetInfo sig info) now s)) }
+    ensures refused { ForDescribed catalog.now (λ s.
+        IfErr result (RefusesWith (first_of (first_checks (Change.SetInfo sig info) s)))) }
+    ensures cause { IfErr result IsNoDevice }
+{
+    if catalog.directory.soup_of(sig).is_none() {
+        return Err(StoreFault::Refused(Refusal::Soup));
+    }
+    if is_bad_info(&info) {
+        return Err(StoreFault::Refused(Refusal::Info));
+    }
+    if is_large_info(&info) {
+        return Err(StoreFault::Refused(Refusal::Size));
+    }
+    let mut directory = catalog.directory.copy()?;
+    directory.set_info(sig, info);
     Ok(Next {
         directory,
         entry: None,

@@ -21,12 +21,13 @@ ghost use Rattle.newt_store.specs.Calls.{AreOpen, CallEnds, ForDescribed, ForSto
 ghost use Rattle.newt_store.specs.Calls.{PlansChange};
 ghost use Rattle.newt_store_change.specs.Faults.{RefusesWith};
 
-use crate::declare::{plan_add_index, plan_drop_index, plan_set_tags};
+use crate::declare::{plan_add_index, plan_drop_index, plan_set_info, plan_set_tags};
 use crate::next::{Gone, Next};
 use newt_base::{Name, Refusal, Sig, Uid};
-use newt_entries::{MOST_TEXT, is_frame, larges_of, row_of, write_entry};
+use newt_entries::{MOST_TEXT, larges_of, row_of, write_entry};
 use newt_graph::Graph;
 use newt_host::Host;
+use newt_nsof_flat::is_frame;
 use newt_nsof_write::skeleton_len;
 use newt_objects::Objects;
 use newt_objects_commit::{NewEntry, NewLarge};
@@ -466,5 +467,6 @@ pub(crate) fn plan_change<P: PageBook, H: Host>(
         Change::AddIndex(sig, spec) => plan_add_index(catalog, sig, spec),
         Change::DropIndex(sig, paths) => plan_drop_index(catalog, sig, &paths),
         Change::SetTags(sig, table) => plan_set_tags(catalog, sig, table),
+        Change::SetInfo(sig, info) => plan_set_info(catalog, sig, info),
     }
 }

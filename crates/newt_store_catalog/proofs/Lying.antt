@@ -17,7 +17,8 @@ use Rattle.newt_spec_store.specs.Image.{entry_bytes, larges}
 use Rattle.newt_spec_store.specs.Laid.{Named, row_of_large}
 use Rattle.newt_spec_store.specs.Lies.{HasLarge, record_read}
 use Rattle.newt_spec_store.specs.StoreOf.{LargeRow}
-use Rattle.newt_entries.specs.Entry.{stream_graph, row_at, said}
+use Rattle.newt_nsof_flat.specs.Stream.{stream_graph}
+use Rattle.newt_entries.specs.Entry.{row_at, said}
 use Rattle.newt_entries.specs.declared.row.EntryRow.{EntryRow}
 use Rattle.newt_entries.specs.declared.row.LargeAt.{LargeAt}
 use Rattle.newt_entries.proofs.Steps.{rest-is}

@@ -1,4 +1,6 @@
 -- What is found where a store is opened, and what it is read as.
+use Rattle.newt_laws_images.proofs.Directories.{directory-parts}
+use Rattle.newt_spec_image.specs.Records.{version, IsVersion}
 use Rattle.std.proofs.Common.{IsTrue, ◌≡◌, ◌≢◌, inl, inr, ℕ, ◌+◌, ◌<◌, ◌≤◌, ◌%◌, ◌==◌, Bool, true, false, cond, ◌&&◌, nat_le, nat_lt, ◌⊎◌, List, [], ◌∷◌, length, get_or, find, map as map_list, Option, Some, None, option_and_then, Result, Ok, Err, IfOk, OnOk, IsSome, is_some, refl, sym, ◌∙◌, ap, subst, arith, ⊎_elim}
 use Rattle.std.specs.List.{list_all}
 use Rattle.std.specs.FinMap as map
@@ -28,7 +30,7 @@ use Rattle.newt_spec_store.specs.ImageStore.{store_of_image}
 use Rattle.newt_spec_store.specs.OfImage.{blocks_of}
 use Rattle.newt_spec_store.specs.Laid.{bare}
 use Rattle.newt_spec_store.specs.Reading.{whole, directory}
-use Rattle.newt_spec_store.specs.Lies.{Places, only, directory_read, entry_read, record_read, may_be_large}
+use Rattle.newt_spec_store.specs.Lies.{Places, directory_read, entry_read, record_read, may_be_large}
 use Rattle.newt_spec_store.specs.Valid.{valid_soup, well_formed}
 use Rattle.newt_laws_changes.specs.Written.{Names}
 use Rattle.newt_laws_images.specs.Found.{HasGiven, ids_in, ids_named}
@@ -39,7 +41,8 @@ use Rattle.newt_laws_images.proofs.Gathering.{image-by-objects, image-no-pages, 
 use Rattle.newt_laws_images.proofs.Refused.{no-directory, has-directory, has-names, named-by-two, named-by-one, bad-record, not-given, stands-twice}
 use Rattle.newt_soupdir.specs.Bare.{bare_store}
 use Rattle.newt_soupdir.specs.declared.rows.Directory.{Directory}
-use Rattle.newt_entries.specs.Entry.{stream_graph, row_at, said}
+use Rattle.newt_nsof_flat.specs.Stream.{stream_graph}
+use Rattle.newt_entries.specs.Entry.{row_at, said}
 use Rattle.newt_entries.specs.declared.row.EntryRow.{EntryRow}
 use Rattle.newt_entries.specs.declared.row.LargeAt.{LargeAt}
 use Rattle.newt_objects_commit.specs.Commit.{AreKept}
@@ -66,8 +69,8 @@ still-kept told objects numbers numbers' unit unit' old new kept place same now 
 -- ---- what is not read
 
 -- an image that holds objects which are no store
-pub not-readable : (now : List ℕ) (texts : Objects) → HoldsObjects now texts → ((s : Store) → store_of stream_graph (map.entries texts) (blocks_of now) ≡ Some s → ⊥) → readable now ≡ None
-not-readable now texts h fails = image-by-objects stream_graph now h.live texts h.of_image h.are ∙ go (store_of stream_graph (map.entries texts) (blocks_of now)) fails
+pub not-readable : (now : List ℕ) (texts : Objects) → HoldsObjects now texts → ((s : Store) → store_of stream_graph (version now) (map.entries texts) (blocks_of now) ≡ Some s → ⊥) → readable now ≡ None
+not-readable now texts h fails = image-by-objects stream_graph now h.live texts h.of_image h.are ∙ go (store_of stream_graph (version now) (map.entries texts) (blocks_of now)) fails
   where
     go : (r : Option Store) → ((s : Store) → r ≡ Some s → ⊥) → r ≡ None
     go None fails = refl
@@ -231,16 +234,8 @@ read-whole texts bytes row h even there =
 
 -- ---- the directory
 
-only-some : {X : Type 0} (test : X → Bool) (o : Option X) (x : X) → only test o ≡ Some x → (o ≡ Some x) × (test x ≡ true)
-only-some test None x e = absurd (none-some x e)
-only-some {X} test (Some y) x e = go (test y) refl e
-  where
-    go : (b : Bool) → test y ≡ b → cond b (Some y) None ≡ Some x → (Some y ≡ Some x) × (test x ≡ true)
-    go true t k = (k, let same : y ≡ x = cc in ap test (sym same) ∙ t)
-    go false t k = absurd (none-some x k)
-
-pub now-formed : (bytes : List ℕ) (d : Store) → directory_read bytes ≡ Some d → IsTrue (well_formed d)
-now-formed bytes d e = (only-some well_formed (whole directory bytes) d e).1
+pub now-formed : (version : ℕ) (bytes : List ℕ) (d : Store) → directory_read stream_graph version bytes ≡ Some d → IsTrue (well_formed d)
+now-formed version bytes d e = (directory-parts stream_graph version bytes d e).2
 
 module _ (told : Bool) (objects : Held) (numbers : Numbers) (unit : ℕ) (outside : Outside) (kept : AreKept told objects numbers unit outside) (tells : IsTrue told) where
   abbrev now : List ℕ
@@ -251,29 +246,29 @@ module _ (told : Bool) (objects : Held) (numbers : Numbers) (unit : ℕ) (outsid
 
   -- the directory is not there
   pub root-missing : held objects 0 ≡ None → readable now ≡ None
-  root-missing none = not-readable now the.0 the.1 (λ s is. no-directory stream_graph the.0 (blocks_of now) s is (kept-none told objects numbers unit outside kept tells the.0 the.1 0 none))
+  root-missing none = not-readable now the.0 the.1 (λ s is. no-directory stream_graph (version now) the.0 (blocks_of now) s is (kept-none told objects numbers unit outside kept tells the.0 the.1 0 none))
 
   -- the directory cannot be read
-  pub root-bad : (bytes : List ℕ) → OfObjects told now (HasObject 0 bytes) → directory_read bytes ≡ None → readable now ≡ None
+  pub root-bad : (bytes : List ℕ) → OfObjects told now (HasObject 0 bytes) → directory_read stream_graph (version now) bytes ≡ None → readable now ≡ None
   root-bad bytes has bad = not-readable now the.0 the.1 (λ s is.
-      let r = has-directory stream_graph the.0 (blocks_of now) s is in
+      let r = has-directory stream_graph (version now) the.0 (blocks_of now) s is in
       let same : r.0 ≡ bytes = some-same _ _ (sym r.1 ∙ has tells the.0 the.1) in
-      let read : directory_read bytes ≡ Some (bare s) = ap directory_read (sym same) ∙ r.2 in
+      let read : directory_read stream_graph (version now) bytes ≡ Some (bare s) = ap (directory_read stream_graph (version now)) (sym same) ∙ r.2 in
       none-some (bare s) (sym bad ∙ read))
 
   -- a record that cannot be read
   pub record-bad : (id : ℕ) (bytes : List ℕ) → OfObjects told now (HasObject id bytes) → id % 2 ≡ 1 → record_read stream_graph bytes ≡ None → readable now ≡ None
   record-bad id bytes has odd bad = not-readable now the.0 the.1 (λ s is.
-      bad-record stream_graph the.0 (blocks_of now) s is id bytes (has tells the.0 the.1) odd (bad-alone stream_graph the.0 bytes bad))
+      bad-record stream_graph (version now) the.0 (blocks_of now) s is id bytes (has tells the.0 the.1) odd (bad-alone stream_graph the.0 bytes bad))
 
-  module _ (directory : Directory) (root : OfObjects told now (IsRoot directory)) (id : ℕ) (odd : id % 2 ≡ 1) (row : EntryRow) (is_row : OfObjects told now (IsRow id row)) where
+  module _ (directory : Directory) (root : OfObjects told now (IsRoot (version now) directory)) (id : ℕ) (odd : id % 2 ≡ 1) (row : EntryRow) (is_row : OfObjects told now (IsRow id row)) where
     abbrev the_row : IsRow id row the.0
     the_row = is_row tells the.0 the.1
 
     -- the record is read, or there is no store
-    read-or-not : (s : Store) → store_of stream_graph (map.entries the.0) (blocks_of now) ≡ Some s → (e : Entry) × (entry_read stream_graph the.0 the_row.bytes ≡ Some (row.soup, e)) × (e.uid ≡ row.uid)
+    read-or-not : (s : Store) → store_of stream_graph (version now) (map.entries the.0) (blocks_of now) ≡ Some s → (e : Entry) × (entry_read stream_graph the.0 the_row.bytes ≡ Some (row.soup, e)) × (e.uid ≡ row.uid)
     read-or-not s is = ⊎_elim
-        (λ (none : entry_read stream_graph the.0 the_row.bytes ≡ None). absurd (bad-record stream_graph the.0 (blocks_of now) s is id the_row.bytes the_row.object odd none))
+        (λ (none : entry_read stream_graph the.0 the_row.bytes ≡ None). absurd (bad-record stream_graph (version now) the.0 (blocks_of now) s is id the_row.bytes the_row.object odd none))
         (λ (read : (e : Entry) × (entry_read stream_graph the.0 the_row.bytes ≡ Some (row.soup, e)) × (e.uid ≡ row.uid)). read)
         (read-among the.0 the_row.bytes row the_row.read)
 
@@ -282,12 +277,12 @@ module _ (told : Bool) (objects : Held) (numbers : Numbers) (unit : ℕ) (outsid
     record-not-given none = not-readable now the.0 the.1 (λ s is.
         let d = root tells the.0 the.1 in
         let r = read-or-not s is in
-        not-given stream_graph the.0 (blocks_of now) s is id d.bytes the_row.bytes (bare_store directory) row.soup r.0 d.object d.read the_row.object odd r.1
+        not-given stream_graph (version now) the.0 (blocks_of now) s is id d.bytes the_row.bytes (bare_store directory) row.soup r.0 d.object d.read the_row.object odd r.1
         (λ given. none (subst (λ (u : ℕ). HasGiven (bare_store directory) row.soup u) r.2 given)))
 
     -- a large binary that is not there with its length
     pub record-missing : (l : LargeAt) → Among row.larges l → (option_map (λ x. x.length) (held objects l.object) ≡ Some l.length → ⊥) → readable now ≡ None
-    record-missing l m none = not-readable now the.0 the.1 (λ s is. bad-record stream_graph the.0 (blocks_of now) s is id the_row.bytes the_row.object odd (go (bytes_of the.0 row) refl))
+    record-missing l m none = not-readable now the.0 the.1 (λ s is. bad-record stream_graph (version now) the.0 (blocks_of now) s is id the_row.bytes the_row.object odd (go (bytes_of the.0 row) refl))
       where
         not-there : (o : Option (List ℕ)) → large_object (map.entries the.0) (row_at l) ≡ o → o ≡ None
         not-there None e = refl
@@ -307,16 +302,16 @@ module _ (told : Bool) (objects : Held) (numbers : Numbers) (unit : ℕ) (outsid
           let r = read-or-not s is in
           let f = (found tells the.0 the.1).places row.soup row.uid other at in
           let below : other < last + 1 = sound.below row.soup row.uid other at in
-          stands-twice stream_graph the.0 (blocks_of now) s is id other the_row.bytes f.0 row.soup r.0 f.1 the_row.object f.2 odd f.3 (λ same. omega (arith, same, later, below)) r.1 f.4.read (r.2 ∙ sym f.5))
+          stands-twice stream_graph (version now) the.0 (blocks_of now) s is id other the_row.bytes f.0 row.soup r.0 f.1 the_row.object f.2 odd f.3 (λ same. omega (arith, same, later, below)) r.1 f.4.read (r.2 ∙ sym f.5))
 
       -- an object that another record names, or this one twice
       pub record-owned : AreOwned (objects_named row.larges) owner → readable now ≡ None
       record-owned owned = not-readable now the.0 the.1 (λ s is.
           let are : ids_named the_row.bytes ≡ objects_named row.larges = names-are the_row.bytes row the_row.read in
           owned (λ o m. free s is are o m (owner o) refl)
-          (subst (λ (ids : List ℕ). Pairs (λ a b. a ≢ b) ids) are (named-by-one stream_graph the.0 (blocks_of now) s is id the_row.bytes the_row.object odd)))
+          (subst (λ (ids : List ℕ). Pairs (λ a b. a ≢ b) ids) are (named-by-one stream_graph (version now) the.0 (blocks_of now) s is id the_row.bytes the_row.object odd)))
         where
-          free : (s : Store) → store_of stream_graph (map.entries the.0) (blocks_of now) ≡ Some s → ids_named the_row.bytes ≡ objects_named row.larges
+          free : (s : Store) → store_of stream_graph (version now) (map.entries the.0) (blocks_of now) ≡ Some s → ids_named the_row.bytes ≡ objects_named row.larges
               → (o : ℕ) → Among (objects_named row.larges) o → (r : Option ℕ) → owner o ≡ r → owner o ≡ None
           free s is are o m None e = e
           free s is are o m (Some r) e =
@@ -325,7 +320,7 @@ module _ (told : Bool) (objects : Held) (numbers : Numbers) (unit : ℕ) (outsid
               let below : r < last + 1 = sound.below p.0 p.1 r p.2 in
               let f = (found tells the.0 the.1).places p.0 p.1 r p.2 in
               let k = (found tells the.0 the.1).records r f.0 f.2 f.3 below in
-              absurd (named-by-two stream_graph the.0 (blocks_of now) s is id r o the_row.bytes f.0 the_row.object f.2 odd f.3 (λ same. omega (arith, same, later, below))
+              absurd (named-by-two stream_graph (version now) the.0 (blocks_of now) s is id r o the_row.bytes f.0 the_row.object f.2 odd f.3 (λ same. omega (arith, same, later, below))
               (subst (λ (ids : List ℕ). Among ids o) (sym are) m) (subst (λ (ids : List ℕ). Among ids o) k.4 names_it))
 
   -- an object with an even id that no record names
@@ -333,7 +328,7 @@ module _ (told : Bool) (objects : Held) (numbers : Numbers) (unit : ℕ) (outsid
       → ((q : ℕ) → last + 1 ≤ q → held objects q ≡ None) → (id : ℕ) → IsSome (held objects id) → (id ≡ 0 → ⊥) → id % 2 ≡ 0 → owner id ≡ None → readable now ≡ None
   large-not-named last place names owner d sound found none id there n even free = not-readable now the.0 the.1 (λ s is.
       let b = kept-some told objects numbers unit outside kept tells the.0 the.1 id there in
-      let r = has-names stream_graph the.0 (blocks_of now) s is id b.0 b.1 n even in
+      let r = has-names stream_graph (version now) the.0 (blocks_of now) s is id b.0 b.1 n even in
       let k = (found tells the.0 the.1).records r.0 r.1 r.2 r.3 (below r.0 r.1 r.2 (cases_lt r.0 (last + 1))) in
       none-some r.0 (sym free ∙ sound.owned r.0 id (subst (λ (ids : List ℕ). Among ids id) (sym k.4) r.4)))
     where
@@ -396,10 +391,10 @@ given-below d sig uid p formed at h =
     subst (λ (q : Soup). uid < q.next_uid) same h.below where
       formed-rises : (d : Store) → IsTrue (well_formed d) → rises 0 d.next_soup (map_list (λ (p : Soup). p.sig) d.soups) ≡ true
       formed-rises d formed =
-          let a = and_parts (is_name d.name && nat_le d.sig 536_870_911 && nat_le d.next_soup 65_535 && nat_le (length d.soups) 64 && rises 0 d.next_soup (map_list (λ (p : Soup). p.sig) d.soups) && all_apart equal_text (map_list (λ (p : Soup). p.name) d.soups))
+          let a = and_parts (is_name d.name && nat_le d.sig 536_870_911 && nat_le d.next_soup 65_535 && nat_le (length d.soups) 250 && rises 0 d.next_soup (map_list (λ (p : Soup). p.sig) d.soups) && all_apart equal_text (map_list (λ (p : Soup). p.name) d.soups))
           (list_all valid_soup d.soups) formed in
-          let b = and_parts (is_name d.name && nat_le d.sig 536_870_911 && nat_le d.next_soup 65_535 && nat_le (length d.soups) 64 && rises 0 d.next_soup (map_list (λ (p : Soup). p.sig) d.soups)) (all_apart equal_text (map_list (λ (p : Soup). p.name) d.soups)) a.0 in
-          (and_parts (is_name d.name && nat_le d.sig 536_870_911 && nat_le d.next_soup 65_535 && nat_le (length d.soups) 64) (rises 0 d.next_soup (map_list (λ (p : Soup). p.sig) d.soups)) b.0).1
+          let b = and_parts (is_name d.name && nat_le d.sig 536_870_911 && nat_le d.next_soup 65_535 && nat_le (length d.soups) 250 && rises 0 d.next_soup (map_list (λ (p : Soup). p.sig) d.soups)) (all_apart equal_text (map_list (λ (p : Soup). p.name) d.soups)) a.0 in
+          (and_parts (is_name d.name && nat_le d.sig 536_870_911 && nat_le d.next_soup 65_535 && nat_le (length d.soups) 250) (rises 0 d.next_soup (map_list (λ (p : Soup). p.sig) d.soups)) b.0).1
 
 pub mapped-none : {X Y : Type 0} (f : X → Y) (o : Option X) → option_map f o ≡ None → o ≡ None
 mapped-none f None e = refl
@@ -412,14 +407,23 @@ pub is-none : {X : Type 0} (o : Option X) → is_some o ≡ false → o ≡ None
 is-none None e = refl
 is-none (Some x) e = absurd (not_true true refl e)
 
--- what is read as a directory is the root, if the bytes are those of object 0
-pub directory-by : (told : Bool) (read_from bytes text : List ℕ) (r : Result Directory BookFault) → OfObjects told read_from (HasObject 0 bytes) → text ≡ bytes → IfOk r (λ d. directory_read text ≡ Some (bare_store d)) → OnOk r (AreBytes text)
-    → IfOk r (IsDirectory told read_from)
-directory-by told read_from bytes text (Ok d) has same read are = record {
-  root = λ tells texts h. record { bytes = text; object = has tells texts h ∙ ap (λ (b : List ℕ). let o : Option (List ℕ) = Some b in o) (sym same); read = read; are_bytes = are };
-  formed = now-formed text (bare_store d) read;
+-- a version is one of two
+pub either-version : (n : ℕ) → IsVersion n → (n ≡ 1) ⊎ (n ≡ 2)
+either-version n is = ⊎_elim (λ (lt : n < 2). inl (omega (arith, lt, is.0))) (λ (ge : 2 ≤ n). inr (omega (arith, ge, is.1))) (cases_lt n 2)
+
+-- what is read as a directory, in the form of the image's version, is the root, if the bytes are those of object 0
+pub directory-by : (told : Bool) (read_from bytes text : List ℕ) (number : ℕ) (r : Result Directory BookFault) → OfObjects told read_from (HasObject 0 bytes) → text ≡ bytes → (IsTrue told → number ≡ version read_from)
+    → IfOk r (λ d. directory_read stream_graph number text ≡ Some (bare_store d)) → OnOk r (AreBytes text) → IfOk r (IsDirectory told read_from)
+directory-by told read_from bytes text number (Ok d) has same is read are = record {
+  root = λ tells texts h. record {
+    bytes = text;
+    object = has tells texts h ∙ ap (λ (b : List ℕ). let o : Option (List ℕ) = Some b in o) (sym same);
+    read = ap (λ (n : ℕ). directory_read stream_graph n text) (sym (is tells)) ∙ read;
+    are_bytes = are;
+  };
+  formed = now-formed number text (bare_store d) read;
 }
-directory-by told read_from bytes text (Err e) has same read are = tt
+directory-by told read_from bytes text number (Err e) has same is read are = tt
 
 -- and what is read as a record is that of an object
 pub row-by : (told : Bool) (read_from bytes text : List ℕ) (id : ℕ) (r : Result EntryRow BookFault) → OfObjects told read_from (HasObject id bytes) → text ≡ bytes → IfOk r (λ row. record_read stream_graph text ≡ Some (said row)) → OnOk r (AreBytes text)

@@ -1,4 +1,5 @@
 -- Places as they are found, one object after the other, and the store that they make.
+use Rattle.newt_spec_image.specs.Records.{version}
 use Rattle.std.proofs.Common.{IsTrue, ◌≡◌, ◌≢◌, ◌⊎◌, inl, inr, ℕ, ◌+◌, ◌*◌, ◌<◌, ◌≤◌, ◌%◌, ◌==◌, Bool, true, false, nat_le, List, [], ◌∷◌, length, Option, Some, None, IsSome, refl, sym, ◌∙◌, ap, subst, arith, ⊎_elim}
 use Rattle.std.specs.FinMap as map
 use Rattle.std.specs.FinSet as set
@@ -31,10 +32,10 @@ use Rattle.newt_laws_images.proofs.Totals.{lies-total}
 use Rattle.newt_laws_images.proofs.Whole.{lies-read}
 use Rattle.newt_soupdir.specs.Bare.{bare_store}
 use Rattle.newt_soupdir.specs.declared.rows.Directory.{Directory}
-use Rattle.newt_entries.specs.Entry.{stream_graph}
+use Rattle.newt_nsof_flat.specs.Stream.{stream_graph}
 use Rattle.newt_entries.specs.declared.row.EntryRow.{EntryRow}
 use Rattle.newt_entries.specs.declared.row.LargeAt.{LargeAt}
-use Rattle.newt_entries.proofs.Streams.{reads_graphs}
+use Rattle.newt_nsof_flat.proofs.Streams.{reads_graphs}
 use Rattle.newt_objects_commit.specs.Commit.{AreKept}
 use Rattle.newt_objects_commit.proofs.Committing.{blocks-are}
 use Rattle.newt_objects_commit.specs.Names.{names_of, AreSoundNames}
@@ -289,10 +290,10 @@ found-none texts d place names none = record {
   one : ◌≡◌ {A = ℕ} 0 1 → ⊥
   one e = cc
 
-pub found-all : (texts : Objects) (directory : Directory) (last : ℕ) (table : Table) (place : Places) (names : Names) (owner : Owners) → IsRoot directory texts
+pub found-all : (version : ℕ) (texts : Objects) (directory : Directory) (last : ℕ) (table : Table) (place : Places) (names : Names) (owner : Owners) → IsRoot version directory texts
     → AreSoundTo last table place names owner → AreFoundTo last place names (bare_store directory) texts → ((q : ℕ) → last + 1 ≤ q → map.get texts q ≡ None)
-    → ((id : ℕ) (bytes : List ℕ) → map.get texts id ≡ Some bytes → id ≢ 0 → id % 2 ≡ 0 → IsSome (owner id)) → IsFound stream_graph texts place names (bare_store directory)
-found-all texts directory last table place names owner root so f none all_owned = record {
+    → ((id : ℕ) (bytes : List ℕ) → map.get texts id ≡ Some bytes → id ≢ 0 → id % 2 ≡ 0 → IsSome (owner id)) → IsFound stream_graph version texts place names (bare_store directory)
+found-all version texts directory last table place names owner root so f none all_owned = record {
   directory = (root.bytes, root.object, root.read, root.are_bytes);
   records = λ i b at n. ⊎_elim
       (λ (before : i < last + 1). f.records i b at n before)
@@ -313,29 +314,30 @@ counted told objects numbers unit outside kept tells texts h =
     let same : kept.are.live ≡ h.live = some-same _ _ (sym (kept.are.are.of_image tells) ∙ h.of_image) in
     pages_total h.live texts numbers (image_whole (image unit outside.now) h.live h.of_image) h.are (λ q. ap (λ (m : Pages). map.contains_key m q) (sym same) ∙ kept.are.are.named q)
 
-module _ (now : List ℕ) (texts : Objects) (h : HoldsObjects now texts) (place : Places) (names : Names) (directory : Directory) (found : IsFound stream_graph texts place names (bare_store directory)) where
+module _ (now : List ℕ) (texts : Objects) (h : HoldsObjects now texts) (place : Places) (names : Names) (directory : Directory) (found : IsFound stream_graph (version now) texts place names (bare_store directory)) where
   bytes-there : (id : ℕ) (bytes : List ℕ) → map.get texts id ≡ Some bytes → (id ≡ 0) ⊎ (id % 2 ≡ 1) → AreBytes bytes
   bytes-there id bytes at (inl zero) = let r = found.directory in subst AreBytes (some-same r.0 bytes (sym r.1 ∙ ap (λ (q : ℕ). map.get texts q) (sym zero) ∙ at)) r.3
   bytes-there id bytes at (inr odd) = (found.records id bytes at odd).2.are_bytes
 
   -- the objects take more pages than the unit has
   pub too-large : cap (blocks_of now) < total_pages texts → readable now ≡ None
-  too-large more = not-readable now texts h (λ s is. over stream_graph texts (blocks_of now) s reads_graphs bytes-there is more)
+  too-large more = not-readable now texts h (λ s is. over stream_graph (version now) texts (blocks_of now) s reads_graphs bytes-there is more)
 
   pub opened : total_pages texts ≤ cap (blocks_of now) → (catalog : Catalog) → catalog.directory ≡ directory → place_of catalog.places ≡ place → names_of catalog.names ≡ names
       → (s : Store) × (readable now ≡ Some s) × StandsFor catalog s now
   opened few catalog same_directory same_places same_names =
-      let m = found-lies stream_graph texts place names (bare_store directory) found reads_graphs in
+      let m = found-lies stream_graph (version now) texts place names (bare_store directory) found reads_graphs in
       let total : total_pages texts ≡ cost m.0 = lies-total texts place m.0 m.1 m.3 in
       let fits : cost m.0 ≤ cap (blocks_of now) = omega (arith, total, few) in
       let good : valid (blocks_of now) m.0 ≡ true = and_from (well_formed m.0) (nat_le (cost m.0) (cap (blocks_of now))) m.3 (le-leb (cost m.0) (cap (blocks_of now)) fits) in (
         m.0,
-        image-by-objects stream_graph now h.live texts h.of_image h.are ∙ lies-read stream_graph texts place (blocks_of now) m.0 reads_graphs m.1 good,
+        image-by-objects stream_graph now h.live texts h.of_image h.are ∙ lies-read stream_graph (version now) texts place (blocks_of now) m.0 reads_graphs m.1 m.4 good,
         record {
           texts = texts;
           holds = h;
-          describes = described m.0 m.1 m.2 m.3 (m.4 ∙ ap bare_store (sym same_directory));
+          describes = described m.0 m.1 m.2 m.3 (m.5 ∙ ap bare_store (sym same_directory));
           fits = fits;
+          keeps = m.4;
         },
       ) where
         described : (s : Store) (lies : LiesIn texts place s) → ((r : ℕ) → lies.named r ≡ names r) → well_formed s ≡ true → bare s ≡ bare_store catalog.directory
@@ -349,7 +351,7 @@ module _ (now : List ℕ) (texts : Objects) (h : HoldsObjects now texts) (place 
 
 module _ (told : Bool) (objects : Held) (numbers : Numbers) (unit : ℕ) (outside : Outside) (kept : AreKept told objects numbers unit outside) (tells : IsTrue told)
     (blocks : ℕ) (size : length (image unit outside.now) ≡ blocks * 4096) (now : List ℕ) (is : image unit outside.now ≡ now) (place : Places) (names : Names) (directory : Directory)
-    (found : OfObjects told now (λ texts. IsFound stream_graph texts place names (bare_store directory))) where
+    (found : OfObjects told now (λ texts. IsFound stream_graph (version now) texts place names (bare_store directory))) where
   abbrev texts_there : Objects
   texts_there = (kept-holds told objects numbers unit outside kept tells).0
 

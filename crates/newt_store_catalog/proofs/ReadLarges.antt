@@ -27,7 +27,8 @@ use Rattle.newt_laws_images.proofs.Finite.{object-get}
 use Rattle.newt_laws_images.proofs.Records.{larges_from, record-back, every-back, entry-length}
 use Rattle.newt_entries.specs.declared.row.EntryRow.{EntryRow}
 use Rattle.newt_entries.specs.declared.row.LargeAt.{LargeAt}
-use Rattle.newt_entries.specs.Entry.{stream_graph, row_at, said, filled}
+use Rattle.newt_nsof_flat.specs.Stream.{stream_graph}
+use Rattle.newt_entries.specs.Entry.{row_at, said, filled}
 use Rattle.newt_entries.proofs.Steps.{rest-is}
 use Rattle.newt_store_catalog.specs.Reading.{IsLaidAt, HaveBytes}
 

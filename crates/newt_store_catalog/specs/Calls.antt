@@ -1,5 +1,6 @@
 -- What calls that read entries, and that find a unit's store, ask and promise. All of it is this
 -- project's own.
+use Rattle.newt_spec_image.specs.Records.{version}
 use Rattle.std.specs.Prelude.{◌≡◌, ℕ, ◌*◌, Bool, true, IsTrue, List, length, map as list_map, Some, IsSome, Result, IfOk, Vec}
 use Rattle.std.specs.Global.{Global}
 use Rattle.std.specs.List.{list_all, sum_by}
@@ -23,7 +24,8 @@ use Rattle.newt_spec_store.specs.Store.{Store, Entry}
 use Rattle.newt_spec_store.specs.Valid.{well_formed}
 use Rattle.newt_soupdir.specs.Bare.{bare_store}
 use Rattle.newt_soupdir.specs.declared.rows.Directory.{Directory}
-use Rattle.newt_entries.specs.Entry.{stream_graph, row_at, fits as fits_skeleton, said}
+use Rattle.newt_nsof_flat.specs.Stream.{stream_graph}
+use Rattle.newt_entries.specs.Entry.{row_at, fits as fits_skeleton, said}
 use Rattle.newt_entries.specs.declared.row.EntryRow.{EntryRow}
 use Rattle.newt_entries.specs.declared.row.LargeAt.{LargeAt}
 use Rattle.newt_store_change.specs.Entries.{plain_entry}
@@ -106,7 +108,7 @@ pub record IsRowOver (objects : Held) (row : EntryRow) : Type 0 where
 
 -- the objects have this directory, and its form is that of a store
 pub record IsDirectory (told : Bool) (now : List ℕ) (directory : Directory) : Type 0 where
-  pub root : OfObjects told now (IsRoot directory)
+  pub root : OfObjects told now (IsRoot (version now) directory)
   pub formed : IsTrue (well_formed (bare_store directory))
 
 -- What was found of the objects up to an id, over every host and where bytes are told.
@@ -120,7 +122,7 @@ pub record FindsAll (told : Bool) (now : List ℕ) (table : Table) (directory : 
     (place : Places) (names : Names) : Type 0 where
   pub places : AreSoundPlaces table place
   pub names_are : AreSoundNames table names
-  pub found : OfObjects told now (λ texts. IsFound stream_graph texts place names
+  pub found : OfObjects told now (λ texts. IsFound stream_graph (version now) texts place names
       (bare_store directory))
 
 module _ {B : Type 0} (place : B → ℕ) (numbers : B → Numbers)

@@ -5,7 +5,7 @@ use Rattle.newt_graph.specs.Graph.{RawGraph}
 use Rattle.newt_spec_image.specs.Objects.{Objects}
 use Rattle.newt_spec_store.specs.Lies.{Places, record_read}
 use Rattle.newt_spec_store.specs.Store.{Store}
-use Rattle.newt_entries.specs.Entry.{stream_graph}
+use Rattle.newt_nsof_flat.specs.Stream.{stream_graph}
 
 -- the graphs that are told of entries, by the signature of the soup and the entry's id
 abbrev pub Graphs : Type 0

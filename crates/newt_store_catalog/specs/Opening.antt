@@ -15,7 +15,8 @@ use Rattle.newt_laws_changes.specs.Written.{Names}
 use Rattle.newt_laws_images.specs.Found.{HasGiven, IsRecord, ids_named}
 use Rattle.newt_soupdir.specs.Bare.{bare_store}
 use Rattle.newt_soupdir.specs.declared.rows.Directory.{Directory}
-use Rattle.newt_entries.specs.Entry.{stream_graph, said}
+use Rattle.newt_nsof_flat.specs.Stream.{stream_graph}
+use Rattle.newt_entries.specs.Entry.{said}
 use Rattle.newt_entries.specs.declared.row.EntryRow.{EntryRow}
 use Rattle.newt_entries.specs.declared.row.LargeAt.{LargeAt}
 use Rattle.newt_objects_commit.specs.Names.{AreSoundNames}
@@ -25,11 +26,11 @@ use Rattle.newt_objects_commit.specs.Places.{AreSoundPlaces}
 abbrev pub OfObjects : Bool → List ℕ → (Objects → Type 0) → Type 0
 OfObjects told now P = IsTrue told → (texts : Objects) → HoldsObjects now texts → P texts
 
--- object 0 is read as this directory
-pub record IsRoot (directory : Directory) (texts : Objects) : Type 0 where
+-- object 0, of an image of this version, is read as this directory
+pub record IsRoot (version : ℕ) (directory : Directory) (texts : Objects) : Type 0 where
   pub bytes : List ℕ
   pub object : map.get texts 0 ≡ Some bytes
-  pub read : directory_read bytes ≡ Some (bare_store directory)
+  pub read : directory_read stream_graph version bytes ≡ Some (bare_store directory)
   pub are_bytes : AreBytes bytes
 
 -- the object of this id is read alone as this record

@@ -2,7 +2,7 @@
 use Rattle.std.specs.Prelude.{ℕ, List, Option}
 use Rattle.newt_spec_store.specs.Store.{Store}
 use Rattle.newt_spec_store.specs.ImageStore.{store_of_image}
-use Rattle.newt_entries.specs.Entry.{stream_graph}
+use Rattle.newt_nsof_flat.specs.Stream.{stream_graph}
 
 -- the store that an image is read as
 abbrev pub readable : List ℕ → Option Store

@@ -16,7 +16,7 @@ use Rattle.newt_spec_store.specs.Lies.{AreLarges, entry_read}
 use Rattle.newt_spec_store.specs.Store.{Entry}
 use Rattle.newt_spec_store.specs.Valid.{valid_entry}
 use Rattle.newt_entries.specs.declared.row.LargeAt.{LargeAt}
-use Rattle.newt_entries.specs.Entry.{stream_graph}
+use Rattle.newt_nsof_flat.specs.Stream.{stream_graph}
 use Rattle.newt_objects_commit.specs.Commit.{AreKept}
 use Rattle.newt_store_catalog.specs.Readable.{readable}
 

@@ -1,4 +1,5 @@
 -- The store that a catalog and an image stand for.
+use Rattle.newt_spec_image.specs.Records.{version}
 use Rattle.std.specs.Prelude.{◌≡◌, ℕ, ◌≤◌, Bool, IsTrue, List}
 use Rattle.newt_host.specs.Outside.{Outside}
 use Rattle.newt_spec_image.specs.Pages.{cap}
@@ -11,7 +12,7 @@ use Rattle.newt_spec_store.specs.Cost.{cost}
 use Rattle.newt_spec_store.specs.Laid.{bare}
 use Rattle.newt_spec_store.specs.Lies.{LiesIn, Places}
 use Rattle.newt_spec_store.specs.OfImage.{blocks_of}
-use Rattle.newt_spec_store.specs.Valid.{well_formed}
+use Rattle.newt_spec_store.specs.Valid.{well_formed, keeps_version}
 use Rattle.newt_soupdir.specs.Bare.{bare_store}
 use Rattle.newt_soupdir.specs.declared.rows.Directory.{Directory}
 use Rattle.newt_objects_commit.specs.Places.{place_of, AreSoundPlaces}
@@ -33,6 +34,7 @@ pub record StandsFor (catalog : Catalog) (s : Store) (now : List ℕ) : Type 0 w
   pub holds : HoldsObjects now texts
   pub describes : Describes catalog.directory (place_of catalog.places) (names_of catalog.names) texts s
   pub fits : cost s ≤ cap (blocks_of now)
+  pub keeps : IsTrue (keeps_version (version now) s)
 
 -- What holds of the memory of a store over every host: its table is that of the live pages, its places and names are sound, and its directory is one.
 pub record IsSound (told : Bool) (catalog : Catalog) (numbers : Numbers) (unit : ℕ) (outside : Outside) : Type 0 where

@@ -3,6 +3,7 @@ ghost use Rattle.std.specs.Prelude.{IsTrue, ◌≡◌, ◌≢◌, ◌+◌, ◌%�
 ghost use Rattle.std.specs.Prelude.{IsSome, Some, None, OnOk, IfOk, IsErrOf};
 ghost use Rattle.std.specs.List.{list_all};
 ghost use Rattle.newt_host.specs.Moments.{image, IsDurable};
+ghost use Rattle.newt_spec_image.specs.Records.{IsVersion};
 ghost use Rattle.newt_spec_nsof.specs.Text.{AreBytes};
 ghost use Rattle.newt_objects.specs.Extents.{IsNextIn};
 ghost use Rattle.newt_objects.specs.Held.{held};
@@ -12,7 +13,8 @@ ghost use Rattle.newt_spec_store.specs.Store.{Store as PlainStore};
 ghost use Rattle.newt_spec_store.specs.Lies.{directory_read, record_read};
 ghost use Rattle.newt_spec_store.specs.Valid.{well_formed};
 ghost use Rattle.newt_soupdir.specs.Bare.{bare_store};
-ghost use Rattle.newt_entries.specs.Entry.{stream_graph, said};
+ghost use Rattle.newt_nsof_flat.specs.Stream.{stream_graph};
+ghost use Rattle.newt_entries.specs.Entry.{said};
 ghost use Rattle.newt_objects_commit.specs.Commit.{AreKept};
 ghost use Rattle.newt_objects_commit.specs.Names.{names_of};
 ghost use Rattle.newt_objects_commit.specs.Places.{place_of};
@@ -82,15 +84,17 @@ fn read_object<P: PageBook, H: Host>(
     }
 }
 
-/// The directory that an object's bytes are read as.
-fn root_of(alloc: Global, bytes: &[u8]) -> Result<Directory, BookFault>
-    ensures read { IfOk result (λ directory. directory_read bytes.now ≡ Some
+/// The directory that an object's bytes are read as, in the form of this version.
+fn root_of(alloc: Global, bytes: &[u8], version: u16) -> Result<Directory, BookFault>
+    requires { IsVersion version }
+    ensures read { IfOk result (λ directory. directory_read stream_graph version bytes.now ≡ Some
         (bare_store directory)) }
     ensures are_bytes { OnOk result (AreBytes bytes.now) }
-    ensures bad { IsErrOf result BookFault.NotStore → directory_read bytes.now ≡ None }
+    ensures bad { IsErrOf result BookFault.NotStore → directory_read stream_graph version bytes.now
+        ≡ None }
     ensures no_device { IsErrOf result BookFault.Device → ⊥ }
 {
-    match read_directory(alloc, bytes) {
+    match read_directory(alloc, bytes, version) {
         Ok(directory) => Ok(directory),
         Err(DirFault::Bad) => Err(BookFault::NotStore),
         Err(DirFault::Memory) => Err(BookFault::Memory),
@@ -115,7 +119,7 @@ fn read_root<P: PageBook, H: Host>(
         return Err(BookFault::NotStore);
     }
     let bytes = read_object(host, book, objects, 0)?;
-    root_of(alloc, &bytes)
+    root_of(alloc, &bytes, book.version())
 }
 
 /// The record that an object's bytes are read as alone.

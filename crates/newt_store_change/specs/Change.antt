@@ -1,21 +1,24 @@
 -- What each change does to a plain store, and what it is refused for. Soups are named by their signatures. What the changes do to stores, soups and entries
 -- is Newton's (Newton Programmer's Guide 2.0); the refusals and their order are this project's own.
-use Rattle.std.specs.Prelude.{ℕ, ◌+◌, ◌*◌, Bool, true, false, cond, not, ◌==◌, ◌||◌, nat_lt, nat_le, List, [], ◌∷◌, ◌++◌, map, length, slice_get, Option, Some, None, is_some, is_none, unwrap_or, option_map, option_and_then}
+use Rattle.std.specs.Prelude.{ℕ, ◌+◌, ◌*◌, Bool, true, false, cond, not, ◌==◌, ◌&&◌, ◌||◌, nat_lt, nat_le, List, [], ◌∷◌, ◌++◌, map, length, slice_get, Option, Some, None, is_some, is_none, unwrap_or, option_map, option_and_then}
+use Rattle.std.specs.List.{list_all}
 use Rattle.newt_base.specs.declared.Refusal.{Refusal}
-use Rattle.newt_base.specs.declared.Refusal.TheVariants.{Soup as NoSoup, Exists, Entry as NoEntry, Notframe, Limit, Size, Ids, Full, Range, Path as NoPath, Index as BadIndex}
+use Rattle.newt_base.specs.declared.Refusal.TheVariants.{Soup as NoSoup, Exists, Entry as NoEntry, Notframe, Info as BadInfo, Limit, Size, Ids, Full, Range, Path as NoPath, Index as BadIndex}
 use Rattle.newt_base.specs.Refusals.{Checks, first_of}
 use Rattle.newt_spec_image.specs.Pages.{cap}
 use Rattle.newt_graph.specs.Graph.{RawGraph}
 use Rattle.newt_spec_graph.specs.Graph.{is_frame, object}
-use Rattle.newt_spec_store.specs.Store.{Entry, Soup, Store, soup_named, change_soup, change_entry, make_soup, drop_soup, add_entry, remove_entry, soup_of, entry_at, next_uid_of, with_graph, with_index, without_index, with_tags}
+use Rattle.newt_spec_nsof.specs.Flat.{flat}
+use Rattle.newt_spec_store.specs.Store.{Entry, Soup, Store, soup_named, change_soup, change_entry, make_soup, drop_soup, add_entry, remove_entry, soup_of, entry_at, next_uid_of, with_graph, with_index, without_index, with_tags, with_info}
 use Rattle.newt_spec_store.specs.Cost.{cost, directory_pages, skeleton_length, entry_pages, soup_pages, patch_bytes, pages_bytes}
 use Rattle.newt_spec_store.specs.StoreOf.{fill}
+use Rattle.newt_spec_store.specs.Valid.{is_no_large}
 use Rattle.newt_host.specs.Moments.{overwritten}
 use Rattle.newt_graph.specs.declared.node.Node.{Node}
 use Rattle.newt_graph.specs.declared.node.Node.TheVariants.{Large}
 use Rattle.newt_spec_store.specs.Keys.{IndexSpec, paths_of, has_paths}
 use Rattle.newt_store_change.specs.declared.change.Change.{Change}
-use Rattle.newt_store_change.specs.declared.change.Change.TheVariants.{MakeSoup, DropSoup, Add, Remove, Move, Replace, Patch, AddIndex, DropIndex, SetTags}
+use Rattle.newt_store_change.specs.declared.change.Change.TheVariants.{MakeSoup, DropSoup, Add, Remove, Move, Replace, Patch, AddIndex, DropIndex, SetTags, SetInfo}
 
 -- the soup of this signature, changed
 abbrev pub changed_soup : Option Soup → (Soup → Soup) → Store → Store
@@ -62,6 +65,7 @@ changed_by (Patch sig uid node at bytes) now s = changed_soup (soup_of sig s) (c
 changed_by (AddIndex sig spec) now s = changed_soup (soup_of sig s) (with_index spec) s
 changed_by (DropIndex sig paths) now s = changed_soup (soup_of sig s) (without_index paths) s
 changed_by (SetTags sig table) now s = changed_soup (soup_of sig s) (with_tags (Some table)) s
+changed_by (SetInfo sig info) now s = changed_soup (soup_of sig s) (with_info info) s
 
 -- what a change answers: the signature of a new soup, the id of a new entry, else 0
 abbrev pub answer_of : Change → Store → ℕ
@@ -75,6 +79,7 @@ answer_of (Patch sig uid node at bytes) s = 0
 answer_of (AddIndex sig spec) s = 0
 answer_of (DropIndex sig paths) s = 0
 answer_of (SetTags sig table) s = 0
+answer_of (SetInfo sig info) s = 0
 
 -- ---- the table: what a change is refused for, in the order in which it is tried
 
@@ -85,6 +90,16 @@ has_no_ids p = next_uid_of p == 536_870_911
 -- the skeleton's flat text has more than 64,000 bytes
 abbrev pub is_too_large : RawGraph → Bool
 is_too_large g = nat_lt 64_000 (skeleton_length g)
+
+-- the root is no frame, or there are large binaries; a soup may have no info frame
+abbrev pub is_bad_info : Option RawGraph → Bool
+is_bad_info None = false
+is_bad_info (Some g) = not (is_frame (object g.nodes g.root) && list_all is_no_large g.nodes)
+
+-- the info frame's flat text has more than 4,000 bytes
+abbrev pub is_large_info : Option RawGraph → Bool
+is_large_info None = false
+is_large_info (Some g) = nat_lt 4_000 (length (flat g))
 
 -- the large binary of this number in an entry's graph
 abbrev pub large_in_entry : ℕ → Option Entry → Option (List ℕ)
@@ -102,7 +117,7 @@ specs_of (Some p) = p.specs
 
 -- all refusals but the last one, that the unit is full
 abbrev pub first_checks : Change → Store → Checks
-first_checks (MakeSoup name) s = (Exists, is_some (soup_named name s)) ∷ (Limit, nat_le 64 (length s.soups)) ∷ (Ids, s.next_soup == 65_535) ∷ []
+first_checks (MakeSoup name) s = (Exists, is_some (soup_named name s)) ∷ (Limit, nat_le 250 (length s.soups)) ∷ (Ids, s.next_soup == 65_535) ∷ []
 first_checks (DropSoup sig) s = (NoSoup, is_none (soup_of sig s)) ∷ []
 first_checks (Add sig graph) s =
     (NoSoup, is_none (soup_of sig s)) ∷ (Notframe, not (is_frame (object graph.nodes graph.root))) ∷ (Size, is_too_large graph) ∷ (Ids, has_no_ids (soup_of sig s)) ∷ []
@@ -118,6 +133,7 @@ first_checks (AddIndex sig spec) s =
     (NoSoup, is_none (soup_of sig s)) ∷ (BadIndex, has_paths (paths_of spec) (specs_of (soup_of sig s))) ∷ (Limit, nat_le 16 (length (specs_of (soup_of sig s)))) ∷ []
 first_checks (DropIndex sig paths) s = (NoSoup, is_none (soup_of sig s)) ∷ []
 first_checks (SetTags sig table) s = (NoSoup, is_none (soup_of sig s)) ∷ []
+first_checks (SetInfo sig info) s = (NoSoup, is_none (soup_of sig s)) ∷ (BadInfo, is_bad_info info) ∷ (Size, is_large_info info) ∷ []
 
 -- the store after the change would cost more pages than a unit of so many blocks takes; what goes and what is patched is never refused so
 abbrev pub full_check : Change → ℕ → ℕ → Store → Checks

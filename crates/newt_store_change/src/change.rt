@@ -29,4 +29,6 @@ pub enum Change {
     DropIndex(Sig, Paths),
     /// The soup gets this tags declaration in place of its own.
     SetTags(Sig, TagTable),
+    /// The soup gets this info frame in place of its own, or none.
+    SetInfo(Sig, Option<Graph>),
 }

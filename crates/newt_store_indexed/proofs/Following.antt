@@ -1,13 +1,14 @@
 -- The step of a change that is not refused is the change of the ranges.
-use Rattle.std.proofs.Common.{◌≡◌, ℕ, ◌==◌, ◌||◌, ◌+◌, ◌<◌, true, false, [], ◌∷◌, List, Option, Some, None, refl, sym, ◌∙◌, ap, subst, arith}
+use Rattle.std.proofs.Common.{◌≡◌, ℕ, ◌==◌, ◌||◌, ◌+◌, ◌<◌, true, false, [], ◌∷◌, List, Option, Some, None, refl, sym, ◌∙◌, ap, subst, arith, Bool, cond}
 use Rattle.std.specs.Option.{is_none, option_and_then, unwrap_or}
 use Rattle.std.proofs.lemmas.Bool.{eqb-true, eqb-false}
+use Rattle.newt_base.specs.Names.{equal_text}
 use Rattle.newt_base.specs.Refusals.{Checks}
 use Rattle.newt_base.specs.declared.Refusal.TheVariants.{Soup as NoSoup, Entry as NoEntry, Ids}
 use Rattle.newt_graph.specs.Graph.{RawGraph}
 use Rattle.newt_host.specs.Moments.{overwritten}
 use Rattle.newt_spec_store.specs.Keys.{IndexSpec, Path}
-use Rattle.newt_spec_store.specs.Store.{Entry, Soup, Store, TagTable, entry_of, change_soup, change_entry, add_entry, remove_entry, soup_of, with_index, without_index, entry_at, next_uid_of, with_graph, with_tags}
+use Rattle.newt_spec_store.specs.Store.{Entry, Soup, Store, TagTable, entry_of, change_first, change_soup, change_entry, add_entry, remove_entry, soup_of, with_index, without_index, entry_at, next_uid_of, with_graph, with_tags, with_info}
 use Rattle.newt_spec_store.specs.Valid.{well_formed}
 use Rattle.newt_laws_images.proofs.Stores.{IsSoup}
 use Rattle.newt_laws_images.proofs.Chosen.{find-passes, soup-there, soup-good, entry-below}
@@ -17,7 +18,7 @@ use Rattle.newt_laws_changes.proofs.Members.{entry_is_in}
 use Rattle.newt_laws_changes.proofs.Moved.{soup_after_add}
 use Rattle.newt_index_ranges.specs.declared.rows.SoupRanges.{SoupRanges}
 use Rattle.newt_index_ranges.specs.Rows.{entry_kept, entry_forgotten, with_range, with_masks, change_ranges}
-use Rattle.newt_index_ranges.specs.Stands.{AreRangesOf}
+use Rattle.newt_index_ranges.specs.Stands.{AreRangesOf, AreRanges, graphs_of}
 use Rattle.newt_index_ranges.proofs.Laws as laws
 use Rattle.newt_index_ranges.proofs.Patched.{IsPatch, patched_ranges}
 use Rattle.newt_index_ranges.proofs.Seen.{filled-like}
@@ -94,6 +95,24 @@ module _ (s : Store) (rows : List SoupRanges) (formed : well_formed s ≡ true) 
       go : (o : Option Soup) → AreRangesOf (changed_soup o (change_entry uid (patched_entry node at bytes)) s) rows
       go None = are
       go (Some p) = patched_ranges (patched_entry node at bytes) is s rows p.name uid are
+
+  -- an info frame is in no range
+  follows-informed : (sig now : ℕ) (info : Option RawGraph) → AreRangesOf (changed_by (change.SetInfo sig info) now s) rows
+  follows-informed sig now info = go (soup_of sig s)
+    where
+      informed-soups : (which : Soup → Bool) (ps : List Soup) (rs : List SoupRanges) → AreRanges graphs_of ps rs → AreRanges graphs_of (change_first which (with_info info) ps) rs
+      informed-soups which [] [] each = tt
+      informed-soups which (p ∷ ps) (r ∷ rs) each = one (which p) (informed-soups which ps rs each.1)
+        where
+          one : (b : Bool) → AreRanges graphs_of (change_first which (with_info info) ps) rs → AreRanges graphs_of (cond b (with_info info p ∷ ps) (p ∷ change_first which (with_info info) ps)) (r ∷ rs)
+          one true more = (record { of_sig = each.0.of_sig; all = each.0.all; indexes = each.0.indexes; masks = each.0.masks }, each.1)
+          one false more = (each.0, more)
+      informed-soups which [] (r ∷ rs) each = absurd each
+      informed-soups which (p ∷ ps) [] each = absurd each
+
+      go : (o : Option Soup) → AreRangesOf (changed_soup o (with_info info) s) rows
+      go None = are
+      go (Some p) = informed-soups (λ q. equal_text q.name p.name) s.soups rows are
 
   follows-declared : (sig blocks now : ℕ) (spec : IndexSpec) (st : Step) → refusal_of (change.AddIndex sig spec) blocks now s ≡ None → IsDeclaring sig spec s st
       → AreRangesOf (changed_by (change.AddIndex sig spec) now s) (rows_after st 0 rows)
@@ -186,3 +205,5 @@ module _ (s : Store) (rows : List SoupRanges) (formed : well_formed s ≡ true) 
   follows (change.DropIndex sig paths) blocks now st none is =
       subst (λ (x : Step). AreRangesOf (changed_by (change.DropIndex sig paths) now s) (rows_after x 0 rows)) (sym is) (follows-undeclared sig blocks now paths none)
   follows (change.SetTags sig table) blocks now st none is = follows-tagged sig blocks now table st none is
+  follows (change.SetInfo sig info) blocks now st none is =
+      subst (λ (x : Step). AreRangesOf (changed_by (change.SetInfo sig info) now s) (rows_after x 0 rows)) (sym is) (follows-informed sig now info)

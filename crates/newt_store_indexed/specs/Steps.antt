@@ -7,7 +7,7 @@ use Rattle.newt_index_ranges.specs.Masks.{Masks, IsMasks}
 use Rattle.newt_index_ranges.specs.Rows.{no_ranges, entry_kept, entry_forgotten, entry_renewed, with_range, without_range, with_masks, change_ranges, drop_ranges}
 use Rattle.newt_index_ranges.specs.Stands.{graphs_of, IsRange}
 use Rattle.newt_store_change.specs.declared.change.Change.{Change}
-use Rattle.newt_store_change.specs.declared.change.Change.TheVariants.{MakeSoup, DropSoup, Add, Remove, Move, Replace, Patch, AddIndex, DropIndex, SetTags}
+use Rattle.newt_store_change.specs.declared.change.Change.TheVariants.{MakeSoup, DropSoup, Add, Remove, Move, Replace, Patch, AddIndex, DropIndex, SetTags, SetInfo}
 use Rattle.newt_store_indexed.specs.declared.step.Step.{Step}
 use Rattle.newt_store_indexed.specs.declared.step.Step.TheVariants.{Untouched, Made, Dropped, Added, Removed, Moved, Replaced, Declared, Undeclared, Tagged}
 
@@ -48,3 +48,4 @@ IsStepOf (Patch sig uid node at bytes) s step = step ≡ Untouched
 IsStepOf (AddIndex sig spec) s step = IsDeclaring sig spec s step
 IsStepOf (DropIndex sig paths) s step = step ≡ Undeclared sig paths
 IsStepOf (SetTags sig table) s step = IsTagging sig table s step
+IsStepOf (SetInfo sig info) s step = step ≡ Untouched

@@ -128,5 +128,6 @@ pub(crate) fn step_of<P: PageBook, H: Host>(
         Change::AddIndex(soup, spec) => declaring(store, host, *soup, spec),
         Change::DropIndex(soup, paths) => Ok(Step::Undeclared(*soup, paths.copy()?)),
         Change::SetTags(soup, table) => tagging(store, host, *soup, table),
+        Change::SetInfo(..) => Ok(Step::Untouched),
     }
 }

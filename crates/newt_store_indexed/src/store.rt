@@ -17,7 +17,7 @@ use crate::plan::step_of;
 use crate::step::{Step, follow};
 use newt_base::{Name, Sig, Uid};
 use newt_engine_card::Card;
-use newt_graph::Bytes;
+use newt_graph::{Bytes, Graph};
 use newt_host::{Host, Unit};
 use newt_index::Index;
 use newt_index_ranges::Ranges;
@@ -145,6 +145,13 @@ impl<P: PageBook> Card for IndexedStore<P> {
     fn tags(&self, soup: Sig) -> Option<&TagTable> {
         match self.store.directory().soup_of(soup) {
             Some(row) => row.tags.as_ref(),
+            None => None,
+        }
+    }
+
+    fn info(&self, soup: Sig) -> Option<&Graph> {
+        match self.store.directory().soup_of(soup) {
+            Some(row) => row.info.as_ref(),
             None => None,
         }
     }

@@ -28,7 +28,7 @@ fn store_with(alloc: Global, declared: &str) -> Result<Vec<u8>, Fail> {
 // The directory of a store whose soup has these indexes and tags.
 fn directory_of(alloc: Global, declared: &str) -> Result<Directory, Fail> {
     let bytes = store_with(alloc, declared)?;
-    Ok(read_directory(alloc, &bytes).ok().ok_or("no directory")?)
+    Ok(read_directory(alloc, &bytes, 2).ok().ok_or("no directory")?)
 }
 
 // Its soup.
@@ -75,6 +75,14 @@ fn tags_of(alloc: Global, declared: &str) -> Result<TagTable, Fail> {
     tags_in(&directory)
 }
 
+// The info frame of a text, or none.
+fn info_of(alloc: Global, text: &str) -> Result<Option<Graph>, Fail> {
+    if text.is_empty() {
+        return Ok(None);
+    }
+    Ok(Some(graph_of(alloc, text)?))
+}
+
 // The change of an entry of a soup.
 fn entry_change(alloc: Global, word: &str, soup: Sig, rest: &str) -> Result<Change, Fail> {
     let (uid, rest) = rest.split_once(' ').unwrap_or((rest, ""));
@@ -95,6 +103,7 @@ fn soup_change(alloc: Global, word: &str, soup: Sig, rest: &str) -> Result<Chang
         "index" => Ok(Change::AddIndex(soup, index_of(alloc, rest)?)),
         "unindex" => Ok(Change::DropIndex(soup, paths_of(alloc, rest)?)),
         "tags" => Ok(Change::SetTags(soup, tags_of(alloc, rest)?)),
+        "info" => Ok(Change::SetInfo(soup, info_of(alloc, rest)?)),
         _ => entry_change(alloc, word, soup, rest),
     }
 }

@@ -10,7 +10,7 @@ use newt_base::{Sig, Uid, hex_text};
 use newt_memhost::MemHost;
 use newt_nsof_write::encode_flat;
 use newt_pagebook::PageBook;
-use newt_soupdir::Directory;
+use newt_soupdir::{Directory, SoupRow};
 use newt_store::{Entry, Store};
 use std::alloc::{AllocError, Global};
 use std::test::Fail;
@@ -28,6 +28,15 @@ fn push_named(
     text.extend_from_slice(numbers.as_bytes())
 }
 
+// Appends the info frame of a soup, if it has one.
+fn push_info(alloc: Global, text: &mut Vec<u8>, soup: &SoupRow) -> Result<(), AllocError> {
+    let Some(graph) = &soup.info else {
+        return Ok(());
+    };
+    text.extend_from_slice(b" info ")?;
+    push_digits(alloc, text, &encode_flat(alloc, graph)?)
+}
+
 // The rows of a directory.
 fn directory_text(alloc: Global, directory: &Directory) -> Result<Vec<u8>, AllocError> {
     let mut text = Vec::new(alloc);
@@ -42,6 +51,7 @@ fn directory_text(alloc: Global, directory: &Directory) -> Result<Vec<u8>, Alloc
             soup.sig.0,
             soup.next_uid,
         )?;
+        push_info(alloc, &mut text, soup)?;
     }
     Ok(text)
 }

@@ -2,7 +2,7 @@
 -- objects.
 use Rattle.std.proofs.Common.{arith, ◌≡◌, refl, sym, ◌∙◌, ap, ℕ, true, false, List, [], ◌∷◌, ◌++◌, length, take, replicate, get_or, codes, Some, None}
 use Rattle.std.specs.FinMap as map
-use Rattle.newt_spec_image.specs.Records.{AllVoteFor, IsErased, bank_blocks, bank_size, bank_start, chosen, chosen_bank, has_banks, header, length_at, payloads_after, records, tail, vote_of, without}
+use Rattle.newt_spec_image.specs.Records.{AllVoteFor, IsErased, IsOpen, bank_blocks, bank_size, bank_start, chosen, chosen_bank, has_banks, header, length_at, payloads_after, records, tail, version, versioned, vote_of}
 use Rattle.newt_spec_image.specs.Pages.{Pages, cap, change_in, object_id, object_length, page_data}
 use Rattle.newt_spec_image.specs.Objects.{IsPart, IsTableOf, Table, joined, pages_for, written_page, written_parts}
 
@@ -108,35 +108,48 @@ not_the_third v = omega (arith, v.third)
 
 -- ---- what a bank begins with
 
-sixteen_bytes : header ≡ codes "NSTORE" ++ 0 ∷ 1 ∷ 0 ∷ 0 ∷ 0 ∷ 0 ∷ 0 ∷ 0 ∷ 0 ∷ 0 ∷ []
+sixteen_bytes : header 2 ≡ codes "NSTORE" ++ 0 ∷ 2 ∷ 0 ∷ 0 ∷ 0 ∷ 0 ∷ 0 ∷ 0 ∷ 0 ∷ 0 ∷ []
 unfolding header
 sixteen_bytes = refl
 
-behind_the_header : without header (codes "NSTORE" ++ 0 ∷ 1 ∷ 0 ∷ 0 ∷ 0 ∷ 0 ∷ 0 ∷ 0 ∷ 0 ∷ 0 ∷ 255 ∷ 9 ∷ []) ≡ Some (255 ∷ 9 ∷ [])
+behind_the_header : versioned (codes "NSTORE" ++ 0 ∷ 2 ∷ 0 ∷ 0 ∷ 0 ∷ 0 ∷ 0 ∷ 0 ∷ 0 ∷ 0 ∷ 255 ∷ 9 ∷ []) ≡ Some (2, 255 ∷ 9 ∷ [])
 unfolding header
 behind_the_header = refl
 
-version_two : without header (codes "NSTORE" ++ 0 ∷ 2 ∷ 0 ∷ 0 ∷ 0 ∷ 0 ∷ 0 ∷ 0 ∷ 0 ∷ 0 ∷ 255 ∷ []) ≡ None
+version_1 : versioned (codes "NSTORE" ++ 0 ∷ 1 ∷ 0 ∷ 0 ∷ 0 ∷ 0 ∷ 0 ∷ 0 ∷ 0 ∷ 0 ∷ 255 ∷ 9 ∷ []) ≡ Some (1, 255 ∷ 9 ∷ [])
 unfolding header
-version_two = refl
+version_1 = refl
 
-version_turned : without header (codes "NSTORE" ++ 1 ∷ 0 ∷ 0 ∷ 0 ∷ 0 ∷ 0 ∷ 0 ∷ 0 ∷ 0 ∷ 0 ∷ 255 ∷ []) ≡ None
+version_0 : versioned (codes "NSTORE" ++ 0 ∷ 0 ∷ 0 ∷ 0 ∷ 0 ∷ 0 ∷ 0 ∷ 0 ∷ 0 ∷ 0 ∷ 255 ∷ []) ≡ None
 unfolding header
-version_turned = refl
+version_0 = refl
 
-seven_zeros : without header (codes "NSTORE" ++ 0 ∷ 1 ∷ 0 ∷ 0 ∷ 0 ∷ 0 ∷ 0 ∷ 0 ∷ 0 ∷ 255 ∷ []) ≡ None
+version_3 : versioned (codes "NSTORE" ++ 0 ∷ 3 ∷ 0 ∷ 0 ∷ 0 ∷ 0 ∷ 0 ∷ 0 ∷ 0 ∷ 0 ∷ 255 ∷ []) ≡ None
+unfolding header
+version_3 = refl
+
+-- 1 in 16 bits, its bytes turned
+version_256 : versioned (codes "NSTORE" ++ 1 ∷ 0 ∷ 0 ∷ 0 ∷ 0 ∷ 0 ∷ 0 ∷ 0 ∷ 0 ∷ 0 ∷ 255 ∷ []) ≡ None
+unfolding header
+version_256 = refl
+
+version_257 : versioned (codes "NSTORE" ++ 1 ∷ 1 ∷ 0 ∷ 0 ∷ 0 ∷ 0 ∷ 0 ∷ 0 ∷ 0 ∷ 0 ∷ 255 ∷ []) ≡ None
+unfolding header
+version_257 = refl
+
+seven_zeros : versioned (codes "NSTORE" ++ 0 ∷ 2 ∷ 0 ∷ 0 ∷ 0 ∷ 0 ∷ 0 ∷ 0 ∷ 0 ∷ 255 ∷ []) ≡ None
 unfolding header
 seven_zeros = refl
 
-another_word : without header (codes "nSTORE" ++ 0 ∷ 1 ∷ 0 ∷ 0 ∷ 0 ∷ 0 ∷ 0 ∷ 0 ∷ 0 ∷ 0 ∷ 255 ∷ []) ≡ None
+another_word : versioned (codes "nSTORE" ++ 0 ∷ 2 ∷ 0 ∷ 0 ∷ 0 ∷ 0 ∷ 0 ∷ 0 ∷ 0 ∷ 0 ∷ 255 ∷ []) ≡ None
 unfolding header
 another_word = refl
 
-header_alone : without header (codes "NSTORE" ++ 0 ∷ 1 ∷ 0 ∷ 0 ∷ 0 ∷ 0 ∷ 0 ∷ 0 ∷ 0 ∷ 0 ∷ []) ≡ Some []
+header_alone : versioned (codes "NSTORE" ++ 0 ∷ 1 ∷ 0 ∷ 0 ∷ 0 ∷ 0 ∷ 0 ∷ 0 ∷ 0 ∷ 0 ∷ []) ≡ Some (1, [])
 unfolding header
 header_alone = refl
 
-header_cut : without header (codes "NSTORE" ++ 0 ∷ 1 ∷ 0 ∷ 0 ∷ 0 ∷ 0 ∷ 0 ∷ 0 ∷ 0 ∷ []) ≡ None
+header_cut : versioned (codes "NSTORE" ++ 0 ∷ 2 ∷ 0 ∷ 0 ∷ 0 ∷ 0 ∷ 0 ∷ 0 ∷ 0 ∷ []) ≡ None
 unfolding header
 header_cut = refl
 
@@ -170,11 +183,14 @@ directory_page =
     0 ∷ 0 ∷ 0 ∷ 0 ∷ 0 ∷ 0 ∷ 0 ∷ 0 ∷ 0 ∷ 0 ∷ 0 ∷ 16
     ∷ (8 ∷ codes "Internal" ++ 0 ∷ 0 ∷ 0 ∷ 7 ∷ 0 ∷ 0 ∷ 0 ∷ replicate 484 0)
 
--- what a new store has in its first bank, and so many bytes of it are not used
-abbrev new_bank : (unused : ℕ) → List ℕ
-new_bank unused =
-    codes "NSTORE" ++ 0 ∷ 1 ∷ 0 ∷ 0 ∷ 0 ∷ 0 ∷ 0 ∷ 0 ∷ 0 ∷ 0 ∷ 0 ∷ 0 ∷ 0 ∷ 2 ∷ 8
+-- what a new store has in its first bank, in this version, and so many bytes of it are not used
+abbrev bank_in : (version unused : ℕ) → List ℕ
+bank_in version unused =
+    codes "NSTORE" ++ 0 ∷ version ∷ 0 ∷ 0 ∷ 0 ∷ 0 ∷ 0 ∷ 0 ∷ 0 ∷ 0 ∷ 0 ∷ 0 ∷ 0 ∷ 2 ∷ 8
     ∷ 0 ∷ 1 ∷ 0 ∷ 0 ∷ 0 ∷ 0 ∷ 0 ∷ 0 ∷ (directory_page ++ replicate unused 255)
+
+abbrev new_bank : (unused : ℕ) → List ℕ
+new_bank unused = bank_in 2 unused
 
 -- three blocks with these votes
 abbrev voted : (a b c : ℕ) → List ℕ → List ℕ
@@ -192,6 +208,35 @@ new_records = refl
 new_tail : tail (voted 0 0 0 (new_bank 19939 ++ replicate 20480 255)) ≡ replicate 19939 255
 unfolding header length_at
 new_tail = refl
+
+new_version : version (voted 0 0 0 (new_bank 19939 ++ replicate 20480 255)) ≡ 2
+unfolding header
+new_version = refl
+
+is_open : IsOpen (voted 0 0 0 (new_bank 19939 ++ replicate 20480 255))
+unfolding header length_at
+is_open = record { new = refl; erased = refl }
+
+-- the same in version 1: the bank is closed, blank as its tail is
+old_records : records (voted 0 0 0 (bank_in 1 19939 ++ replicate 20480 255)) ≡ Some (new_payload ∷ [])
+unfolding header length_at
+old_records = refl
+
+old_version : version (voted 0 0 0 (bank_in 1 19939 ++ replicate 20480 255)) ≡ 1
+unfolding header
+old_version = refl
+
+old_is_closed : IsOpen (voted 0 0 0 (bank_in 1 19939 ++ replicate 20480 255)) → ⊥
+old_is_closed o = omega (arith, o.new, old_version)
+
+-- and in version 3 it has no records
+later_records : records (voted 0 0 0 (bank_in 3 19939 ++ replicate 20480 255)) ≡ None
+unfolding header length_at
+later_records = refl
+
+later_version : version (voted 0 0 0 (bank_in 3 19939 ++ replicate 20480 255)) ≡ 0
+unfolding header
+later_version = refl
 
 by_two_votes : records (voted 255 0 0 (new_bank 19939 ++ replicate 20480 255)) ≡ Some (new_payload ∷ [])
 unfolding header length_at

@@ -196,7 +196,7 @@ no_ends_asked = refl
 -- ---- which soups take part
 
 abbrev soup_with : List IndexSpec → Soup
-soup_with specs = record { name = codes "S"; sig = 0; next_uid = 0; specs = specs; tags = None; entries = [] }
+soup_with specs = record { name = codes "S"; sig = 0; next_uid = 0; specs = specs; tags = None; info = None; entries = [] }
 
 -- A soup takes part where one of its indexes agrees: the paths but for case, the types and the
 -- directions. Without an index each one does.

@@ -35,7 +35,7 @@ const CARDS: &str = "
 ";
 
 /// Writes bytes over those from a place on.
-fn patch(bytes: &mut Vec<u8>, at: usize, new: &[u8]) -> Result<(), Fail> {
+pub(crate) fn patch(bytes: &mut Vec<u8>, at: usize, new: &[u8]) -> Result<(), Fail> {
     if at > bytes.len() || new.len() > bytes.len() - at {
         return Err(Fail::new("a change behind the image"));
     }
@@ -55,7 +55,7 @@ fn changed(alloc: Global, image: &[u8], changes: &str) -> Result<Vec<u8>, Fail> 
 
 /// A run over a card of these bytes gives the replies of a table, whose lines have ` / ` between
 /// them.
-fn expect_opened(alloc: Global, card: &[u8], lines: &str) -> Result<(), Fail> {
+pub(crate) fn expect_opened(alloc: Global, card: &[u8], lines: &str) -> Result<(), Fail> {
     let mut table = String::new(alloc);
     for line in lines.split(" / ") {
         table.push_str(line)?;
@@ -85,11 +85,17 @@ fn a_changed_card_opens_as_the_format_says(rt: HostRuntime) -> Result<(), Fail> 
     expect_rows(alloc, &base(alloc)?, CARDS)
 }
 
+/// Where the blocks that vote begin.
+const VOTES: &[usize] = &[0, 4096, 8192];
+
 /// Whether all blocks that vote do so for a bank.
 fn all_vote(image: &[u8], bank: u8) -> bool {
-    [0usize, 4096, 8192]
-        .iter()
-        .all(|at| image.get(*at) == Some(&bank))
+    for at in VOTES {
+        if image.get(*at) != Some(&bank) {
+            return false;
+        }
+    }
+    true
 }
 
 /// Behind a record that is not begun a change goes to the other bank, for which all three vote then.

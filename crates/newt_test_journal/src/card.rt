@@ -5,7 +5,7 @@ ghost use Rattle.newt_memhost.specs.Outside.{outside_of};
 ghost use Rattle.newt_journal.specs.Journal.{Stands};
 
 use crate::halt::Halt;
-use crate::records::{Records, payloads};
+use crate::records::{Held, held_by};
 use newt_host::{Host, Unit};
 use newt_journal::{Journal, JournalFault};
 use newt_memhost::MemHost;
@@ -67,22 +67,18 @@ pub(crate) fn opened(host: &mut MemHost) -> Result<Option<Journal>, Halt>
     }
 }
 
-// The payloads that stand on a card, or none where it holds no journal.
-fn records_in(alloc: Global, host: &mut MemHost) -> Result<Option<Records>, Halt>
+// What stands on a card, or none where it holds no journal.
+fn held_in(alloc: Global, host: &mut MemHost) -> Result<Option<Held>, Halt>
     requires { IsDurable 0 (outside_of host.old).now }
 {
     match opened(host)? {
-        Some(journal) => Ok(Some(payloads(alloc, &journal, host)?)),
+        Some(journal) => Ok(Some(held_by(alloc, &journal, host)?)),
         None => Ok(None),
     }
 }
 
 /// The same of these bytes.
-pub(crate) fn records_on(
-    rt: &impl Abort,
-    alloc: Global,
-    bytes: &[u8],
-) -> Result<Option<Records>, Halt> {
+pub(crate) fn held_on(rt: &impl Abort, alloc: Global, bytes: &[u8]) -> Result<Option<Held>, Halt> {
     let mut host = host_of(rt, alloc, bytes);
-    records_in(alloc, &mut host)
+    held_in(alloc, &mut host)
 }

@@ -1,7 +1,7 @@
 // What a crash leaves within the calls of a host.
-use crate::card::{CARD, has_card, records_on};
+use crate::card::{CARD, has_card, held_on};
 use crate::halt::Halt;
-use crate::records::Records;
+use crate::records::Held;
 use newt_memhost::{MemHost, Pick};
 use std::alloc::Global;
 use std::process::Abort;
@@ -47,16 +47,16 @@ pub(crate) fn images(
     Ok(all)
 }
 
-/// Each image reads as before or as after.
+/// Each image reads as before or as after, its version too.
 pub(crate) fn expect_either(
     rt: &impl Abort,
     alloc: Global,
     images: &[Left],
-    before: &Records,
-    after: &Records,
+    before: &Held,
+    after: &Held,
 ) -> Result<(), Halt> {
     for left in images {
-        match records_on(rt, alloc, &left.image)? {
+        match held_on(rt, alloc, &left.image)? {
             Some(found) if found == *before || found == *after => {}
             _ => return Err(Halt::Crash(left.call)),
         }

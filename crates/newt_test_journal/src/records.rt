@@ -13,12 +13,29 @@ use std::alloc::Global;
 /// The payloads of a journal, in order.
 pub(crate) type Records = Vec<Vec<u8>>;
 
-/// The payloads of a journal, in order.
-pub(crate) fn payloads<H: Host>(
-    alloc: Global,
-    journal: &Journal,
-    host: &mut H,
-) -> Result<Records, Halt>
+/// What a journal holds: the version of its bank, and its records.
+#[derive(Drop, PartialEq)]
+pub(crate) struct Held {
+    pub(crate) version: u16,
+    pub(crate) records: Records,
+}
+
+/// What a journal holds.
+pub(crate) fn held_by<H: Host>(alloc: Global, journal: &Journal, host: &mut H) -> Result<Held, Halt>
+    requires { Stands H.told journal.now (H.outside host.old) }
+    ensures stands { Stands H.told journal.now (H.outside host.new) }
+    ensures moment { (H.outside host.new).now ≡ (H.outside host.old).now }
+    ensures alone { Touches journal.now.unit (H.outside host.old) (H.outside host.new) }
+{
+    let records = payloads(alloc, journal, host)?;
+    Ok(Held {
+        version: journal.version(),
+        records,
+    })
+}
+
+// The payloads of a journal, in order.
+fn payloads<H: Host>(alloc: Global, journal: &Journal, host: &mut H) -> Result<Records, Halt>
     requires { Stands H.told journal.now (H.outside host.old) }
     ensures stands { Stands H.told journal.now (H.outside host.new) }
     ensures moment { (H.outside host.new).now ≡ (H.outside host.old).now }

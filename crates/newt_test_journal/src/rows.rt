@@ -4,6 +4,7 @@
 //!   it should.
 //! - `cut`, `cut few`: what a crash leaves within each device call of the last change reads as
 //!   before it or as after it.
+//! - `version => NUMBER`: the version of the bank.
 //! - `room => BYTES`: the longest payload that may be appended.
 //! - `erases => COUNT`, `syncs => COUNT`: how many blocks the last change erased, and how often it
 //!   synced. Before the first change that is the format.
@@ -15,10 +16,10 @@ ghost use Rattle.newt_host.specs.Moments.{IsDurable};
 ghost use Rattle.newt_memhost.specs.Outside.{outside_of};
 ghost use Rattle.newt_journal.specs.Journal.{Stands};
 
-use crate::card::{CARD, Wear, has_card, host_of, opened, records_on, wear_of};
+use crate::card::{CARD, Wear, has_card, held_on, host_of, opened, wear_of};
 use crate::crashes::{expect_either, images};
 use crate::halt::Halt;
-use crate::records::{Records, changed, payloads};
+use crate::records::{Held, changed, held_by};
 use crate::texts::{around, filled, payload_of, poked, records_of};
 use newt_host::Host;
 use newt_journal::Journal;
@@ -28,42 +29,47 @@ use std::mem;
 use std::process::Abort;
 use std::test::Fail;
 
-// The last change: the number of its first call, what the card had gone through before it, the
-// records before it and after it, and the room behind it.
+// The last change: the number of its first call, what the card had gone through before it, what
+// the journal held before it and after it, and the room behind it.
 #[derive(Drop)]
 struct Last {
     from: u64,
     wear: Wear,
-    before: Records,
-    held: Records,
+    before: Held,
+    held: Held,
     room: u32,
 }
 
 impl Last {
     // No change yet.
-    fn new(alloc: Global, held: Records, room: u32) -> Last {
+    fn new(alloc: Global, held: Held, room: u32) -> Last {
         Last {
             from: 0,
             wear: Wear::default(),
-            before: Vec::new(alloc),
+            before: Held {
+                version: held.version,
+                records: Vec::new(alloc),
+            },
             held,
             room,
         }
     }
 }
 
-// The records that a change makes of others.
-fn after(alloc: Global, held: &Records, word: &str, payload: &[u8]) -> Result<Records, Halt> {
+// What a change makes of what the journal holds. A bank is written with version 2.
+fn after(alloc: Global, held: &Held, word: &str, payload: &[u8]) -> Result<Held, Halt> {
+    let mut version = held.version;
     let mut records = Vec::new(alloc);
     if word != "replace" {
-        for record in held {
+        for record in &held.records {
             records.push(record.to_vec(alloc)?)?;
         }
     }
     if word != "repair" {
+        version = 2;
         records.push(payload.to_vec(alloc)?)?;
     }
-    Ok(records)
+    Ok(Held { version, records })
 }
 
 // Carries a change out, behind which the journal holds what it should.
@@ -84,10 +90,19 @@ fn change(
     last.wear = wear_of(host);
     let journal = changed(journal, host, word, payload)?;
     last.room = journal.room();
-    if payloads(alloc, &journal, host)? != last.held {
+    if held_by(alloc, &journal, host)? != last.held {
         return Err(Halt::Other);
     }
     Ok(journal)
+}
+
+// The version behind the last change.
+fn expect_version(last: &Last, want: &str) -> Result<(), Halt> {
+    let version: u16 = want.parse()?;
+    if last.held.version != version {
+        return Err(Halt::Other);
+    }
+    Ok(())
 }
 
 // The room behind the last change.
@@ -113,6 +128,15 @@ fn expect_wear(host: &MemHost, last: &Last, word: &str, want: &str) -> Result<()
     Ok(())
 }
 
+fn expect_byte(part: &[u8], byte: u8) -> Result<(), Halt> {
+    for held in part {
+        if *held != byte {
+            return Err(Halt::Other);
+        }
+    }
+    Ok(())
+}
+
 // Each byte between two places.
 fn expect_all(host: &MemHost, places: &str, want: &str) -> Result<(), Halt> {
     if !has_card(host) {
@@ -122,8 +146,7 @@ fn expect_all(host: &MemHost, places: &str, want: &str) -> Result<(), Halt> {
     let (from, to): (usize, usize) = (from.parse()?, to.parse()?);
     let byte: u8 = want.parse()?;
     match host.bytes(CARD).get(from..to) {
-        Some(part) if part.iter().all(|held| *held == byte) => Ok(()),
-        Some(_) => Err(Halt::Other),
+        Some(part) => expect_byte(part, byte),
         None => Err(Halt::Row),
     }
 }
@@ -140,7 +163,11 @@ fn expect_read(
         return Err(Halt::Row);
     }
     let bytes = poked(alloc, host.bytes(CARD), pokes)?;
-    if records_on(rt, alloc, &bytes)? != records_of(alloc, want)? {
+    let found = match held_on(rt, alloc, &bytes)? {
+        Some(held) => Some(held.records),
+        None => None,
+    };
+    if found != records_of(alloc, want)? {
         return Err(Halt::Other);
     }
     Ok(())
@@ -160,6 +187,7 @@ fn look(
             let images = images(alloc, host, last.from, asked.1 == "few")?;
             expect_either(rt, alloc, &images, &last.before, &last.held)
         }
+        "version" => expect_version(last, want),
         "room" => expect_room(last, want),
         "erases" | "syncs" => expect_wear(host, last, asked.0, want),
         "all" => expect_all(host, asked.1, want),
@@ -227,29 +255,36 @@ fn play_formatted(
         return Err(Fail::new("a size that no unit has"));
     }
     let journal = Journal::format(host, CARD, b"first")?;
-    let mut held = Vec::new(alloc);
-    held.push(b"first".to_vec(alloc)?)?;
+    let mut records = Vec::new(alloc);
+    records.push(b"first".to_vec(alloc)?)?;
+    let held = Held {
+        version: 2,
+        records,
+    };
     let mut last = Last::new(alloc, held, journal.room());
     play_rows(rt, alloc, journal, host, &mut last, table)?;
     Ok(last.from)
 }
 
-// Opens the journal of a card, and plays a table on it.
-fn play_opened(rt: &impl Abort, alloc: Global, host: &mut MemHost, table: &str) -> Result<(), Fail>
+// Opens the journal of a card, and plays a table on it. The answer is the number of the first call
+// of its last change.
+fn play_opened(rt: &impl Abort, alloc: Global, host: &mut MemHost, table: &str) -> Result<u64, Fail>
     requires { IsDurable 0 (outside_of host.old).now }
 {
     let Some(journal) = opened(host)? else {
         return Err(Fail::new("no journal"));
     };
-    let held = payloads(alloc, &journal, host)?;
+    let held = held_by(alloc, &journal, host)?;
     let mut last = Last::new(alloc, held, journal.room());
-    play_rows(rt, alloc, journal, host, &mut last, table)
+    play_rows(rt, alloc, journal, host, &mut last, table)?;
+    Ok(last.from)
 }
 
 // Plays a table on the journal that stands on these bytes.
 fn play_on(rt: &impl Abort, alloc: Global, bytes: &[u8], table: &str) -> Result<(), Fail> {
     let mut host = host_of(rt, alloc, bytes);
-    play_opened(rt, alloc, &mut host, table)
+    play_opened(rt, alloc, &mut host, table)?;
+    Ok(())
 }
 
 // A host with a card of so many blocks, all of one byte.
@@ -282,6 +317,36 @@ pub(crate) fn play_and_mend(
 ) -> Result<(), Fail> {
     let mut host = blank(rt, alloc, 13, 0x5A)?;
     let from = play_formatted(rt, alloc, &mut host, table)?;
+    for left in &images(alloc, &host, from, false)? {
+        play_on(rt, alloc, &left.image, mending)?;
+    }
+    Ok(())
+}
+
+// The bytes of a card of 13 blocks whose first bank has one record, `first`, and version 1.
+fn old_card(rt: &impl Abort, alloc: Global) -> Result<Vec<u8>, Fail> {
+    let mut host = blank(rt, alloc, 13, 0x5A)?;
+    play_formatted(rt, alloc, &mut host, "version => 2")?;
+    assert!(rt; has_card(&host));
+    Ok(poked(alloc, host.bytes(CARD), "12295=1")?)
+}
+
+/// Plays a table on a card of 13 blocks that has one record, `first`, in a bank of version 1, and
+/// another on each card that a crash might have left within its last change. Before that the card
+/// is opened, which leaves each byte of it.
+pub(crate) fn play_old(
+    rt: &impl Abort,
+    alloc: Global,
+    table: &str,
+    mending: &str,
+) -> Result<(), Fail> {
+    let bytes = old_card(rt, alloc)?;
+    let mut host = host_of(rt, alloc, &bytes);
+    play_opened(rt, alloc, &mut host, "version => 1")?;
+    assert!(rt; has_card(&host));
+    assert!(rt; host.bytes(CARD) == bytes.as_slice());
+    let mut host = host_of(rt, alloc, &bytes);
+    let from = play_opened(rt, alloc, &mut host, table)?;
     for left in &images(alloc, &host, from, false)? {
         play_on(rt, alloc, &left.image, mending)?;
     }

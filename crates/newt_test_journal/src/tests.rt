@@ -1,5 +1,5 @@
 //! Journals on a card in memory.
-use crate::rows::{play, play_and_mend};
+use crate::rows::{play, play_and_mend, play_old};
 use std::test::Fail;
 
 #[test]
@@ -140,5 +140,53 @@ append second
 all 32768 53248 => 90
 replace third
 reads => third",
+    )
+}
+
+// The first bank begins at byte 12288, with the version in its bytes 6 and 7.
+#[test]
+fn a_bank_has_version_1_or_2(rt: HostRuntime) -> Result<(), Fail> {
+    play(
+        &rt,
+        rt.alloc(),
+        13,
+        0x5A,
+        "version => 2
+reads 12295=1 => first
+reads 12295=0 => no journal
+reads 12295=3 => no journal
+reads 12294=1 12295=0 => no journal
+reads 12294=1 => no journal
+reads 12295=1 12296=1 => no journal
+replace second
+version => 2
+reads 32775=1 => second
+reads 32775=0 => no journal",
+    )
+}
+
+// An old bank takes no record, blank as what stands behind it is.
+#[test]
+fn the_first_commit_on_an_old_bank_is_a_switch(rt: HostRuntime) -> Result<(), Fail> {
+    play_old(
+        &rt,
+        rt.alloc(),
+        "version => 1
+room => 0
+reads => first
+repair
+version => 1
+cut
+replace second
+version => 2
+erases => 8
+room => 20448
+reads => second
+cut",
+        "repair
+cut few
+replace mended
+version => 2
+cut few",
     )
 }

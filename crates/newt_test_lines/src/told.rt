@@ -198,6 +198,11 @@ fn push_of_declarations(alloc: Global, to: &mut Vec<u8>, command: &Command) {
                 push(to, symbol.list());
             }
         }
+        Command::Info(unit, name) => push_soup(alloc, to, "info", *unit, name),
+        Command::SetInfo(unit, name, graph) => {
+            push_soup(alloc, to, "info", *unit, name);
+            push_graph(alloc, to, graph);
+        }
         _ => push_of_cursors(alloc, to, command),
     }
 }

@@ -4,7 +4,7 @@ ghost use Rattle.newt_memhost.specs.Outside.{outside_of};
 ghost use Rattle.newt_pagebook.specs.Book.{IsAtHand};
 
 use crate::batches::{batch_of, changed};
-use crate::card::{CARD, Pages, assert_pages, fresh, has_card, opened, pages_in, pages_on};
+use crate::card::{CARD, Pages, assert_pages, fresh, has_card, held_on, opened, pages_in};
 use newt_host::Host;
 use newt_memhost::MemHost;
 use newt_pagebook::{Batch, Page, PageBook};
@@ -198,7 +198,7 @@ fn assert_found<P: PageBook>(
     held: &Pages,
 ) -> Result<(), Fail> {
     assert!(rt; has_card(host));
-    let found = pages_on::<P>(rt, alloc, host.bytes(CARD))?;
+    let (_, found) = held_on::<P>(rt, alloc, host.bytes(CARD))?;
     assert!(rt; found == *held);
     Ok(())
 }

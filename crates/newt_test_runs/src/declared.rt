@@ -60,6 +60,36 @@ fn declares_and_shows_tags(rt: HostRuntime) -> Result<(), Fail> {
     expect(rt.alloc(), "run a", TAGS)
 }
 
+/// Info frames are set, found again, changed and removed.
+const INFOS: &str = "
+format 0 A 7 => ok
+mount 0 => ok 7 A
+soup 0 S => ok 0
+soup 0 T => ok 1
+info 0 S => ok nil
+info 0 S {owner: \"Ann\", Parts: [1, 2], it: {}} => ok
+info 0 S => ok {owner: \"Ann\", Parts: [1, 2], it: {}}
+info 0 T => ok nil
+add 0 S {k: 1} => ok 0
+unmount 0 => ok
+mount 0 => ok 7 A
+info 0 S => ok {owner: \"Ann\", Parts: [1, 2], it: {}}
+get 0 S 0 => ok 0 {k: 1}
+info 0 S {} => ok
+info 0 S => ok {}
+info 0 S nil => ok
+info 0 S => ok nil
+info 0 S nil => ok
+drop 0 S => ok
+soup 0 S => ok 2
+info 0 S => ok nil
+";
+
+#[test]
+fn sets_and_shows_info_frames(rt: HostRuntime) -> Result<(), Fail> {
+    expect(rt.alloc(), "run a", INFOS)
+}
+
 /// What is refused, in order.
 const REFUSED: &str = "
 index 2 S a:real:ascend => error 20 unit
@@ -67,11 +97,15 @@ unindex 2 S a => error 20 unit
 indexes 2 S => error 20 unit
 tags 2 S => error 20 unit
 tags 2 S a b => error 20 unit
+info 2 S => error 20 unit
+info 2 S 1 => error 20 unit
 index 0 S a:real:ascend => error 25 notmounted
 unindex 0 S a => error 25 notmounted
 indexes 0 S => error 25 notmounted
 tags 0 S => error 25 notmounted
 tags 0 S a b => error 25 notmounted
+info 0 S => error 25 notmounted
+info 0 S 1 => error 25 notmounted
 format 0 A 7 => ok
 mount 0 => ok 7 A
 index 0 S a:real:ascend => error 30 soup
@@ -79,6 +113,8 @@ unindex 0 S a => error 30 soup
 indexes 0 S => error 30 soup
 tags 0 S => error 30 soup
 tags 0 S a b => error 30 soup
+info 0 S => error 30 soup
+info 0 S 1 => error 30 soup
 soup 0 S => ok 0
 index 0 S a:real:ascend => error 43 key
 index 0 S a:int:ascend b:real:ascend => error 43 key
@@ -94,6 +130,11 @@ index 0 S a:int:up => error 11 line
 index 0 S a:int:ascend b:int:ascend c:int:ascend d:int:ascend e:int:ascend => error 11 line
 tags 0 S a b B => error 11 line
 tags 0 S a.b 1c => error 11 line
+info 0 S 1 => error 44 info
+info 0 S [{}] => error 44 info
+info 0 S true => error 44 info
+info 0 S {a: => error 3 literal
+info 0 S => ok nil
 indexes 0 S => ok a:int:ascend
 tags 0 S => ok
 ";

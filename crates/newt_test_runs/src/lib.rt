@@ -25,3 +25,4 @@ mod replaces;
 mod trial;
 #[cfg(test)]
 mod units;
+mod versions;

@@ -110,6 +110,11 @@ const BYTES: &str = "
 
 /// Bytes that stand in place of others. A row is where, these bytes, and what the image opens as.
 const PATCHES: &str = "
+# The versions.
+12294 0001 same
+12294 0000 none
+12294 0003 none
+12294 0100 none
 # The greatest object id, page number, signature, next soup signature and next entry id.
 14390 FFFFFFFF same
 14386 0000FFFF same

@@ -3,7 +3,7 @@ use crate::flips::patched;
 use crate::small::{IMAGE, SMALL};
 use newt_pageplain::PlainBook;
 use newt_test_card::{play, play_on, spelt};
-use std::alloc::Global;
+use std::alloc::{AllocError, Global};
 use std::test::Fail;
 
 /// Thirteen blocks take 38 pages: the directory and 37 entries. The removed id is not given again.
@@ -50,81 +50,54 @@ fn a_soup_that_goes_frees_its_pages(rt: HostRuntime) -> Result<(), Fail> {
     play::<PlainBook>(rt.alloc(), 13, FREED)
 }
 
-/// A store of 64 soups takes another only in the place of one of them.
-const SOUPS: &str = "
-make Aa => 0
-make Ab => 1
-make Ac => 2
-make Ad => 3
-make Ae => 4
-make Af => 5
-make Ag => 6
-make Ah => 7
-make Ba => 8
-make Bb => 9
-make Bc => 10
-make Bd => 11
-make Be => 12
-make Bf => 13
-make Bg => 14
-make Bh => 15
-make Ca => 16
-make Cb => 17
-make Cc => 18
-make Cd => 19
-make Ce => 20
-make Cf => 21
-make Cg => 22
-make Ch => 23
-make Da => 24
-make Db => 25
-make Dc => 26
-make Dd => 27
-make De => 28
-make Df => 29
-make Dg => 30
-make Dh => 31
-make Ea => 32
-make Eb => 33
-make Ec => 34
-make Ed => 35
-make Ee => 36
-make Ef => 37
-make Eg => 38
-make Eh => 39
-make Fa => 40
-make Fb => 41
-make Fc => 42
-make Fd => 43
-make Fe => 44
-make Ff => 45
-make Fg => 46
-make Fh => 47
-make Ga => 48
-make Gb => 49
-make Gc => 50
-make Gd => 51
-make Ge => 52
-make Gf => 53
-make Gg => 54
-make Gh => 55
-make Ha => 56
-make Hb => 57
-make Hc => 58
-make Hd => 59
-make He => 60
-make Hf => 61
-make Hg => 62
-make Hh => 63
-make one more => limit
-make Ab => exists
+/// A table that makes so many soups, and then plays these rows.
+fn with_soups(alloc: Global, count: u32, rows: &str) -> Result<String, AllocError> {
+    let mut table = String::new(alloc);
+    for number in 0..count {
+        let row = format!(in alloc; "make S{number} => {number}\n")?;
+        table.push_str(row.as_str())?;
+    }
+    table.push_str(rows)?;
+    Ok(table)
+}
+
+/// A store of 250 soups takes another only in the place of one of them.
+const SOUPS: &str = "make one more => limit
+make S7 => exists
 drop 9 => 0
-make one more => 64
+make one more => 250
+reopen
+make another => limit
+drop 0 => 0
+make S0 => 251
 ";
 
 #[test]
-fn a_store_has_at_most_64_soups(rt: HostRuntime) -> Result<(), Fail> {
-    play::<PlainBook>(rt.alloc(), 33, SOUPS)
+fn a_store_has_at_most_250_soups(rt: HostRuntime) -> Result<(), Fail> {
+    let alloc = rt.alloc();
+    let table = with_soups(alloc, 250, SOUPS)?;
+    play::<PlainBook>(alloc, 33, table.as_str())
+}
+
+/// The info frame of a soup is set, found again, replaced and removed.
+const INFOS: &str = "
+make S => 0
+make T => 1
+info 0 0206010701610004 => 0
+rows => Internal 7 2; S 0 0 info 0206010701610004; T 1 0
+reopen
+rows => Internal 7 2; S 0 0 info 0206010701610004; T 1 0
+info 0 => 0
+info 1 020600 => 0
+info 1 020004 => info
+info 2 020600 => soup
+reopen
+rows => Internal 7 2; S 0 0; T 1 0 info 020600
+";
+
+#[test]
+fn a_soup_has_an_info_frame_or_none(rt: HostRuntime) -> Result<(), Fail> {
+    play::<PlainBook>(rt.alloc(), 13, INFOS)
 }
 
 /// Names that differ in case are two names.

@@ -61,6 +61,7 @@ row_none w (command.Drop v s) u none other = none_in w v u _ none
 row_none w (command.Index v s parts) u none other = none_in w v u _ none
 row_none w (command.Unindex v s paths) u none other = none_in w v u _ none
 row_none w (command.SetTags v s path symbols) u none other = none_in w v u _ none
+row_none w (command.SetInfo v s g) u none other = none_in w v u _ none
 row_none w (command.Add v s g) u none other = none_in w v u _ none
 row_none w (command.Addx v s g) u none other = none_in w v u _ none
 row_none w (command.Addu s g) u none other = none_in w (default_unit w) u _ none

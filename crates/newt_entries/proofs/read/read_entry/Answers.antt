@@ -4,7 +4,7 @@ use Rattle.newt_entries.specs.declared.row.LargeAt.{LargeAt}
 use Rattle.newt_entries.specs.Entry.{row_at, fits}
 use Rattle.newt_entries.proofs.Fits.{fit-few, fit-short}
 use Rattle.newt_entries.proofs.Records.{taken_text, found, not_found, short}
-use Rattle.newt_entries.proofs.Streams.{written_graph}
+use Rattle.newt_nsof_flat.proofs.Streams.{written_graph}
 use Rattle.newt_entries.proofs.read.read_entry.Goals as goal
 
 pub returns-then-bytes-count-clause-bad : goal.returns-then-bytes-count-clause-bad

@@ -7,7 +7,7 @@ pub returns-clause-back : goal.returns-clause-back
 returns-clause-back c = lies-read
 
 pub returns-clause-lies : goal.returns-clause-lies
-returns-clause-lies c = λ graph_of objects blocks s reads are_bytes h. read-lies graph_of objects blocks s reads are_bytes h
+returns-clause-lies c = λ graph_of version objects blocks s reads are_bytes h. read-lies graph_of version objects blocks s reads are_bytes h
 
 pub returns-clause-total : goal.returns-clause-total
 returns-clause-total c = lies-total

@@ -1,5 +1,4 @@
 use Rattle.std.proofs.Common.{◌≡◌, ℕ, ◌-◌, ◌<◌, List, length, replicate, Some, drop, refl, sym, ◌∙◌, ap, subst, arith, rules, ◌+◌}
-use Rattle.std.proofs.lemmas.List.{length-replicate}
 use Rattle.newt_host.proofs.Moments.{Leaves-start, Leaves-weaken}
 use Rattle.newt_host.proofs.Outside.{Touches-no_fault, Touches-refl, Wears-refl, Wears-widen}
 use Rattle.newt_spec_image.specs.Records.{bank_blocks, bank_size, bank_start}
@@ -7,6 +6,7 @@ use Rattle.newt_spec_image.specs.Pages.{change_in, written_change}
 use Rattle.newt_host.specs.Moments.{Moment}
 use Rattle.newt_journal.specs.Pieces.{IsTornIn}
 use Rattle.newt_pagebook.specs.Book.{IsLeftFrom}
+use Rattle.newt_pagelog.proofs.Committing.{open-for}
 use Rattle.newt_pagelog.proofs.Failing.{no-ok, not-err}
 use Rattle.newt_pagelog.proofs.Spelling.{written-says, written-length}
 use Rattle.newt_pagelog.proofs.Changing.{cap-few, cap-fits}
@@ -65,10 +65,7 @@ returns-in-Ok g c =
             record {
               votes = (alike.first, alike.second, alike.third);
               one = (c.deref.result.now, (c.in-Ok.ensures.fresh tells).one, ap change_in (c.deref.ensures.value ∙ c.in_ok-payload.ensures.says) ∙ says);
-              blank = record {
-                room = omega arith;
-                blank = blank ∙ ap (λ (k : ℕ). replicate k 255) (sym (ap (λ (l : List ℕ). length l) blank ∙ length-replicate (bank_size blocks - 21 - length c.deref.result.now) 255));
-              };
+              blank = open-for (c.in-Ok.ensures.fresh tells).new (bank_size blocks - 21 - length c.deref.result.now) blank;
             },
             (c.in-Ok.ensures.fresh tells).durable,
           );

@@ -1,7 +1,8 @@
 use Rattle.std.proofs.Common.{◌≡◌, ℕ, arith, List, sym, ◌∙◌, ap, subst}
 use Rattle.newt_host.specs.Moments.{image}
-use Rattle.newt_spec_image.specs.Records.{bank_blocks, records}
+use Rattle.newt_spec_image.specs.Records.{bank_blocks}
 use Rattle.newt_journal.specs.Calls.{three_votes, writing}
+use Rattle.newt_journal.specs.Journal.{reading}
 use Rattle.newt_journal.specs.Draft.{unit_of}
 use Rattle.newt_pagelog.specs.Steps.{begin_work}
 use Rattle.newt_journal.specs.declared.journal.Journal.{Journal}
@@ -12,7 +13,7 @@ use Rattle.newt_pagelog.proofs.write.begin_alone.Goals as goal
 pub returns-in_err-repair-clause-stays : goal.returns-in_err-repair-clause-stays
 returns-in_err-repair-clause-stays g c = writes-widen three_votes (begin_work c.args.journal.blocks)
     (record { programs = omega arith; fetches = omega arith; erases = omega arith; syncs = omega arith })
-    (writes-weaken (λ tells left m. m.same_records)
+    (writes-weaken (λ tells left m. m.same_reading)
     (writes-failed c.from_residual.result c.from_residual.ensures.0 c.in_err-repair.ensures.writes))
 
 pub returns-in_err-draft-clause-stays : goal.returns-in_err-draft-clause-stays
@@ -23,7 +24,7 @@ returns-in_err-draft-clause-stays g c =
     let blocks = ap (λ (j : Journal). begin_work j.blocks) c.repair.ensures.same in
     stays-with _ _ blocks
     (stays-two three_votes (writing 21 (bank_blocks c.repair.new.self.blocks) 1) c.in_ok-repair.ensures.reads
-    (writes-weaken (λ tells left m. m.same_records) (writes-done c.in_ok-repair.ensures.writes))
+    (writes-weaken (λ tells left m. m.same_reading) (writes-done c.in_ok-repair.ensures.writes))
     (stays-on c.repair.new.self.unit u its (writes-failed c.from_residual-in_err-draft.result c.from_residual-in_err-draft.ensures.0 c.in_err-draft.ensures.writes)))
 
 pub returns-clause-stays : goal.returns-clause-stays
@@ -34,7 +35,7 @@ returns-clause-stays g c =
     let blocks = ap (λ (j : Journal). begin_work j.blocks) c.repair.ensures.same in
     stays-with _ _ blocks
     (stays-two three_votes (writing 21 (bank_blocks c.repair.new.self.blocks) 1) c.in_ok-repair.ensures.reads
-    (writes-weaken (λ tells left m. m.same_records) (writes-done c.in_ok-repair.ensures.writes))
+    (writes-weaken (λ tells left m. m.same_reading) (writes-done c.in_ok-repair.ensures.writes))
     (stays-on c.repair.new.self.unit u its c.in_ok-draft.ensures.writes))
 
 pub returns-clause-begins : goal.returns-clause-begins
@@ -52,7 +53,7 @@ returns-clause-begins g c =
         put = e.put;
         kind = e.kind;
         empty = e.empty;
-        same = λ tells. subst (λ (v : ℕ). records (image v (o c.switch.new.host).now) ≡ records (image v (o c.repair.new.host).now)) its (e.same tells) ∙ c.in_ok-repair.ensures.reads tells;
+        same = λ tells. subst (λ (v : ℕ). reading (image v (o c.switch.new.host).now) ≡ reading (image v (o c.repair.new.host).now)) its (e.same tells) ∙ c.in_ok-repair.ensures.reads tells;
       };
       steady = λ tells. steady-on j.unit (unit_of c.in_ok-draft.draft) (o c.switch.new.host).now (sym e.on)
           (steady-after j.unit (o c.repair.new.host).now (o c.switch.new.host).now (c.switch.ensures.writes.any_moment tells) (e.same tells));

@@ -29,7 +29,7 @@ overflow_add-len-2 g c =
 
 pub returns-clause-open : goal.returns-clause-open
 returns-clause-open g c = λ told outside stands tells free.
-    let room = (c.room.ensures.by_tail told outside stands tells).erased free.blank in
+    let room = (c.room.ensures.by_image told outside stands tells).opened free.is_open in
     le-leb (4 + 516 * length c.puts.result.now + 4 * c.kept_of-deletes.result) c.room.result (omega (
       arith,
       room,

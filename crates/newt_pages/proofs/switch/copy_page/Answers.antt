@@ -1,7 +1,7 @@
 use Rattle.std.proofs.Common.{ap, arith}
 use Rattle.newt_host.specs.Moments.{Moment, image}
 use Rattle.newt_spec_image.specs.Pages.{written_put}
-use Rattle.newt_spec_image.specs.Records.{records}
+use Rattle.newt_journal.specs.Journal.{reading}
 use Rattle.newt_host.specs.Outside.{fetching}
 use Rattle.newt_journal.specs.Calls.{writing}
 use Rattle.newt_journal.specs.Draft.{unit_of}
@@ -27,7 +27,7 @@ returns-in_err-write_put-clause-stays g c =
     let o = g.H.Host.outside in
     let told = g.H.Host.told in
     let u = unit_of c.args.draft.now in
-    stays-two (fetching 512) (writing 516 0 0) (λ tells. ap (λ (m : Moment). records (image u m)) c.read_at.ensures.reads.moment)
+    stays-two (fetching 512) (writing 516 0 0) (λ tells. ap (λ (m : Moment). reading (image u m)) c.read_at.ensures.reads.moment)
     (writes-done (stays-looked told u 512 (o c.args.host.now) (o c.read_at.new.host) c.requires.draft.steady c.in_ok-read_at.ensures.reads)) (writes-failed c.from_residual-in_err-write_put.result c.from_residual-in_err-write_put.ensures.0 c.in_err-write_put.ensures.keeps)
 
 pub returns-clause-stays : goal.returns-clause-stays
@@ -35,7 +35,7 @@ returns-clause-stays g c =
     let o = g.H.Host.outside in
     let told = g.H.Host.told in
     let u = unit_of c.args.draft.now in
-    stays-two (fetching 512) (writing 516 0 0) (λ tells. ap (λ (m : Moment). records (image u m)) c.read_at.ensures.reads.moment)
+    stays-two (fetching 512) (writing 516 0 0) (λ tells. ap (λ (m : Moment). reading (image u m)) c.read_at.ensures.reads.moment)
     (writes-done (stays-looked told u 512 (o c.args.host.now) (o c.read_at.new.host) c.requires.draft.steady c.in_ok-read_at.ensures.reads)) c.in_ok-write_put.ensures.keeps
 
 pub returns-clause-ok : goal.returns-clause-ok

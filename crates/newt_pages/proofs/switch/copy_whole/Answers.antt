@@ -7,6 +7,7 @@ use Rattle.newt_spec_image.specs.Records.{records}
 use Rattle.newt_spec_image.specs.Pages.{written_put, written_change}
 use Rattle.newt_journal.specs.Calls.{writing}
 use Rattle.newt_journal.specs.Draft.{unit_of}
+use Rattle.newt_journal.specs.Journal.{Reading}
 use Rattle.newt_journal.specs.declared.journal.Journal.{Journal}
 use Rattle.newt_pagelog.specs.Kept.{all_of}
 use Rattle.newt_pagelog.specs.Placed.{ArePlaced, lifted, page_of}
@@ -88,7 +89,7 @@ returns-clause-ok g c =
     record {
       pages = copied.pages;
       shows = λ tells payloads is.
-          copied.shows tells payloads (ap (λ (v : ℕ). records (image v (o c.write_counts.new.host).now)) first.on ∙ first.same tells ∙ is)
+          copied.shows tells payloads (ap (λ (v : ℕ). records (image v (o c.write_counts.new.host).now)) first.on ∙ ap (λ (r : Reading). r.1) (first.same tells) ∙ is)
           ∙ ap (λ (j : Journal). lifted (page_of j payloads) (below 65536 c.args.places.now.entries)) first.holds;
       put = omega (arith, first.put, copied.put, c.in_ok-write_puts.ensures.ok.put);
       writes = writes-same told u ((counts ++ flat) ++ flat_map written_put puts) (written_change (all_of (copied.pages ++ puts))) d c.write_puts.new.draft (o c.args.host.now) (o c.write_puts.new.host) whole three;

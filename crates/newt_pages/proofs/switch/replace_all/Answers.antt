@@ -6,6 +6,7 @@ use Rattle.newt_spec_image.specs.Pages.{Put, written_change}
 use Rattle.newt_journal.specs.Draft.{commit_work, unit_of}
 use Rattle.newt_pagelog.specs.Commits.{switch_work}
 use Rattle.newt_journal.specs.declared.draft.Draft.{Draft}
+use Rattle.newt_journal.specs.Journal.{Reading}
 use Rattle.newt_journal.specs.declared.journal.Journal.{Journal}
 use Rattle.newt_pagelog.specs.Kept.{Entries, all_of}
 use Rattle.newt_pagelog.specs.Placed.{Places, lifted, page_of, ArePlaced}
@@ -20,7 +21,7 @@ payload_is : (told : Bool) (j : Journal) (len : ℕ) (places : Places) (puts : L
     → (whole : CopiesWhole told (unit_of x) places puts x y b c) → (IsTrue told → records (image j.unit a.now) ≡ Some payloads)
     → IsTrue told → Some (written_change (all_of (whole.pages ++ puts)) ∷ []) ≡ Some (written_change (all_of (lifted (page_of j payloads) places ++ puts)) ∷ [])
 payload_is told j len places puts payloads x y a b c begins whole read tells =
-    let there : records (image (unit_of x) b.now) ≡ Some payloads = ap (λ (v : ℕ). records (image v b.now)) begins.begun.on ∙ begins.begun.same tells ∙ read tells in
+    let there : records (image (unit_of x) b.now) ≡ Some payloads = ap (λ (v : ℕ). records (image v b.now)) begins.begun.on ∙ ap (λ (r : Reading). r.1) (begins.begun.same tells) ∙ read tells in
     ap (λ (es : Entries). Some (written_change (all_of (es ++ puts)) ∷ [])) (whole.shows tells payloads there ∙ ap (λ (j : Journal). lifted (page_of j payloads) places) begins.begun.holds)
 
 pub copy_whole-requires-clause-copying : goal.copy_whole-requires-clause-copying

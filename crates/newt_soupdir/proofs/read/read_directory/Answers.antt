@@ -2,7 +2,7 @@ use Rattle.newt_soupdir.proofs.Sifted.{is_found, is_bad}
 use Rattle.newt_soupdir.proofs.read.read_directory.Goals as goal
 
 pub returns-clause-found : goal.returns-clause-found
-returns-clause-found c = is_found c.args.bytes.now c.whole.result c.whole.ensures
+returns-clause-found c = is_found c.args.version c.args.bytes.now c.whole.result c.whole.ensures
 
 pub returns-clause-bad : goal.returns-clause-bad
-returns-clause-bad c = is_bad c.args.bytes.now c.whole.result c.whole.ensures
+returns-clause-bad c = is_bad c.args.version c.args.bytes.now c.whole.result c.whole.ensures

@@ -19,7 +19,7 @@ use Rattle.newt_store_change.specs.declared.fault.StoreFault.{StoreFault}
 use Rattle.newt_store.specs.Next.{WritesNext, all_gone}
 use Rattle.newt_store.proofs.Unanswered.{IsMemory}
 use Rattle.newt_store.proofs.Writing.{full-refused, goes-refused, the-fault}
-use Rattle.newt_store.proofs.Reading.{same-cap}
+use Rattle.newt_store.proofs.Reading.{same-cap, keeps-all}
 use Rattle.newt_store.proofs.Carrying.{AreGone, table-next, sound-next, sound-fewer, new-stays, place-goes, names-next, names-sound-next, names-same, fewer-back, same-back, described-by, cost-after}
 use Rattle.newt_store.proofs.Leaving.{leaves-memory, makes-memory, unit-same, can-planned, unit-turns}
 use Rattle.newt_store.proofs.carry.carry_out.Goals as goal
@@ -137,6 +137,7 @@ returns-in-Ok g c =
               describes = subst (λ (d : Directory). Describes d new (names_of c.follow-answer.new.names) h.0 t) (sym f.directory) (described-by cat next records places names is are s t now stands turns new (names_of c.follow-answer.new.names) h.0
                   (table-next next old mid new c.in_ok-keep_new.ensures.kept c.in_ok-keep_new.ensures.others f.places.gone f.places.others (turns.stays stands.texts stands.describes)) next-names wrote);
               fits = same-cap now later (cost t) size low;
+              keeps = keeps-all later t h.4;
             };
         fits = λ tells s t stands turns.
             let h = w.holds tells stands.texts stands.holds in
@@ -207,6 +208,7 @@ returns-in-Err g c =
               describes = subst (λ (names : Names). Describes cat.directory new names stands.texts s) (sym same-names)
                   (subst (λ (pl : Places). Describes cat.directory pl (names_of cat.names) stands.texts s) (sym same) stands.describes);
               fits = stands.fits;
+              keeps = stands.keeps;
             };
       };
       unit = unit-turns told cat next records c.deref.result.now p.place p.numbers p.stands c.args.book.now (o c.args.host.now) c.requires.sound is are e.once ids-are c.write_next.new.book c.write_next.new.objects (o c.write_next.new.host) (Err c.in-Err.fault) k w;

@@ -1,4 +1,5 @@
 use Rattle.std.proofs.Common.{◌≡◌, ◌*◌, ℕ, IsTrue, List, length, Some, None, Result, Ok, Err, IfErr, refl, sym, ◌∙◌, ap, subst}
+use Rattle.newt_spec_image.specs.Records.{version}
 use Rattle.std.specs.FinMap as map
 use Rattle.std.specs.FinSet as set
 use Rattle.newt_host.specs.Moments.{Moment, image, overwritten, Leaves}
@@ -109,7 +110,8 @@ returns-in-Ok-clause-changes g c = λ minute.
     ∙ ap (λ (b : ℕ). b * 4096) (with-unit (λ (v : ℕ). (o c.patch_object.new.host).blocks v ≡ (o c.find_large.new.host).blocks v) u' u c.find_large.ensures.reads.book.same_place (c.patch_object.ensures.commits.alone.cards.blocks u') ∙ c.find_large.ensures.reads.book.looks.alone.cards.blocks u)
     ∙ sym (g.met.H.Host.sized c.args.host.now u tells) in
     subst (λ (b : List ℕ). StandsFor cat (changed_by (Patch c.args.sig c.args.uid c.args.node c.args.at b) minute s) (image u n)) c.list.ensures
-    (stands-after cat s (image u m) stands c.args.sig c.args.uid c.args.node x l c.args.at c.list.result.now done.1 minute (image u n) (with-unit (λ (v : ℕ). HoldsObjects (image v n) after) u' u c.find_large.ensures.reads.book.same_place done.0) size) in
+    (stands-after cat s (image u m) stands c.args.sig c.args.uid c.args.node x l c.args.at c.list.result.now done.1 minute (image u n) (with-unit (λ (v : ℕ). HoldsObjects (image v n) after) u' u c.find_large.ensures.reads.book.same_place done.0)
+    (with-unit (λ (v : ℕ). version (image v n) ≡ 2) u' u c.find_large.ensures.reads.book.same_place done.2) size) in
     record {
       is_open = λ goes. record {
         book = c.in-Ok.ensures.commits.stands tt;

@@ -47,6 +47,9 @@ returns-in-DropIndex-clause-costs g c = λ tells s stands. reads-nothing (g.P.Pa
 pub returns-in-SetTags-clause-costs : goal.returns-in-SetTags-clause-costs
 returns-in-SetTags-clause-costs g c = λ tells s stands. reads-nothing (g.P.PageBook.place c.args.book.now) (512 * pages_of_entry (entry_fetched c.args.change s)) (g.H.Host.outside c.args.host.now)
 
+pub returns-in-SetInfo-clause-costs : goal.returns-in-SetInfo-clause-costs
+returns-in-SetInfo-clause-costs g c = λ tells s stands. reads-nothing (g.P.PageBook.place c.args.book.now) (512 * pages_of_entry (entry_fetched c.args.change s)) (g.H.Host.outside c.args.host.now)
+
 pub returns-in-MakeSoup-clause-reads : goal.returns-in-MakeSoup-clause-reads
 returns-in-MakeSoup-clause-reads g c = reads-none g.P.PageBook.place g.P.PageBook.numbers g.P.PageBook.stands g.H.Host.told c.args.catalog.now.objects c.args.book.now (g.H.Host.outside c.args.host.now) (can-open c.requires.is_open)
 
@@ -92,8 +95,14 @@ returns-in-DropIndex-clause-ends g c = ends-none c.plan_drop_index.result c.plan
 pub returns-in-SetTags-clause-reads : goal.returns-in-SetTags-clause-reads
 returns-in-SetTags-clause-reads g c = reads-none g.P.PageBook.place g.P.PageBook.numbers g.P.PageBook.stands g.H.Host.told c.args.catalog.now.objects c.args.book.now (g.H.Host.outside c.args.host.now) (can-open c.requires.is_open)
 
+pub returns-in-SetInfo-clause-reads : goal.returns-in-SetInfo-clause-reads
+returns-in-SetInfo-clause-reads g c = reads-none g.P.PageBook.place g.P.PageBook.numbers g.P.PageBook.stands g.H.Host.told c.args.catalog.now.objects c.args.book.now (g.H.Host.outside c.args.host.now) (can-open c.requires.is_open)
+
 pub returns-in-SetTags-clause-ends : goal.returns-in-SetTags-clause-ends
 returns-in-SetTags-clause-ends g c = ends-none c.plan_set_tags.result c.plan_set_tags.ensures.cause (NoFault-refl (g.H.Host.outside c.args.host.now))
+
+pub returns-in-SetInfo-clause-ends : goal.returns-in-SetInfo-clause-ends
+returns-in-SetInfo-clause-ends g c = ends-none c.plan_set_info.result c.plan_set_info.ensures.cause (NoFault-refl (g.H.Host.outside c.args.host.now))
 
 pub returns-in-Move-clause-reads : goal.returns-in-Move-clause-reads
 returns-in-Move-clause-reads g c = c.plan_move.ensures.reads
@@ -162,4 +171,11 @@ returns-in-SetTags-clause-plans g c = record {
   next = c.plan_set_tags.ensures.next;
   planned = λ tells s stands. subst (λ (ch : Change). IfOk c.plan_set_tags.result (IsPlanOf c.args.catalog.now ch c.args.now s)) (sym c.in-SetTags.is) (c.plan_set_tags.ensures.planned c.args.now stands.texts s stands.describes);
   refused = λ tells s stands. subst (λ (ch : Change). IfErr c.plan_set_tags.result (RefusesWith (first_of (first_checks ch s)))) (sym c.in-SetTags.is) (c.plan_set_tags.ensures.refused stands.texts s stands.describes);
+}
+
+pub returns-in-SetInfo-clause-plans : goal.returns-in-SetInfo-clause-plans
+returns-in-SetInfo-clause-plans g c = record {
+  next = c.plan_set_info.ensures.next;
+  planned = λ tells s stands. subst (λ (ch : Change). IfOk c.plan_set_info.result (IsPlanOf c.args.catalog.now ch c.args.now s)) (sym c.in-SetInfo.is) (c.plan_set_info.ensures.planned c.args.now stands.texts s stands.describes);
+  refused = λ tells s stands. subst (λ (ch : Change). IfErr c.plan_set_info.result (RefusesWith (first_of (first_checks ch s)))) (sym c.in-SetInfo.is) (c.plan_set_info.ensures.refused stands.texts s stands.describes);
 }

@@ -1,4 +1,5 @@
 use Rattle.std.proofs.Common.{◌≡◌, ℕ, ◌<◌, ◌≤◌, List, Some, Result, refl, sym, ◌∙◌, ap, subst, arith}
+use Rattle.newt_spec_image.specs.Records.{version}
 use Rattle.newt_host.specs.Moments.{image}
 use Rattle.newt_host.proofs.Outside.{NoFault-append}
 use Rattle.newt_spec_image.specs.Pages.{cap}
@@ -7,7 +8,7 @@ use Rattle.newt_pagebook.specs.declared.book.BookFault.{BookFault}
 use Rattle.newt_pagebook.specs.declared.book.BookFault.TheVariants.{Memory}
 use Rattle.newt_spec_store.specs.Store.{Store}
 use Rattle.newt_soupdir.specs.Bare.{bare_store}
-use Rattle.newt_entries.specs.Entry.{stream_graph}
+use Rattle.newt_nsof_flat.specs.Stream.{stream_graph}
 use Rattle.newt_objects_commit.specs.Names.{names_of}
 use Rattle.newt_objects_commit.specs.Places.{place_of}
 use Rattle.newt_store_catalog.specs.declared.catalog.Catalog.{Catalog}
@@ -65,7 +66,7 @@ returns-then-cap-live g c =
           (λ tells.
           live-large g.H.Host.told c.in_ok-objects.objects (g.P.PageBook.numbers c.find_records.new.book) u (o c.find_records.new.host) three.searches.book.kept tells blocks (g.met.H.Host.sized c.find_records.new.host u tells) now third
           (place_of c.in_ok-finding.finding.places) (names_of c.in_ok-finding.finding.names) c.in_ok-directory.directory
-          (subst (λ (b : List ℕ). OfObjects g.H.Host.told b (λ texts. IsFound stream_graph texts (place_of c.in_ok-finding.finding.places) (names_of c.in_ok-finding.finding.names) (bare_store c.in_ok-directory.directory))) second three.found.found)
+          (subst (λ (b : List ℕ). OfObjects g.H.Host.told b (λ texts. IsFound stream_graph (version b) texts (place_of c.in_ok-finding.finding.places) (names_of c.in_ok-finding.finding.names) (bare_store c.in_ok-directory.directory))) second three.found.found)
           (is-more _ _ _ _ room c.live.ensures c.if-cap-live.true))
           none;
     }
@@ -90,7 +91,7 @@ returns g c =
       found = λ tells.
           live-opened g.H.Host.told c.in_ok-objects.objects (g.P.PageBook.numbers c.find_records.new.book) u (o c.find_records.new.host) three.searches.book.kept tells blocks (g.met.H.Host.sized c.find_records.new.host u tells) now third
           (place_of c.in_ok-finding.finding.places) (names_of c.in_ok-finding.finding.names) c.in_ok-directory.directory
-          (subst (λ (b : List ℕ). OfObjects g.H.Host.told b (λ texts. IsFound stream_graph texts (place_of c.in_ok-finding.finding.places) (names_of c.in_ok-finding.finding.names) (bare_store c.in_ok-directory.directory))) second three.found.found)
+          (subst (λ (b : List ℕ). OfObjects g.H.Host.told b (λ texts. IsFound stream_graph (version b) texts (place_of c.in_ok-finding.finding.places) (names_of c.in_ok-finding.finding.names) (bare_store c.in_ok-directory.directory))) second three.found.found)
           (is-few _ _ _ _ room c.live.ensures c.if-cap-live.false)
           (record { objects = c.in_ok-objects.objects; directory = c.in_ok-directory.directory; places = c.in_ok-finding.finding.places; names = c.in_ok-finding.finding.names; hint = 0 }) refl refl refl;
       gathered = subst (λ (b : List ℕ). OfObjects g.H.Host.told b (HasGathered g.G.Gatherer.gathers (bare_store c.in_ok-directory.directory) (place_of c.in_ok-finding.finding.places) c.find_records.new.gatherer)) second three.gathered;

@@ -1,4 +1,5 @@
 use Rattle.std.proofs.Common.{◌+◌, ◌≤◌, ℕ, List, Option, Result, sym, subst, arith}
+use Rattle.newt_spec_image.specs.Records.{version}
 use Rattle.newt_host.specs.Moments.{image}
 use Rattle.newt_host.proofs.Outside.{NoFault-refl, NoFault-append}
 use Rattle.newt_objects.specs.Extents.{IsNextIn}
@@ -6,7 +7,7 @@ use Rattle.newt_objects.specs.Held.{held}
 use Rattle.newt_pagebook.specs.declared.book.BookFault.{BookFault}
 use Rattle.newt_laws_images.specs.Found.{IsFound}
 use Rattle.newt_soupdir.specs.Bare.{bare_store}
-use Rattle.newt_entries.specs.Entry.{stream_graph}
+use Rattle.newt_nsof_flat.specs.Stream.{stream_graph}
 use Rattle.newt_objects_commit.specs.Names.{AreSoundNames, names_of}
 use Rattle.newt_objects_commit.specs.Places.{AreSoundPlaces, place_of}
 use Rattle.newt_store_catalog.specs.declared.open.Finding.{Finding}
@@ -93,7 +94,7 @@ returns g c =
         places = i.found.sound.places;
         names_are = i.found.sound.named;
         found = λ tells texts h.
-            found-all texts c.args.directory.now c.loop-id.last (held c.args.objects.now) (place_of c.loop-id.finding.places) (names_of c.loop-id.finding.names) (owner_of c.loop-id.finding.owners) (c.requires.root.root tells texts h)
+            found-all (version (image (g.P.PageBook.place c.args.book.now) (g.H.Host.outside c.args.host.now).now)) texts c.args.directory.now c.loop-id.last (held c.args.objects.now) (place_of c.loop-id.finding.places) (names_of c.loop-id.finding.names) (owner_of c.loop-id.finding.owners) (c.requires.root.root tells texts h)
             i.found.sound (i.found.found tells texts h)
             (λ q from. kept-none g.H.Host.told c.args.objects.now (g.P.PageBook.numbers c.args.book.now) (g.P.PageBook.place c.args.book.now) (g.H.Host.outside c.args.host.now) c.requires.can.kept tells texts h q
             (c.next_after.ensures.none q c.in_default.is from))

@@ -3,7 +3,7 @@ use Rattle.newt_host.specs.Moments.{image}
 use Rattle.newt_pagebook.specs.declared.book.BookFault.{BookFault}
 use Rattle.newt_spec_graph.specs.Lists.{Among}
 use Rattle.newt_spec_store.specs.Lies.{record_read}
-use Rattle.newt_entries.specs.Entry.{stream_graph}
+use Rattle.newt_nsof_flat.specs.Stream.{stream_graph}
 use Rattle.newt_entries.specs.declared.row.EntryRow.{EntryRow}
 use Rattle.newt_store_catalog.specs.Opening.{OfObjects, IsRow, objects_named}
 use Rattle.newt_store_catalog.proofs.Exits.{Fails, no-value, search-fails}

@@ -1,4 +1,7 @@
 use Rattle.std.proofs.Common.{◌≡◌, ℕ, List, IsTrue, Result, sym, ◌∙◌, ap}
+use Rattle.newt_nsof_flat.specs.Stream.{stream_graph}
+use Rattle.newt_host.specs.Outside.{Outside}
+use Rattle.newt_spec_image.specs.Records.{version}
 use Rattle.newt_host.specs.Moments.{image}
 use Rattle.newt_host.proofs.Outside.{NoFault-refl}
 use Rattle.newt_objects.specs.Held.{held}
@@ -9,7 +12,7 @@ use Rattle.newt_soupdir.specs.Bare.{bare_store}
 use Rattle.newt_soupdir.specs.declared.rows.Directory.{Directory}
 use Rattle.newt_store_catalog.specs.Calls.{IsDirectory}
 use Rattle.newt_store_catalog.proofs.Exits.{Fails, no-value, reads-none, search-fails, search-none}
-use Rattle.newt_store_catalog.proofs.Opening.{root-missing, root-bad, directory-by, mapped-none, is-none}
+use Rattle.newt_store_catalog.proofs.Opening.{root-missing, root-bad, directory-by, mapped-none, is-none, same-image}
 use Rattle.newt_store_catalog.proofs.open.read_root.Goals as goal
 
 pub returns-then-is_none : goal.returns-then-is_none
@@ -48,13 +51,17 @@ returns g c =
     let text : List ℕ = c.deref.result.now in
     let same : text ≡ bytes = c.deref.ensures.value in
     let r : Result Directory BookFault = c.root_of.result in
+    let after : Outside = g.H.Host.outside c.read_object.new.host in
+    let is : IsTrue g.H.Host.told → c.version.result ≡ version (image u o.now) = λ tells.
+    c.version.ensures.by_image g.H.Host.told after e.searches.book.stood tells
+    ∙ ap version (same-image _ _ _ _ e.searches.book.same_place e.searches.book.looks.moment) in
     record {
-      root = directory-by g.H.Host.told (image u o.now) bytes text r c.in_ok-bytes.ensures.bytes same c.root_of.ensures.read c.root_of.ensures.are_bytes;
+      root = directory-by g.H.Host.told (image u o.now) bytes text c.version.result r c.in_ok-bytes.ensures.bytes same is c.root_of.ensures.read c.root_of.ensures.are_bytes;
       searches = record {
         book = e.searches.book;
         ends = record {
-          not_store = λ is tells.
-              root-bad g.H.Host.told c.args.objects.now (g.P.PageBook.numbers c.args.book.now) u o c.requires.can.kept tells bytes c.in_ok-bytes.ensures.bytes (ap directory_read (sym same) ∙ c.root_of.ensures.bad is);
+          not_store = λ bad tells.
+              root-bad g.H.Host.told c.args.objects.now (g.P.PageBook.numbers c.args.book.now) u o c.requires.can.kept tells bytes c.in_ok-bytes.ensures.bytes (ap (λ (n : ℕ). directory_read stream_graph n bytes) (sym (is tells)) ∙ ap (directory_read stream_graph c.version.result) (sym same) ∙ c.root_of.ensures.bad bad);
           cause = λ is. absurd (c.root_of.ensures.no_device is);
           no_fault = λ opening. c.in_ok-bytes.ensures.searches.ends.no_fault tt;
         };

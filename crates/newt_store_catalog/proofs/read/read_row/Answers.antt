@@ -3,7 +3,7 @@ use Rattle.std.specs.List.{list_all}
 use Rattle.newt_objects.specs.Held.{held}
 use Rattle.newt_pagebook.specs.Stops.{StopsAt}
 use Rattle.newt_spec_store.specs.Lies.{record_read}
-use Rattle.newt_entries.specs.Entry.{stream_graph}
+use Rattle.newt_nsof_flat.specs.Stream.{stream_graph}
 use Rattle.newt_store_catalog.specs.Calls.{AreThere}
 use Rattle.newt_store_catalog.specs.Opening.{has_length}
 use Rattle.newt_store_catalog.proofs.Exits.{with-kept, read-fails, no-value}

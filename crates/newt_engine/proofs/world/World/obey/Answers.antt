@@ -96,6 +96,9 @@ returns-in-Unindex g c = handed_obeyed c.done-in-Unindex.ensures c.in-Unindex.is
 pub returns-in-SetTags : goal.returns-in-SetTags
 returns-in-SetTags g c = handed_obeyed c.done-in-SetTags.ensures c.in-SetTags.is refl refl (λ x r k. cc) c.set_tags.ensures refl
 
+pub returns-in-SetInfo : goal.returns-in-SetInfo
+returns-in-SetInfo g c = handed_obeyed c.done-in-SetInfo.ensures c.in-SetInfo.is refl refl (λ x r k. cc) c.set_info.ensures refl
+
 pub returns-in-Add : goal.returns-in-Add
 returns-in-Add g c = handed_obeyed c.numbered-in-Add.ensures c.in-Add.is refl refl (λ x r k. cc) c.add.ensures.obeyed refl
 
@@ -135,7 +138,7 @@ returns-in-Vwrite g c = handed_obeyed c.done-in-Vwrite.ensures c.in-Vwrite.is re
 pub obey_in_memory-obeyed-requires : goal.obey_in_memory-obeyed-requires
 obey_in_memory-obeyed-requires g c =
     let d = c.in_default in
-    let is = in_memory c.args.command c.requires.no_cursor d.not-Nsof d.not-Lit d.not-Format d.not-Mount d.not-Soup d.not-Drop d.not-Index d.not-Unindex d.not-SetTags d.not-Add d.not-Addx d.not-Addu d.not-Get d.not-Getx d.not-Set d.not-Change d.not-Remove d.not-Copy d.not-Move d.not-Vread d.not-Vwrite in
+    let is = in_memory c.args.command c.requires.no_cursor d.not-Nsof d.not-Lit d.not-Format d.not-Mount d.not-Soup d.not-Drop d.not-Index d.not-Unindex d.not-SetTags d.not-SetInfo d.not-Add d.not-Addx d.not-Addu d.not-Get d.not-Getx d.not-Set d.not-Change d.not-Remove d.not-Copy d.not-Move d.not-Vread d.not-Vwrite in
     record { not_shown = is.0; no_device = is.1; no_cursor = c.requires.no_cursor }
 
 pub returns-in_default : goal.returns-in_default
@@ -143,7 +146,7 @@ returns-in_default g c =
     let o = g.H.Host.outside c.args.host.now in
     let eight : Eight o = record { eight = g.met.H.Host.eight c.args.host.now; none = g.met.H.Host.none c.args.host.now } in
     let d = c.in_default in
-    let is = in_memory c.args.command c.requires.no_cursor d.not-Nsof d.not-Lit d.not-Format d.not-Mount d.not-Soup d.not-Drop d.not-Index d.not-Unindex d.not-SetTags d.not-Add d.not-Addx d.not-Addu d.not-Get d.not-Getx d.not-Set d.not-Change d.not-Remove d.not-Copy d.not-Move d.not-Vread d.not-Vwrite in
+    let is = in_memory c.args.command c.requires.no_cursor d.not-Nsof d.not-Lit d.not-Format d.not-Mount d.not-Soup d.not-Drop d.not-Index d.not-Unindex d.not-SetTags d.not-SetInfo d.not-Add d.not-Addx d.not-Addu d.not-Get d.not-Getx d.not-Set d.not-Change d.not-Remove d.not-Copy d.not-Move d.not-Vread d.not-Vwrite in
     let no_device = is.1 in
     let call = c.obey_in_memory-obeyed.ensures in record {
       stands = λ goes. call.stands g.H.Host.told o c.requires.stands;

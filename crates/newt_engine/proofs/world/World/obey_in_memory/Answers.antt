@@ -113,6 +113,17 @@ returns-in-Tags g c =
       ends = λ none. absurd (both-ways (sym none ∙ ap takes_memory c.in-Tags.is));
     }
 
+pub returns-in-Info : goal.returns-in-Info
+returns-in-Info g c =
+    let call = c.info.ensures in
+    let on = c.literal.ensures in record {
+      stands = λ told outside h. h;
+      answered = λ outside eight stand. answered_on on _ _ c.in-Info.is (call.answered outside eight stand);
+      desk = refl;
+      device = err_on on _ call.only;
+      ends = λ none. absurd (both-ways (sym none ∙ ap takes_memory c.in-Info.is));
+    }
+
 pub returns-in-Alias : goal.returns-in-Alias
 returns-in-Alias g c =
     let call = c.alias.ensures in
@@ -138,4 +149,4 @@ returns-in-Resolve g c =
 pub returns-in_default : goal.returns-in_default
 returns-in_default g c =
     let d = c.in_default in
-    absurd (no_other c.args.command.now c.requires.not_shown c.requires.no_device c.requires.no_cursor d.not-Time d.not-Quit d.not-Unmount d.not-Stores d.not-Default d.not-Soups d.not-Indexes d.not-Tags d.not-Alias d.not-Resolve)
+    absurd (no_other c.args.command.now c.requires.not_shown c.requires.no_device c.requires.no_cursor d.not-Time d.not-Quit d.not-Unmount d.not-Stores d.not-Default d.not-Soups d.not-Indexes d.not-Tags d.not-Info d.not-Alias d.not-Resolve)

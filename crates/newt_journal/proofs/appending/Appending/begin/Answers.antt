@@ -1,7 +1,7 @@
 use Rattle.std.proofs.Common.{refl, rules}
 use Rattle.newt_spec_image.specs.Records.{length_bytes}
 use Rattle.newt_host.proofs.Outside.{same_cards}
-use Rattle.newt_journal.proofs.Append.{blank, any_moment, same_records, drafted_now, rest_left}
+use Rattle.newt_journal.proofs.Append.{blank, any_moment, same_reading, drafted_now, rest_left}
 use Rattle.newt_journal.proofs.appending.Appending.begin.Goals as goal
 
 pub program_piece-requires-clause-blank : goal.program_piece-requires-clause-blank
@@ -31,7 +31,7 @@ returns-clause-begun g c = record {
   put = refl;
   kind = refl;
   empty = λ image. refl;
-  same = λ t. same_records c.args.journal c.args.len c.requires.some c.requires.fits _ (c.requires.stands.held t) _ c.to_be_bytes.ensures (c.in_ok-program_piece.ensures.wrote t);
+  same = λ t. same_reading c.args.journal c.args.len c.requires.some c.requires.fits _ (c.requires.stands.held t) _ c.to_be_bytes.ensures (c.in_ok-program_piece.ensures.wrote t);
 }
 
 pub returns-clause-writes : goal.returns-clause-writes

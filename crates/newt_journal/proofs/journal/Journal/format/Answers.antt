@@ -2,8 +2,9 @@ use Rattle.std.proofs.Common.{◌≤◌, ◌+◌, ◌-◌, ◌*◌, ℕ, length,
 use Rattle.newt_host.specs.Moments.{image}
 use Rattle.newt_host.proofs.Outside.{same_cards}
 use Rattle.newt_spec_image.specs.Records.{bank_size, bank_start}
+use Rattle.newt_journal.specs.Journal.{Reading}
 use Rattle.newt_journal.proofs.Opened.{has_blocks}
-use Rattle.newt_journal.proofs.Formatting.{after_sync, bank_begun, format_blank, format_one, format_tail, format_stands, front_is, front_sure, front_voted, front_written, may_leave, then_front}
+use Rattle.newt_journal.proofs.Formatting.{after_sync, bank_begun, format_blank, format_reads, format_tail, format_stands, front_is, front_sure, front_voted, front_written, may_leave, then_front}
 use Rattle.newt_journal.proofs.journal.Journal.format.Goals as goal
 
 pub returns-in_err-sync-clause-writes : goal.returns-in_err-sync-clause-writes
@@ -139,7 +140,7 @@ returns-clause-journal g c =
     let fits : 21 + length c.args.first.now ≤ bank_size c.blocks-blocks.result = subst (λ (n : ℕ). 21 + length c.args.first.now ≤ bank_size n) (sym c.blocks-blocks.ensures) c.requires.fits in (
       record {
         has = same_cards c.cast_votes.ensures.writes.alone.cards (same_cards c.sync-2.ensures.call.alone.cards (same_cards c.program_piece.ensures.writes.alone.cards (same_cards c.begin_bank.ensures.writes.alone.cards (same_cards c.sync.ensures.call.alone.cards (has_blocks c.args.unit c.blocks-blocks.result (g.H.Host.outside c.args.host.now) (g.met.H.Host.none c.args.host.now c.args.unit) c.blocks-blocks.ensures enough)))));
-        held = λ t. format_stands c.args.unit c.blocks-blocks.result enough few (image c.args.unit (g.H.Host.outside c.sync.new.self).now) c.args.first.now (g.met.H.Host.sized c.sync.new.self c.args.unit t ∙ ap (λ (n : ℕ). n * 4096) (c.sync.ensures.call.alone.cards.blocks c.args.unit ∙ sym c.blocks-blocks.ensures)) fits _ c.start-start.ensures (g.H.Host.outside c.begin_bank.new.host).now (c.in_ok-begin_bank.ensures.begun t) (c.in_ok-program_piece.ensures.wrote t) (c.in_ok-sync-2.ensures.synced t) (g.H.Host.outside c.cast_votes.new.host).now ((c.in_ok-cast_votes.ensures.cast t).alike) ((c.in_ok-cast_votes.ensures.cast t).kept) _ refl refl refl refl ((c.in_ok-cast_votes.ensures.cast t).durable);
+        held = λ t. format_stands c.args.unit c.blocks-blocks.result enough few (image c.args.unit (g.H.Host.outside c.sync.new.self).now) c.args.first.now (g.met.H.Host.sized c.sync.new.self c.args.unit t ∙ ap (λ (n : ℕ). n * 4096) (c.sync.ensures.call.alone.cards.blocks c.args.unit ∙ sym c.blocks-blocks.ensures)) fits _ c.start-start.ensures (g.H.Host.outside c.begin_bank.new.host).now (c.in_ok-begin_bank.ensures.begun t) (c.in_ok-program_piece.ensures.wrote t) (c.in_ok-sync-2.ensures.synced t) (g.H.Host.outside c.cast_votes.new.host).now ((c.in_ok-cast_votes.ensures.cast t).alike) ((c.in_ok-cast_votes.ensures.cast t).kept) _ refl refl refl refl refl ((c.in_ok-cast_votes.ensures.cast t).durable);
       },
       refl,
       refl,
@@ -147,17 +148,15 @@ returns-clause-journal g c =
     )
 
 pub returns-clause-fresh : goal.returns-clause-fresh
-returns-clause-fresh g c t = record {
-  one =
-      let enough : 13 ≤ c.blocks-blocks.result = omega (arith, c.blocks-blocks.ensures, c.requires.enough) in
-      let few : c.blocks-blocks.result ≤ 4099 = omega (arith, c.blocks-blocks.ensures, c.requires.few) in
-      let fits : 21 + length c.args.first.now ≤ bank_size c.blocks-blocks.result = subst (λ (n : ℕ). 21 + length c.args.first.now ≤ bank_size n) (sym c.blocks-blocks.ensures) c.requires.fits in
-      format_one c.args.unit c.blocks-blocks.result enough few (image c.args.unit (g.H.Host.outside c.sync.new.self).now) c.args.first.now (g.met.H.Host.sized c.sync.new.self c.args.unit t ∙ ap (λ (n : ℕ). n * 4096) (c.sync.ensures.call.alone.cards.blocks c.args.unit ∙ sym c.blocks-blocks.ensures)) fits _ c.start-start.ensures (g.H.Host.outside c.begin_bank.new.host).now (c.in_ok-begin_bank.ensures.begun t) (c.in_ok-program_piece.ensures.wrote t) (c.in_ok-sync-2.ensures.synced t) (g.H.Host.outside c.cast_votes.new.host).now ((c.in_ok-cast_votes.ensures.cast t).alike) ((c.in_ok-cast_votes.ensures.cast t).kept);
-  alike = (c.in_ok-cast_votes.ensures.cast t).alike;
-  blank =
-      let enough : 13 ≤ c.blocks-blocks.result = omega (arith, c.blocks-blocks.ensures, c.requires.enough) in
-      let few : c.blocks-blocks.result ≤ 4099 = omega (arith, c.blocks-blocks.ensures, c.requires.few) in
-      let fits : 21 + length c.args.first.now ≤ bank_size c.blocks-blocks.result = subst (λ (n : ℕ). 21 + length c.args.first.now ≤ bank_size n) (sym c.blocks-blocks.ensures) c.requires.fits in
-      format_tail c.args.unit c.blocks-blocks.result enough few (image c.args.unit (g.H.Host.outside c.sync.new.self).now) c.args.first.now (g.met.H.Host.sized c.sync.new.self c.args.unit t ∙ ap (λ (n : ℕ). n * 4096) (c.sync.ensures.call.alone.cards.blocks c.args.unit ∙ sym c.blocks-blocks.ensures)) fits _ c.start-start.ensures (g.H.Host.outside c.begin_bank.new.host).now (c.in_ok-begin_bank.ensures.begun t) (c.in_ok-program_piece.ensures.wrote t) (c.in_ok-sync-2.ensures.synced t) (g.H.Host.outside c.cast_votes.new.host).now ((c.in_ok-cast_votes.ensures.cast t).alike) ((c.in_ok-cast_votes.ensures.cast t).kept) ∙ ap (λ (n : ℕ). replicate (bank_size n - 21 - length c.args.first.now) 255) c.blocks-blocks.ensures;
-  durable = (c.in_ok-cast_votes.ensures.cast t).durable;
-}
+returns-clause-fresh g c t =
+    let enough : 13 ≤ c.blocks-blocks.result = omega (arith, c.blocks-blocks.ensures, c.requires.enough) in
+    let few : c.blocks-blocks.result ≤ 4099 = omega (arith, c.blocks-blocks.ensures, c.requires.few) in
+    let fits : 21 + length c.args.first.now ≤ bank_size c.blocks-blocks.result = subst (λ (n : ℕ). 21 + length c.args.first.now ≤ bank_size n) (sym c.blocks-blocks.ensures) c.requires.fits in
+    let reads = format_reads c.args.unit c.blocks-blocks.result enough few (image c.args.unit (g.H.Host.outside c.sync.new.self).now) c.args.first.now (g.met.H.Host.sized c.sync.new.self c.args.unit t ∙ ap (λ (n : ℕ). n * 4096) (c.sync.ensures.call.alone.cards.blocks c.args.unit ∙ sym c.blocks-blocks.ensures)) fits _ c.start-start.ensures (g.H.Host.outside c.begin_bank.new.host).now (c.in_ok-begin_bank.ensures.begun t) (c.in_ok-program_piece.ensures.wrote t) (c.in_ok-sync-2.ensures.synced t) (g.H.Host.outside c.cast_votes.new.host).now ((c.in_ok-cast_votes.ensures.cast t).alike) ((c.in_ok-cast_votes.ensures.cast t).kept) in
+    record {
+      new = ap (λ (r : Reading). r.0) reads;
+      one = ap (λ (r : Reading). r.1) reads;
+      alike = (c.in_ok-cast_votes.ensures.cast t).alike;
+      blank = format_tail c.args.unit c.blocks-blocks.result enough few (image c.args.unit (g.H.Host.outside c.sync.new.self).now) c.args.first.now (g.met.H.Host.sized c.sync.new.self c.args.unit t ∙ ap (λ (n : ℕ). n * 4096) (c.sync.ensures.call.alone.cards.blocks c.args.unit ∙ sym c.blocks-blocks.ensures)) fits _ c.start-start.ensures (g.H.Host.outside c.begin_bank.new.host).now (c.in_ok-begin_bank.ensures.begun t) (c.in_ok-program_piece.ensures.wrote t) (c.in_ok-sync-2.ensures.synced t) (g.H.Host.outside c.cast_votes.new.host).now ((c.in_ok-cast_votes.ensures.cast t).alike) ((c.in_ok-cast_votes.ensures.cast t).kept) ∙ ap (λ (n : ℕ). replicate (bank_size n - 21 - length c.args.first.now) 255) c.blocks-blocks.ensures;
+      durable = (c.in_ok-cast_votes.ensures.cast t).durable;
+    }

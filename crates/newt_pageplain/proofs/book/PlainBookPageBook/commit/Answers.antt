@@ -5,7 +5,7 @@ use Rattle.newt_host.specs.Moments.{Moment, image}
 use Rattle.newt_host.specs.Outside.{Outside}
 use Rattle.newt_host.proofs.Outside.{NoFault-refl, Spends-refl, Touches-no_fault, Touches-refl, Wears-refl}
 use Rattle.newt_host.proofs.Moments.{Leaves-start}
-use Rattle.newt_spec_image.specs.Records.{bank_blocks}
+use Rattle.newt_spec_image.specs.Records.{bank_blocks, version}
 use Rattle.newt_spec_image.specs.Pages.{Change, Pages, pages, after, cap}
 use Rattle.newt_journal.specs.declared.journal.Journal.{Journal}
 use Rattle.newt_pagebook.specs.Book.{IsBeforeOrAfter, IsOpenFor, ReadsChanged, batch_bytes, changed_numbers, switch_bytes}
@@ -34,7 +34,7 @@ returns-then-live_after-cap g c =
       same_place = refl;
       numbers_are = tt;
       committed = λ tells. tt;
-      any_moment = λ tells. Leaves-start {P = IsBeforeOrAfter batch img} (λ left may. inl (ap (λ (l : List ℕ). pages l) ((tells_with g.H.Host.told u c.args.self.now.journal c.args.self.now.pages.entries o c.requires.book tells).1 left may)));
+      any_moment = λ tells. Leaves-start {P = IsBeforeOrAfter batch img} (λ left may. let same = ((tells_with g.H.Host.told u c.args.self.now.journal c.args.self.now.pages.entries o c.requires.book tells).1 left may) in inl (ap (λ (l : List ℕ). pages l) same, ap (λ (l : List ℕ). version l) same));
       full = λ is. more-named c.live_after.result c.cap.result _ _ c.live_after.ensures (c.cap.ensures ∙ ap cap c.blocks-2.ensures) c.if-live_after-cap.true;
       fits = λ more. refl;
       unchanged = λ is. record {

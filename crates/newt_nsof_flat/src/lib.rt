@@ -1,0 +1,16 @@
+//! The graphs of records: frames that are read from their flat texts, each the one text that the
+//! program itself writes of a graph, and no other that spells it.
+//!
+//! It stands on the reader and the writer of the streamed form, and on the definitions of stores.
+//! It carries this promise: a graph is read from exactly the bytes that are its flat text.
+#![tactic(auto)]
+
+mod fault;
+mod frame;
+mod laws;
+mod read;
+
+pub use fault::FlatFault;
+pub use frame::is_frame;
+pub use laws::flat_texts_are_read;
+pub use read::read_flat;
