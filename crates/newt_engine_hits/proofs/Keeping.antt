@@ -1,6 +1,7 @@
 -- Whether an entry of the store of one unit passes.
 use Rattle.std.proofs.Common.{◌≡◌, refl, ap, sym, ◌∙◌, ℕ, List, Bool, true, false, ◌&&◌, find, Option, Some, None, option_map, option_and_then, ◌==◌}
-use Rattle.newt_spec_graph.proofs.Lists.{some-same, none-some}
+use Rattle.std.specs.Prelude.{IsSome, is_some}
+use Rattle.newt_spec_graph.proofs.Lists.{some-same, none-some, both-ways}
 use Rattle.newt_graph.specs.Graph.{RawGraph}
 use Rattle.newt_spec_store.specs.Store.{Store, Soup, Entry, TagTable, entry_of, soup_of, entry_at}
 use Rattle.newt_spec_query.specs.Hits.{Query, Hit, passes}
@@ -52,6 +53,14 @@ module _ (q : Query) (s : Store) (h : Hit) where
           ≡ entry_passes q (option_and_then (λ p. option_map (λ e. record { store = s; soup = p; entry = e }) (entry_of h.uid p)) o)
       go None e = absurd (none-some x e)
       go (Some p) e = entry p (entry_of h.uid p) e
+
+  -- the soup has no tags
+  pub untagged-kept : (b : Bool) → None ≡ table_in h.soup s → IsSome (entry_at h.soup h.uid s) → ((g : RawGraph) → b ≡ (in_range q.spec h.key && passes q.spec None g)) → b ≡ keeps_in q s h
+  untagged-kept b bare there is = go (entry_at h.soup h.uid s) refl there
+    where
+      go : (o : Option Entry) → entry_at h.soup h.uid s ≡ o → is_some o ≡ true → b ≡ keeps_in q s h
+      go None e k = absurd (both-ways k)
+      go (Some x) e k = there-kept x b (sym e) (is x.graph ∙ ap (λ (t : Option TagTable). in_range q.spec h.key && passes q.spec t x.graph) bare)
 
   -- the mask of the entry
   pub masked-kept : (mask : ℕ) (table : Option TagTable) (b : Bool) → table ≡ table_in h.soup s → Some mask ≡ mask_at h.soup h.uid s

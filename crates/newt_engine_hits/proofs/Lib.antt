@@ -1,6 +1,7 @@
 pub mod Reading
 pub mod Stores
 pub mod Keeping
+pub mod Indexed
 pub mod Presence
 pub mod Searching
 pub mod Walking

@@ -142,6 +142,21 @@ module _ (index : IndexSpec) (ms : List Member) (are : AreMembers index ms) (fou
   pub at-key : (key : Key) → option_map spot_hit found ≡ at_or_after index ms key → IfSome found (λ spot. IsKeyOf index spot.key)
   at-key key e = spot-key index found (at_or_after index ms key) e (λ h k. merged-key index ms are h (among-filter _ (merged index ms) h (first-among _ h k)).0)
 
+-- the spot is none, or one of the hits
+spot-among : (hs : List Hit) (found : Option Spot) (o : Option Hit) → option_map spot_hit found ≡ o → ((h : Hit) → o ≡ Some h → Among hs h) → IfSome found (λ spot. Among hs (spot_hit spot))
+spot-among hs None o e k = tt
+spot-among hs (Some spot) o e k = k (spot_hit spot) (sym e)
+
+module _ (index : IndexSpec) (ms : List Member) (found : Option Spot) where
+  pub met-indexed : (way : Way) → option_map spot_hit found ≡ met way (merged index ms) → IfSome found (λ spot. Among (merged index ms) (spot_hit spot))
+  met-indexed way e = spot-among (merged index ms) found (met way (merged index ms)) e (met-among way (merged index ms))
+
+  pub beyond-indexed : (way : Way) (at : Hit) → option_map spot_hit found ≡ beyond way index ms at → IfSome found (λ spot. Among (merged index ms) (spot_hit spot))
+  beyond-indexed way at e = spot-among (merged index ms) found (beyond way index ms at) e (beyond-among way index ms at)
+
+  pub at-indexed : (key : Key) → option_map spot_hit found ≡ at_or_after index ms key → IfSome found (λ spot. Among (merged index ms) (spot_hit spot))
+  at-indexed key e = spot-among (merged index ms) found (at_or_after index ms key) e (λ h k. (among-filter _ (merged index ms) h (first-among _ h k)).0)
+
 -- bytes of a key of the index are those of a key of each member
 abbrev OneProbe : Key → List ℕ → Member → Type 0
 OneProbe key bytes m = IsProbeOf m.range.spec key bytes

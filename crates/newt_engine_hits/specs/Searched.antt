@@ -2,14 +2,16 @@
 use Rattle.std.specs.Prelude.{ℕ, Bool, true, false, ◌&&◌, List, Option, Some, None, option_map, option_and_then, cond}
 use Rattle.std.specs.Borrow.{Bor}
 use Rattle.newt_spec_store.specs.Keys.{IndexSpec, same_spec}
+use Rattle.newt_spec_graph.specs.Lists.{Among}
 use Rattle.newt_spec_store.specs.Store.{Store, entry_of, soup_named, soup_of}
 use Rattle.newt_spec_query.specs.Hits.{Query, Hit, above, below, in_scope}
+use Rattle.newt_spec_world.specs.World.{World, mounted_stores}
 use Rattle.newt_index.specs.Pairs.{Sorted}
-use Rattle.newt_union.specs.Merged.{Member, AllAgree}
+use Rattle.newt_union.specs.Merged.{Member, AllAgree, merged}
 use Rattle.newt_union.specs.Seen.{AreSorted}
 use Rattle.newt_laws_hits.specs.Located.{Located}
 use Rattle.newt_laws_hits.specs.Stripped.{entry_passes}
-use Rattle.newt_laws_hits.specs.Taking.{member_of}
+use Rattle.newt_laws_hits.specs.Taking.{member_of, members_of}
 
 -- the soup of the query's name in a store in scope, with its range (Newton Programmer's Guide 2.0, union soups)
 abbrev pub member_in : Query → Store → Option Member
@@ -29,6 +31,10 @@ agrees _ _ = false
 pub record AreMembers (index : IndexSpec) (ms : List Member) : Type 0 where
   pub agree : AllAgree index ms
   pub sorted : AreSorted ms
+
+-- the hit is one of the ranges of the soups that take part in a query (this project's own)
+abbrev pub IsIndexed : World → Query → Hit → Type 0
+IsIndexed w q h = Among (merged q.spec.index (members_of (mounted_stores w) q)) h
 
 -- the entry of this id in the soup of this signature of a store (a word of these definitions)
 abbrev pub located_in : Store → ℕ → ℕ → Option Located

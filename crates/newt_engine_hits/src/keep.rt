@@ -1,16 +1,17 @@
 //! Whether a hit of an index alone is one of the query.
-ghost use Rattle.std.specs.Prelude.{◌≡◌, ℕ, true, false, IsTrue, Some, IfOk};
+ghost use Rattle.std.specs.Prelude.{◌≡◌, ℕ, true, false, IsTrue, Some, IfOk, IsSome};
 ghost use Rattle.newt_host.specs.Moments.{image};
 ghost use Rattle.newt_host.specs.Outside.{Outside};
 ghost use Rattle.newt_cursor.specs.Seen.{query_of};
 ghost use Rattle.newt_query.specs.Filter.{asks_texts};
-ghost use Rattle.newt_spec_store.specs.Store.{Store};
+ghost use Rattle.newt_spec_store.specs.Store.{Store, entry_at};
 ghost use Rattle.newt_spec_world.specs.World.{mounted_stores};
+ghost use Rattle.newt_laws_world.specs.Settled.{MountedApart};
 ghost use Rattle.newt_laws_answers.specs.There.{OnUnit};
 ghost use Rattle.newt_laws_hits.specs.Stripped.{passing};
 ghost use Rattle.newt_engine_units.specs.Stands.{Eight, Stands, mounted_in, world_of};
 ghost use Rattle.newt_index.specs.Spots.{spot_hit};
-ghost use Rattle.newt_engine_hits.specs.Searched.{keeps_in};
+ghost use Rattle.newt_engine_hits.specs.Searched.{IsIndexed, keeps_in};
 ghost use Rattle.newt_engine_hits.specs.Calls.{IsReading};
 
 use crate::present::table_on;
@@ -22,8 +23,8 @@ use newt_index::Spot;
 use newt_pagebook::Stop;
 use newt_query::{is_kept, is_kept_unread};
 
-/// Whether a query keeps a hit: its key is in the range, and its entry is there and passes. The
-/// entry is read only where words or texts are asked for.
+/// Whether a query keeps a hit of the ranges, whose entry is there: its key is in the range, and
+/// its entry passes. The entry is read only where words or texts are asked for.
 pub(crate) fn keeps<C: Card, H: Host>(
     units: &mut Units<C>,
     host: &mut H,
@@ -33,9 +34,9 @@ pub(crate) fn keeps<C: Card, H: Host>(
     requires { Stands C.place C.stands H.told units.old (H.outside host.old) }
     ensures reading { IsReading C.reads C.place C.stands (asks_texts query.now.spec) H.told
         units.old units.new (H.outside host.old) (H.outside host.new) result }
-    ensures kept { IsTrue H.told → IfOk result (λ kept. kept ≡ passing
-        (mounted_stores (world_of C.reads units.old (H.outside host.old))) (query_of query.now)
-        (spot_hit spot.now)) }
+    ensures kept { IsTrue H.told → let w = world_of C.reads units.old (H.outside host.old) in
+        let q = query_of query.now in MountedApart w → IsIndexed w q (spot_hit spot.now)
+        → IfOk result (λ kept. kept ≡ passing (mounted_stores w) q (spot_hit spot.now)) }
 {
     if !query.spec.in_range(&spot.key) {
         return Ok(false);
@@ -75,11 +76,12 @@ fn keeps_read<C: Card, H: Host>(
     }
 }
 
-/// Whether a query keeps a hit whose entry need not be read.
+/// Whether a query keeps a hit whose entry is there and need not be read.
 fn keeps_unread<C: Card>(units: &Units<C>, unit: Unit, query: &Query, spot: &Spot) -> bool
     requires { asks_texts query.now.spec ≡ false }
     ensures { (outside : Outside) → Eight outside → Stands C.place C.stands true units.now outside
         → (blocks : ℕ) (s : Store) → OnUnit (world_of C.reads units.now outside) unit blocks s
+        → IsSome (entry_at spot.now.soup spot.now.uid s)
         → result ≡ keeps_in (query_of query.now) s (spot_hit spot.now) }
 {
     match units.card(unit) {
@@ -88,15 +90,20 @@ fn keeps_unread<C: Card>(units: &Units<C>, unit: Unit, query: &Query, spot: &Spo
     }
 }
 
-/// Whether a query keeps a hit of the store of a card, whose entry need not be read.
+/// Whether a query keeps a hit of the store of a card, whose entry is there and need not be read.
+/// Its mask is asked for only where its soup declares tags.
 fn is_kept_on<C: Card>(card: &C, query: &Query, spot: &Spot) -> bool
     requires { asks_texts query.now.spec ≡ false }
     ensures { (outside : Outside) (s : Store) → C.stands true card.now outside
-        → C.reads (image (C.place card.now) outside.now) ≡ Some s →
-        result ≡ keeps_in (query_of query.now) s (spot_hit spot.now) }
+        → C.reads (image (C.place card.now) outside.now) ≡ Some s
+        → IsSome (entry_at spot.now.soup spot.now.uid s)
+        → result ≡ keeps_in (query_of query.now) s (spot_hit spot.now) }
 {
+    let Some(table) = card.tags(spot.soup) else {
+        return is_kept_unread(&query.spec, &spot.key, None, 0);
+    };
     match card.mask(spot.soup, spot.uid) {
-        Some(mask) => is_kept_unread(&query.spec, &spot.key, card.tags(spot.soup), mask),
+        Some(mask) => is_kept_unread(&query.spec, &spot.key, Some(table), mask),
         None => false,
     }
 }

@@ -10,6 +10,7 @@ ghost use Rattle.newt_laws_hits.specs.Walk.{walked};
 ghost use Rattle.newt_engine_units.specs.Stands.{Stands, world_of};
 ghost use Rattle.newt_index.specs.Spots.{spot_hit};
 ghost use Rattle.newt_engine_hits.specs.Fits.{PlaceFits};
+ghost use Rattle.newt_engine_hits.specs.Searched.{IsIndexed};
 ghost use Rattle.newt_engine_hits.specs.Ways.{edge, stepping};
 ghost use Rattle.newt_engine_hits.specs.Calls.{IsReading};
 
@@ -23,7 +24,7 @@ use newt_host::Host;
 use newt_index::Spot;
 use newt_pagebook::Stop;
 
-/// From a hit of the index alone, or none, to the first that the query keeps, or to where the way
+/// From a hit of the ranges, or none, to the first that the query keeps, or to where the way
 /// ends. Each step leaves fewer hits before it, and there are fewer than the steps that are tried.
 pub(crate) fn walk<C: Card, H: Host>(
     units: &mut Units<C>,
@@ -38,7 +39,8 @@ pub(crate) fn walk<C: Card, H: Host>(
         units.old units.new (H.outside host.old) (H.outside host.new) result }
     ensures fits { IfOk result (λ place. PlaceFits query.now.spec.index (place_of place)) }
     ensures walked { IsTrue H.told → let w = world_of C.reads units.old (H.outside host.old) in
-        let q = query_of query.now in MountedApart w → IfOk result
+        let q = query_of query.now in MountedApart w
+        → IfSome start (λ spot. IsIndexed w q (spot_hit spot)) → IfOk result
         (λ place. place_of place ≡ walked (passing (mounted_stores w) q) (edge way)
         (stepping way (hits_of w q) q.spec.index) (option_map spot_hit start)) }
 {

@@ -1,4 +1,4 @@
--- What was counted and what is still to be counted are all hits.
+-- What was counted and what is still to be counted are all hits, and what is found is of the ranges.
 use Rattle.std.proofs.Common.{◌≡◌, IsTrue, option_map, ◌+◌, ◌≤◌, ◌^◌, length, false}
 use Rattle.std.specs.Prelude.{IfSome}
 use Rattle.newt_host.specs.Outside.{NoFault}
@@ -14,6 +14,7 @@ use Rattle.newt_engine_units.specs.Stands.{world_of}
 use Rattle.newt_index.specs.Spots.{spot_hit}
 use Rattle.newt_engine_units.specs.Calls.{AreRead}
 use Rattle.newt_engine_hits.specs.declared.ways.Way.TheVariants.{On}
+use Rattle.newt_engine_hits.specs.Searched.{IsIndexed}
 use Rattle.newt_engine_hits.proofs.Counted.{counts}
 use Rattle.newt_engine_hits.proofs.Walking.{ahead}
 use Rattle.newt_engine_hits.proofs.counting.count_hits.Given as goal
@@ -26,6 +27,8 @@ invariant-hits g l = record {
   key : IfSome l.found (λ spot. IsKeyOf l.query.spec.index spot.key);
   counted : IsTrue g.H.Host.told → let w = world_of g.C.Card.reads l.fn.units (g.H.Host.outside l.fn.host) in let q = query_of l.query in MountedApart w
       → length (hits_of w q) ≡ l.count + counts w q (option_map spot_hit l.found);
+  indexed : IsTrue g.H.Host.told → let w = world_of g.C.Card.reads l.fn.units (g.H.Host.outside l.fn.host) in
+      IfSome l.found (λ spot. IsIndexed w (query_of l.query) (spot_hit spot));
   ahead : IsTrue g.H.Host.told → let w = world_of g.C.Card.reads l.fn.units (g.H.Host.outside l.fn.host) in let q = query_of l.query in MountedApart w
       → ahead On q.spec.index (merged q.spec.index (members_of (mounted_stores w) q)) (option_map spot_hit l.found) + l._hit ≤ 2 ^ 32;
 }

@@ -10,13 +10,14 @@ use Rattle.newt_engine_units.proofs.Known.{Laws}
 use Rattle.newt_engine_units.proofs.Resolving.{showing-card}
 use Rattle.newt_index.specs.Spots.{spot_hit}
 use Rattle.newt_engine_hits.specs.Searched.{keeps_in}
+use Rattle.newt_engine_hits.proofs.Indexed.{indexed-there}
 use Rattle.newt_engine_hits.proofs.Keeping.{no-store-passes, store-passes}
 use Rattle.newt_engine_hits.proofs.Reading.{asked-reading}
-use Rattle.newt_engine_hits.proofs.Stores.{shows-some, shows-none}
+use Rattle.newt_engine_hits.proofs.Stores.{shows-some, shows-none, stores-formed}
 use Rattle.newt_engine_hits.proofs.keep.keeps.Goals as goal
 
 pub returns-in_default-clause-kept : goal.returns-in_default-clause-kept
-returns-in_default-clause-kept g c t =
+returns-in_default-clause-kept g c t apart m =
     let laws : Laws g.C.Card.reads g.C.Card.place g.C.Card.soups g.C.Card.stands = record { formed = g.met.C.Card.formed; plain = g.met.C.Card.plain; durable = g.met.C.Card.durable; banks = g.met.C.Card.banks; kept = g.met.C.Card.kept } in
     let o = g.H.Host.outside c.args.host.now in
     let eight : Eight (g.H.Host.outside c.args.host.now) = record { eight = g.met.H.Host.eight c.args.host.now; none = g.met.H.Host.none c.args.host.now } in
@@ -31,7 +32,7 @@ pub returns-then-needs_graph-clause-reading : goal.returns-then-needs_graph-clau
 returns-then-needs_graph-clause-reading g c = asked-reading (sym c.if-needs_graph.ensures) c.keeps_read.ensures.reading
 
 pub returns-then-needs_graph-clause-kept : goal.returns-then-needs_graph-clause-kept
-returns-then-needs_graph-clause-kept g c t =
+returns-then-needs_graph-clause-kept g c t apart m =
     let laws : Laws g.C.Card.reads g.C.Card.place g.C.Card.soups g.C.Card.stands = record { formed = g.met.C.Card.formed; plain = g.met.C.Card.plain; durable = g.met.C.Card.durable; banks = g.met.C.Card.banks; kept = g.met.C.Card.kept } in
     let o = g.H.Host.outside c.args.host.now in
     let eight : Eight (g.H.Host.outside c.args.host.now) = record { eight = g.met.H.Host.eight c.args.host.now; none = g.met.H.Host.none c.args.host.now } in
@@ -43,11 +44,13 @@ returns-then-needs_graph-clause-kept g c t =
     (λ b e. e ∙ store-passes (mounted_stores w) (query_of c.args.query.now) (spot_hit c.args.spot.now) k.store k.found) (c.keeps_read.ensures.kept t k.blocks k.store k.on)
 
 pub returns-else-needs_graph-clause-kept : goal.returns-else-needs_graph-clause-kept
-returns-else-needs_graph-clause-kept g c t =
+returns-else-needs_graph-clause-kept g c t apart m =
     let laws : Laws g.C.Card.reads g.C.Card.place g.C.Card.soups g.C.Card.stands = record { formed = g.met.C.Card.formed; plain = g.met.C.Card.plain; durable = g.met.C.Card.durable; banks = g.met.C.Card.banks; kept = g.met.C.Card.kept } in
     let o = g.H.Host.outside c.args.host.now in
     let eight : Eight (g.H.Host.outside c.args.host.now) = record { eight = g.met.H.Host.eight c.args.host.now; none = g.met.H.Host.none c.args.host.now } in
     let stand : Stands g.C.Card.place g.C.Card.stands true c.args.units.now o = subst (λ b. Stands g.C.Card.place g.C.Card.stands b c.args.units.now o) t c.requires in
     let w = world_of g.C.Card.reads c.args.units.now o in
     let k = shows-some laws c.args.units.now o eight stand c.args.spot.now.store c.in-Some.unit (sym c.in-Some.ensures) in
-    c.keeps_unread.ensures o eight stand k.blocks k.store k.on ∙ store-passes (mounted_stores w) (query_of c.args.query.now) (spot_hit c.args.spot.now) k.store k.found
+    c.keeps_unread.ensures o eight stand k.blocks k.store k.on
+    (indexed-there w (query_of c.args.query.now) apart (stores-formed laws c.args.units.now o eight stand) (spot_hit c.args.spot.now) m k.store k.found)
+    ∙ store-passes (mounted_stores w) (query_of c.args.query.now) (spot_hit c.args.spot.now) k.store k.found

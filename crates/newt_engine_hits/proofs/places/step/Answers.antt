@@ -3,12 +3,14 @@ use Rattle.std.proofs.Common.{◌≡◌, ◌∙◌, ap, sym, subst, option_map, 
 use Rattle.std.proofs.lemmas.Result.{IfOk-weaker}
 use Rattle.newt_cursor.specs.Seen.{query_of, place_of}
 use Rattle.newt_cursor.specs.declared.place.Place.{Place}
-use Rattle.newt_spec_world.specs.World.{hits_of}
+use Rattle.newt_spec_world.specs.World.{hits_of, mounted_stores}
+use Rattle.newt_laws_hits.specs.Taking.{members_of}
 use Rattle.newt_engine_units.specs.Stands.{Stands, Eight, world_of}
 use Rattle.newt_engine_units.proofs.Known.{Laws}
 use Rattle.newt_index.specs.Spots.{spot_hit}
 use Rattle.newt_engine_hits.specs.Ways.{outermost, outset, stepping}
 use Rattle.newt_engine_hits.specs.declared.ways.Way.TheVariants.{On, Back}
+use Rattle.newt_engine_hits.proofs.Searching.{beyond-indexed}
 use Rattle.newt_engine_hits.proofs.Stores.{stores-formed}
 use Rattle.newt_engine_hits.proofs.Walking.{comes_to, step-goal, step-outset, step-edge}
 use Rattle.newt_engine_hits.proofs.places.step.Goals as goal
@@ -25,7 +27,9 @@ returns-in_ok-found-in-On-clause-place g c t apart =
     (λ (next : Place). place_of next ≡ stepping c.args.way (hits_of w q) q.spec.index (place_of c.args.place.now))
     (λ place e. e ∙ ap (comes_to w q c.args.way) (c.in_ok-found-in-On.ensures.found o eight stand)
     ∙ sym (step-goal w q apart (stores-formed laws c.args.units.now o eight stand) c.args.way (spot_hit c.in-On.spot))
-    ∙ (λ i. stepping c.args.way (hits_of w q) q.spec.index (place_of ((sym c.in-On.is) i)))) (c.walk.ensures.walked t apart)
+    ∙ (λ i. stepping c.args.way (hits_of w q) q.spec.index (place_of ((sym c.in-On.is) i))))
+    (c.walk.ensures.walked t apart
+    (beyond-indexed q.spec.index (members_of (mounted_stores w) q) c.in_ok-found-in-On.found c.args.way (spot_hit c.in-On.spot) (c.in_ok-found-in-On.ensures.found o eight stand)))
 
 pub returns-in-On-way-clause-place : goal.returns-in-On-way-clause-place
 returns-in-On-way-clause-place g c t apart =

@@ -7,14 +7,17 @@ use Rattle.newt_cursor.specs.Seen.{query_of}
 use Rattle.newt_index.specs.declared.identity.Spot.{Spot}
 use Rattle.newt_keys.specs.KeyForm.{IsKeyOf}
 use Rattle.newt_spec_world.specs.World.{World, mounted_stores}
+use Rattle.newt_laws_world.specs.Settled.{MountedApart}
 use Rattle.newt_laws_hits.specs.Stripped.{passing}
 use Rattle.newt_laws_hits.specs.Taking.{members_of}
 use Rattle.newt_union.specs.Merged.{merged}
 use Rattle.newt_engine_units.specs.Stands.{Stands, Eight, world_of}
 use Rattle.newt_engine_units.proofs.Known.{Laws}
 use Rattle.newt_index.specs.Spots.{spot_hit}
+use Rattle.newt_engine_hits.specs.Searched.{IsIndexed}
 use Rattle.newt_engine_hits.specs.Ways.{beyond}
 use Rattle.newt_engine_hits.proofs.Reading.{not-read, read-then, is-read, end-read, end-memory, then-unread}
+use Rattle.newt_engine_hits.proofs.Searching.{beyond-indexed}
 use Rattle.newt_engine_hits.proofs.Stores.{stores-formed, stores-few}
 use Rattle.newt_engine_hits.proofs.Walking.{ahead, comes_to, ahead-start, ahead-fewer, passed-goal, over-goal}
 use Rattle.newt_engine_hits.proofs.walk.walk.Goals as goal
@@ -25,7 +28,8 @@ steps-init g c = record {
   no_fault = NoFault-refl _;
   unread = λ e u. omega arith;
   key = c.requires.key;
-  walked = λ t apart. refl;
+  walked = λ t apart m. refl;
+  indexed = λ t apart m. m;
   ahead = λ t apart.
       let laws : Laws g.C.Card.reads g.C.Card.place g.C.Card.soups g.C.Card.stands = record { formed = g.met.C.Card.formed; plain = g.met.C.Card.plain; durable = g.met.C.Card.durable; banks = g.met.C.Card.banks; kept = g.met.C.Card.kept } in
       let o = g.H.Host.outside c.args.host.now in
@@ -41,9 +45,9 @@ pub returns-in_default-clause-reading : goal.returns-in_default-clause-reading
 returns-in_default-clause-reading g c = is-read c.steps.invariant.read c.steps.invariant.no_fault c.steps.invariant.unread
 
 pub returns-in_default-clause-walked : goal.returns-in_default-clause-walked
-returns-in_default-clause-walked g c t apart =
+returns-in_default-clause-walked g c t apart m =
     let w = world_of g.C.Card.reads c.args.units.now (g.H.Host.outside c.args.host.now) in
-    c.edge.ensures ∙ sym (c.steps.invariant.walked t apart ∙ ap (λ (o : Option Spot). comes_to w (query_of c.args.query.now) c.args.way (option_map spot_hit o)) c.in_default.is)
+    c.edge.ensures ∙ sym (c.steps.invariant.walked t apart m ∙ ap (λ (o : Option Spot). comes_to w (query_of c.args.query.now) c.args.way (option_map spot_hit o)) c.in_default.is)
 
 pub keeps-requires : goal.keeps-requires
 keeps-requires g c = c.steps.invariant.read.stand
@@ -59,15 +63,18 @@ pub returns-then-branch-clause-fits : goal.returns-then-branch-clause-fits
 returns-then-branch-clause-fits g c = subst (λ (o : Option Spot). IfSome o (λ spot. IsKeyOf c.args.query.now.spec.index spot.key)) c.in-Some.is c.steps.invariant.key
 
 pub returns-then-branch-clause-walked : goal.returns-then-branch-clause-walked
-returns-then-branch-clause-walked g c t apart =
+returns-then-branch-clause-walked g c t apart m =
     let laws : Laws g.C.Card.reads g.C.Card.place g.C.Card.soups g.C.Card.stands = record { formed = g.met.C.Card.formed; plain = g.met.C.Card.plain; durable = g.met.C.Card.durable; banks = g.met.C.Card.banks; kept = g.met.C.Card.kept } in
     let o = g.H.Host.outside c.args.host.now in
     let eight : Eight (g.H.Host.outside c.args.host.now) = record { eight = g.met.H.Host.eight c.args.host.now; none = g.met.H.Host.none c.args.host.now } in
     let stand : Stands g.C.Card.place g.C.Card.stands true c.args.units.now o = subst (λ b. Stands g.C.Card.place g.C.Card.stands b c.args.units.now o) t c.requires.stands in
     let w = world_of g.C.Card.reads c.args.units.now o in
     let q = query_of c.args.query.now in
-    let kept = sym c.if-branch.true ∙ c.in_ok-keeps.ensures.kept t ∙ ap (λ (v : World). passing (mounted_stores v) q (spot_hit c.in-Some.spot)) (c.steps.invariant.read.world t) in
-    sym (c.steps.invariant.walked t apart ∙ ap (λ (o : Option Spot). comes_to w q c.args.way (option_map spot_hit o)) c.in-Some.is
+    let same = c.steps.invariant.read.world t in
+    let here = subst (λ (o : Option Spot). IfSome o (λ spot. IsIndexed w q (spot_hit spot))) c.in-Some.is (c.steps.invariant.indexed t apart m) in
+    let kept = sym c.if-branch.true ∙ c.in_ok-keeps.ensures.kept t (subst (λ (v : World). MountedApart v) (sym same) apart) (subst (λ (v : World). IsIndexed v q (spot_hit c.in-Some.spot)) (sym same) here)
+    ∙ ap (λ (v : World). passing (mounted_stores v) q (spot_hit c.in-Some.spot)) same in
+    sym (c.steps.invariant.walked t apart m ∙ ap (λ (o : Option Spot). comes_to w q c.args.way (option_map spot_hit o)) c.in-Some.is
     ∙ passed-goal w q apart (stores-formed laws c.args.units.now o eight stand) c.args.way (spot_hit c.in-Some.spot) kept)
 
 pub beyond-requires-clause-key : goal.beyond-requires-clause-key
@@ -84,7 +91,7 @@ steps-preserved g c = record {
   no_fault = NoFault-append c.steps.invariant.no_fault c.in_ok-keeps.ensures.reading.no_fault;
   unread = then-unread c.steps.invariant.read c.keeps.ensures.reading.read c.steps.invariant.unread c.keeps.ensures.reading.unread;
   key = c.in_ok-found.ensures.key;
-  walked = λ t apart.
+  walked = λ t apart m.
       let laws : Laws g.C.Card.reads g.C.Card.place g.C.Card.soups g.C.Card.stands = record { formed = g.met.C.Card.formed; plain = g.met.C.Card.plain; durable = g.met.C.Card.durable; banks = g.met.C.Card.banks; kept = g.met.C.Card.kept } in
       let o = g.H.Host.outside c.args.host.now in
       let eight : Eight (g.H.Host.outside c.args.host.now) = record { eight = g.met.H.Host.eight c.args.host.now; none = g.met.H.Host.none c.args.host.now } in
@@ -92,9 +99,16 @@ steps-preserved g c = record {
       let w = world_of g.C.Card.reads c.args.units.now o in
       let q = query_of c.args.query.now in
       let formed = stores-formed laws c.args.units.now o eight stand in
-      let kept = sym c.if-branch.false ∙ c.in_ok-keeps.ensures.kept t ∙ ap (λ (v : World). passing (mounted_stores v) q (spot_hit c.in-Some.spot)) (c.steps.invariant.read.world t) in
-      c.steps.invariant.walked t apart ∙ ap (λ (o : Option Spot). comes_to w q c.args.way (option_map spot_hit o)) c.in-Some.is
+      let same = c.steps.invariant.read.world t in
+      let here = subst (λ (o : Option Spot). IfSome o (λ spot. IsIndexed w q (spot_hit spot))) c.in-Some.is (c.steps.invariant.indexed t apart m) in
+      let kept = sym c.if-branch.false ∙ c.in_ok-keeps.ensures.kept t (subst (λ (v : World). MountedApart v) (sym same) apart) (subst (λ (v : World). IsIndexed v q (spot_hit c.in-Some.spot)) (sym same) here)
+      ∙ ap (λ (v : World). passing (mounted_stores v) q (spot_hit c.in-Some.spot)) same in
+      c.steps.invariant.walked t apart m ∙ ap (λ (o : Option Spot). comes_to w q c.args.way (option_map spot_hit o)) c.in-Some.is
       ∙ over-goal w q apart formed c.args.way (spot_hit c.in-Some.spot) kept ∙ ap (comes_to w q c.args.way) (sym (found t));
+  indexed = λ t apart m.
+      let w = world_of g.C.Card.reads c.args.units.now (g.H.Host.outside c.args.host.now) in
+      let q = query_of c.args.query.now in
+      beyond-indexed q.spec.index (members_of (mounted_stores w) q) c.in_ok-found.found c.args.way (spot_hit c.in-Some.spot) (found t);
   ahead = λ t apart.
       let laws : Laws g.C.Card.reads g.C.Card.place g.C.Card.soups g.C.Card.stands = record { formed = g.met.C.Card.formed; plain = g.met.C.Card.plain; durable = g.met.C.Card.durable; banks = g.met.C.Card.banks; kept = g.met.C.Card.kept } in
       let o = g.H.Host.outside c.args.host.now in
@@ -125,7 +139,7 @@ pub returns-clause-reading : goal.returns-clause-reading
 returns-clause-reading g c = is-read c.steps.invariant.read c.steps.invariant.no_fault c.steps.invariant.unread
 
 pub returns-clause-walked : goal.returns-clause-walked
-returns-clause-walked g c t apart =
+returns-clause-walked g c t apart m =
     let k = c.steps.invariant.ahead t apart in
     let last = c.steps-test.false in
     absurd (omega (arith, k, last))

@@ -1,4 +1,4 @@
--- Nothing but reading has happened, the walk comes to the same place from what is found, and fewer hits are ahead.
+-- Nothing but reading has happened, the walk comes to the same place from what is found, which is of the ranges, and fewer hits are ahead.
 use Rattle.std.proofs.Common.{◌≡◌, ◌+◌, ◌≤◌, ◌^◌, IsTrue, option_map, false}
 use Rattle.std.specs.Prelude.{IfSome}
 use Rattle.newt_host.specs.Outside.{NoFault}
@@ -13,6 +13,7 @@ use Rattle.newt_laws_hits.specs.Taking.{members_of}
 use Rattle.newt_engine_units.specs.Stands.{world_of}
 use Rattle.newt_index.specs.Spots.{spot_hit}
 use Rattle.newt_engine_units.specs.Calls.{AreRead}
+use Rattle.newt_engine_hits.specs.Searched.{IsIndexed}
 use Rattle.newt_engine_hits.proofs.Walking.{ahead, comes_to}
 use Rattle.newt_engine_hits.proofs.walk.walk.Given as goal
 
@@ -23,7 +24,10 @@ invariant-steps g l = record {
   unread : asks_texts l.query.spec ≡ false → FetchesAtMost (λ u. 0) (g.H.Host.outside l.initial.host) (g.H.Host.outside l.host);
   key : IfSome l.found (λ spot. IsKeyOf l.query.spec.index spot.key);
   walked : IsTrue g.H.Host.told → let w = world_of g.C.Card.reads l.initial.units (g.H.Host.outside l.initial.host) in MountedApart w
+      → IfSome l.initial.found (λ spot. IsIndexed w (query_of l.query) (spot_hit spot))
       → comes_to w (query_of l.query) l.way (option_map spot_hit l.initial.found) ≡ comes_to w (query_of l.query) l.way (option_map spot_hit l.found);
+  indexed : IsTrue g.H.Host.told → let w = world_of g.C.Card.reads l.initial.units (g.H.Host.outside l.initial.host) in MountedApart w
+      → IfSome l.initial.found (λ spot. IsIndexed w (query_of l.query) (spot_hit spot)) → IfSome l.found (λ spot. IsIndexed w (query_of l.query) (spot_hit spot));
   ahead : IsTrue g.H.Host.told → let w = world_of g.C.Card.reads l.initial.units (g.H.Host.outside l.initial.host) in let q = query_of l.query in MountedApart w
       → ahead l.way q.spec.index (merged q.spec.index (members_of (mounted_stores w) q)) (option_map spot_hit l.found) + l._step ≤ 2 ^ 32;
 }
