@@ -1,7 +1,8 @@
 -- The rows of a desk, where a cursor changes.
-use Rattle.std.proofs.Common.{arith, ◌≡◌, ◌<◌, ◌≤◌, ◌+◌, ◌*◌, refl, ap, sym, ◌∙◌, subst, ℕ, zero, suc, List, [], ◌∷◌, length, filter, find, map, get_or, cond, nat_lt, Bool, true, false, not, ◌&&◌, ◌||◌, ◌==◌, Option, Some, None, option_map, unwrap_or, slice_get, slice_set, if◌then◌else◌}
+use Rattle.std.proofs.Common.{arith, ◌≡◌, ◌<◌, ◌≤◌, ◌+◌, ◌*◌, ◌^◌, refl, ap, sym, ◌∙◌, subst, ℕ, zero, suc, List, [], ◌∷◌, length, filter, find, map, get_or, cond, nat_lt, Bool, true, false, not, ◌&&◌, ◌||◌, ◌==◌, Option, Some, None, option_map, unwrap_or, slice_get, slice_set, if◌then◌else◌}
 use Rattle.std.specs.Prelude.{is_none}
 use Rattle.std.specs.List.{list_any, position, position_or_len, insert}
+use Rattle.std.proofs.Math.Nat.{pow-succ'}
 use Rattle.std.proofs.lemmas.Bool.{not-true, or_parts}
 use Rattle.std.proofs.lemmas.List.Quantifiers.{position-Some}
 use Rattle.std.proofs.lemmas.List.Sums.{prefix_len-le-length}
@@ -12,7 +13,7 @@ use Rattle.newt_spec_query.specs.Cursor.{Place, start, finish, on, Cursor}
 use Rattle.newt_spec_world.specs.World.{change_at, flat}
 use Rattle.newt_tags.specs.Masks.{number}
 use Rattle.newt_cursor.specs.Desk.{is_on, put_on, stands_on}
-use Rattle.newt_cursor.specs.Table.{IsBefore, IsDesk, IsRight, IsTable, IsTableBut, entry_of, entry_on, held, is_before, is_row, standing}
+use Rattle.newt_cursor.specs.Table.{IsBefore, IsDesk, IsRight, IsTable, IsTableBut, entry_of, entry_on, held, is_before, is_row, others, standing, with_row}
 use Rattle.newt_cursor.specs.declared.table.Row.{Row}
 
 -- ---- one place
@@ -124,10 +125,6 @@ pub land-but : (s p u : ℕ) (place : Place) (cs : List (Option Cursor)) (c : �
 land-but s p u place cs n rows e f t = table-but s p u cs (change_at n (put_on place) cs) rows (λ a b c out. standing-change a b c (put_on place) cs n (λ k at.
     elsewhere a b c s p u place (sym f) out ∙ sym (nowhere a b c k.place (sym (ap entry_of at) ∙ e)))) t
 
-pub land-same : (place : Place) (cs : List (Option Cursor)) (c : ℕ) (rows : List Row) → entry_of (flat (slice_get cs c)) ≡ None → entry_on place ≡ None → IsTable cs rows → IsTable (change_at c (put_on place) cs) rows
-land-same place cs n rows e f t = table-same cs (change_at n (put_on place) cs) rows (λ a b c. standing-change a b c (put_on place) cs n (λ k at.
-    nowhere a b c place f ∙ sym (nowhere a b c k.place (sym (ap entry_of at) ∙ e)))) t
-
 -- a place that no cursor stands from is filled by one before all hits, or freed
 pub set-same : (o : Option Cursor) (cs : List (Option Cursor)) (c : ℕ) (rows : List Row) → entry_of o ≡ None → ((x : Option Cursor) → slice_get cs c ≡ Some x → entry_of x ≡ None) → IsTable cs rows → IsTable (slice_set cs c o) rows
 set-same o cs n rows e f t = table-same cs (slice_set cs n o) rows (λ a b c. standing-set a b c o cs n (λ x at. off a b c o e ∙ sym (off a b c x (f x at)))) t
@@ -178,10 +175,6 @@ other-way a b h k = grind (arith, h, k)
 
 all-apart : (rows : List Row) → Pairs IsBefore rows → Pairs AreApart rows
 all-apart rows = pairs-more IsBefore AreApart rows (λ a b m k. before-apart a b)
-
--- the rows of other entries
-abbrev pub others : ℕ → ℕ → ℕ → List Row → List Row
-others s p u rows = filter (λ row. not (is_row s p u row)) rows
 
 alike : (s p u : ℕ) (a b : Row) → is_row s p u a ≡ true → is_row a.store a.soup a.uid b ≡ is_row s p u b
 alike s p u a b h = let e = same-equal a.store a.soup a.uid s p u h in λ i. same b.store b.soup b.uid (e.0 i) (e.1 i) (e.2 i)
@@ -321,6 +314,84 @@ but-some s p u n cs rows t is some = record {
     go : (a b c : ℕ) (t2 : Bool) → same a b c s p u ≡ t2 → (is_row a b c made ≡ false) × (list_any (is_row a b c) (others s p u rows) ≡ false) → standing a b c cs ≡ 0
     go a b c true e h = absurd (both-ways (sym h.0 ∙ self a b c e))
     go a b c false e h = t.whole a b c e (sym (any-others a b c s p u rows e) ∙ h.1)
+
+is-some : (n : ℕ) → nat_lt 0 n ≡ true → 0 < n
+is-some n e = grind (arith, e)
+
+is-none : (n : ℕ) → nat_lt 0 n ≡ false → n ≡ 0
+is-none n e = grind (arith, e)
+
+-- the row of the entry as it is
+pub with_row-table : (s p u n : ℕ) (cs : List (Option Cursor)) (rows : List Row) → IsTableBut s p u cs rows → n ≡ standing s p u cs
+    → IsTable cs (with_row (record { store = s; soup = p; uid = u; cursors = n }) rows)
+with_row-table s p u n cs rows t is = go (nat_lt 0 n) refl
+  where
+    go : (b : Bool) → nat_lt 0 n ≡ b
+        → (let made : Row = record { store = s; soup = p; uid = u; cursors = n } in IsTable cs (cond b (insert (others s p u rows) (position_or_len (is_before made) (others s p u rows)) made) (others s p u rows)))
+    go true e = but-some s p u n cs rows t is (is-some n e)
+    go false e = but-none s p u cs rows t (sym is ∙ is-none n e)
+
+-- ---- the bit of a cursor
+
+onto : (s p u : ℕ) (place : Place) → entry_on place ≡ Some (s, p, u) → is_on s p u place ≡ true
+onto s p u start e = absurd (none-some _ e)
+onto s p u finish e = absurd (none-some _ e)
+onto s p u (on at) e =
+    let i = some-same (at.store, at.soup, at.uid) (s, p, u) e in
+    (λ j. same (i j).0 (i j).1 (i j).2 s p u) ∙ itself s p u
+  where
+    itself : (s p u : ℕ) → same s p u s p u ≡ true
+    itself s p u = grind arith
+
+-- one that stands on an entry, and one that does not
+bit-more : (s p u c : ℕ) (b : Bool) (m n : ℕ) → m ≡ n + 2 ^ c → (if b then 1 else 0) + 2 * m ≡ ((if b then 1 else 0) + 2 * n) + 2 ^ suc c
+bit-more s p u c b m n e = let k = pow-succ' 2 c in omega (arith, e, k)
+
+bit-on : (b : Bool) (d : Bool) (n : ℕ) → b ≡ true → d ≡ false → (if b then 1 else 0) + 2 * n ≡ ((if d then 1 else 0) + 2 * n) + 1
+bit-on true false n e f = omega arith
+bit-on true true n e f = absurd (both-ways (sym f))
+bit-on false d n e f = absurd (both-ways e)
+
+-- a cursor that leaves an entry
+pub left-bit : (s p u : ℕ) (cs : List (Option Cursor)) (c : ℕ) → Some (s, p, u) ≡ entry_of (flat (slice_get cs c)) → standing s p u cs ≡ standing s p u (change_at c (put_on start) cs) + 2 ^ c
+left-bit s p u [] c e = absurd (none-some _ (sym e))
+left-bit s p u (None ∷ cs) zero e = absurd (none-some _ (sym e))
+left-bit s p u (Some k ∷ cs) zero e = bit-on (is_on s p u k.place) false (standing s p u cs) (onto s p u k.place (sym e)) refl
+left-bit s p u (x ∷ cs) (suc c) e = bit-more s p u c (stands_on s p u x) (standing s p u cs) (standing s p u (change_at c (put_on start) cs)) (left-bit s p u cs c e)
+
+-- and one that comes to it
+pub landed-bit : (s p u : ℕ) (place : Place) (cs : List (Option Cursor)) (c : ℕ) → entry_of (flat (slice_get cs c)) ≡ None → Some (s, p, u) ≡ entry_of (flat (slice_get (change_at c (put_on place) cs) c))
+    → standing s p u (change_at c (put_on place) cs) ≡ standing s p u cs + 2 ^ c
+landed-bit s p u place [] c f e = absurd (none-some _ (sym e))
+landed-bit s p u place (None ∷ cs) zero f e = absurd (none-some _ (sym e))
+landed-bit s p u place (Some k ∷ cs) zero f e = bit-on (is_on s p u place) (is_on s p u k.place) (standing s p u cs) (onto s p u place (sym e)) (nowhere s p u k.place f)
+landed-bit s p u place (x ∷ cs) (suc c) f e = bit-more s p u c (stands_on s p u x) (standing s p u (change_at c (put_on place) cs)) (standing s p u cs) (landed-bit s p u place cs c f e)
+
+pub landed-on : (s p u : ℕ) (place : Place) (cs : List (Option Cursor)) (c : ℕ) → Some (s, p, u) ≡ entry_of (flat (slice_get (change_at c (put_on place) cs) c)) → Some (s, p, u) ≡ entry_on place
+landed-on s p u place [] c e = absurd (none-some _ (sym e))
+landed-on s p u place (None ∷ cs) zero e = absurd (none-some _ (sym e))
+landed-on s p u place (Some k ∷ cs) zero e = e
+landed-on s p u place (x ∷ cs) (suc c) e = landed-on s p u place cs c e
+
+-- a cursor that is not open, or is put where no entry is
+pub landed-nowhere : (place : Place) (cs : List (Option Cursor)) (c : ℕ) (rows : List Row) → entry_of (flat (slice_get cs c)) ≡ None → entry_of (flat (slice_get (change_at c (put_on place) cs) c)) ≡ None
+    → IsTable cs rows → IsTable (change_at c (put_on place) cs) rows
+landed-nowhere place cs n rows e f t = table-same cs (change_at n (put_on place) cs) rows (λ a b c. standing-change a b c (put_on place) cs n (λ k at.
+    nowhere a b c place (sym (put k cs n at) ∙ f) ∙ sym (nowhere a b c k.place (sym (ap entry_of at) ∙ e)))) t
+  where
+    put : (k : Cursor) (cs : List (Option Cursor)) (c : ℕ) → flat (slice_get cs c) ≡ Some k → entry_of (flat (slice_get (change_at c (put_on place) cs) c)) ≡ entry_on place
+    put k [] c at = absurd (none-some k at)
+    put k (None ∷ cs) zero at = absurd (none-some k at)
+    put k (Some j ∷ cs) zero at = refl
+    put k (x ∷ cs) (suc c) at = put k cs c at
+
+bits-few : (b : Bool) (m n : ℕ) → m < 2 ^ n → (if b then 1 else 0) + 2 * m < 2 ^ suc n
+bits-few true m n h = let k = pow-succ' 2 n in omega (arith, h, k)
+bits-few false m n h = let k = pow-succ' 2 n in omega (arith, h, k)
+
+pub standing-few : (s p u : ℕ) (cs : List (Option Cursor)) → standing s p u cs < 2 ^ length cs
+standing-few s p u [] = omega arith
+standing-few s p u (x ∷ cs) = bits-few (stands_on s p u x) (standing s p u cs) (length cs) (standing-few s p u cs)
 
 -- ---- to look up
 

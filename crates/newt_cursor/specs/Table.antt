@@ -1,8 +1,8 @@
 -- The rows of a desk: each entry on which cursors stand, with its cursors. All of it is this
 -- project's own.
-use Rattle.std.specs.Prelude.{◌≡◌, ℕ, ◌<◌, Bool, true, false, ◌&&◌, ◌||◌, ◌==◌, nat_lt}
-use Rattle.std.specs.Prelude.{List, find, length, map, Option, Some, None, option_map, unwrap_or}
-use Rattle.std.specs.List.{list_any}
+use Rattle.std.specs.Prelude.{◌≡◌, ℕ, ◌<◌, Bool, true, false, not, ◌&&◌, ◌||◌, ◌==◌, nat_lt}
+use Rattle.std.specs.Prelude.{List, filter, find, length, map, Option, Some, None, option_map, unwrap_or, cond}
+use Rattle.std.specs.List.{insert, list_any, position_or_len}
 use Rattle.newt_spec_graph.specs.Lists.{Each, Pairs}
 use Rattle.newt_spec_query.specs.Cursor.{Place, on, Cursor}
 use Rattle.newt_tags.specs.Masks.{number}
@@ -43,6 +43,15 @@ is_before a b = nat_lt a.store b.store
     || (a.store == b.store) && (nat_lt a.soup b.soup
     || (a.soup == b.soup) && nat_lt a.uid b.uid)
 
+-- the rows of other entries (a word of these definitions)
+abbrev pub others : ℕ → ℕ → ℕ → List Row → List Row
+others store soup uid rows = filter (λ row. not (is_row store soup uid row)) rows
+
+-- the rows of other entries, and this one at its place, but for one without cursors
+abbrev pub with_row : Row → List Row → List Row
+with_row row rows = let rest = others row.store row.soup row.uid rows in
+    cond (nat_lt 0 row.cursors) (insert rest (position_or_len (is_before row) rest) row) rest
+
 -- the same, said of rows in order
 abbrev pub IsBefore : Row → Row → Type 0
 IsBefore a b = is_before a b ≡ true
@@ -62,11 +71,6 @@ pub record IsTableBut (store soup uid : ℕ) (cursors : List (Option Cursor)) (r
   pub right : Each (λ row. is_row store soup uid row ≡ false → IsRight cursors row) rows
   pub whole : (a b c : ℕ) → ((a == store) && (b == soup) && (c == uid)) ≡ false
       → list_any (is_row a b c) rows ≡ false → standing a b c cursors ≡ 0
-
--- the same but for one entry, if there is one
-abbrev pub IsTableSave : Option (ℕ × ℕ × ℕ) → List (Option Cursor) → List Row → Type 0
-IsTableSave None cursors rows = IsTable cursors rows
-IsTableSave (Some e) cursors rows = IsTableBut e.0 e.1 e.2 cursors rows
 
 -- there are 32 places, and the rows are theirs
 pub record IsDesk (cursors : List (Option Cursor)) (rows : List Row) : Type 0 where

@@ -1,5 +1,5 @@
 //! The 32 places for cursors.
-ghost use Rattle.std.specs.Prelude.{◌≡◌, ◌<◌, ◌≤◌, ◌^◌, ◌↔◌, Some, None, IsSome, IfSome, IfOk};
+ghost use Rattle.std.specs.Prelude.{◌≡◌, ◌<◌, ◌^◌, ◌↔◌, Some, None, IsSome, IfSome, IfOk};
 ghost use Rattle.std.specs.Prelude.{IfErr, IsErrOf, OnErr, length, map, option_map, is_none};
 ghost use Rattle.std.specs.Prelude.{replicate, slice_get, slice_set};
 ghost use Rattle.std.specs.List.{position};
@@ -8,13 +8,13 @@ ghost use Rattle.newt_tags.specs.Masks.{number};
 ghost use Rattle.newt_cursor.specs.Seen.{query_of, place_of, cursor_of, cursors_of};
 ghost use Rattle.newt_spec_query.specs.Cursor.{start};
 ghost use Rattle.newt_cursor.specs.Desk.{keyed, put_on, stands_on};
-ghost use Rattle.newt_cursor.specs.Table.{IsTable, IsTableBut, IsTableSave, entry_of};
+ghost use Rattle.newt_cursor.specs.Table.{entry_of};
 ghost use Rattle.newt_cursor.specs.declared.fault.DeskFault.{DeskFault};
 
 use crate::fault::DeskFault;
 use crate::place::Place;
 use crate::query::Query;
-use crate::table::{Row, add_row, cursors_on, remove_row};
+use crate::table::{Row, cursors_on, set_row};
 use arrayvec::ArrayVec;
 use newt_base::{Sig, Uid};
 use newt_keys::Key;
@@ -204,7 +204,16 @@ impl Desk {
         if at < self.cursors.len() {
             let left = entry_at(&self.cursors[at]);
             put_at(&mut self.cursors[at], Place::Start);
-            refresh_any(&mut self.rows, &self.cursors, left);
+            if let Some((store, soup, uid)) = left {
+                let cursors = cursors_on(&self.rows, store, soup, uid) - bit_of(cursor);
+                let row = Row {
+                    store,
+                    soup,
+                    uid,
+                    cursors,
+                };
+                set_row(&mut self.rows, row);
+            }
         }
     }
 
@@ -216,9 +225,18 @@ impl Desk {
     {
         let at = usize::from(cursor);
         if at < self.cursors.len() {
-            let entry = place.entry();
             put_at(&mut self.cursors[at], place);
-            refresh_any(&mut self.rows, &self.cursors, entry);
+            let reached = entry_at(&self.cursors[at]);
+            if let Some((store, soup, uid)) = reached {
+                let cursors = cursors_on(&self.rows, store, soup, uid) + bit_of(cursor);
+                let row = Row {
+                    store,
+                    soup,
+                    uid,
+                    cursors,
+                };
+                set_row(&mut self.rows, row);
+            }
         }
     }
 
@@ -310,68 +328,10 @@ fn entry_at(cursor: &Option<Cursor>) -> Option<(Sig, Sig, Uid)>
     }
 }
 
-/// Makes the row of an entry anew, if there is one.
-fn refresh_any(
-    rows: &mut ArrayVec<Row, 32>,
-    cursors: &[Option<Cursor>],
-    entry: Option<(Sig, Sig, Uid)>,
-)
-    requires places { length cursors.now ≡ 32 }
-    requires rows { IsTableSave entry (cursors_of cursors.now) rows.old.items }
-    ensures { IsTable (cursors_of cursors.now) rows.new.items }
+/// The bit of a cursor.
+fn bit_of(cursor: u8) -> u32
+    requires { cursor < 32 }
+    ensures { result ≡ 2 ^ cursor }
 {
-    if let Some((store, soup, uid)) = entry {
-        refresh(rows, cursors, store, soup, uid);
-    }
-}
-
-/// Makes the row of an entry anew, on which other cursors may stand now.
-fn refresh(
-    rows: &mut ArrayVec<Row, 32>,
-    cursors: &[Option<Cursor>],
-    store: Sig,
-    soup: Sig,
-    uid: Uid,
-)
-    requires places { length cursors.now ≡ 32 }
-    requires rows { IsTableBut store soup uid (cursors_of cursors.now) rows.old.items }
-    ensures { IsTable (cursors_of cursors.now) rows.new.items }
-{
-    remove_row(rows, store, soup, uid);
-    let standing = watching(cursors, store, soup, uid);
-    if standing != 0 {
-        add_row(
-            rows,
-            Row {
-                store,
-                soup,
-                uid,
-                cursors: standing,
-            },
-        );
-    }
-}
-
-/// Which of the cursors stand on an entry: bit c is that of the c-th.
-fn watching(cursors: &[Option<Cursor>], store: Sig, soup: Sig, uid: Uid) -> u32
-    requires few { length cursors.now ≤ 32 }
-    ensures value { result ≡ number (map (stands_on store soup uid) (cursors_of cursors.now)) }
-    ensures small { result < 2 ^ length cursors.now }
-{
-    match cursors {
-        [] => 0,
-        [first, rest @ ..] => {
-            u32::from(is_watching(first, store, soup, uid)) + 2 * watching(rest, store, soup, uid)
-        }
-    }
-}
-
-/// Whether there is a cursor that stands on an entry.
-fn is_watching(cursor: &Option<Cursor>, store: Sig, soup: Sig, uid: Uid) -> bool
-    ensures { result ≡ stands_on store soup uid (option_map cursor_of cursor.now) }
-{
-    match cursor {
-        Some(open) => open.place.is_on(store, soup, uid),
-        None => false,
-    }
+    1 << cursor
 }

@@ -2,7 +2,7 @@
 ghost use Rattle.std.specs.Prelude.{◌≡◌, ◌<◌, ◌≤◌, IfSome, not, filter, length};
 ghost use Rattle.std.specs.List.{insert, position, position_or_len};
 ghost use Rattle.arrayvec.specs.ArrayVec.{array_vec_len};
-ghost use Rattle.newt_cursor.specs.Table.{is_row, is_before, held};
+ghost use Rattle.newt_cursor.specs.Table.{is_row, is_before, held, others, with_row};
 
 use arrayvec::ArrayVec;
 use newt_base::{Sig, Uid};
@@ -60,15 +60,26 @@ pub(crate) fn cursors_on(rows: &ArrayVec<Row, 32>, store: Sig, soup: Sig, uid: U
     }
 }
 
+/// Gives an entry this row in place of the one that it has, or none where no cursor is on it.
+pub(crate) fn set_row(rows: &mut ArrayVec<Row, 32>, row: Row)
+    requires { 0 < row.cursors → length (others row.store row.soup row.uid rows.old.items) < 32 }
+    ensures { rows.new.items ≡ with_row row rows.old.items }
+{
+    remove_row(rows, row.store, row.soup, row.uid);
+    if row.cursors > 0 {
+        add_row(rows, row);
+    }
+}
+
 /// Removes the row of an entry.
-pub(crate) fn remove_row(rows: &mut ArrayVec<Row, 32>, store: Sig, soup: Sig, uid: Uid)
+fn remove_row(rows: &mut ArrayVec<Row, 32>, store: Sig, soup: Sig, uid: Uid)
     ensures { rows.new.items ≡ filter (λ row. not (is_row store soup uid row)) rows.old.items }
 {
     rows.retain(|row| !row.is_of(store, soup, uid));
 }
 
 /// Inserts a row before the first that it is before.
-pub(crate) fn add_row(rows: &mut ArrayVec<Row, 32>, row: Row)
+fn add_row(rows: &mut ArrayVec<Row, 32>, row: Row)
     requires { array_vec_len rows.old < 32 }
     ensures { rows.new.items
         ≡ insert rows.old.items (position_or_len (is_before row) rows.old.items) row }
