@@ -4,6 +4,7 @@ use Rattle.std.specs.Prelude.{is_none}
 use Rattle.std.specs.List.{list_any, position, position_or_len, insert}
 use Rattle.std.proofs.Math.Nat.{pow-succ'}
 use Rattle.std.proofs.lemmas.Bool.{not-true, or_parts}
+use Rattle.std.proofs.lemmas.Bool.Decides.{nat_tests}
 use Rattle.std.proofs.lemmas.List.Quantifiers.{position-Some}
 use Rattle.std.proofs.lemmas.List.Sums.{prefix_len-le-length}
 use Rattle.newt_spec_graph.specs.Lists.{Each, Pairs}
@@ -316,10 +317,10 @@ but-some s p u n cs rows t is some = record {
     go a b c false e h = t.whole a b c e (sym (any-others a b c s p u rows e) ∙ h.1)
 
 is-some : (n : ℕ) → nat_lt 0 n ≡ true → 0 < n
-is-some n e = grind (arith, e)
+is-some n e = grind (arith, nat_tests, e)
 
 is-none : (n : ℕ) → nat_lt 0 n ≡ false → n ≡ 0
-is-none n e = grind (arith, e)
+is-none n e = grind (arith, nat_tests, e)
 
 -- the row of the entry as it is
 pub with_row-table : (s p u n : ℕ) (cs : List (Option Cursor)) (rows : List Row) → IsTableBut s p u cs rows → n ≡ standing s p u cs
