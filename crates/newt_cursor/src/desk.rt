@@ -204,13 +204,13 @@ impl Desk {
         if at < self.cursors.len() {
             let left = entry_at(&self.cursors[at]);
             put_at(&mut self.cursors[at], Place::Start);
-            if let Some((store, soup, uid)) = left {
-                let cursors = cursors_on(&self.rows, store, soup, uid) - bit_of(cursor);
+            if let Some(entry) = left {
+                let standing = cursors_on(&self.rows, entry.0, entry.1, entry.2);
                 let row = Row {
-                    store,
-                    soup,
-                    uid,
-                    cursors,
+                    store: entry.0,
+                    soup: entry.1,
+                    uid: entry.2,
+                    cursors: standing - bit_of(cursor),
                 };
                 set_row(&mut self.rows, row);
             }
@@ -227,13 +227,13 @@ impl Desk {
         if at < self.cursors.len() {
             put_at(&mut self.cursors[at], place);
             let reached = entry_at(&self.cursors[at]);
-            if let Some((store, soup, uid)) = reached {
-                let cursors = cursors_on(&self.rows, store, soup, uid) + bit_of(cursor);
+            if let Some(entry) = reached {
+                let standing = cursors_on(&self.rows, entry.0, entry.1, entry.2);
                 let row = Row {
-                    store,
-                    soup,
-                    uid,
-                    cursors,
+                    store: entry.0,
+                    soup: entry.1,
+                    uid: entry.2,
+                    cursors: standing + bit_of(cursor),
                 };
                 set_row(&mut self.rows, row);
             }
