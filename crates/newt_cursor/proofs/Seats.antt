@@ -8,7 +8,6 @@ use Rattle.newt_spec_query.specs.Cursor as spec
 use Rattle.newt_spec_query.specs.Cursor.{start, finish, on}
 use Rattle.newt_spec_world.specs.World.{change_at, flat}
 use Rattle.newt_cursor.specs.declared.desk.Cursor.{Cursor}
-use Rattle.newt_cursor.specs.declared.place.Place.{Place}
 use Rattle.newt_cursor.specs.Seen.{cursor_of, cursors_of, place_of}
 use Rattle.newt_cursor.specs.Desk.{keyed, put_on, stands_on}
 use Rattle.newt_cursor.specs.Table.{IsDesk, IsTable, IsTableBut, entry_of, entry_on, held, others, standing, with_row}

@@ -6,7 +6,7 @@ use Rattle.newt_cursor.specs.declared.desk.Cursor.{Cursor}
 use Rattle.newt_cursor.specs.declared.table.Row.{Row}
 use Rattle.newt_cursor.specs.Desk.{put_on}
 use Rattle.newt_cursor.specs.Seen.{cursor_of, cursors_of, place_of}
-use Rattle.newt_cursor.specs.Table.{IsDesk, entry_of, held}
+use Rattle.newt_cursor.specs.Table.{IsDesk, entry_of}
 use Rattle.newt_cursor.proofs.Seats.{landed_held, landed_room, landed_row, landed_none}
 use Rattle.newt_cursor.proofs.desk.Desk.land.Goals as goal
 

@@ -5,7 +5,7 @@ use Rattle.newt_cursor.specs.declared.desk.Cursor.{Cursor}
 use Rattle.newt_cursor.specs.declared.table.Row.{Row}
 use Rattle.newt_cursor.specs.Desk.{put_on}
 use Rattle.newt_cursor.specs.Seen.{cursor_of, cursors_of}
-use Rattle.newt_cursor.specs.Table.{IsDesk, entry_of, held}
+use Rattle.newt_cursor.specs.Table.{IsDesk, entry_of}
 use Rattle.newt_cursor.proofs.Seats.{left_held, left_room, left_row, left_none}
 use Rattle.newt_cursor.proofs.desk.Desk.leave.Goals as goal
 
