@@ -58,14 +58,14 @@ still_stands {C} {reads} {place} {stands} kept durable told units cursors old ne
     still : IsTrue told → world_with reads units cursors new ≡ world_with reads units cursors old
     still t = ap (with_cursors cursors) (world-still reads units old new same.cards (same.changes t))
 
-pub same_world : {C : Type 0} (reads : List ℕ → Option Store) (units : Units C) (cursors : List (Option Cursor)) (old new : Outside) → SameDevices true old new
-    → world_with reads units cursors new ≡ world_with reads units cursors old
-same_world reads units cursors old new same = ap (with_cursors cursors) (world-still reads units old new same.cards (same.changes refl))
+pub same_worlds : {C : Type 0} (reads : List ℕ → Option Store) (units : Units C) (cursors : List (Option Cursor)) (old new : Outside) (w : World) → SameDevices true old new
+    → world_with reads units cursors old ≡ w → world_with reads units cursors new ≡ w
+same_worlds reads units cursors old new w same is = ap (with_cursors cursors) (world-still reads units old new same.cards (same.changes refl)) ∙ is
 
 pub leaves_store : {C : Type 0} {reads : List ℕ → Option Store} {place : C → ℕ} {soups : C → Store} {stands : Bool → C → Outside → Type 0} → Laws reads place soups stands
-    → (units : Units C) (cursors : List (Option Cursor)) (outside : Outside) → Standing reads place stands true units cursors outside → (unit : ℕ) (store : Store) (left : List ℕ)
-    → store_on_unit (world_with reads units cursors outside) unit ≡ Some store → MayLeave unit outside.now left → reads left ≡ Some store
-leaves_store laws units cursors outside s unit store left is may = left-alone laws units outside s.eight s.stand unit store outside.now left is refl may
+    → (units : Units C) (cursors : List (Option Cursor)) (outside : Outside) (w : World) → Standing reads place stands true units cursors outside → world_with reads units cursors outside ≡ w
+    → (unit : ℕ) (store : Store) (left : List ℕ) → store_on_unit w unit ≡ Some store → MayLeave unit outside.now left → reads left ≡ Some store
+leaves_store laws units cursors outside w s means unit store left is may = left-alone laws units outside s.eight s.stand unit store outside.now left (ap (λ (v : World). store_on_unit v unit) means ∙ is) refl may
 
 -- ---- no command takes a unit's store away
 

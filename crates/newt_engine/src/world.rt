@@ -1,5 +1,5 @@
 //! The world over the cards of a host.
-ghost use Rattle.std.specs.Prelude.{◌≡◌, ◌≤◌, ℕ, None, IsTrue, IfOk, length, map};
+ghost use Rattle.std.specs.Prelude.{◌≡◌, ◌≤◌, ℕ, None, IsTrue, IfOk, length, map, refl};
 ghost use Rattle.std.specs.Prelude.{string_bytes};
 ghost use Rattle.newt_host.specs.Meanings.{held};
 ghost use Rattle.newt_host_attach.specs.Named.{AreAttached, AreDistinct};
@@ -9,7 +9,7 @@ ghost use Rattle.newt_spec_world.specs.First.{world_of};
 ghost use Rattle.newt_engine_cursors.specs.World.{world_with};
 ghost use Rattle.newt_engine.specs.Calls.{Applied};
 ghost use Rattle.newt_engine.specs.Standing.{IsStanding, Standing, stood_for};
-ghost use Rattle.newt_engine.specs.Laws.{laws_of, still_stands, same_world, leaves_store};
+ghost use Rattle.newt_engine.specs.Laws.{laws_of, still_stands, same_worlds, leaves_store};
 ghost use Rattle.newt_engine.specs.Laws.{stays_there};
 
 use newt_cursor::Desk;
@@ -84,16 +84,19 @@ impl<C: Card> Interpreter for World<C> {
     ghost stands = { λ told it outside.
         Standing C.reads C.place C.stands told it.units it.desk outside };
 
-    ghost world = { λ it outside. world_with C.reads it.units it.desk outside };
+    ghost means = { λ it outside w. world_with C.reads it.units it.desk outside ≡ w };
+
+    ghost has_world = { λ it outside stands. (world_with C.reads it.units it.desk outside, refl) };
 
     ghost kept = { λ told it old new same stands.
         still_stands C.kept C.durable told it.units it.desk old new same stands };
 
-    ghost same_world = { λ it old new same. same_world C.reads it.units it.desk old new same };
+    ghost same_worlds = { λ it old new w same means.
+        same_worlds C.reads it.units it.desk old new w same means };
 
-    ghost leaves = { λ it outside stands unit store left is may.
+    ghost leaves = { λ it outside w stands means unit store left is may.
         leaves_store (laws_of C.formed C.plain C.durable C.banks C.kept)
-        it.units it.desk outside stands unit store left is may };
+        it.units it.desk outside w stands means unit store left is may };
 
     ghost stays = { stays_there };
 

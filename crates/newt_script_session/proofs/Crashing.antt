@@ -233,7 +233,3 @@ module _ (reads : List ℕ → Option Store) (start : Moment) where
       (λ unit left may. counted world (rows ++ more) (length s.shown) unit left (s.safe more unit left may)),
     );
   }) a
-
--- the same world under another name
-pub untouched_world : (start : Moment) (world same : World) (now : Moment) → same ≡ world → Untouched start world now → Untouched start same now
-untouched_world start world same now e untouched = subst (λ (v : World). Untouched start v now) (sym e) untouched

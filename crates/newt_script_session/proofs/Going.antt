@@ -14,7 +14,7 @@ use Rattle.newt_script_session.specs.Answered.{Answered, Given, Ran}
 use Rattle.newt_script_session.specs.Lines.{ended_lines, unended, last_line, lines_of}
 use Rattle.newt_script_session.specs.Moments.{SafeAt, Untouched}
 use Rattle.newt_script_session.specs.Reading.{ReadsInTime, start as takes_start}
-use Rattle.newt_script_session.specs.Rows.{IsRun, Row, output_of}
+use Rattle.newt_script_session.specs.Rows.{IsRun, Row, output_of, world_behind}
 use Rattle.newt_script_session.specs.Run.{AnsweredTaken, Halted, HaltedIn, IsReadThrough, IsTooLong}
 use Rattle.newt_script_session.specs.Script.{has_quit, commands_of, ended_items, quits, script_items}
 use Rattle.newt_script_session.specs.Session.{Session}
@@ -82,56 +82,64 @@ in_time_more step world rows part old now r = takes_map (λ m s. record {
 }) r
 
 -- So far these bytes were taken, all lines that ended in them were answered, and none quits.
-pub record Going (step : Stepping) (reads : List ℕ → Option Store) (world : World) (script taken left : List ℕ) (later : World) (line : List ℕ) (had has : List (List ℕ) → Type 0) (old now : Moment) : Type 0 where
+pub record Going (step : Stepping) (reads : List ℕ → Option Store) (world : World) (script taken left : List ℕ) (Later : World → Type 0) (line : List ℕ) (had has : List (List ℕ) → Type 0) (old now : Moment) : Type 0 where
   pub whole : script ≡ taken ++ left
   pub line_is : line ≡ unended [] taken
   pub go : quits taken ≡ false
   pub rows : List Row
   pub run : IsRun step world (ended_items taken) rows
-  pub answered : Answered true world later rows had has old now
+  pub answered : Answered true world Later rows had has old now
   pub in_time : ReadsInTime step world rows old now
   pub moments : (start : Moment) → Untouched start world old → Always (SafeAt true reads start world rows (printed old)) old now
 
 module _ (step : Stepping) (reads : List ℕ → Option Store) where
   -- nothing was taken yet
-  pub going_start : (world : World) (script line : List ℕ) (has : List (List ℕ) → Type 0) (now : Moment) → AtRest reads world now → line ≡ [] → Going step reads world script [] script world line has has now now
+  pub going_start : (world : World) (Now : World → Type 0) (script line : List ℕ) (has : List (List ℕ) → Type 0) (now : Moment) → Now world → AtRest reads world now → line ≡ [] → Going step reads world script [] script Now line has has now now
   unfolding ended_lines unended
-  going_start world script line has now its empty = record {
+  going_start world Now script line has now means its empty = record {
     whole = refl;
     line_is = empty;
     go = quit_none;
     rows = [];
     run = subst (λ (is : List Item). IsRun step world is []) (sym commands_none) tt;
-    answered = answered_none true world has now;
+    answered = answered_none true world Now has now means;
     in_time = takes_start;
     moments = λ start u. here (safe_here true reads start world [] now (its start u));
   }
 
-  -- the same moment, and the same world under another name
-  pub going_moved : (world : World) (script taken left : List ℕ) (later same : World) (line : List ℕ) (had has : List (List ℕ) → Type 0) (old then now : Moment) → now ≡ then → same ≡ later
-      → Going step reads world script taken left later line had has old then → Going step reads world script taken left same line had has old now
-  going_moved world script taken left later same line had has old then now e f g =
-      subst (λ (v : World). Going step reads world script taken left v line had has old now) (sym f)
-      (subst (λ (m : Moment). Going step reads world script taken left later line had has old m) (sym e) g)
+  -- the same moment, where the same worlds are stood for
+  pub going_moved : (world : World) (script taken left : List ℕ) (Later Same : World → Type 0) (line : List ℕ) (had has : List (List ℕ) → Type 0) (old then now : Moment) → now ≡ then
+      → ((v : World) → Later v → Same v) → Going step reads world script taken left Later line had has old then → Going step reads world script taken left Same line had has old now
+  going_moved world script taken left Later Same line had has old then now e f g =
+      let a = g.answered in
+      subst (λ (m : Moment). Going step reads world script taken left Same line had has old m) (sym e) (record {
+        whole = g.whole;
+        line_is = g.line_is;
+        go = g.go;
+        rows = g.rows;
+        run = g.run;
+        answered = record { stands_for = f (world_behind world g.rows) a.stands_for; put = a.put; took = a.took; untouched = a.untouched };
+        in_time = g.in_time;
+        moments = g.moments;
+      })
 
   safe_took : (start : Moment) (world : World) (rows : List Row) (old : List ℕ) (bytes : List ℕ) (then : Moment) → SafeAt true reads start world rows old then
       → SafeAt true reads start world rows old (Took bytes ∷ then)
   safe_took start world rows old bytes then s = record { shown = s.shown; out = s.out; safe = s.safe }
 
   -- bytes were read
-  pub going_took : (world : World) (script taken left : List ℕ) (next same : World) (line : List ℕ) (had has : List (List ℕ) → Type 0) (old then : Moment) (bytes : List ℕ) (now : Moment)
-      → now ≡ Took bytes ∷ then → same ≡ next → taken_by then ≡ taken_by old ++ taken
-      → Going step reads world script taken left next line had has old then → Going step reads world script taken left same line had has old now
-  going_took world script taken left next same line had has old then bytes now e f since g =
+  pub going_took : (world : World) (script taken left : List ℕ) (Next Same : World → Type 0) (line : List ℕ) (had has : List (List ℕ) → Type 0) (old then : Moment) (bytes : List ℕ) (now : Moment)
+      → now ≡ Took bytes ∷ then → ((v : World) → Next v → Same v) → taken_by then ≡ taken_by old ++ taken
+      → Going step reads world script taken left Next line had has old then → Going step reads world script taken left Same line had has old now
+  going_took world script taken left Next Same line had has old then bytes now e f since g =
       let a = g.answered in
-      subst (λ (v : World). Going step reads world script taken left v line had has old now) (sym f)
-      (subst (λ (m : Moment). Going step reads world script taken left next line had has old m) (sym e) (record {
+      subst (λ (m : Moment). Going step reads world script taken left Same line had has old m) (sym e) (record {
         whole = g.whole;
         line_is = g.line_is;
         go = g.go;
         rows = g.rows;
         run = g.run;
-        answered = record { world_is = a.world_is; put = a.put; took = a.took; untouched = a.untouched };
+        answered = record { stands_for = f (world_behind world g.rows) a.stands_for; put = a.put; took = a.took; untouched = a.untouched };
         in_time = takes_more bytes g.in_time (record {
           bytes = taken;
           since = since;
@@ -144,9 +152,14 @@ module _ (step : Stepping) (reads : List ℕ → Option Store) where
         });
         moments = λ start u. let so_far = g.moments start u in
             later_moment (Took bytes) then so_far (safe_took start world g.rows (printed old) bytes then (Always-last so_far));
-      }))
+      })
 
-  module _ (world : World) (script taken left : List ℕ) (later : World) (line : List ℕ) (had has : List (List ℕ) → Type 0) (old then : Moment) (g : Going step reads world script taken left later line had has old then) where
+  module _ (world : World) (script taken left : List ℕ) (Later : World → Type 0) (line : List ℕ) (had has : List (List ℕ) → Type 0) (old then : Moment)
+      (g : Going step reads world script taken left Later line had has old then) where
+    -- the world that is stood for then
+    abbrev pub then_world : World
+    then_world = world_behind world g.rows
+
     -- the items of the script are those of the lines that ended, and those of what is left
     pub items_left : script_items script ≡ ended_items taken ++ commands_of (lines_from line left)
     items_left =
@@ -155,7 +168,7 @@ module _ (step : Stepping) (reads : List ℕ → Option Store) where
         ∙ commands_go (ended_lines [] taken) (lines_from line left) g.go)
 
     -- which are still to be answered
-    abbrev pub going_progress : Progress step true reads world (script_items script) later (commands_of (lines_from line left)) had has old then
+    abbrev pub going_progress : Progress step true reads world (script_items script) Later (commands_of (lines_from line left)) had has old then
     going_progress = record { done = ended_items taken; split = items_left; rows = g.rows; run = g.run; answered = g.answered; moments = g.moments }
 
     -- so far no more has been given
@@ -163,15 +176,15 @@ module _ (step : Stepping) (reads : List ℕ → Option Store) where
     going_given = record { first = ended_items taken; rest = commands_of (lines_from line left); split = items_left; rows = g.rows; run = g.run }
 
     -- a piece more was answered
-    pub going_more : {T : Type 0} {x : T} (piece rest : List ℕ) (next : World) (begun : List ℕ) (more : List (List ℕ) → Type 0) (now : Moment) → Always (λ m. taken_by m ≡ taken_by then) then now
-        → left ≡ piece ++ rest → has_quit (ended_lines line piece) ≡ false → begun ≡ unended line piece → Ran step true reads {T = T} (Ok x) later next (commands_of (ended_lines line piece)) has more then now
-        → Going step reads world script (taken ++ piece) rest next begun had more old now
+    pub going_more : {T : Type 0} {x : T} (piece rest : List ℕ) (Next : World → Type 0) (begun : List ℕ) (more : List (List ℕ) → Type 0) (now : Moment) → Always (λ m. taken_by m ≡ taken_by then) then now
+        → left ≡ piece ++ rest → has_quit (ended_lines line piece) ≡ false → begun ≡ unended line piece → Ran step true reads {T = T} (Ok x) then_world Next (commands_of (ended_lines line piece)) has more then now
+        → Going step reads world script (taken ++ piece) rest Next begun had more old now
     unfolding progress_more
-    going_more piece rest next begun more now unread split go begun_is r =
-        let p : Progress step true reads world (ended_items taken ++ commands_of (ended_lines line piece)) later (commands_of (ended_lines line piece)) had has old then =
+    going_more piece rest Next begun more now unread split go begun_is r =
+        let p : Progress step true reads world (ended_items taken ++ commands_of (ended_lines line piece)) Later (commands_of (ended_lines line piece)) had has old then =
         record { done = ended_items taken; split = refl; rows = g.rows; run = g.run; answered = g.answered; moments = g.moments } in
-        let q = progress_more step true reads world (ended_items taken ++ commands_of (ended_lines line piece)) later (commands_of (ended_lines line piece)) had has old then p
-        (commands_of (ended_lines line piece)) [] (sym (append-nil (commands_of (ended_lines line piece)))) next more now r in
+        let q = progress_more step true reads world (ended_items taken ++ commands_of (ended_lines line piece)) Later (commands_of (ended_lines line piece)) had has old then p
+        (commands_of (ended_lines line piece)) [] (sym (append-nil (commands_of (ended_lines line piece)))) Next more now r in
         let items_are : q.done ≡ ended_items (taken ++ piece) =
         sym (append-nil q.done) ∙ (sym q.split ∙ sym (ap commands_of (taken_lines taken piece line g.line_is) ∙ commands_go (ended_lines [] taken) (ended_lines line piece) g.go)) in
         record {
@@ -238,9 +251,9 @@ halted_ran limit TooLong items rows script left old now some = absurd some
 
 module _ {T : Type 0} (step : Stepping) (reads : List ℕ → Option Store) (limit : ℕ) (result : Result T Halt) (world : World) (old new : Outside) where
   -- all of the script was answered, or the run was halted in it
-  pub session_ran : (next : World) (had has : List (List ℕ) → Type 0) → (r : Ran step true reads result world next (script_items old.input) had has old.now new.now)
+  pub session_ran : (Next : World → Type 0) (had has : List (List ℕ) → Type 0) → (r : Ran step true reads result world Next (script_items old.input) had has old.now new.now)
       → OnOk result (IsReadThrough limit old.input new.input) → ReadsInTime step world r.given.rows old.now new.now → Session step reads limit result world old new
-  session_ran next had has r read in_time = record {
+  session_ran Next had has r read in_time = record {
     played = record {
       given = r.given;
       out = on_ok_weaker result (λ d. (d.0, d.1.put)) r.done;
@@ -257,12 +270,12 @@ module _ {T : Type 0} (step : Stepping) (reads : List ℕ → Option Store) (lim
       lines (Err halt) some = halted_ran limit halt r.given.first r.given.rows old.input new.input (out_of old) (out_of new) some
 
   -- the run was halted between two lines
-  pub session_halted : (taken left : List ℕ) (later : World) (line : List ℕ) (had has : List (List ℕ) → Type 0) (g : Going step reads world old.input taken left later line had has old.now new.now) (halt : Halt)
+  pub session_halted : (taken left : List ℕ) (Later : World → Type 0) (line : List ℕ) (had has : List (List ℕ) → Type 0) (g : Going step reads world old.input taken left Later line had has old.now new.now) (halt : Halt)
       → result ≡ Err halt → Halted limit halt (ended_items taken) g.rows old.input new.input (out_of old) (out_of new) → Session step reads limit result world old new
-  session_halted taken left later line had has g halt is some =
+  session_halted taken left Later line had has g halt is some =
       subst (λ (v : Result T Halt). Session step reads limit v world old new) (sym is) (record {
         played = record {
-          given = going_given step reads world old.input taken left later line had has old.now new.now g;
+          given = going_given step reads world old.input taken left Later line had has old.now new.now g;
           out = tt;
           read = tt;
           halted = some;
@@ -271,36 +284,36 @@ module _ {T : Type 0} (step : Stepping) (reads : List ℕ → Option Store) (lim
         crash = crash_always reads old.now world g.rows old.now new.now (g.moments old.now (λ unit none. refl));
       })
 
-module _ (step : Stepping) (reads : List ℕ → Option Store) (limit : ℕ) (world : World) (old new : Outside) (taken left : List ℕ) (later : World) (line : List ℕ) (had half : List (List ℕ) → Type 0)
-    (then : Moment) (g : Going step reads world old.input taken left later line had half old.now then) (part more : List Item) (e : commands_of (lines_from line left) ≡ part ++ more)
-    (next : World) (has : List (List ℕ) → Type 0) (unread : Always (λ m. taken_by m ≡ taken_by then) then new.now) where
-  abbrev so_far : Progress step true reads world (script_items old.input) later (commands_of (lines_from line left)) had half old.now then
-  so_far = going_progress step reads world old.input taken left later line had half old.now then g
+module _ (step : Stepping) (reads : List ℕ → Option Store) (limit : ℕ) (world : World) (old new : Outside) (taken left : List ℕ) (Later : World → Type 0) (line : List ℕ) (had half : List (List ℕ) → Type 0)
+    (then : Moment) (g : Going step reads world old.input taken left Later line had half old.now then) (part more : List Item) (e : commands_of (lines_from line left) ≡ part ++ more)
+    (Next : World → Type 0) (has : List (List ℕ) → Type 0) (unread : Always (λ m. taken_by m ≡ taken_by then) then new.now) where
+  abbrev so_far : Progress step true reads world (script_items old.input) Later (commands_of (lines_from line left)) had half old.now then
+  so_far = going_progress step reads world old.input taken left Later line had half old.now then g
 
   in_time : (rows : List Row) → ReadsInTime step world (g.rows ++ rows) old.now new.now
   in_time rows = takes_append (in_time_more step world g.rows rows old.now then g.in_time) (takes_none unread)
 
   -- the run was halted in the items that came next
-  pub session_part : {T U : Type 0} (result : Result T Halt) (halt : Halt) → result ≡ Err halt → Ran step true reads {T = U} (Err halt) later next part half has then new.now
+  pub session_part : {T U : Type 0} (result : Result T Halt) (halt : Halt) → result ≡ Err halt → Ran step true reads {T = U} (Err halt) (world_behind world g.rows) Next part half has then new.now
       → Session step reads limit result world old new
   unfolding ran_halted
   session_part {T} {U} result halt is r =
       subst (λ (v : Result T Halt). Session step reads limit v world old new) (sym is)
-      (session_ran {T = T} step reads limit (Err halt) world old new next had has
-      (ran_halted step true reads world (script_items old.input) later (commands_of (lines_from line left)) had half old.now then so_far part more e {T = T} {U = U} halt next next has has new.now r)
+      (session_ran {T = T} step reads limit (Err halt) world old new Next had has
+      (ran_halted step true reads world (script_items old.input) Later (commands_of (lines_from line left)) had half old.now then so_far part more e {T = T} {U = U} halt Next Next has has new.now r)
       tt (in_time r.given.rows))
 
   -- they were answered, and they were the last
-  pub session_whole : {T U : Type 0} {x : T} {y : U} → more ≡ [] → Ran step true reads {T = U} (Ok y) later next part half has then new.now → IsReadThrough limit old.input new.input
+  pub session_whole : {T U : Type 0} {x : T} {y : U} → more ≡ [] → Ran step true reads {T = U} (Ok y) (world_behind world g.rows) Next part half has then new.now → IsReadThrough limit old.input new.input
       → Session {T = T} step reads limit (Ok x) world old new
   unfolding progress_more ran_all
   session_whole {T} {U} {x} none r read =
-      session_ran {T = T} step reads limit (Ok x) world old new next had has
-      (ran_all step true reads world (script_items old.input) next more had has old.now new.now
-      (progress_more step true reads world (script_items old.input) later (commands_of (lines_from line left)) had half old.now then so_far part more e next has new.now r) x none)
+      session_ran {T = T} step reads limit (Ok x) world old new Next had has
+      (ran_all step true reads world (script_items old.input) Next more had has old.now new.now
+      (progress_more step true reads world (script_items old.input) Later (commands_of (lines_from line left)) had half old.now then so_far part more e Next has new.now r) x none)
       read (in_time r.given.rows)
 
-  pub session_last : {T : Type 0} (result : Result T Halt) → more ≡ [] → Ran step true reads result later next part half has then new.now → OnOk result (IsReadThrough limit old.input new.input)
+  pub session_last : {T : Type 0} (result : Result T Halt) → more ≡ [] → Ran step true reads result (world_behind world g.rows) Next part half has then new.now → OnOk result (IsReadThrough limit old.input new.input)
       → Session step reads limit result world old new
   session_last (Ok x) none r read = session_whole none r read
   session_last (Err halt) none r read = session_part (Err halt) halt refl r

@@ -19,7 +19,7 @@ use Rattle.newt_script_session.specs.Steps.{Stepping}
 use Rattle.newt_script_session.specs.Stream.{Puts, WroteSome, put_out}
 use Rattle.newt_script_session.specs.declared.halt.Halt.{Halt}
 use Rattle.newt_script_session.specs.declared.halt.Halt.TheVariants.{Memory, Device, Source, Sink, TooLong}
-use Rattle.newt_script_session.proofs.Crashing.{AtRest, answering_leaves, safe_answering, safe_writing, untouched_next, untouched_same, untouched_world}
+use Rattle.newt_script_session.proofs.Crashing.{AtRest, answering_leaves, safe_answering, safe_writing, untouched_next, untouched_same}
 use Rattle.newt_script_session.proofs.Rows.{output_none, output_one}
 use Rattle.newt_script_session.proofs.Writing.{wrote_nothing}
 
@@ -48,18 +48,18 @@ module _ (step : Stepping) (shows : Bool) (reads : List ℕ → Option Store) (w
       (Always-map (λ m some. safe_writing shows reads start world row old then m quiet
       (λ unit left may. answering_leaves reads start world row.0 old then u (Always-last answering) unit left may) (its start (item_next start u)) some) puts.moments)
 
-  pub ran_item : {T U E : Type 0} (x : T) (y : U) (after : World) (had has : List (List ℕ) → Type 0) (now : Moment) → AtRest reads row.0 then
-      → Puts {T = U} {E = E} (Ok y) (put_out shows text) then now → after ≡ row.0 → ((unit : ℕ) → changes unit now ≡ changes unit then)
-      → ((before : List (List ℕ)) → had before → has (before ++ text ∷ [])) → Ran step shows reads {T = T} (Ok x) world after (item ∷ []) had has old now
-  ran_item {T} {U} {E} x y after had has now its puts is same took = record {
+  pub ran_item : {T U E : Type 0} (x : T) (y : U) (After : World → Type 0) (had has : List (List ℕ) → Type 0) (now : Moment) → AtRest reads row.0 then
+      → Puts {T = U} {E = E} (Ok y) (put_out shows text) then now → After row.0 → ((unit : ℕ) → changes unit now ≡ changes unit then)
+      → ((before : List (List ℕ)) → had before → has (before ++ text ∷ [])) → Ran step shows reads {T = T} (Ok x) world After (item ∷ []) had has old now
+  ran_item {T} {U} {E} x y After had has now its puts is same took = record {
     given = one_given;
     done = (
       refl,
       record {
-        world_is = is;
+        stands_for = is;
         put = puts.whole ∙ (ap (λ o. o ++ put_out shows text) quiet ∙ ap (λ t. printed old ++ put_out shows t) (sym (output_one row)));
         took = took;
-        untouched = λ start u. untouched_world start row.0 after now is (untouched_same start row.0 then now same (item_next start u));
+        untouched = λ start u. untouched_same start row.0 then now same (item_next start u);
       },
     );
     halted = λ yes. tt;
@@ -74,10 +74,10 @@ module _ (step : Stepping) (shows : Bool) (reads : List ℕ → Option Store) (w
   halted_item TooLong o n now cause some = absurd cause
 
   -- the reply was not taken whole
-  pub ran_untaken : {T U : Type 0} (result : Result T Halt) (halt : Halt) (after : World) (had has : List (List ℕ) → Type 0) (now : Moment) (o n : Outside) → result ≡ Err halt
-      → AtRest reads row.0 then → HasSinkCause halt o n → Puts {T = U} (Err halt) (put_out shows text) then now → Ran step shows reads result world after (item ∷ []) had has old now
-  ran_untaken {T} {U} result halt after had has now o n is its cause puts =
-      subst (λ (v : Result T Halt). Ran step shows reads v world after (item ∷ []) had has old now) (sym is) (record {
+  pub ran_untaken : {T U : Type 0} (result : Result T Halt) (halt : Halt) (After : World → Type 0) (had has : List (List ℕ) → Type 0) (now : Moment) (o n : Outside) → result ≡ Err halt
+      → AtRest reads row.0 then → HasSinkCause halt o n → Puts {T = U} (Err halt) (put_out shows text) then now → Ran step shows reads result world After (item ∷ []) had has old now
+  ran_untaken {T} {U} result halt After had has now o n is its cause puts =
+      subst (λ (v : Result T Halt). Ran step shows reads v world After (item ∷ []) had has old now) (sym is) (record {
         given = one_given;
         done = tt;
         halted = λ yes. halted_item halt o n (printed now) cause
@@ -95,8 +95,8 @@ module _ (step : Stepping) (shows : Bool) (reads : List ℕ → Option Store) (w
   }
 
   -- it was not answered
-  pub ran_stopped : {T : Type 0} (stop : Stop) (halt : Halt) (after : World) (had has : List (List ℕ) → Type 0) → halt ≡ halt_of stop
-      → Ran step shows reads {T = T} (Err halt) world after (item ∷ []) had has old then
-  ran_stopped {T} stop halt after had has is =
-      subst (λ (h : Halt). Ran step shows reads {T = T} (Err h) world after (item ∷ []) had has old then) (sym is)
+  pub ran_stopped : {T : Type 0} (stop : Stop) (halt : Halt) (After : World → Type 0) (had has : List (List ℕ) → Type 0) → halt ≡ halt_of stop
+      → Ran step shows reads {T = T} (Err halt) world After (item ∷ []) had has old then
+  ran_stopped {T} stop halt After had has is =
+      subst (λ (h : Halt). Ran step shows reads {T = T} (Err h) world After (item ∷ []) had has old then) (sym is)
       (record { given = one_given; done = tt; halted = λ yes. halted_stop stop; moments = item_answering })

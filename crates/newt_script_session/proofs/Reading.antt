@@ -30,9 +30,12 @@ pub unread_printing : (bytes : List ℕ) (old new : Moment) → PrintsSome bytes
 unread_printing bytes old new some = Always-map (λ m part. ap taken part.moment ∙ taken-printed part.done old) (prints_always bytes old new some)
 
 -- a command is answered
-pub unread_stepped : {told : Bool} {E : Type 0} {step : Stepping} {reads : List ℕ → Option Store} {command : Command} {result : Result Reply E} {world after : World} {a b : Outside} → OnDevices a b
-    → (IsTrue told → Stepped step reads command result world after a.now b.now) → Unread told a b
-unread_stepped on stepped = record { input = on.input; moments = λ tells. Always-map (λ m a. a.unread) (stepped tells).moments }
+pub unread_stepped : {told : Bool} {E : Type 0} {step : Stepping} {reads : List ℕ → Option Store} {command : Command} {result : Result Reply E} {Before After : World → Type 0} {a b : Outside} → OnDevices a b
+    → (IsTrue told → (world : World) × Before world) → (IsTrue told → (world : World) → Before world → Stepped step reads command result world After a.now b.now) → Unread told a b
+unread_stepped on some stepped = record {
+  input = on.input;
+  moments = λ tells. let w = some tells in Always-map (λ m a. a.unread) (stepped tells w.0 w.1).moments;
+}
 
 -- nothing is read
 pub takes_none : {P : Moment → Type 0} {old now : Moment} → Always (λ m. taken m ≡ taken old) old now → TakesOnlyWhere P old now

@@ -92,27 +92,27 @@ few_replies step world script rows run =
 -- ---- moments
 
 module _ (step : Stepping) (reads : List ℕ → Option Store) (script : List ℕ) (world : World) (old mid : Outside) where
-  counting : {T : Type 0} (result : Result T Halt) (last : World) (had has : List (List ℕ) → Type 0) → (r : Ran step false reads result world last (script_items script) had has old.now mid.now)
+  counting : {T : Type 0} (result : Result T Halt) (Last : World → Type 0) (had has : List (List ℕ) → Type 0) → (r : Ran step false reads result world Last (script_items script) had has old.now mid.now)
       → Always (CountedAt reads old.now world (script_items script) r.given.rows (out_of old)) old.now mid.now
-  counting result last had has r = counted_always reads old.now world (script_items script) r.given.rows (out_of old) old.now mid.now (r.moments old.now (λ unit none. refl))
+  counting result Last had has r = counted_always reads old.now world (script_items script) r.given.rows (out_of old) old.now mid.now (r.moments old.now (λ unit none. refl))
 
-  quiet : {T : Type 0} (result : Result T Halt) (last : World) (had has : List (List ℕ) → Type 0) → Ran step false reads result world last (script_items script) had has old.now mid.now → out_of mid ≡ out_of old
-  quiet result last had has r = (Always-last (r.moments old.now (λ unit none. refl))).out ∙ append-nil (out_of old)
+  quiet : {T : Type 0} (result : Result T Halt) (Last : World → Type 0) (had has : List (List ℕ) → Type 0) → Ran step false reads result world Last (script_items script) had has old.now mid.now → out_of mid ≡ out_of old
+  quiet result Last had has r = (Always-last (r.moments old.now (λ unit none. refl))).out ∙ append-nil (out_of old)
 
   -- a command was not answered
-  pub counted_halted : {T U : Type 0} (result : Result T Halt) (halt : Halt) (last : World) (had has : List (List ℕ) → Type 0) → result ≡ Err halt → HasWriteCause halt old mid
-      → Ran step false reads {T = U} (Err halt) world last (script_items script) had has old.now mid.now → Counted step reads script result world old mid
-  counted_halted {T} {U} result halt last had has is cause r =
+  pub counted_halted : {T U : Type 0} (result : Result T Halt) (halt : Halt) (Last : World → Type 0) (had has : List (List ℕ) → Type 0) → result ≡ Err halt → HasWriteCause halt old mid
+      → Ran step false reads {T = U} (Err halt) world Last (script_items script) had has old.now mid.now → Counted step reads script result world old mid
+  counted_halted {T} {U} result halt Last had has is cause r =
       subst (λ (v : Result T Halt). Counted step reads script v world old mid) (sym is) (record {
         given = r.given;
         out = tt;
-        halted = halted_quiet halt old mid r.given.rest (summary_of r.given.rows) (out_of old) (out_of mid) cause (quiet {T = U} (Err halt) last had has r);
-        crash = counting {T = U} (Err halt) last had has r;
+        halted = halted_quiet halt old mid r.given.rest (summary_of r.given.rows) (out_of old) (out_of mid) cause (quiet {T = U} (Err halt) Last had has r);
+        crash = counting {T = U} (Err halt) Last had has r;
       })
 
   -- all were, and then the summary was written
-  module _ {T : Type 0} (x : T) (last : World) (has : List (List ℕ) → Type 0) (first tally : Tally) (r : Ran step false reads {T = T} (Ok x) world last (script_items script) (Tallies first) has old.now mid.now)
-      (its : AtRest reads last mid.now) where
+  module _ {T : Type 0} (x : T) (Last : World → Type 0) (has : List (List ℕ) → Type 0) (first tally : Tally) (r : Ran step false reads {T = T} (Ok x) world Last (script_items script) (Tallies first) has old.now mid.now)
+      (its : AtRest reads (world_behind world r.given.rows) mid.now) where
     abbrev rows : List Row
     rows = r.given.rows
 
@@ -123,7 +123,7 @@ module _ (step : Stepping) (reads : List ℕ → Option Store) (script : List �
     run_all = subst (λ (is : List Item). IsRun step world is rows) (sym none_left) r.given.run
 
     same : out_of mid ≡ out_of old
-    same = quiet {T = T} (Ok x) last (Tallies first) has r
+    same = quiet {T = T} (Ok x) Last (Tallies first) has r
 
     -- behind all of the items, while the summary is written
     counted_last : (text : List ℕ) (now : Moment) → PrintsSome text mid.now now → CountedAt reads old.now world (script_items script) rows (out_of old) now
@@ -134,8 +134,9 @@ module _ (step : Stepping) (reads : List ℕ → Option Store) (script : List �
         length (script_items script),
         (λ out. refl),
         (λ unit left may.
+            let last = world_behind world rows in
             let here_is : last ≡ world_at world (rows ++ more) (length (script_items script)) =
-            r.done.1.world_is ∙ ap (world_behind world) (sym (take_at rows more (length (script_items script)) (run_length step world (script_items script) rows run_all))) in
+            ap (world_behind world) (sym (take_at rows more (length (script_items script)) (run_length step world (script_items script) rows run_all))) in
             subst (λ (v : World). BeforeOrAfter reads old.now v (world_at world (rows ++ more) (length (script_items script) + 1)) unit left) here_is
             (its_before reads old.now last (world_at world (rows ++ more) (length (script_items script) + 1)) unit left
             (its old.now (r.done.1.untouched old.now (λ u none. refl)) unit left (left_same unit left mid.now now (prints_changes text mid.now now some unit) may)))),
@@ -152,5 +153,5 @@ module _ (step : Stepping) (reads : List ℕ → Option Store) (script : List �
           out = on_ok_weaker result (λ e. (r.done.0, e ∙ ap (λ o. o ++ summary_of rows) same)) put.whole;
           halted = halted_writing result mid new r.given.rest (summary_of rows) (out_of old) (out_of new) r.done.0 cause
               (subst (λ (o : List ℕ). OnErr result (WroteSome (summary_of rows) o (out_of new))) same put.failed);
-          crash = Always-append (counting {T = T} (Ok x) last (Tallies first) has r) (Always-map (λ m some. counted_last (summary_of rows) m some) put.moments);
+          crash = Always-append (counting {T = T} (Ok x) Last (Tallies first) has r) (Always-map (λ m some. counted_last (summary_of rows) m some) put.moments);
         }

@@ -24,14 +24,15 @@ pub record Fed (begun piece : List ℕ) (flow : Flow) (line : List ℕ) : Type 0
   pub line_is : flow ≡ Go → line ≡ unended begun piece
 
 module _ (shows : Bool) where
-  -- The rows were answered, each reply was taken, and the sink had some replies before and has
-  -- these behind them.
-  pub record Answered (world next : World) (rows : List Row) (had has : List (List ℕ) → Type 0)
-      (old now : Moment) : Type 0 where
-    pub world_is : next ≡ world_behind world rows
+  -- The rows were answered, and the world behind them is one of those that are stood for then. Each
+  -- reply was taken: the sink had some replies before and has these behind them.
+  pub record Answered (world : World) (StoodFor : World → Type 0) (rows : List Row)
+      (had has : List (List ℕ) → Type 0) (old now : Moment) : Type 0 where
+    pub stands_for : StoodFor (world_behind world rows)
     pub put : printed now ≡ printed old ++ put_out shows (output_of rows)
     pub took : (before : List (List ℕ)) → had before → has (before ++ reply_texts rows)
-    pub untouched : (start : Moment) → Untouched start world old → Untouched start next now
+    pub untouched : (start : Moment) → Untouched start world old
+        → Untouched start (world_behind world rows) now
 
 module _ (step : Stepping) where
   -- The first of the items have been given, and these rows are a run over them.
@@ -45,11 +46,12 @@ module _ (step : Stepping) where
   module _ (shows : Bool) (store_of_image : List ℕ → Option Store) where
     -- The answering of items came to a result: all were given and answered, or it was halted in the
     -- first ones, and a crash at each moment leaves what it may.
-    pub record Ran {T : Type 0} (result : Result T Halt) (world next : World) (items : List Item)
-        (had has : List (List ℕ) → Type 0) (old now : Moment) : Type 0 where
+    pub record Ran {T : Type 0} (result : Result T Halt) (world : World)
+        (StoodFor : World → Type 0) (items : List Item) (had has : List (List ℕ) → Type 0)
+        (old now : Moment) : Type 0 where
       pub given : Given world items
       pub done : OnOk result
-          ((given.rest ≡ []) × Answered shows world next given.rows had has old now)
+          ((given.rest ≡ []) × Answered shows world StoodFor given.rows had has old now)
       pub halted : IsTrue shows
           → IfErr result (λ halt. HaltedIn halt given.rows (printed old) (printed now))
       pub moments : (start : Moment) → Untouched start world old

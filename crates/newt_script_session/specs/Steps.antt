@@ -20,11 +20,12 @@ plain_step world command next reply = answer world command ≡ (next, reply)
 
 -- A command was given in a world: there is a step, whatever became of the call, and at each moment
 -- a crash leaves each unit as in the one world or in the other. Where it was answered, the reply is
--- that of the step, and the world that is stood for then is the next one.
+-- that of the step, and the next world is one of those that are stood for then.
 pub record Stepped {E : Type 0} (step : Stepping) (store_of_image : List ℕ → Option Store)
-    (command : Command) (result : Result given.Reply E) (world after : World) (old now : Moment) : Type 0 where
+    (command : Command) (result : Result given.Reply E) (world : World) (StoodFor : World → Type 0)
+    (old now : Moment) : Type 0 where
   pub next : World
   pub reply : Reply
   pub steps : step world command next reply
-  pub answered : IfOk result (λ it. (said it ≡ reply) × (after ≡ next))
+  pub answered : IfOk result (λ it. (said it ≡ reply) × StoodFor next)
   pub moments : Always (Answering store_of_image world next old) old now

@@ -5,6 +5,7 @@ ghost use Rattle.newt_script_session.specs.Causes.{HasSinkCause};
 ghost use Rattle.newt_script_session.specs.Counted.{Counted};
 ghost use Rattle.newt_script_session.specs.Counts.{lines_of_tally};
 ghost use Rattle.newt_script_session.specs.Stream.{Puts};
+ghost use Rattle.newt_spec_world.specs.World.{World};
 
 use crate::feed::answer_text;
 use crate::halt::Halt;
@@ -38,8 +39,10 @@ pub fn tally_script<H: Host, I: Interpreter>(
     script: &[u8],
 ) -> Result<(), Halt>
     requires stands { I.stands H.told interpreter.old (H.outside host.old) }
-    ensures counted { IsTrue H.told → Counted I.step I.store_of_image script.now result
-        (I.world interpreter.old (H.outside host.old)) (H.outside host.old) (H.outside host.new) }
+    ensures counted { IsTrue H.told → (world : World)
+        → I.means interpreter.old (H.outside host.old) world
+        → Counted I.step I.store_of_image script.now result world
+        (H.outside host.old) (H.outside host.new) }
     ensures call { AnswerCall H.told result (H.outside host.old) (H.outside host.new) }
 {
     let mut tally = Tally::new();

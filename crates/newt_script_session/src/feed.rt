@@ -4,6 +4,7 @@ ghost use Rattle.newt_script_session.specs.Answered.{Fed, Ran};
 ghost use Rattle.newt_script_session.specs.Calls.{AnswerCall};
 ghost use Rattle.newt_script_session.specs.Lines.{BeginsWith, HasNoEnd, ended_lines, last_line};
 ghost use Rattle.newt_script_session.specs.Script.{commands_of, script_items};
+ghost use Rattle.newt_spec_world.specs.World.{World};
 
 use crate::halt::{Flow, Halt};
 use crate::interpreter::Interpreter;
@@ -35,9 +36,10 @@ pub fn feed<H: Host, I: Interpreter, S: Sink>(
     requires stands { I.stands H.told interpreter.old (H.outside host.old) }
     ensures stands { OnOk result (I.stands H.told interpreter.new (H.outside host.new)) }
     ensures fed { IfOk result (λ flow. Fed line.old.items piece.now flow line.new.items) }
-    ensures ran { IsTrue H.told → Ran I.step S.shows I.store_of_image result
-        (I.world interpreter.old (H.outside host.old))
-        (I.world interpreter.new (H.outside host.new))
+    ensures ran { IsTrue H.told → (world : World)
+        → I.means interpreter.old (H.outside host.old) world
+        → Ran I.step S.shows I.store_of_image result world
+        (I.means interpreter.new (H.outside host.new))
         (commands_of (ended_lines line.old.items piece.now)) (S.has sink.old) (S.has sink.new)
         (H.outside host.old).now (H.outside host.new).now }
     ensures call { AnswerCall H.told result (H.outside host.old) (H.outside host.new) }
@@ -69,9 +71,10 @@ pub fn finish<H: Host, I: Interpreter, S: Sink>(
 ) -> Result<(), Halt>
     requires stands { I.stands H.told interpreter.old (H.outside host.old) }
     ensures stands { OnOk result (I.stands H.told interpreter.new (H.outside host.new)) }
-    ensures ran { IsTrue H.told → Ran I.step S.shows I.store_of_image result
-        (I.world interpreter.old (H.outside host.old))
-        (I.world interpreter.new (H.outside host.new))
+    ensures ran { IsTrue H.told → (world : World)
+        → I.means interpreter.old (H.outside host.old) world
+        → Ran I.step S.shows I.store_of_image result world
+        (I.means interpreter.new (H.outside host.new))
         (commands_of (last_line line.now)) (S.has sink.old) (S.has sink.new)
         (H.outside host.old).now (H.outside host.new).now }
     ensures call { AnswerCall H.told result (H.outside host.old) (H.outside host.new) }
@@ -93,9 +96,10 @@ pub fn answer_text<H: Host, I: Interpreter, S: Sink>(
 ) -> Result<(), Halt>
     requires stands { I.stands H.told interpreter.old (H.outside host.old) }
     ensures stands { OnOk result (I.stands H.told interpreter.new (H.outside host.new)) }
-    ensures ran { IsTrue H.told → Ran I.step S.shows I.store_of_image result
-        (I.world interpreter.old (H.outside host.old))
-        (I.world interpreter.new (H.outside host.new))
+    ensures ran { IsTrue H.told → (world : World)
+        → I.means interpreter.old (H.outside host.old) world
+        → Ran I.step S.shows I.store_of_image result world
+        (I.means interpreter.new (H.outside host.new))
         (script_items text.now) (S.has sink.old) (S.has sink.new)
         (H.outside host.old).now (H.outside host.new).now }
     ensures call { AnswerCall H.told result (H.outside host.old) (H.outside host.new) }

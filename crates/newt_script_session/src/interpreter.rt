@@ -21,8 +21,8 @@ use newt_reply::Reply;
 use newt_script::Command;
 use std::alloc::{AllocError, Global};
 
-/// What answers commands over the devices of a host. It stands for a world, which it and the
-/// devices determine.
+/// What answers commands over the devices of a host. It and the devices stand for a world, or for
+/// several where they do not tell all of it.
 pub trait Interpreter: Sized + Drop {
     /// The store that an image is read as.
     ghost store_of_image: { List ℕ → Option Store };
@@ -33,8 +33,8 @@ pub trait Interpreter: Sized + Drop {
     /// It stands for the devices, of a host that tells bytes or of one that does not.
     ghost stands: { Bool → Self → Outside → Type 0 };
 
-    /// The world that it stands for.
-    ghost world: { Self → Outside → World };
+    /// It stands for this world, among others that it may stand for.
+    ghost means: { Self → Outside → World → Type 0 };
 
     /// Attaches the devices of the names, each to the unit of its place, and begins with them:
     /// nothing is mounted.
@@ -43,36 +43,41 @@ pub trait Interpreter: Sized + Drop {
         requires distinct { AreDistinct (map string_bytes names.now) }
         requires free { (unit : ℕ) → (H.outside host.old).card unit ≡ None }
         ensures stands { IfOk result (λ it. stands H.told it (H.outside host.new)) }
-        ensures world { IsTrue H.told → IfOk result (λ it. world it (H.outside host.new)
-            ≡ world_of store_of_image (held (H.outside host.old)) (map string_bytes names.now)) }
+        ensures world { IsTrue H.told → IfOk result (λ it. means it (H.outside host.new)
+            (world_of store_of_image (held (H.outside host.old)) (map string_bytes names.now))) }
         ensures attached { AreAttached H.told (map string_bytes names.now)
             (H.outside host.old) (H.outside host.new) };
 
-    /// Answers one command, by a step. After an error it is spent.
+    /// Answers one command, by a step from each world that it stands for. After an error it is
+    /// spent.
     fn apply<H: Host>(&mut self, host: &mut H, command: Command) -> Result<Reply, Stop>
         requires stands { stands H.told self.old (H.outside host.old) }
         requires form { IsTrue (has_form command) }
         ensures stands { OnOk result (stands H.told self.new (H.outside host.new)) }
-        ensures stepped { IsTrue H.told → Stepped step store_of_image command result
-            (world self.old (H.outside host.old)) (world self.new (H.outside host.new))
-            (H.outside host.old).now (H.outside host.new).now }
+        ensures stepped { IsTrue H.told → (world : World) → means self.old (H.outside host.old) world
+            → Stepped step store_of_image command result world
+            (means self.new (H.outside host.new)) (H.outside host.old).now (H.outside host.new).now }
         ensures cause { IfErr result (λ stop.
             HasStopCause stop (H.outside host.old) (H.outside host.new)) }
         ensures no_fault { OnOk result (NoFault (H.outside host.old) (H.outside host.new)) }
         ensures alone { OnDevices (H.outside host.old) (H.outside host.new) };
 
+    /// It stands for some world.
+    ghost has_world: { (it : Self) (outside : Outside) → stands true it outside
+        → (world : World) × means it outside world };
+
     /// Where no device is other than it was, it stands as before.
     ghost kept: { (told : Bool) (it : Self) (old new : Outside) → SameDevices told old new
         → stands told it old → stands told it new };
 
-    /// It then stands for the same world.
-    ghost same_world: { (it : Self) (old new : Outside) → SameDevices true old new
-        → world it new ≡ world it old };
+    /// It then stands for the same worlds.
+    ghost same_worlds: { (it : Self) (old new : Outside) (world : World)
+        → SameDevices true old new → means it old world → means it new world };
 
     /// Between two commands a crash leaves each unit that has a store as that store.
-    ghost leaves: { (it : Self) (outside : Outside) → stands true it outside
-        → (unit : ℕ) (store : Store) (left : List ℕ)
-        → store_on_unit (world it outside) unit ≡ Some store → MayLeave unit outside.now left
+    ghost leaves: { (it : Self) (outside : Outside) (world : World) → stands true it outside
+        → means it outside world → (unit : ℕ) (store : Store) (left : List ℕ)
+        → store_on_unit world unit ≡ Some store → MayLeave unit outside.now left
         → store_of_image left ≡ Some store };
 
     /// No command takes a unit's store away.

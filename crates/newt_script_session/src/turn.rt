@@ -6,6 +6,7 @@ ghost use Rattle.newt_script_session.specs.Causes.{flow_of};
 ghost use Rattle.newt_script_session.specs.Script.{commands_of, has_quit};
 ghost use Rattle.newt_laws_world.specs.Worlds.{has_form};
 ghost use Rattle.newt_spec_script.specs.Script.{is_quit};
+ghost use Rattle.newt_spec_world.specs.World.{World};
 
 use crate::halt::{Flow, Halt, halted_by};
 use crate::interpreter::Interpreter;
@@ -38,9 +39,10 @@ fn obey<H: Host, I: Interpreter, S: Sink>(
     requires form { IsTrue (has_form command) }
     ensures stands { OnOk result (I.stands H.told interpreter.new (H.outside host.new)) }
     ensures flow { IfOk result (λ flow. flow ≡ flow_of (is_quit (Ok command))) }
-    ensures ran { IsTrue H.told → Ran I.step S.shows I.store_of_image result
-        (I.world interpreter.old (H.outside host.old))
-        (I.world interpreter.new (H.outside host.new))
+    ensures ran { IsTrue H.told → (world : World)
+        → I.means interpreter.old (H.outside host.old) world
+        → Ran I.step S.shows I.store_of_image result world
+        (I.means interpreter.new (H.outside host.new))
         (Ok command ∷ []) (S.has sink.old) (S.has sink.new)
         (H.outside host.old).now (H.outside host.new).now }
     ensures call { AnswerCall H.told result (H.outside host.old) (H.outside host.new) }
@@ -66,9 +68,10 @@ fn refuse<H: Host, I: Interpreter, S: Sink>(
     requires stands { I.stands H.told interpreter.now (H.outside host.old) }
     ensures stands { OnOk result (I.stands H.told interpreter.now (H.outside host.new)) }
     ensures flow { IfOk result (λ flow. flow ≡ Flow.Go) }
-    ensures ran { IsTrue H.told → Ran I.step S.shows I.store_of_image result
-        (I.world interpreter.now (H.outside host.old))
-        (I.world interpreter.now (H.outside host.new))
+    ensures ran { IsTrue H.told → (world : World)
+        → I.means interpreter.now (H.outside host.old) world
+        → Ran I.step S.shows I.store_of_image result world
+        (I.means interpreter.now (H.outside host.new))
         (Err refusal ∷ []) (S.has sink.old) (S.has sink.new)
         (H.outside host.old).now (H.outside host.new).now }
     ensures call { AnswerCall H.told result (H.outside host.old) (H.outside host.new) }
@@ -89,9 +92,10 @@ pub fn turn<H: Host, I: Interpreter, S: Sink>(
     requires stands { I.stands H.told interpreter.old (H.outside host.old) }
     ensures stands { OnOk result (I.stands H.told interpreter.new (H.outside host.new)) }
     ensures flow { IfOk result (λ flow. flow ≡ flow_of (has_quit (bytes.now ∷ []))) }
-    ensures ran { IsTrue H.told → Ran I.step S.shows I.store_of_image result
-        (I.world interpreter.old (H.outside host.old))
-        (I.world interpreter.new (H.outside host.new))
+    ensures ran { IsTrue H.told → (world : World)
+        → I.means interpreter.old (H.outside host.old) world
+        → Ran I.step S.shows I.store_of_image result world
+        (I.means interpreter.new (H.outside host.new))
         (commands_of (bytes.now ∷ [])) (S.has sink.old) (S.has sink.new)
         (H.outside host.old).now (H.outside host.new).now }
     ensures call { AnswerCall H.told result (H.outside host.old) (H.outside host.new) }

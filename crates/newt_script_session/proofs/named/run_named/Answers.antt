@@ -31,8 +31,8 @@ returns-in_default-clause-ran g c = λ told.
     (λ unit. refl) (λ unit. g.met.H.Host.untouched c.args.host.now unit told (c.requires.free unit))
     (λ unit none. g.met.H.Host.untouched c.new.new.host unit told none) (λ unit some. g.met.H.Host.history c.new.new.host unit told some)
     c.args.limit result
-    (subst S found (session_ran it.step it.store_of_image c.args.limit result (unmounted it.store_of_image mid) mid mid (unmounted it.store_of_image mid) (λ texts. Unit {0}) (λ texts. Unit {0})
-    (ran_nothing it.step true it.store_of_image (unmounted it.store_of_image mid) (script_items mid.input) _ mid.now its) tt start))
+    (subst S found (session_ran it.step it.store_of_image c.args.limit result (unmounted it.store_of_image mid) mid mid (λ w. Unit {0}) (λ texts. Unit {0}) (λ texts. Unit {0})
+    (ran_nothing it.step true it.store_of_image (unmounted it.store_of_image mid) (λ w. Unit {0}) (script_items mid.input) _ mid.now tt its) tt start))
 
 pub returns-in_default-clause-faults : goal.returns-in_default-clause-faults
 returns-in_default-clause-faults g c = faults_end HasCause Memory _ _ (attached_faultless _ _ _ _ c.new.ensures.attached) tt
@@ -47,11 +47,10 @@ returns-clause-ran g c = λ told.
     let mid = g.H.Host.outside c.new.new.host in
     let new = g.H.Host.outside c.run_script.new.host in
     let a = subst (λ (t : Bool). AreAttached t names old mid) told c.new.ensures.attached in
-    let S : World → Type 0 = λ w. Session it.step it.store_of_image c.args.limit c.run_script.result w mid new in
     named_ran names old mid new a it.step it.store_of_image
     c.run_script.ensures.call.cards.card (λ unit. g.met.H.Host.untouched c.args.host.now unit told (c.requires.free unit))
     (λ unit none. g.met.H.Host.untouched c.run_script.new.host unit told none) (λ unit some. g.met.H.Host.history c.run_script.new.host unit told some)
-    c.args.limit c.run_script.result (subst S (c.in-Ok.ensures.world told) (c.run_script.ensures.session told))
+    c.args.limit c.run_script.result (c.run_script.ensures.session told _ (c.in-Ok.ensures.world told))
 
 pub returns-clause-faults : goal.returns-clause-faults
 returns-clause-faults g c =

@@ -30,9 +30,9 @@ returns-in_default-clause-counted g c = λ told.
     (λ unit. refl) (λ unit. g.met.H.Host.untouched c.args.host.now unit told (c.requires.free unit))
     (λ unit none. g.met.H.Host.untouched c.new.new.host unit told none) (λ unit some. g.met.H.Host.history c.new.new.host unit told some)
     c.args.script.now result
-    (subst S found (counted_halted it.step it.store_of_image c.args.script.now (unmounted it.store_of_image mid) mid mid {T = Unit {0}} {U = Unit {0}} result Memory (unmounted it.store_of_image mid)
+    (subst S found (counted_halted it.step it.store_of_image c.args.script.now (unmounted it.store_of_image mid) mid mid {T = Unit {0}} {U = Unit {0}} result Memory (λ w. Unit {0})
     (λ texts. Unit {0}) (λ texts. Unit {0}) refl tt
-    (ran_nothing it.step false it.store_of_image (unmounted it.store_of_image mid) (script_items c.args.script.now) _ mid.now its)))
+    (ran_nothing it.step false it.store_of_image (unmounted it.store_of_image mid) (λ w. Unit {0}) (script_items c.args.script.now) _ mid.now tt its)))
 
 pub returns-in_default-clause-left : goal.returns-in_default-clause-left
 returns-in_default-clause-left g c = c.new.ensures.attached.input
@@ -50,11 +50,10 @@ returns-clause-counted g c = λ told.
     let mid = g.H.Host.outside c.new.new.host in
     let new = g.H.Host.outside c.tally_script.new.host in
     let a = subst (λ (t : Bool). AreAttached t names old mid) told c.new.ensures.attached in
-    let S : World → Type 0 = λ w. Counted it.step it.store_of_image c.args.script.now c.tally_script.result w mid new in
     named_counted names old mid new a it.step it.store_of_image
     c.tally_script.ensures.call.cards.card (λ unit. g.met.H.Host.untouched c.args.host.now unit told (c.requires.free unit))
     (λ unit none. g.met.H.Host.untouched c.tally_script.new.host unit told none) (λ unit some. g.met.H.Host.history c.tally_script.new.host unit told some)
-    c.args.script.now c.tally_script.result (subst S (c.in-Ok.ensures.world told) (c.tally_script.ensures.counted told))
+    c.args.script.now c.tally_script.result (c.tally_script.ensures.counted told _ (c.in-Ok.ensures.world told))
 
 pub returns-clause-left : goal.returns-clause-left
 returns-clause-left g c = c.tally_script.ensures.call.unread.input ∙ c.new.ensures.attached.input

@@ -3,6 +3,7 @@ use Rattle.std.proofs.lemmas.List.{append-nil, length-append, length-take-le}
 use Rattle.std.proofs.lemmas.Result.{err_from_is_err_and, on_ok_weaker}
 use Rattle.newt_host.specs.Moments.{Moment, taken as taken_by}
 use Rattle.newt_host.proofs.Moments.{Always-last}
+use Rattle.newt_spec_world.specs.World.{World}
 use Rattle.newt_script_session.specs.Causes.{SameDevices}
 use Rattle.newt_script_session.specs.Lines.{ended_lines, last_line}
 use Rattle.newt_script_session.specs.Run.{IsReadThrough}
@@ -19,13 +20,12 @@ pub pieces-init : goal.pieces-init
 pieces-init g c =
     let it = g.I.Interpreter in
     let before = g.H.Host.outside c.args.host.now in
-    let w = it.world c.args.interpreter.now before in
     record {
       stands = c.requires.stands;
-      going = λ told.
+      going = λ told w means.
           let stands = subst (λ (t : Bool). it.stands t c.args.interpreter.now before) told c.requires.stands in
-          let its = at_rest it.store_of_image w before.now (λ unit store left e may. g.met.I.Interpreter.leaves c.args.interpreter.now before stands unit store left e may) in
-          ([], refl, sym (append-nil _), going_start it.step it.store_of_image w before.input c.args.line.now.items (λ texts. Unit {0}) before.now its c.requires.empty);
+          let its = at_rest it.store_of_image w before.now (g.met.I.Interpreter.leaves c.args.interpreter.now before w stands means) in
+          ([], refl, sym (append-nil _), going_start it.step it.store_of_image w _ before.input c.args.line.now.items (λ texts. Unit {0}) before.now means its c.requires.empty);
       within = omega arith;
       running = running-refl _;
     }
@@ -39,13 +39,14 @@ finish-requires g c = record { stands = g.met.I.Interpreter.kept g.H.Host.told c
 -- ---- a read failed
 
 pub returns-in_err-moved-clause-session : goal.returns-in_err-moved-clause-session
-returns-in_err-moved-clause-session g c = λ told.
+returns-in_err-moved-clause-session g c = λ told w means.
     let it = g.I.Interpreter in
     let mid = g.H.Host.outside c.read_piece.new.host in
     let p = err_from_is_err_and c.from_residual.result c.from_residual.ensures.1 in
-    let v = c.pieces.invariant.going told in
-    let same = g.met.I.Interpreter.same_world c.pieces.interpreter (g.H.Host.outside c.pieces.host) mid
-    (subst (λ (t : Bool). SameDevices t (g.H.Host.outside c.pieces.host) mid) told c.read_piece.ensures.call.devices) in
+    let v = c.pieces.invariant.going told w means in
+    let devices = subst (λ (t : Bool). SameDevices t (g.H.Host.outside c.pieces.host) mid) told c.read_piece.ensures.call.devices in
+    let same = λ (u : World) (stood : it.means c.pieces.interpreter (g.H.Host.outside c.pieces.host) u).
+    g.met.I.Interpreter.same_worlds c.pieces.interpreter (g.H.Host.outside c.pieces.host) mid u devices stood in
     let going = going_moved it.step it.store_of_image _ _ v.0 _ _ _ _ _ _ _ _ mid.now c.in_err-moved.ensures.failed.1 same v.3 in
     session_halted it.step it.store_of_image c.args.limit _ _ (g.H.Host.outside c.args.host.now) mid v.0 _ _ _ _ _ going Source (p.1 ∙ ap Err (p.2 ∙ c.in_err-moved.ensures.call.faults.cause.0))
     (answered_taken it.step it.store_of_image _ _ v.0 _ _ _ _ _ _ mid.now going mid.input c.in_err-moved.ensures.failed.0)
@@ -58,12 +59,13 @@ returns-in_err-moved-clause-call g c =
 -- ---- more bytes come than are read
 
 pub returns-then-taken-limit-clause-session : goal.returns-then-taken-limit-clause-session
-returns-then-taken-limit-clause-session g c = λ told.
+returns-then-taken-limit-clause-session g c = λ told w means.
     let it = g.I.Interpreter in
     let mid = g.H.Host.outside c.read_piece.new.host in
-    let v = c.pieces.invariant.going told in
-    let same = g.met.I.Interpreter.same_world c.pieces.interpreter (g.H.Host.outside c.pieces.host) mid
-    (subst (λ (t : Bool). SameDevices t (g.H.Host.outside c.pieces.host) mid) told c.read_piece.ensures.call.devices) in
+    let v = c.pieces.invariant.going told w means in
+    let devices = subst (λ (t : Bool). SameDevices t (g.H.Host.outside c.pieces.host) mid) told c.read_piece.ensures.call.devices in
+    let same = λ (u : World) (stood : it.means c.pieces.interpreter (g.H.Host.outside c.pieces.host) u).
+    g.met.I.Interpreter.same_worlds c.pieces.interpreter (g.H.Host.outside c.pieces.host) mid u devices stood in
     let going = going_took it.step it.store_of_image _ _ v.0 _ _ _ _ _ _ _ _ _ mid.now (c.in_ok-moved.ensures.took told).moment same v.2 v.3 in
     let buffer = c.read_piece.new.buffer in
     let within : c.in_ok-moved.moved ≤ c.min-most.result = c.in_ok-moved.ensures.within in
@@ -81,19 +83,20 @@ returns-then-taken-limit-clause-call g c = run_long (running_read c.pieces.invar
 -- ---- a piece was not answered
 
 pub returns-in_err-feed-clause-session : goal.returns-in_err-feed-clause-session
-returns-in_err-feed-clause-session g c = λ told.
+returns-in_err-feed-clause-session g c = λ told w means.
     let it = g.I.Interpreter in
     let mid = g.H.Host.outside c.read_piece.new.host in
     let new = g.H.Host.outside c.feed.new.host in
     let p = err_from_is_err_and c.from_residual-in_err-feed.result c.from_residual-in_err-feed.ensures.1 in
-    let v = c.pieces.invariant.going told in
-    let same = g.met.I.Interpreter.same_world c.pieces.interpreter (g.H.Host.outside c.pieces.host) mid
-    (subst (λ (t : Bool). SameDevices t (g.H.Host.outside c.pieces.host) mid) told c.read_piece.ensures.call.devices) in
+    let v = c.pieces.invariant.going told w means in
+    let devices = subst (λ (t : Bool). SameDevices t (g.H.Host.outside c.pieces.host) mid) told c.read_piece.ensures.call.devices in
+    let same = λ (u : World) (stood : it.means c.pieces.interpreter (g.H.Host.outside c.pieces.host) u).
+    g.met.I.Interpreter.same_worlds c.pieces.interpreter (g.H.Host.outside c.pieces.host) mid u devices stood in
     let going = going_took it.step it.store_of_image _ _ v.0 _ _ _ _ _ _ _ _ _ mid.now (c.in_ok-moved.ensures.took told).moment same v.2 v.3 in
     let piece = take c.in_ok-moved.moved c.read_piece.new.buffer in
     let some = piece_then_some c.pieces.line.items (g.H.Host.outside c.pieces.host).input piece mid.input ((c.in_ok-moved.ensures.took told).input) in
     session_part it.step it.store_of_image c.args.limit _ (g.H.Host.outside c.args.host.now) new v.0 _ _ _ _ _ mid.now going (commands_of (ended_lines c.pieces.line.items piece)) some.0 some.1
-    (it.world c.feed.new.interpreter new) (λ texts. Unit {0}) (c.in_err-feed.ensures.call.unread.moments told) _ c.in_err-feed.field-0.0 (p.1 ∙ ap Err p.2) (c.in_err-feed.ensures.ran told)
+    (it.means c.feed.new.interpreter new) (λ texts. Unit {0}) (c.in_err-feed.ensures.call.unread.moments told) _ c.in_err-feed.field-0.0 (p.1 ∙ ap Err p.2) (c.in_err-feed.ensures.ran told _ going.answered.stands_for)
 
 pub returns-in_err-feed-clause-call : goal.returns-in_err-feed-clause-call
 returns-in_err-feed-clause-call g c =
@@ -103,13 +106,14 @@ returns-in_err-feed-clause-call g c =
 -- ---- a line quits
 
 pub returns-in-Quit-clause-session : goal.returns-in-Quit-clause-session
-returns-in-Quit-clause-session g c = λ told.
+returns-in-Quit-clause-session g c = λ told w means.
     let it = g.I.Interpreter in
     let mid = g.H.Host.outside c.read_piece.new.host in
     let new = g.H.Host.outside c.feed.new.host in
-    let v = c.pieces.invariant.going told in
-    let same = g.met.I.Interpreter.same_world c.pieces.interpreter (g.H.Host.outside c.pieces.host) mid
-    (subst (λ (t : Bool). SameDevices t (g.H.Host.outside c.pieces.host) mid) told c.read_piece.ensures.call.devices) in
+    let v = c.pieces.invariant.going told w means in
+    let devices = subst (λ (t : Bool). SameDevices t (g.H.Host.outside c.pieces.host) mid) told c.read_piece.ensures.call.devices in
+    let same = λ (u : World) (stood : it.means c.pieces.interpreter (g.H.Host.outside c.pieces.host) u).
+    g.met.I.Interpreter.same_worlds c.pieces.interpreter (g.H.Host.outside c.pieces.host) mid u devices stood in
     let going = going_took it.step it.store_of_image _ _ v.0 _ _ _ _ _ _ _ _ _ mid.now (c.in_ok-moved.ensures.took told).moment same v.2 v.3 in
     let buffer = c.read_piece.new.buffer in
     let piece = take c.in_ok-moved.moved buffer in
@@ -121,7 +125,7 @@ returns-in-Quit-clause-session g c = λ told.
     let P : List ℕ → Type 0 = λ left. IsReadThrough c.args.limit (g.H.Host.outside c.args.host.now).input left in
     let last = piece_then_none c.pieces.line.items (g.H.Host.outside c.pieces.host).input piece mid.input ((c.in_ok-moved.ensures.took told).input) stop in
     session_whole it.step it.store_of_image c.args.limit _ (g.H.Host.outside c.args.host.now) new v.0 _ _ _ _ _ mid.now going (commands_of (ended_lines c.pieces.line.items piece)) [] last
-    (it.world c.feed.new.interpreter new) (λ texts. Unit {0}) (c.in_ok-feed.ensures.call.unread.moments told) refl (c.in_ok-feed.ensures.ran told)
+    (it.means c.feed.new.interpreter new) (λ texts. Unit {0}) (c.in_ok-feed.ensures.call.unread.moments told) refl (c.in_ok-feed.ensures.ran told _ going.answered.stands_for)
     (subst P (sym c.feed.ensures.call.unread.input)
     (through_quit it.step it.store_of_image _ _ v.0 _ _ _ _ _ _ mid.now going piece mid.input c.args.limit ((c.in_ok-moved.ensures.took told).input) stop (omega arith)))
 
@@ -144,22 +148,23 @@ pieces-preserved g c =
     let size = length-take-le c.in_ok-moved.moved buffer fits in
     record {
       stands = c.in_ok-feed.ensures.stands;
-      going = λ told.
-          let v = c.pieces.invariant.going told in
-          let same = g.met.I.Interpreter.same_world c.pieces.interpreter (g.H.Host.outside c.pieces.host) mid
-          (subst (λ (t : Bool). SameDevices t (g.H.Host.outside c.pieces.host) mid) told c.read_piece.ensures.call.devices) in
+      going = λ told w means.
+          let v = c.pieces.invariant.going told w means in
+          let devices = subst (λ (t : Bool). SameDevices t (g.H.Host.outside c.pieces.host) mid) told c.read_piece.ensures.call.devices in
+          let same = λ (u : World) (stood : it.means c.pieces.interpreter (g.H.Host.outside c.pieces.host) u).
+          g.met.I.Interpreter.same_worlds c.pieces.interpreter (g.H.Host.outside c.pieces.host) mid u devices stood in
           let going = going_took it.step it.store_of_image _ _ v.0 _ _ _ _ _ _ _ _ _ mid.now (c.in_ok-moved.ensures.took told).moment same v.2 v.3 in
           let unread = c.in_ok-feed.ensures.call.unread.moments told in
           let grown : taken_by new.now ≡ taken_by before.now ++ (v.0 ++ piece) =
           Always-last unread ∙ (ap (λ (m : Moment). taken_by m) (c.in_ok-moved.ensures.took told).moment
           ∙ (ap (λ t. t ++ piece) v.2 ∙ append_assoc (taken_by before.now) v.0 piece)) in
-          let P : List ℕ → Type 0 = λ left. Going it.step it.store_of_image (it.world c.args.interpreter.now before) before.input (v.0 ++ piece) left (it.world c.feed.new.interpreter new) c.feed.new.line.items
+          let P : List ℕ → Type 0 = λ left. Going it.step it.store_of_image w before.input (v.0 ++ piece) left (it.means c.feed.new.interpreter new) c.feed.new.line.items
           (λ texts. Unit {0}) (λ texts. Unit {0}) before.now new.now in (
             v.0 ++ piece,
             (length-append v.0 piece ∙ (ap (λ n. n + length piece) v.1 ∙ ap (λ n. c.pieces.taken + n) size)),
             grown,
             subst P (sym c.feed.ensures.call.unread.input)
-                (going_more it.step it.store_of_image _ _ v.0 _ _ _ _ _ _ mid.now going piece mid.input _ _ _ _ unread ((c.in_ok-moved.ensures.took told).input) go (c.in_ok-feed.ensures.fed.line_is c.in-Go.is) (c.in_ok-feed.ensures.ran told)),
+                (going_more it.step it.store_of_image _ _ v.0 _ _ _ _ _ _ mid.now going piece mid.input _ _ _ _ unread ((c.in_ok-moved.ensures.took told).input) go (c.in_ok-feed.ensures.fed.line_is c.in-Go.is) (c.in_ok-feed.ensures.ran told _ going.answered.stands_for)),
           );
       within = omega arith;
       running = running_answer (running_read c.pieces.invariant.running c.in_ok-moved.ensures.call) c.in_ok-feed.ensures.call;
@@ -168,20 +173,21 @@ pieces-preserved g c =
 -- ---- the end of the input
 
 pub returns-clause-session : goal.returns-clause-session
-returns-clause-session g c = λ told.
+returns-clause-session g c = λ told w means.
     let it = g.I.Interpreter in
     let mid = g.H.Host.outside c.read_piece.new.host in
     let new = g.H.Host.outside c.finish.new.host in
-    let v = c.pieces.invariant.going told in
-    let same = g.met.I.Interpreter.same_world c.pieces.interpreter (g.H.Host.outside c.pieces.host) mid
-    (subst (λ (t : Bool). SameDevices t (g.H.Host.outside c.pieces.host) mid) told c.read_piece.ensures.call.devices) in
+    let v = c.pieces.invariant.going told w means in
+    let devices = subst (λ (t : Bool). SameDevices t (g.H.Host.outside c.pieces.host) mid) told c.read_piece.ensures.call.devices in
+    let same = λ (u : World) (stood : it.means c.pieces.interpreter (g.H.Host.outside c.pieces.host) u).
+    g.met.I.Interpreter.same_worlds c.pieces.interpreter (g.H.Host.outside c.pieces.host) mid u devices stood in
     let going = going_took it.step it.store_of_image _ _ v.0 _ _ _ _ _ _ _ _ _ mid.now (c.in_ok-moved.ensures.took told).moment same v.2 v.3 in
     let end : (g.H.Host.outside c.pieces.host).input ≡ [] = c.in_ok-moved.ensures.end told (omega arith) (omega arith) in
     let none = none_left c.in_ok-moved.moved c.read_piece.new.buffer _ _ (omega arith) ((c.in_ok-moved.ensures.took told).input) end in
-    let ran = c.finish.ensures.ran told in
+    let ran = c.finish.ensures.ran told _ going.answered.stands_for in
     session_last it.step it.store_of_image c.args.limit _ (g.H.Host.outside c.args.host.now) new v.0 _ _ _ _ _ mid.now going (commands_of (last_line c.deref.result.now)) []
     (last_commands c.pieces.line.items (g.H.Host.outside c.pieces.host).input c.deref.result.now end c.deref.ensures.value)
-    (it.world c.finish.new.interpreter new) (λ texts. Unit {0}) (c.finish.ensures.call.unread.moments told) c.finish.result refl ran
+    (it.means c.finish.new.interpreter new) (λ texts. Unit {0}) (c.finish.ensures.call.unread.moments told) c.finish.result refl ran
     (on_ok_weaker c.finish.result (λ d. through_end it.step it.store_of_image _ _ v.0 _ _ _ _ _ _ mid.now going new.input c.args.limit (omega arith) end (c.finish.ensures.call.unread.input ∙ none)) ran.done)
 
 pub returns-clause-call : goal.returns-clause-call

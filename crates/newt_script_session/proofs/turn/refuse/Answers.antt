@@ -11,15 +11,14 @@ use Rattle.newt_script_session.proofs.Obeying.{ran_item, ran_untaken}
 use Rattle.newt_script_session.proofs.turn.refuse.Goals as goal
 
 pub returns-in_err-put_reply-clause-ran : goal.returns-in_err-put_reply-clause-ran
-returns-in_err-put_reply-clause-ran g c = λ told.
+returns-in_err-put_reply-clause-ran g c = λ told w means.
     let it = g.I.Interpreter in
     let before = g.H.Host.outside c.args.host.now in
     let new = g.H.Host.outside c.put_reply.new.host in
-    let w = it.world c.args.interpreter.now before in
     let p = err_from_is_err_and c.from_residual.result c.from_residual.ensures.1 in
     let stands = subst (λ (t : Bool). it.stands t c.args.interpreter.now before) told c.requires.stands in
     let leaves : (unit : ℕ) (store : Store) (left : List ℕ) → store_on_unit w unit ≡ Some store → MayLeave unit before.now left → it.store_of_image left ≡ Some store =
-    λ unit store left e may. g.met.I.Interpreter.leaves c.args.interpreter.now before stands unit store left e may in
+    g.met.I.Interpreter.leaves c.args.interpreter.now before w stands means in
     ran_untaken it.step g.S.Sink.shows it.store_of_image w (Err c.args.refusal) (w, Reply.refused c.args.refusal) (refl, refl) before.now before.now (answering_nothing it.store_of_image w before.now leaves) (λ unit none. none)
     _ _ _ _ _ new.now before new (p.1 ∙ ap Err p.2) (at_rest it.store_of_image w before.now leaves) c.in_err-put_reply.ensures.call.faults.cause (c.in_err-put_reply.ensures.puts told)
 
@@ -29,15 +28,14 @@ returns-in_err-put_reply-clause-call g c =
     answer_unput _ c.in_err-put_reply.field-0.0 (p.1 ∙ ap Err p.2) (quiet-refl _) c.in_err-put_reply.ensures.call
 
 pub returns-clause-ran : goal.returns-clause-ran
-returns-clause-ran g c = λ told.
+returns-clause-ran g c = λ told w means.
     let it = g.I.Interpreter in
     let before = g.H.Host.outside c.args.host.now in
     let new = g.H.Host.outside c.put_reply.new.host in
-    let w = it.world c.args.interpreter.now before in
     let stands = subst (λ (t : Bool). it.stands t c.args.interpreter.now before) told c.requires.stands in
     let leaves : (unit : ℕ) (store : Store) (left : List ℕ) → store_on_unit w unit ≡ Some store → MayLeave unit before.now left → it.store_of_image left ≡ Some store =
-    λ unit store left e may. g.met.I.Interpreter.leaves c.args.interpreter.now before stands unit store left e may in
-    let same = g.met.I.Interpreter.same_world c.args.interpreter.now before new (subst (λ (t : Bool). SameDevices t before new) told c.put_reply.ensures.call.devices) in
+    g.met.I.Interpreter.leaves c.args.interpreter.now before w stands means in
+    let same = g.met.I.Interpreter.same_worlds c.args.interpreter.now before new w (subst (λ (t : Bool). SameDevices t before new) told c.put_reply.ensures.call.devices) means in
     ran_item it.step g.S.Sink.shows it.store_of_image w (Err c.args.refusal) (w, Reply.refused c.args.refusal) (refl, refl) before.now before.now (answering_nothing it.store_of_image w before.now leaves) (λ unit none. none)
     _ _ _ _ _ new.now (at_rest it.store_of_image w before.now leaves) (c.in_ok-put_reply.ensures.puts told) same (c.put_reply.ensures.call.devices.changes told) c.in_ok-put_reply.ensures.took
 
