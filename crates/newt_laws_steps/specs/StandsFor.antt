@@ -78,6 +78,6 @@ module _ (store_of_image : List ℕ → Option Store) where
   abbrev pub Obeys : {R E : Type 0} → (R → Reply) → (World → Type 0) → World → Command → Result R E
       → (old new : Moment) → Type 0
   Obeys said stands_for w c (Ok reply) old new = (next : World) × Goes w c old next (said reply)
-      × stands_for next × Always (Answering store_of_image w next old) old new
+      × stands_for next × Always (Answering store_of_image w c next old) old new
   Obeys said stands_for w c (Err error) old new =
-      Always (Answering store_of_image w (answer (seen w old c) c).0 old) old new
+      Always (Answering store_of_image w c (answer (seen w old c) c).0 old) old new

@@ -1,6 +1,7 @@
 pub mod Stream
 pub mod Lines
 pub mod Script
+pub mod Thrown
 pub mod Steps
 pub mod Causes
 pub mod Calls

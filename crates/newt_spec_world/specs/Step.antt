@@ -85,6 +85,10 @@ is_format_of c u = false
 abbrev pub is_accepted : World → Command → Bool
 is_accepted w c = is_none (first_of (checks w c))
 
+-- the command is a format of this unit that is not refused (this project's own)
+abbrev pub formats : World → Command → ℕ → Bool
+formats w c u = is_format_of c u && is_accepted w c
+
 -- the device may have failed while the store of the unit was written (this project's own)
 abbrev pub may_tear : World → Command → ℕ → Bool
 may_tear w c u = is_accepted w c && writes w c u && not (moves_away c u)
