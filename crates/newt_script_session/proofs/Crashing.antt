@@ -16,6 +16,7 @@ use Rattle.newt_spec_store.specs.Store.{Store}
 use Rattle.newt_spec_world.specs.Reply.{Reply, reply_line, reply_text}
 use Rattle.newt_spec_world.specs.World.{World, stores_on, IsBlankOn}
 use Rattle.newt_spec_world.specs.declared.command.Command.{Command}
+use Rattle.newt_script_session.specs.Counted.{CountedAt}
 use Rattle.newt_script_session.specs.Moments.{Behind, Between, BlankThrough, CrashAt, Fresh, Leaves, SafeAt, Untouched, formats_next, item_formats, replies_begun, begun, worlds_behind}
 use Rattle.newt_script_session.specs.Stream.{put_out}
 
@@ -277,3 +278,33 @@ module _ (reads : List ℕ → Option Store) (start : Moment) where
     out = s.out;
     leaves = λ later more unit left may. behind_at world (items ++ later) (rows ++ more) (length s.shown) unit left (s.safe later more unit left may);
   }) a
+
+  -- where the replies are not put out, so many of the items have been answered as have replies that have begun
+  pub counted_always : (world : World) (items first rest : List Item) → items ≡ first ++ rest → (rows : List Row) (old : List ℕ) (from now : Moment) → Always (SafeAt false reads start [] world first rows old) from now
+      → Always (CountedAt reads start world items rows old) from now
+  counted_always world items first rest split rows old from now a = Always-map (λ m s. record {
+    shown = [];
+    out = s.out;
+    leaves = λ later more. (
+      replies_begun (rows ++ more) (length s.shown),
+      (λ some. absurd (omega (arith, some))),
+      (λ unit left may.
+          subst (λ (is : List Item). Behind reads (MayLeave unit start) world is (rows ++ more) (replies_begun (rows ++ more) (length s.shown)) unit left)
+          (sym (append_assoc first rest later) ∙ ap (λ (is : List Item). is ++ later) (sym split))
+          (behind_at world (first ++ (rest ++ later)) (rows ++ more) (length s.shown) unit left (s.safe (rest ++ later) more unit left may))),
+    );
+  }) a
+
+-- behind all rows, where the unit held no store in the worlds up to there
+pub fresh_through : (world : World) (rows more : List Row) (n unit : ℕ) (before : List World) → length rows ≡ n → Fresh before unit → BlankThrough world (rows ++ more) n unit → Fresh (worlds_behind before world rows) unit
+fresh_through world [] more n unit before size fresh b = fresh
+fresh_through world (row ∷ rows) more zero unit before size fresh b = absurd (omega arith)
+fresh_through world (row ∷ rows) more (suc n) unit before size fresh b =
+    let sizes : length rows ≡ n = omega arith in
+    fresh_through row.0 rows more n unit (world ∷ before) sizes (b 0 (omega arith), fresh) (λ k fits. b (suc k) (omega arith))
+
+-- a crash leaves the unit as it is in the world, under the name that the world has in a run
+pub its_at : (reads : List ℕ → Option Store) (AtFirst : List ℕ → Type 0) (F Less : Type 0) (last world : World) (items : List Item) (next : World) (unit : ℕ) (left : List ℕ) → last ≡ world → (Less → F)
+    → LeavesIts reads AtFirst F last unit left → Between reads AtFirst Less world items next unit left
+its_at reads AtFirst F Less last world items next unit left e f its =
+    subst (λ (v : World). Between reads AtFirst Less v items next unit left) e (weaken reads AtFirst F Less last items next unit left f (its_before reads AtFirst F last items next unit left its))

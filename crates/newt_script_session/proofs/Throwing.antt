@@ -88,3 +88,13 @@ threw_refused reply was is none same = record { later = λ unit. omega (arith, s
   where
     both : (b : Bool) → b ≡ true → b ≡ false → ⊥
     both b h k = cc
+
+-- the same counts of the start
+pub threw_from : (rows : List Row) (was mid is : ℕ → ℕ) → ((unit : ℕ) → mid unit ≡ was unit) → RowsThrew rows mid is → RowsThrew rows was is
+threw_from rows was mid is same t = record {
+  later = λ unit. omega (arith, same unit, t.later unit);
+  rose = λ unit. subst (λ (n : ℕ). RoseBy (thrown_count unit rows) n (is unit)) (same unit) (t.rose unit);
+}
+
+pub failed_from : (rows : List Row) (was mid is : ℕ → ℕ) → ((unit : ℕ) → mid unit ≡ was unit) → RowsFailed rows mid is → RowsFailed rows was is
+failed_from rows was mid is same t unit none = t unit none ∙ same unit
