@@ -58,7 +58,7 @@ module _ (step : Stepping) (shows : Bool) (reads : List ℕ → Option Store) wh
     pub threw : RowsThrew rows was is
     pub moments : (start : Moment) (before : List World) → Untouched start before world old → Always (SafeAt shows reads start before world done rows (printed old)) old now
 
-  pub progress_start : (world : World) (Now : World → Type 0) (all : List Item) (has : List (List ℕ) → Type 0) (now : Moment) (was : ℕ → ℕ) → Now world → AtRest reads world now → Progress world all Now all has has now now was was
+  unfoldable pub progress_start : (world : World) (Now : World → Type 0) (all : List Item) (has : List (List ℕ) → Type 0) (now : Moment) (was : ℕ → ℕ) → Now world → AtRest reads world now → Progress world all Now all has has now now was was
   progress_start world Now all has now was means its = record {
     done = [];
     split = refl;
