@@ -33,11 +33,11 @@ returns-in-Go-clause-ran g c = λ told w means.
     let stands = subst (λ (t : Bool). it.stands t c.args.interpreter.now before) told c.requires.stands in
     let its = at_rest it.store_of_image w before.now (g.met.I.Interpreter.leaves c.args.interpreter.now before w stands means) in
     let go = go_is (has_quit (ended_lines begun text)) (sym c.in-Go.is ∙ c.in_ok-feed.ensures.fed.quits) in
-    ran_last it.step shows it.store_of_image c.finish.result _ _ _ _ _ _ _ _
-    (progress_more it.step shows it.store_of_image _ _ _ _ _ _ _ _ (progress_start it.step shows it.store_of_image w _ (script_items text) _ before.now means its)
+    let p = progress_more it.step shows it.store_of_image _ _ _ _ _ _ _ _ (progress_start it.step shows it.store_of_image w (it.means c.args.interpreter.now before) (script_items text) _ before.now means its)
     (commands_of (ended_lines begun text)) (commands_of (last_line lent)) (text_then_last begun text lent c.new-line.ensures.items go (c.deref.ensures.value ∙ c.in_ok-feed.ensures.fed.line_is c.in-Go.is))
-    _ _ _ (c.in_ok-feed.ensures.ran told w means))
-    (commands_of (last_line lent)) (sym (append-nil _)) _ _ _ (c.finish.ensures.ran told w means)
+    _ _ _ (c.in_ok-feed.ensures.ran told w means) in
+    ran_last it.step shows it.store_of_image c.finish.result _ _ _ _ _ _ _ _ p
+    (commands_of (last_line lent)) (sym (append-nil _)) _ _ _ (c.finish.ensures.ran told _ p.answered.stands_for)
 
 pub returns-in-Go-clause-call : goal.returns-in-Go-clause-call
 returns-in-Go-clause-call g c = answer_then (quiet_then (quiet-refl _) c.in_ok-feed.ensures.call) c.finish.ensures.call
