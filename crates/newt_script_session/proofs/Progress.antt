@@ -51,7 +51,7 @@ module _ (step : Stepping) (shows : Bool) (reads : List ℕ → Option Store) wh
     pub answered : Answered shows world Later rows had has old now
     pub moments : (start : Moment) → Untouched start world old → Always (SafeAt shows reads start world rows (printed old)) old now
 
-  pub progress_start : (world : World) (Now : World → Type 0) (all : List Item) (has : List (List ℕ) → Type 0) (now : Moment) → Now world → AtRest reads world now → Progress world all Now all has has now now
+  unfoldable pub progress_start : (world : World) (Now : World → Type 0) (all : List Item) (has : List (List ℕ) → Type 0) (now : Moment) → Now world → AtRest reads world now → Progress world all Now all has has now now
   progress_start world Now all has now means its = record {
     done = [];
     split = refl;
