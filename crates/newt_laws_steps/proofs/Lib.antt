@@ -7,3 +7,4 @@ pub mod Meant
 pub mod MeantRows
 pub mod MeantAnswer
 pub mod MeantSteps
+pub mod Images
