@@ -23,7 +23,6 @@ use Rattle.newt_spec_graph.proofs.Lists.{some-same, none-some}
 
 -- ---- a command leaves the blocks of each unit
 
-
 abbrev SameBlocks : World → World → Type 0
 SameBlocks v w = (n : ℕ) → option_map (λ (d : Device). d.blocks) (device v n) ≡ option_map (λ (d : Device). d.blocks) (device w n)
 

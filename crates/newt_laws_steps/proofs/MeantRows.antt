@@ -313,8 +313,8 @@ module _ (f : ℕ → Media) (w : World) (sure : MountedSure w) where
 
 pub without-m : (f : ℕ → Media) (v : World) (u : ℕ) → MountedSure v → default_without (meant_by f v) u ≡ default_without v u
 without-m f v u sure = ap (λ (ms : List (ℕ × Store)). let o : Option ℕ = elim v.default [
-    | None ↦ None
-    | Some d ↦ cond (u == d) (option_map (λ m. m.0) (first_of_list ms)) (Some d)
+  | None ↦ None
+  | Some d ↦ cond (u == d) (option_map (λ m. m.0) (first_of_list ms)) (Some d)
 ] in o) (mounted-m f v sure)
 
 module _ (f : ℕ → Media) (w : World) (sure : MountedSure w) where

@@ -1,19 +1,43 @@
 -- Runs where no device fails, and what is held behind any run.
-use Rattle.std.proofs.Common.{◌≡◌, refl, ap, sym, ◌∙◌, subst, ℕ, List, [], ◌∷◌, true, false, Bool, ◌&&◌, inl, Option, Some, None, is_none, option_and_then, if◌then◌else◌}
-use Rattle.std.specs.Prelude.{Ok, Err}
+use Rattle.std.proofs.Common.{◌≡◌, refl, ap, sym, ◌∙◌, subst, ℕ, List, [], ◌∷◌, true, false, Bool, ◌&&◌, inl, Option, Some, None, is_none, option_and_then, option_map, if◌then◌else◌}
+use Rattle.std.specs.Prelude.{Ok, Err, slice_get}
 use Rattle.newt_base.specs.Refusals.{first_of}
 use Rattle.newt_spec_world.specs.declared.command.Command.{Command}
 use Rattle.newt_spec_world.specs.Reply.{Reply}
 use Rattle.newt_spec_world.specs.World.{World, Device, Media, blank, one, two, lost, is_unsure, device, stores_on, unsure_on}
+use Rattle.newt_spec_store.specs.Store.{Store}
 use Rattle.newt_spec_world.specs.Answer.{answer}
+use Rattle.newt_spec_world.specs.First.{device_of, media_of, unit_numbers, unit_of, world_of}
 use Rattle.newt_spec_world.specs.Step.{Step, plain, found, MayTurnOut, with_media, looks_at, look_checks, unsure_look, looks_anew}
 use Rattle.newt_spec_script.specs.Script.{Item, step, replies_to, world_after}
 use Rattle.newt_spec_script.specs.Rows.{IsRun, Goes, Row, replies_of, world_behind}
 use Rattle.newt_laws_changes.specs.Later.{EntryGone, SoupGone}
 use Rattle.newt_laws_changes.proofs.Later.{entry-gone, soup-gone}
 use Rattle.newt_laws_steps.specs.Steps.{AllSure, AreQuiet, IsQuiet, WorldMayBeLater, EntryGoneOn, SoupGoneOn}
-use Rattle.newt_spec_graph.proofs.Lists.{each-at, each-from}
+use Rattle.newt_laws_world.proofs.Runs.{mapped-at}
+use Rattle.newt_spec_graph.proofs.Lists.{each-at, each-from, none-some, some-same}
 use Rattle.newt_laws_steps.proofs.Stepping.{answer-sure, quiet-plain, step-later, stores-not, stores-trans}
+
+-- ---- at the start
+
+-- it is known what each unit holds: the store that its image is read as, or none
+pub first-sure : (reads : List ℕ → Option Store) (held : List ℕ → Option (List ℕ)) (names : List (List ℕ)) → AllSure (world_of reads held names)
+first-sure reads held names u = go (device (world_of reads held names) u) refl
+  where
+    at : Option Device → Bool
+    at o = elim o [ None ↦ false | Some d ↦ is_unsure d.media ]
+
+    known : (o : Option Store) → is_unsure (media_of o) ≡ false
+    known None = refl
+    known (Some s) = refl
+
+    made : (o : Option (List ℕ)) (d : Device) → option_map (device_of reads held) o ≡ Some d → is_unsure d.media ≡ false
+    made None d h = absurd (none-some d h)
+    made (Some image) d h = ap (λ (x : Device). is_unsure x.media) (sym (some-same (device_of reads held image) d h)) ∙ known (reads image)
+
+    go : (o : Option Device) → device (world_of reads held names) u ≡ o → at (device (world_of reads held names) u) ≡ false
+    go None e = ap at e
+    go (Some d) e = let r = mapped-at (unit_of reads held names) unit_numbers u d e in ap at e ∙ made (option_and_then held (slice_get names r.0)) d r.1
 
 -- ---- without a failure
 

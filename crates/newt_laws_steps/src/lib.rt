@@ -12,4 +12,6 @@ mod steps;
 
 pub use images::images_tell_worlds;
 pub use known::{answers_go_by_what_is_known, units_are_found_and_thrown_out_alone};
-pub use steps::{ids_stay_given, quiet_steps_are_plain, steps_are_there, worlds_stand_behind_steps};
+pub use steps::{
+    ids_stay_given, quiet_steps_are_plain, steps_are_there, worlds_stand_behind_steps,
+};

@@ -1,5 +1,5 @@
 //! Laws of steps and runs.
-ghost use Rattle.std.specs.Prelude.{ℕ, ◌≡◌, IsTrue, List};
+ghost use Rattle.std.specs.Prelude.{ℕ, ◌≡◌, IsTrue, List, Option};
 ghost use Rattle.newt_laws_world.specs.Settled.{IsSettled, MountedApart};
 ghost use Rattle.newt_laws_world.specs.Worlds.{AllValid, has_form};
 ghost use Rattle.newt_laws_steps.specs.Meant.{MountedSure};
@@ -7,15 +7,19 @@ ghost use Rattle.newt_laws_steps.specs.Steps.{AllSure, AreQuiet, EntryGoneOn, Is
 ghost use Rattle.newt_laws_steps.specs.Steps.{WorldMayBeLater};
 ghost use Rattle.newt_spec_script.specs.Rows.{IsRun, Row, replies_of, world_behind};
 ghost use Rattle.newt_spec_script.specs.Script.{Item as IsItem, replies_to, world_after};
+ghost use Rattle.newt_spec_store.specs.Store.{Store};
 ghost use Rattle.newt_spec_world.specs.Answer.{answer};
+ghost use Rattle.newt_spec_world.specs.First.{world_of};
 ghost use Rattle.newt_spec_world.specs.Reply.{Reply};
 ghost use Rattle.newt_spec_world.specs.Step.{Step};
 ghost use Rattle.newt_spec_world.specs.World.{World};
 ghost use Rattle.newt_spec_world.specs.declared.command.Command.{Command as IsCommand};
 
-/// Where it is known what each unit holds and no device fails, a step is the answer of the plain
-/// world, and a run of a script is that of the plain world.
+/// At the start it is known what each unit holds. Where that is so and no device fails, a step is
+/// the answer of the plain world, and a run of a script is that of the plain world.
 pub fn quiet_steps_are_plain()
+    ensures first { (reads : List ℕ → Option Store) (held : List ℕ → Option (List ℕ))
+        (names : List (List ℕ)) → AllSure (world_of reads held names) }
     ensures step { (w : World) (c : IsCommand) (v : World) (r : Reply) → AllSure w → Step w c v r
         → IsQuiet r → answer w c ≡ (v, r) }
     ensures sure { (w : World) (c : IsCommand) → AllSure w → AllSure (answer w c).0 }

@@ -1,6 +1,9 @@
-use Rattle.newt_laws_steps.proofs.Runs.{quiet-run}
+use Rattle.newt_laws_steps.proofs.Runs.{first-sure, quiet-run}
 use Rattle.newt_laws_steps.proofs.Stepping.{answer-sure, quiet-plain}
 use Rattle.newt_laws_steps.proofs.steps.quiet_steps_are_plain.Goals as goal
+
+pub returns-clause-first : goal.returns-clause-first
+returns-clause-first c = first-sure
 
 pub returns-clause-step : goal.returns-clause-step
 returns-clause-step c = quiet-plain
