@@ -7,4 +7,4 @@ pub mod Meant
 pub mod MeantRows
 pub mod MeantAnswer
 pub mod MeantSteps
-pub mod Images
+pub mod Held

@@ -1,4 +1,4 @@
-use Rattle.newt_laws_steps.proofs.Images.{stands-same, stands-left, stands-blank, stands-sure}
+use Rattle.newt_laws_steps.proofs.Held.{stands-same, stands-left, stands-blank, stands-sure}
 use Rattle.newt_laws_steps.proofs.images.images_tell_worlds.Goals as goal
 
 pub returns-clause-kept : goal.returns-clause-kept
