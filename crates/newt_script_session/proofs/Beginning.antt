@@ -26,11 +26,10 @@ use Rattle.newt_script_session.specs.First.{device_now, unmounted}
 use Rattle.newt_script_session.specs.Moments.{CrashAt, HasLeft, replies_begun}
 use Rattle.newt_script_session.specs.Named.{CountedNamed, RanNamed, first_world, held_by}
 use Rattle.newt_script_session.specs.Reading.{ReadsInTime}
-use Rattle.newt_script_session.specs.Rows.{Row, output_of, world_at}
+use Rattle.newt_spec_script.specs.Rows.{output_of, Row, Stepping, world_at}
 use Rattle.newt_script_session.specs.Run.{Halted, IsReadThrough, SummaryHalted}
 use Rattle.newt_script_session.specs.Script.{script_items}
 use Rattle.newt_script_session.specs.Session.{Session}
-use Rattle.newt_script_session.specs.Steps.{Stepping}
 use Rattle.newt_script_session.specs.declared.halt.Halt.{Halt}
 use Rattle.newt_script_session.proofs.Crashing.{AtRest, at_rest, left_same}
 use Rattle.newt_script_session.proofs.Reading.{takes_append, takes_map, takes_none}

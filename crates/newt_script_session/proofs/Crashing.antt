@@ -13,7 +13,7 @@ use Rattle.newt_script_session.specs.Moments.{begun, replies_begun, BeforeOrAfte
 use Rattle.newt_script_session.specs.Counted.{CountedAt}
 use Rattle.newt_script_session.specs.Stream.{put_out}
 use Rattle.newt_spec_script.specs.Script.{Item}
-use Rattle.newt_script_session.specs.Rows.{Row, output_of, world_at, world_behind}
+use Rattle.newt_spec_script.specs.Rows.{Row, output_of, world_at, world_behind}
 
 some_text : (r : Reply) → 0 < length (reply_text r)
 some_text r = subst (λ n. 0 < n) (sym (length-append (reply_line r) (10 ∷ []))) (omega arith)

@@ -14,11 +14,10 @@ use Rattle.newt_script_session.specs.Answered.{Answered, Given, Ran}
 use Rattle.newt_script_session.specs.Lines.{ended_lines, unended, last_line, lines_of}
 use Rattle.newt_script_session.specs.Moments.{SafeAt, Untouched}
 use Rattle.newt_script_session.specs.Reading.{ReadsInTime, start as takes_start}
-use Rattle.newt_script_session.specs.Rows.{IsRun, Row, output_of, world_behind}
+use Rattle.newt_spec_script.specs.Rows.{IsRun, output_of, Row, Stepping, world_behind}
 use Rattle.newt_script_session.specs.Run.{AnsweredTaken, Halted, HaltedIn, IsReadThrough, IsTooLong}
 use Rattle.newt_script_session.specs.Script.{has_quit, commands_of, ended_items, quits, script_items}
 use Rattle.newt_script_session.specs.Session.{Session}
-use Rattle.newt_script_session.specs.Steps.{Stepping}
 use Rattle.newt_script_session.specs.declared.halt.Halt.{Halt}
 use Rattle.newt_script_session.specs.declared.halt.Halt.TheVariants.{Memory, Device, Source, Sink, TooLong}
 use Rattle.newt_script_session.proofs.Crashing.{AtRest, crash_always, safe_here}

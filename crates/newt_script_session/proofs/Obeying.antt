@@ -13,9 +13,8 @@ use Rattle.newt_laws_world.specs.Answering.{Answering}
 use Rattle.newt_script_session.specs.Answered.{Given, Ran}
 use Rattle.newt_script_session.specs.Causes.{HasSinkCause, halt_of}
 use Rattle.newt_script_session.specs.Moments.{SafeAt, Untouched}
-use Rattle.newt_script_session.specs.Rows.{Goes, Row, output_of}
+use Rattle.newt_spec_script.specs.Rows.{Goes, output_of, Row, Stepping}
 use Rattle.newt_script_session.specs.Run.{HaltedIn}
-use Rattle.newt_script_session.specs.Steps.{Stepping}
 use Rattle.newt_script_session.specs.Stream.{Puts, WroteSome, put_out}
 use Rattle.newt_script_session.specs.declared.halt.Halt.{Halt}
 use Rattle.newt_script_session.specs.declared.halt.Halt.TheVariants.{Memory, Device, Source, Sink, TooLong}

@@ -4,8 +4,7 @@ use Rattle.newt_spec_script.specs.Script.{Item, replies_to, step, world_after}
 use Rattle.newt_spec_script.specs.Runs.{reply_texts as plain_texts, texts}
 use Rattle.newt_spec_world.specs.Reply.{Reply, reply_text}
 use Rattle.newt_spec_world.specs.World.{World}
-use Rattle.newt_script_session.specs.Rows.{Goes, IsRun, Row, output_of, reply_texts, world_behind}
-use Rattle.newt_script_session.specs.Steps.{plain_step}
+use Rattle.newt_spec_script.specs.Rows.{Goes, IsRun, output_of, plain_step, reply_texts, Row, world_behind}
 
 -- what the plain world answers to items one after another
 abbrev pub plain_rows : World → List Item → List Row

@@ -5,7 +5,8 @@ use Rattle.newt_host.specs.Outside.{OnDevices, Outside, PrintsSome, printed}
 use Rattle.newt_host.proofs.Moments.{Always-append, Always-last, Always-map}
 use Rattle.newt_reply.specs.declared.reply.Reply.{Reply}
 use Rattle.newt_spec_world.specs.declared.command.Command.{Command}
-use Rattle.newt_script_session.specs.Steps.{Stepped, Stepping}
+use Rattle.newt_script_session.specs.Steps.{Stepped}
+use Rattle.newt_spec_script.specs.Rows.{Stepping}
 use Rattle.newt_spec_store.specs.Store.{Store}
 use Rattle.newt_spec_world.specs.World.{World}
 use Rattle.newt_script_session.specs.Calls.{Unread}

@@ -5,8 +5,7 @@ use Rattle.std.proofs.lemmas.List.{map-append}
 use Rattle.newt_spec_script.specs.Script.{Item}
 use Rattle.newt_spec_world.specs.Reply.{reply_text}
 use Rattle.newt_spec_world.specs.World.{World}
-use Rattle.newt_script_session.specs.Rows.{IsRun, Row, output_of, reply_texts, world_behind}
-use Rattle.newt_script_session.specs.Steps.{Stepping}
+use Rattle.newt_spec_script.specs.Rows.{IsRun, output_of, reply_texts, Row, Stepping, world_behind}
 
 pub run_append : (step : Stepping) (world : World) (a b : List Item) (ra rb : List Row) → IsRun step world a ra → IsRun step (world_behind world ra) b rb → IsRun step world (a ++ b) (ra ++ rb)
 run_append step world [] b [] rb first second = second

@@ -21,9 +21,8 @@ use Rattle.newt_script_session.specs.Counted.{Counted, CountedAt}
 use Rattle.newt_script_session.specs.Counts.{Tallies, lines_of_tally, summary_of}
 use Rattle.newt_script_session.specs.Lines.{ended_lines, unended, last_line, lines_of}
 use Rattle.newt_script_session.specs.Moments.{BeforeOrAfter}
-use Rattle.newt_script_session.specs.Rows.{IsRun, Row, reply_texts, world_at, world_behind}
+use Rattle.newt_spec_script.specs.Rows.{IsRun, reply_texts, Row, Stepping, world_at, world_behind}
 use Rattle.newt_script_session.specs.Script.{commands_of, given, items_of, script_items}
-use Rattle.newt_script_session.specs.Steps.{Stepping}
 use Rattle.newt_script_session.specs.Stream.{Puts, WroteSome}
 use Rattle.newt_script_session.specs.declared.halt.Halt.{Halt}
 use Rattle.newt_script_session.specs.declared.tally.Tally.{Tally}

@@ -8,10 +8,9 @@ use Rattle.newt_spec_world.specs.World.{World}
 use Rattle.newt_script_session.specs.Causes.{flow_of}
 use Rattle.newt_script_session.specs.Lines.{ended_lines, unended}
 use Rattle.newt_script_session.specs.Moments.{SafeAt, Untouched}
-use Rattle.newt_script_session.specs.Rows.{IsRun, Row, output_of, reply_texts, world_behind}
+use Rattle.newt_spec_script.specs.Rows.{IsRun, output_of, reply_texts, Row, Stepping, world_behind}
 use Rattle.newt_script_session.specs.Run.{HaltedIn}
 use Rattle.newt_script_session.specs.Script.{has_quit}
-use Rattle.newt_script_session.specs.Steps.{Stepping}
 use Rattle.newt_script_session.specs.Stream.{put_out}
 use Rattle.newt_script_session.specs.declared.halt.Flow.{Flow}
 use Rattle.newt_script_session.specs.declared.halt.Flow.TheVariants.{Go}

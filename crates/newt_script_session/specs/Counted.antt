@@ -7,10 +7,9 @@ use Rattle.newt_host.specs.Outside.{Outside}
 use Rattle.newt_script_session.specs.Answered.{Given}
 use Rattle.newt_script_session.specs.Counts.{summary_of}
 use Rattle.newt_script_session.specs.Moments.{BeforeOrAfter, HeldOrAfter}
-use Rattle.newt_script_session.specs.Rows.{Row, world_at}
+use Rattle.newt_spec_script.specs.Rows.{Row, Stepping, world_at}
 use Rattle.newt_script_session.specs.Run.{SummaryHalted}
 use Rattle.newt_script_session.specs.Script.{script_items}
-use Rattle.newt_script_session.specs.Steps.{Stepping}
 use Rattle.newt_script_session.specs.declared.halt.Halt.{Halt}
 use Rattle.newt_spec_script.specs.Script.{Item}
 use Rattle.newt_spec_store.specs.Store.{Store}

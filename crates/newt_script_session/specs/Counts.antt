@@ -1,7 +1,7 @@
 -- What the replies of a script come to. All of it is this project's own.
 use Rattle.std.specs.Prelude.{◌≡◌, ℕ, ◌≤◌, ◌<◌, ◌*◌, ◌^◌, ◌++◌, List, length, codes, count_by}
 use Rattle.std.specs.Prelude.{sum_by}
-use Rattle.newt_script_session.specs.Rows.{Row, reply_texts}
+use Rattle.newt_spec_script.specs.Rows.{Row, reply_texts}
 use Rattle.newt_spec_script.specs.Generator.{begins, summary, summary_line}
 use Rattle.newt_script_session.specs.declared.tally.Tally.{Tally}
 

@@ -2,7 +2,6 @@ pub mod Stream
 pub mod Lines
 pub mod Script
 pub mod Steps
-pub mod Rows
 pub mod Causes
 pub mod Calls
 pub mod Run

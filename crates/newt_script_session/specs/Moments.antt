@@ -5,7 +5,7 @@ use Rattle.newt_host.specs.Moments.{Moment, MayLeave, changes, output as printed
 use Rattle.newt_spec_store.specs.Store.{Store}
 use Rattle.newt_spec_world.specs.Reply.{reply_text}
 use Rattle.newt_spec_world.specs.World.{World, store_on_unit}
-use Rattle.newt_script_session.specs.Rows.{Row, reply_texts, world_at}
+use Rattle.newt_spec_script.specs.Rows.{Row, reply_texts, world_at}
 use Rattle.newt_script_session.specs.Stream.{put_out}
 
 -- how many of the texts have begun where so many bytes are out

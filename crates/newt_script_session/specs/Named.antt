@@ -13,7 +13,7 @@ use Rattle.newt_script_session.specs.Moments.{HasLeft}
 use Rattle.newt_script_session.specs.Run.{SummaryHalted}
 use Rattle.newt_script_session.specs.Session.{Played}
 use Rattle.newt_script_session.specs.Script.{script_items}
-use Rattle.newt_script_session.specs.Steps.{Stepping}
+use Rattle.newt_spec_script.specs.Rows.{Stepping}
 use Rattle.newt_script_session.specs.declared.halt.Halt.{Halt}
 
 -- the world before the first command: the devices of the names as they are held, of which none is

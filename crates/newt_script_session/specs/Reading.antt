@@ -2,9 +2,8 @@
 use Rattle.std.specs.Prelude.{◌≡◌, ◌≢◌, ℕ, false, List, ◌∷◌, ◌++◌}
 use Rattle.newt_host.specs.Moments.{Event, Moment, taken, output as printed}
 use Rattle.newt_spec_world.specs.World.{World}
-use Rattle.newt_script_session.specs.Rows.{IsRun, Row, output_of}
+use Rattle.newt_spec_script.specs.Rows.{IsRun, output_of, Row, Stepping}
 use Rattle.newt_script_session.specs.Script.{ended_items, quits}
-use Rattle.newt_script_session.specs.Steps.{Stepping}
 
 -- From one moment to another, more of the input is only taken where P holds just before.
 pub data TakesOnlyWhere (P : Moment → Type 0) (old : Moment) : Moment → Type 0 where

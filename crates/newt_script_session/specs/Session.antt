@@ -8,10 +8,9 @@ use Rattle.newt_spec_world.specs.World.{World}
 use Rattle.newt_script_session.specs.Answered.{Given}
 use Rattle.newt_script_session.specs.Moments.{CrashAt}
 use Rattle.newt_script_session.specs.Reading.{ReadsInTime}
-use Rattle.newt_script_session.specs.Rows.{output_of}
+use Rattle.newt_spec_script.specs.Rows.{output_of, Stepping}
 use Rattle.newt_script_session.specs.Run.{Halted, IsReadThrough}
 use Rattle.newt_script_session.specs.Script.{script_items}
-use Rattle.newt_script_session.specs.Steps.{Stepping}
 use Rattle.newt_script_session.specs.declared.halt.Halt.{Halt}
 
 -- The script of the input was answered from this world on, by a run over its first items, and with

@@ -4,19 +4,11 @@ use Rattle.newt_host.specs.Moments.{Moment, Always}
 use Rattle.newt_reply.specs.Said.{said}
 use Rattle.newt_reply.specs.declared.reply.Reply as given
 use Rattle.newt_spec_store.specs.Store.{Store}
-use Rattle.newt_spec_world.specs.Answer.{answer}
+use Rattle.newt_spec_script.specs.Rows.{Stepping}
 use Rattle.newt_spec_world.specs.Reply.{Reply}
 use Rattle.newt_spec_world.specs.World.{World}
 use Rattle.newt_spec_world.specs.declared.command.Command.{Command}
 use Rattle.newt_laws_world.specs.Answering.{Answering}
-
--- how a command may turn one world into the next, and what is replied
-abbrev pub Stepping : Type 1
-Stepping = World → Command → World → Reply → Type 0
-
--- the step that the plain world answers, and no other
-abbrev pub plain_step : Stepping
-plain_step world command next reply = answer world command ≡ (next, reply)
 
 -- A command was given in a world: there is a step, whatever became of the call, and at each moment
 -- a crash leaves each unit as in the one world or in the other. Where it was answered, the reply is

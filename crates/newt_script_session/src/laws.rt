@@ -2,9 +2,8 @@
 ghost use Rattle.std.specs.Prelude.{◌≡◌, ℕ, List, map};
 ghost use Rattle.newt_script.specs.Graphs.{readers};
 ghost use Rattle.newt_script_session.specs.Lines.{lines_of};
-ghost use Rattle.newt_script_session.specs.Rows.{IsRun, Row, world_behind};
+ghost use Rattle.newt_spec_script.specs.Rows.{IsRun, plain_step, Row, world_behind};
 ghost use Rattle.newt_script_session.specs.Script.{commands_of};
-ghost use Rattle.newt_script_session.specs.Steps.{plain_step};
 ghost use Rattle.newt_spec_script.specs.Script as plain;
 ghost use Rattle.newt_spec_world.specs.World.{World};
 

@@ -38,6 +38,8 @@ pub data Reply : Type 0 where
   begin : Reply
   «end» : Reply
   refused : Refusal → Reply
+  -- the device of this unit failed, and the unit is mounted no more
+  thrown : ℕ → Reply
 
 -- ---- fields
 
@@ -116,6 +118,7 @@ reply_line nil = ok (codes "nil" ∷ [])
 reply_line begin = ok (codes "begin" ∷ [])
 reply_line «end» = ok (codes "end" ∷ [])
 reply_line (refused r) = codes "error " ++ refusal_text r
+reply_line (thrown u) = codes "error 50 device " ++ decimal_text u
 
 -- a reply as it is written, with its line end (this project's own)
 abbrev pub reply_text : Reply → List ℕ

@@ -8,7 +8,7 @@ use Rattle.newt_script_session.specs.Answered.{Given}
 use Rattle.newt_script_session.specs.Counts.{summary_of as summary_of_rows}
 use Rattle.newt_script_session.specs.Run.{Halted, SummaryHalted}
 use Rattle.newt_script_session.specs.Script.{ended_items, script_items}
-use Rattle.newt_script_session.specs.Steps.{plain_step}
+use Rattle.newt_spec_script.specs.Rows.{plain_step}
 use Rattle.newt_script_session.specs.Stream.{WroteSome}
 use Rattle.newt_script_session.proofs.Writing.{wrote_nothing}
 use Rattle.newt_script_session.specs.declared.halt.Halt.{Halt}

@@ -7,11 +7,10 @@ use Rattle.newt_script_session.specs.Counts.{summary_of as summary_of_rows}
 use Rattle.newt_script_session.specs.Moments as moments
 use Rattle.newt_script_session.specs.Moments.{HeldOrAfter, begun}
 use Rattle.newt_script_session.specs.Reading as reading
-use Rattle.newt_script_session.specs.Rows as rows
-use Rattle.newt_script_session.specs.Rows.{Row, output_of, world_behind}
+use Rattle.newt_spec_script.specs.Rows as rows
+use Rattle.newt_spec_script.specs.Rows.{output_of, plain_step, Row, world_behind}
 use Rattle.newt_script_session.specs.Run.{WroteWhole}
 use Rattle.newt_script_session.specs.Script.{ended_items, script_items}
-use Rattle.newt_script_session.specs.Steps.{plain_step}
 use Rattle.newt_script_session.specs.Stream.{WroteSome}
 use Rattle.newt_script_session.proofs.Plain.{plain_append, plain_behind, plain_output, plain_reply_texts, plain_rows, plain_run, plain_take}
 use Rattle.newt_script_session.proofs.Reading.{takes_map}

@@ -1,7 +1,7 @@
 use Rattle.std.proofs.Common.{Bool, Err, ◌∙◌, ap, subst, arith}
 use Rattle.std.proofs.lemmas.Result.{err_from_is_err_and}
 use Rattle.newt_script_session.specs.Counts.{Tallies}
-use Rattle.newt_script_session.specs.Rows.{world_behind}
+use Rattle.newt_spec_script.specs.Rows.{world_behind}
 use Rattle.newt_script_session.proofs.Counting.{answer_err, answer_write, quiet-refl, quiet_then}
 use Rattle.newt_script_session.proofs.Crashing.{at_rest}
 use Rattle.newt_script_session.proofs.Summing.{counted_halted, counted_put}
