@@ -8,7 +8,7 @@ use Rattle.newt_spec_store.specs.Valid.{well_formed}
 use Rattle.newt_spec_world.specs.declared.command.Command.{Command}
 use Rattle.newt_spec_world.specs.declared.command.Command.TheVariants as command
 use Rattle.newt_spec_world.specs.Changed.{changed, copy_to, graph_after_set, patched}
-use Rattle.newt_spec_world.specs.World.{World, Device, Media, blank, one, change_media, change_soup_in, default_unit, device, entry_in, mounted_store, on_unit, soup_in, store_if_mounted, store_of}
+use Rattle.newt_spec_world.specs.World.{World, Device, Media, blank, one, two, lost, change_media, change_soup_in, default_unit, device, entry_in, mounted_store, on_unit, soup_in, store_if_mounted, store_of}
 use Rattle.newt_laws_world.specs.Settled.{MountedApart}
 use Rattle.newt_laws_world.specs.Worlds.{OnMedia}
 use Rattle.newt_laws_world.proofs.Kept.{Every, Wf}
@@ -51,6 +51,8 @@ mounted-change g (Some d) s h = go d.mounted d.media h
   where
     media : (m : Media) → store_of m ≡ Some s → store_of (change_media g m) ≡ Some (g s)
     media blank h = absurd (none-some s h)
+    media (two a b) h = absurd (none-some s h)
+    media lost h = absurd (none-some s h)
     media (one x) h = ap {A = Store} {B = Option Store} (λ y. Some (g y)) (some-same x s h)
 
     go : (b : Bool) (m : Media) → cond b (store_of m) None ≡ Some s → cond b (store_of (change_media g m)) None ≡ Some (g s)

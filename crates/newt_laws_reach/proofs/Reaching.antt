@@ -11,7 +11,7 @@ use Rattle.newt_spec_query.specs.Hits.{Hit, Query, carries, hits, passes}
 use Rattle.newt_spec_query.specs.Cursor.{Cursor, Place, start, finish, on, same_identity, settled}
 use Rattle.newt_spec_world.specs.declared.command.Command.{Command}
 use Rattle.newt_spec_world.specs.declared.command.Command.TheVariants as command
-use Rattle.newt_spec_world.specs.World.{World, Device, Media, blank, one, change_device, change_media, change_soup_in, change_store, default_unit, device, entry_in, hits_of, mounted_store, mounted_stores, on_unit, settle, settle_cursor, store_if_mounted, store_of, store_on_unit}
+use Rattle.newt_spec_world.specs.World.{World, Device, Media, blank, one, two, lost, change_device, change_media, change_soup_in, change_store, default_unit, device, entry_in, hits_of, mounted_store, mounted_stores, on_unit, settle, settle_cursor, store_if_mounted, store_of, store_on_unit}
 use Rattle.newt_spec_world.specs.Changed.{changed, copy_to, graph_after_set, mark, patched, spec_of_words}
 use Rattle.newt_laws_world.specs.Settled.{IsSettled, MountedApart, moves_keys}
 use Rattle.newt_laws_images.proofs.Chosen.{find-passes}
@@ -164,6 +164,8 @@ store-brings r w u f adds q = brings-hits r (mounted_stores (change_store w u f)
   where
     media : (t : Store) (m : Media) → ((s : Store) → store_of m ≡ Some s → Adds r (f s) s) → store_of (change_media f m) ≡ Some t → (s : Store) × (store_of m ≡ Some s) × Adds r t s
     media t blank a k = absurd (none-some t k)
+    media t (two x y) a k = absurd (none-some t k)
+    media t lost a k = absurd (none-some t k)
     media t (one s) a k = (s, refl, subst (λ x. Adds r x s) (some-same (f s) t k) (a s refl))
 
     go : (t : Store) (b : Bool) (m : Media) → ((s : Store) → cond b (store_of m) None ≡ Some s → Adds r (f s) s) → cond b (store_of (change_media f m)) None ≡ Some t

@@ -12,7 +12,7 @@ use Rattle.newt_spec_query.specs.Hits.{Hit, Query, hits, in_scope, carries, pass
 use Rattle.newt_spec_query.specs.Cursor.{Place, on, Cursor, first_place, last_place, next_place, previous_place, moved}
 use Rattle.newt_spec_world.specs.declared.command.Command.{Command}
 use Rattle.newt_spec_world.specs.declared.command.Command.TheVariants as command
-use Rattle.newt_spec_world.specs.World.{World, Device, Media, blank, one, device, store_of, store_if_mounted, on_unit, mounted_store, mounted_stores, soup_in, hits_of, flat, cursor, free_cursor, change_device, change_store, change_media, set_place}
+use Rattle.newt_spec_world.specs.World.{World, Device, Media, blank, one, two, lost, device, store_of, store_if_mounted, on_unit, mounted_store, mounted_stores, soup_in, hits_of, flat, cursor, free_cursor, change_device, change_store, change_media, set_place}
 use Rattle.newt_spec_world.specs.Changed.{changed, mark, Step, stepped, step_from, open_cursor, open_at, query_of, put_on, cloned, go_to, hit_for, hit_in, go_to_key, to_key, key_from, sig_of, info_from}
 use Rattle.newt_spec_graph.specs.Lists.{Each, Pairs, Among}
 use Rattle.newt_laws_world.specs.Worlds.{OnMedia, AllValid}
@@ -207,6 +207,8 @@ store-fewer w u f shrinks = change-fewer w u (λ d. record d { media = change_me
   where
     media : (t : Store) (m : Media) → store_of (change_media f m) ≡ Some t → (s : Store) × (store_of m ≡ Some s) × Shrinks t s
     media t blank k = absurd (none-some t k)
+    media t (two a b) k = absurd (none-some t k)
+    media t lost k = absurd (none-some t k)
     media t (one s) k = (s, refl, subst (λ x. Shrinks x s) (some-same (f s) t k) (shrinks s))
 
     go : (t : Store) (b : Bool) (m : Media) → cond b (store_of (change_media f m)) None ≡ Some t → (s : Store) × (cond b (store_of m) None ≡ Some s) × Shrinks t s

@@ -1,5 +1,5 @@
 -- The table of changes, row by row: stores go on to fit; and both halves together.
-use Rattle.std.proofs.Common.{arith, ◌≡◌, refl, ap, sym, ◌∙◌, ℕ, ◌+◌, ◌≤◌, List, true, false, Bool, IsTrue, ◌&&◌, ◌||◌, ◌⊎◌, inl, inr, Option, Some, None, length, nat_lt}
+use Rattle.std.proofs.Common.{arith, ◌≡◌, refl, ap, sym, ◌∙◌, subst, ℕ, ◌+◌, ◌≤◌, List, true, false, Bool, IsTrue, ◌&&◌, ◌||◌, ◌⊎◌, inl, inr, Option, Some, None, length, nat_lt}
 use Rattle.std.specs.Bool.{⊤}
 use Rattle.std.proofs.lemmas.Bool.{ltb-false, le-leb, and_parts}
 use Rattle.newt_base.specs.Refusals.{first_of}
@@ -11,13 +11,13 @@ use Rattle.newt_base.specs.Names.{is_name}
 use Rattle.newt_spec_store.specs.Valid.{valid, well_formed, fits}
 use Rattle.newt_spec_world.specs.declared.command.Command.{Command}
 use Rattle.newt_spec_world.specs.declared.command.Command.TheVariants as command
-use Rattle.newt_spec_world.specs.World.{World, Device, Media, blank, one, device, default_unit, store_of, entry_in, change_store, change_media, change_soup_in, settle}
+use Rattle.newt_spec_world.specs.World.{World, Device, Media, blank, one, two, lost, device, default_unit, store_of, entry_in, change_store, change_media, change_soup_in, settle}
 use Rattle.newt_spec_graph.specs.Larges.{large_at, large_bytes}
 use Rattle.newt_spec_world.specs.Changed.{changed, spec_of_words, graph_after_set, copy_to, patched, info_from}
 use Rattle.newt_spec_world.specs.Refused.{checks, on_some}
 use Rattle.newt_spec_world.specs.Answer.{answer, answered}
 use Rattle.newt_laws_world.specs.Worlds.{OnMedia, AllValid, has_form}
-use Rattle.newt_laws_world.proofs.Units.{change-device, change-store, units-but, device-other, entry-has, same-or-not}
+use Rattle.newt_laws_world.proofs.Units.{mapped, device-same, change-device, change-store, units-but, device-other, entry-has, same-or-not}
 use Rattle.newt_laws_world.proofs.Costs.{fits-without-soup, fits-without-index, fits-without-entry, fits-with-change, fits-new}
 use Rattle.newt_laws_world.proofs.Kept.{AllFalse, all-false, on-some, Wf, Ft, Every, media-more, media-both, same-units, on_units, changed-units, patched-pages, there}
 use Rattle.newt_laws_world.proofs.Rows.{marked, mount-row, wf-row, and-left}
@@ -27,15 +27,57 @@ use Rattle.newt_laws_world.proofs.Rows.{marked, mount-row, wf-row, and-left}
 abbrev is_full : World → ℕ → Bool
 is_full v u = on_some (device v u) (λ d. on_some (store_of d.media) (λ s. nat_lt (cap d.blocks) (cost s)))
 
-full-fits : (v : World) (u : ℕ) → is_full v u ≡ false → (d : Device) → device v u ≡ Some d → OnMedia Ft d.blocks d.media
-full-fits v u h d e = go d.media (on-some (device v u) (λ d. on_some (store_of d.media) (λ s. nat_lt (cap d.blocks) (cost s))) d e h)
+-- it holds of both stores one of which is held
+OnTwo : (ℕ → Store → Type 0) → ℕ → Media → Type 0
+OnTwo P blocks (two a b) = P blocks a × P blocks b
+OnTwo P blocks m = ⊤
+
+on-two : (P : ℕ → Store → Type 0) (blocks : ℕ) (m : Media) → OnMedia P blocks m → OnTwo P blocks m
+unfolding OnTwo
+on-two P blocks blank h = tt
+on-two P blocks (one s) h = tt
+on-two P blocks (two a b) h = h
+on-two P blocks lost h = tt
+
+two-change : (P : ℕ → Store → Type 0) (blocks : ℕ) (f : Store → Store) (m : Media) → OnTwo P blocks m → OnTwo P blocks (change_media f m)
+unfolding OnTwo
+two-change P blocks f blank h = tt
+two-change P blocks f (one s) h = tt
+two-change P blocks f (two a b) h = h
+two-change P blocks f lost h = tt
+
+full-fits : (v : World) (u : ℕ) → is_full v u ≡ false → (d : Device) → device v u ≡ Some d → OnTwo Ft d.blocks d.media → OnMedia Ft d.blocks d.media
+unfolding OnTwo
+full-fits v u h d e both = go d.media both (on-some (device v u) (λ d. on_some (store_of d.media) (λ s. nat_lt (cap d.blocks) (cost s))) d e h)
   where
-    go : (m : Media) → on_some (store_of m) (λ s. nat_lt (cap d.blocks) (cost s)) ≡ false → OnMedia Ft d.blocks m
-    go blank k = tt
-    go (one s) k = le-leb (cost s) (cap d.blocks) (ltb-false (cap d.blocks) (cost s) k)
+    go : (m : Media) → OnTwo Ft d.blocks m → on_some (store_of m) (λ s. nat_lt (cap d.blocks) (cost s)) ≡ false → OnMedia Ft d.blocks m
+    go blank b k = tt
+    go (one s) b k = le-leb (cost s) (cap d.blocks) (ltb-false (cap d.blocks) (cost s) k)
+    go (two x y) b k = b
+    go lost b k = tt
+
+-- no change of a store changes what is unsure
+abbrev TwoOn : World → ℕ → Type 0
+TwoOn w n = (d : Device) → device w n ≡ Some d → OnTwo Ft d.blocks d.media
+
+two-on : (w : World) (n : ℕ) → Every Ft w → TwoOn w n
+two-on w n all d e = on-two Ft d.blocks d.media (all n tt d e)
+
+two-store : (w : World) (u : ℕ) (f : Store → Store) (n : ℕ) → TwoOn w n → TwoOn (change_store w u f) n
+two-store w u f n all d e = go (same-or-not n u)
+  where
+    go : (n ≡ u) ⊎ (n ≡ u → ⊥) → OnTwo Ft d.blocks d.media
+    go (inl is) = let r = mapped (λ (x : Device). record x { media = change_media f x.media }) (device w u) d (sym (device-same w u (λ x. record x { media = change_media f x.media })) ∙ sym (ap (device (change_store w u f)) is) ∙ e) in
+        subst (λ (v : Device). OnTwo Ft v.blocks v.media) r.2 (two-change Ft r.0.blocks f r.0.media (all r.0 (ap (device w) is ∙ r.1)))
+    go (inr not) = all d (sym (device-other w u (λ x. record x { media = change_media f x.media }) n not) ∙ e)
+
+two-copy : (w : World) (v : ℕ) (t : List ℕ) (o : Option Entry) (n : ℕ) → TwoOn w n → TwoOn (copy_to w v t o) n
+two-copy w v t None n all = all
+two-copy w v t (Some e) n all = two-store w v (change_soup t (add_entry w.minute e.graph)) n all
 
 checked-store : (w : World) (u : ℕ) (f : Store → Store) → Every Ft w → is_full (change_store w u f) u ≡ false → Every Ft (change_store w u f)
-checked-store w u f all h = units-but (λ _. ⊤) Ft (change_store w u f) w u (device-other w u (λ d. record d { media = change_media f d.media })) all (full-fits (change_store w u f) u h)
+checked-store w u f all h = units-but (λ _. ⊤) Ft (change_store w u f) w u (device-other w u (λ d. record d { media = change_media f d.media })) all
+    (λ d e. full-fits (change_store w u f) u h d e (two-store w u f u (two-on w u all) d e))
 
 checked-copy : (w : World) (v : ℕ) (t : List ℕ) (o : Option Entry) → Every Ft w → is_full (copy_to w v t o) v ≡ false → Every Ft (copy_to w v t o)
 checked-copy w v t None all h = all
@@ -57,7 +99,8 @@ checked-move w u s uid v t o all h n k = go (same-or-not n v) (same-or-not u v)
     y = change_soup_in (copy_to w v t o) u s (remove_entry uid)
 
     go : (n ≡ v) ⊎ (n ≡ v → ⊥) → (u ≡ v) ⊎ (u ≡ v → ⊥) → (d : Device) → device (change_soup_in (copy_to w v t o) u s (remove_entry uid)) n ≡ Some d → OnMedia Ft d.blocks d.media
-    go (inl e) other d f = full-fits (change_soup_in (copy_to w v t o) u s (remove_entry uid)) v h d (sym (ap (device (change_soup_in (copy_to w v t o) u s (remove_entry uid))) e) ∙ f)
+    go (inl e) other d f = let is = sym (ap (device (change_soup_in (copy_to w v t o) u s (remove_entry uid))) e) ∙ f in full-fits (change_soup_in (copy_to w v t o) u s (remove_entry uid)) v h d is
+        (two-store (copy_to w v t o) u (change_soup s (remove_entry uid)) v (two-copy w v t o v (two-on w v all)) d is)
     go (inr e) (inl same) d f = all n tt d (sym (copy-other w v t o n e) ∙ sym (device-other (copy_to w v t o) u (λ d. record d { media = change_media (change_soup s (remove_entry uid)) d.media }) n (λ is. e (is ∙ same))) ∙ f)
     go (inr e) (inr differ) d f = change-store (λ m. m ≡ v → ⊥) Ft (copy_to w v t o) u (change_soup s (remove_entry uid)) (λ m l d g. all m tt d (sym (copy-other w v t o m l) ∙ g)) (inl differ)
         (λ blocks st has ok. fits-without-entry blocks s uid st ok) n e d f

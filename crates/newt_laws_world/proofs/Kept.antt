@@ -21,7 +21,7 @@ use Rattle.newt_spec_query.specs.Hits.{Hit}
 use Rattle.newt_spec_query.specs.Cursor.{Cursor}
 use Rattle.newt_spec_world.specs.declared.command.Command.{Command}
 use Rattle.newt_spec_world.specs.declared.command.Command.TheVariants as command
-use Rattle.newt_spec_world.specs.World.{World, Media, blank, one, mounted_store, soup_in, entry_in, flat, free_cursor, change_soup_in}
+use Rattle.newt_spec_world.specs.World.{World, Media, blank, one, two, lost, mounted_store, soup_in, entry_in, flat, free_cursor, change_soup_in}
 use Rattle.newt_spec_graph.specs.Larges.{bytes_of_large}
 use Rattle.newt_spec_world.specs.Changed.{changed, graph_after_set, patched_at, Step, step_from, open_at, put_on, cloned}
 use Rattle.newt_spec_world.specs.Refused.{on_some}
@@ -72,10 +72,14 @@ Every P w = OnUnits (λ _. ⊤) P w
 pub media-more : (P Q : ℕ → Store → Type 0) (blocks : ℕ) (m : Media) → ((s : Store) → P blocks s → Q blocks s) → OnMedia P blocks m → OnMedia Q blocks m
 media-more P Q blocks blank f h = tt
 media-more P Q blocks (one s) f h = f s h
+media-more P Q blocks (two a b) f h = (f a h.0, f b h.1)
+media-more P Q blocks lost f h = tt
 
 pub media-both : (P Q R : ℕ → Store → Type 0) (blocks : ℕ) (m : Media) → ((s : Store) → P blocks s → Q blocks s → R blocks s) → OnMedia P blocks m → OnMedia Q blocks m → OnMedia R blocks m
 media-both P Q R blocks blank f h k = tt
 media-both P Q R blocks (one s) f h k = f s h k
+media-both P Q R blocks (two a b) f h k = (f a h.0 k.0, f b h.1 k.1)
+media-both P Q R blocks lost f h k = tt
 
 -- ---- rows that leave the units alone
 

@@ -7,7 +7,7 @@ use Rattle.newt_base.specs.declared.Refusal.{Refusal}
 use Rattle.newt_spec_store.specs.Store.{Store, Soup, Entry, change_soup, change_entry, make_soup, drop_soup, add_entry, remove_entry, new_store, with_index, without_index, with_graph, with_tags, with_info}
 use Rattle.newt_spec_world.specs.declared.command.Command.{Command}
 use Rattle.newt_spec_world.specs.declared.command.Command.TheVariants as command
-use Rattle.newt_spec_world.specs.World.{World, Device, Media, blank, one, device, default_unit, store_of, store_on_unit, entry_in, flat, change_device, change_store, change_media, change_soup_in}
+use Rattle.newt_spec_world.specs.World.{World, Device, Media, blank, one, two, lost, device, default_unit, store_of, store_on_unit, entry_in, flat, change_device, change_store, change_media, change_soup_in}
 use Rattle.newt_spec_world.specs.Changed.{changed, copy_to, spec_of_words, graph_after_set, patched, info_from}
 use Rattle.newt_spec_world.specs.Refused.{checks}
 use Rattle.newt_spec_world.specs.Answer.{answer, answered, after}
@@ -44,6 +44,8 @@ store-later w u f later = change-later w u (λ d. record d { media = change_medi
   where
     go : (s : Store) (m : Media) → store_of m ≡ Some s → (t : Store) × (store_of (change_media f m) ≡ Some t) × StoreLater s t
     go s blank k = absurd (none-some s k)
+    go s (two a b) k = absurd (none-some s k)
+    go s lost k = absurd (none-some s k)
     go s (one x) k = (f x, refl, subst (λ y. StoreLater y (f x)) (some-same x s k) (later x))
 
 soup-later : (w : World) (u : ℕ) (name : List ℕ) (f : Soup → Soup) → ((p : Soup) → SoupLater p (f p)) → WorldLater w (change_soup_in w u name f)

@@ -8,7 +8,7 @@ use Rattle.newt_base.specs.declared.Refusal.{Refusal}
 use Rattle.newt_spec_store.specs.Store.{Store, Soup, Entry, change_soup, make_soup, drop_soup, add_entry, remove_entry, new_store}
 use Rattle.newt_spec_world.specs.declared.command.Command.{Command}
 use Rattle.newt_spec_world.specs.declared.command.Command.TheVariants as command
-use Rattle.newt_spec_world.specs.World.{World, Device, Media, blank, one, device, default_unit, store_of, store_if_mounted, on_unit, mounted_store, mounted_stores, store_on_unit, entry_in, flat, change_device, change_store, change_media, change_soup_in}
+use Rattle.newt_spec_world.specs.World.{World, Device, Media, blank, one, two, lost, device, default_unit, store_of, store_if_mounted, on_unit, mounted_store, mounted_stores, store_on_unit, entry_in, flat, change_device, change_store, change_media, change_soup_in}
 use Rattle.newt_spec_world.specs.Changed.{changed, mark, copy_to}
 use Rattle.newt_spec_world.specs.Refused.{checks}
 use Rattle.newt_spec_world.specs.Answer.{answer, answered}
@@ -58,7 +58,7 @@ units-from-apart (d ∷ us) h (suc m) (suc n) s t differ e f same =
 abbrev pub SigsFrom : World → World → Type 0
 SigsFrom v w = (n : ℕ) (t : Store) → mounted_store v n ≡ Some t → (s : Store) × (mounted_store w n ≡ Some s) × (t.sig ≡ s.sig)
 
-sigs-apart : (v w : World) → SigsFrom v w → MountedApart w → MountedApart v
+pub sigs-apart : (v w : World) → SigsFrom v w → MountedApart w → MountedApart v
 sigs-apart v w from h = apart-from-units v.units (λ m n s t differ e f same.
     let a = from m s e in
     let b = from n t f in
@@ -67,7 +67,7 @@ sigs-apart v w from h = apart-from-units v.units (λ m n s t differ e f same.
 sigs-trans : (x v w : World) → SigsFrom x v → SigsFrom v w → SigsFrom x w
 sigs-trans x v w f g n t e = let a = f n t e in let b = g n a.0 a.1 in (b.0, b.1, a.2 ∙ b.2)
 
-change-sigs : (w : World) (u : ℕ) (f : Device → Device) → ((d : Device) (t : Store) → store_if_mounted (f d) ≡ Some t → (s : Store) × (store_if_mounted d ≡ Some s) × (t.sig ≡ s.sig))
+pub change-sigs : (w : World) (u : ℕ) (f : Device → Device) → ((d : Device) (t : Store) → store_if_mounted (f d) ≡ Some t → (s : Store) × (store_if_mounted d ≡ Some s) × (t.sig ≡ s.sig))
     → SigsFrom (change_device w u f) w
 change-sigs w u f keeps n t k = go (same-or-not n u)
   where
@@ -84,6 +84,8 @@ store-sigs w u f same = change-sigs w u (λ d. record d { media = change_media f
   where
     media : (t : Store) (m : Media) → store_of (change_media f m) ≡ Some t → (s : Store) × (store_of m ≡ Some s) × (t.sig ≡ s.sig)
     media t blank k = absurd (none-some t k)
+    media t (two a b) k = absurd (none-some t k)
+    media t lost k = absurd (none-some t k)
     media t (one s) k = (s, refl, sym (ap (λ (x : Store). x.sig) (some-same (f s) t k)) ∙ same s)
 
     go : (t : Store) (b : Bool) (m : Media) → cond b (store_of (change_media f m)) None ≡ Some t → (s : Store) × (cond b (store_of m) None ≡ Some s) × (t.sig ≡ s.sig)

@@ -4,7 +4,7 @@ use Rattle.std.specs.Prelude.{slice_get}
 use Rattle.std.specs.Option.{is_none}
 use Rattle.std.proofs.lemmas.Bool.{eqb-true, eqb-false}
 use Rattle.newt_spec_store.specs.Store.{Store, Soup, soup_named, entry_of}
-use Rattle.newt_spec_world.specs.World.{World, Device, Media, blank, one, device, store_of, store_if_mounted, mounted_store, soup_in, entry_in, flat, change_at, change_device, change_store, change_media}
+use Rattle.newt_spec_world.specs.World.{World, Device, Media, blank, one, two, lost, device, store_of, store_if_mounted, mounted_store, soup_in, entry_in, flat, change_at, change_device, change_store, change_media}
 use Rattle.newt_laws_world.specs.Worlds.{OnMedia, OnUnits}
 use Rattle.newt_spec_graph.proofs.Lists.{some-same, none-some}
 
@@ -58,6 +58,8 @@ pub change-media : (P : ℕ → Store → Type 0) (blocks : ℕ) (f : Store → 
     → ((s : Store) → m ≡ one s → P blocks s → P blocks (f s)) → OnMedia P blocks (change_media f m)
 change-media P blocks f blank h k = tt
 change-media P blocks f (one s) h k = k s refl h
+change-media P blocks f (two a b) h k = h
+change-media P blocks f lost h k = tt
 
 -- the unit has a device with this one store
 pub record Has (w : World) (u blocks : ℕ) (s : Store) : Type 0 where
@@ -98,6 +100,8 @@ has-mounted w u s h = go (device w u) refl h
     media : (m : Media) → store_of m ≡ Some s → m ≡ one s
     media blank e = absurd (none-some s e)
     media (one t) e = ap one (some-same t s e)
+    media (two a b) e = absurd (none-some s e)
+    media lost e = absurd (none-some s e)
 
     go : (o : Option Device) → device w u ≡ o → option_and_then store_if_mounted o ≡ Some s → (blocks : ℕ) × Has w u blocks s
     go None e k = absurd (none-some s k)

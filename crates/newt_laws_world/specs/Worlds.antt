@@ -10,12 +10,14 @@ use Rattle.newt_spec_store.specs.Valid.{valid}
 use Rattle.newt_spec_world.specs.declared.command.Command.{Command}
 use Rattle.newt_spec_world.specs.declared.command.Command.TheVariants as command
 use Rattle.newt_spec_world.specs.declared.command.PartWord.{PartWord}
-use Rattle.newt_spec_world.specs.World.{World, Device, Media, blank, one, device}
+use Rattle.newt_spec_world.specs.World.{World, Device, Media, blank, one, two, lost, device}
 
--- it holds of each store that the media has, with the number of blocks
+-- it holds of each store that the media has or may have, with the number of blocks
 abbrev pub OnMedia : (ℕ → Store → Type 0) → ℕ → Media → Type 0
 OnMedia P blocks blank = ⊤
 OnMedia P blocks (one s) = P blocks s
+OnMedia P blocks (two a b) = P blocks a × P blocks b
+OnMedia P blocks lost = ⊤
 
 -- it holds of each store of the units that are meant
 abbrev pub OnUnits : (ℕ → Type 0) → (ℕ → Store → Type 0) → World → Type 0

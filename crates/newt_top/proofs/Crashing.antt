@@ -10,7 +10,7 @@ use Rattle.newt_laws_world.proofs.Kept.{changed-units, on_units}
 use Rattle.newt_laws_world.proofs.Units.{same-or-not, device-other, device-same}
 use Rattle.newt_script_session.specs.Answered.{Given}
 use Rattle.newt_script_session.specs.Moments.{HasLeft}
-use Rattle.newt_script_session.specs.Steps.{plain_step}
+use Rattle.newt_spec_script.specs.Rows.{plain_step}
 use Rattle.newt_spec_graph.proofs.Lists.{none-some}
 use Rattle.newt_spec_script.specs.Script.{Item, step}
 use Rattle.newt_spec_store.specs.Store.{Store}
@@ -19,7 +19,7 @@ use Rattle.newt_spec_world.specs.declared.command.Command.TheVariants as command
 use Rattle.newt_spec_world.specs.Answer.{answer, answered}
 use Rattle.newt_spec_world.specs.Refused.{checks}
 use Rattle.newt_spec_world.specs.Changed.{changed, copy_to}
-use Rattle.newt_spec_world.specs.World.{World, Device, Media, blank, one, device, default_unit, entry_in, store_of, store_on_unit, change_device, change_store, change_media}
+use Rattle.newt_spec_world.specs.World.{World, Device, Media, blank, one, two, lost, device, default_unit, entry_in, store_of, store_on_unit, change_device, change_store, change_media}
 use Rattle.newt_spec_store.specs.Store as plain
 use Rattle.newt_store_catalog.specs.Readable.{readable}
 use Rattle.newt_script_session.specs.Counted.{HasLeftCounted}
@@ -45,6 +45,8 @@ none_in w v u f none = none_on w v u (λ d. record d { media = change_media f d.
   where
     blank_stays : (m : Media) → store_of m ≡ None → store_of (change_media f m) ≡ None
     blank_stays blank e = refl
+    blank_stays (two a b) e = refl
+    blank_stays lost e = refl
     blank_stays (one s) e = absurd (none-some s (sym e))
 
 none_copied : (w : World) (v u : ℕ) (t : List ℕ) (o : Option plain.Entry) → store_on_unit w u ≡ None → store_on_unit (copy_to w v t o) u ≡ None
