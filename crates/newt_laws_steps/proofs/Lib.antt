@@ -1,0 +1,10 @@
+pub mod Kept
+pub mod Stepping
+pub mod Standing
+pub mod Fitting
+pub mod Runs
+pub mod Meant
+pub mod MeantRows
+pub mod MeantAnswer
+pub mod MeantSteps
+pub mod Held
