@@ -2,7 +2,7 @@
 use Rattle.std.specs.Prelude.{ℕ, List, map}
 use Rattle.newt_spec_world.specs.Reply as world
 use Rattle.newt_reply.specs.declared.reply.Reply.{Reply}
-use Rattle.newt_reply.specs.declared.reply.Reply.TheVariants.{Done, Number, Added, Store, Stores, Soups, Indexes, Tags, Hex, Nsof, Literal, Timed, TimedNsof, Alias, Where, Current, Deleted, Nil, Begin, End, Refused}
+use Rattle.newt_reply.specs.declared.reply.Reply.TheVariants.{Done, Number, Added, Store, Stores, Soups, Indexes, Tags, Hex, Nsof, Literal, Timed, TimedNsof, Alias, Where, Current, Deleted, Nil, Begin, End, Refused, Thrown}
 use Rattle.newt_reply.specs.declared.rows.StoreLine.{StoreLine}
 use Rattle.newt_reply.specs.declared.rows.SoupLine.{SoupLine}
 
@@ -37,3 +37,4 @@ said Nil = world.nil
 said Begin = world.begin
 said End = world.«end»
 said (Refused refusal) = world.refused refusal
+said (Thrown unit) = world.thrown unit

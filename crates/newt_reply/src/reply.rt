@@ -59,4 +59,6 @@ pub enum Reply {
     End,
     /// It was refused.
     Refused(Refusal),
+    /// The device of this unit failed, and the unit is mounted no more.
+    Thrown(Unit),
 }

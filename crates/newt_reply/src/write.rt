@@ -25,6 +25,14 @@ fn error_line(alloc: Global, refusal: Refusal) -> Result<Vec<u8>, AllocError>
     Ok(format!(in alloc; "error {number} {word}\n")?.into_bytes())
 }
 
+/// `error`, the number and the word of a device that failed, and its unit.
+fn thrown_line(alloc: Global, unit: Unit) -> Result<Vec<u8>, AllocError>
+    ensures { IfOk result (λ line. line.items ≡ written (spec.thrown unit)) }
+{
+    let unit = unit.0;
+    Ok(format!(in alloc; "error 50 device {unit}\n")?.into_bytes())
+}
+
 /// A unit and the id of an entry.
 #[tactic(auto, using(crate::proofs::Written::added_text))]
 fn added_line(alloc: Global, unit: Unit, uid: Uid) -> Result<Vec<u8>, AllocError>
@@ -150,6 +158,7 @@ fn line_of(alloc: Global, reply: &Reply) -> Result<Vec<u8>, AllocError>
         Reply::Begin => one_field(alloc, b"begin"),
         Reply::End => one_field(alloc, b"end"),
         Reply::Refused(refusal) => error_line(alloc, *refusal),
+        Reply::Thrown(unit) => thrown_line(alloc, *unit),
     }
 }
 

@@ -194,6 +194,7 @@ fn reply(alloc: Global, text: &str) -> Result<Reply, Fail> {
         "begin" => Ok(Reply::Begin),
         "end" => Ok(Reply::End),
         "full" => Ok(Reply::Refused(Refusal::Full)),
+        "thrown" => Ok(Reply::Thrown(unit(first))),
         "number" => Ok(Reply::Number(first)),
         "added" => Ok(Reply::Added(unit(first), Uid(number(behind).0))),
         "alias" => Ok(Reply::Alias(alias(rest))),
@@ -228,6 +229,8 @@ number 4294967295 => ok 4294967295
 added 3 0 => ok 3 0
 alias 536870911 0 12 => ok [alias: 536870911, 0, 12]
 full => error 33 full
+thrown 0 => error 50 device 0
+thrown 7 => error 50 device 7
 # Names.
 store 7 Internal => ok 7 Internal
 store 9 A \"b\" \\ => ok 9 \"A \\\"b\\\" \\\\\"
