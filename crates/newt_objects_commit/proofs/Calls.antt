@@ -30,6 +30,10 @@ pub ok-both : {T E : Type 0} (P Q : Type 0) (r : Result T E) → OnOk r P → On
 ok-both P Q (Ok x) p q = (p, q)
 ok-both P Q (Err e) p q = tt
 
+pub ok-three : {T E : Type 0} (P Q R : Type 0) (r : Result T E) → OnOk r P → OnOk r Q → OnOk r R → OnOk r (P × Q × R)
+ok-three P Q R (Ok x) p q s = (p, q, s)
+ok-three P Q R (Err e) p q s = tt
+
 -- what becomes of the plans: they are taken over, or dropped
 pub record Settles (objects next : Held) (result : Result (Unit {0}) StoreFault) : Type 0 where
   pub made : OnOk result ((id : ℕ) → held next id ≡ planned objects id)
@@ -91,10 +95,9 @@ module _ {B : Type 0} (place : B → ℕ) (numbers : B → Numbers) (standing : 
           made = settles.made;
           still = settles.still;
           only = c.only;
-          holds = λ tells was will p. ok-both _ _ r
-              (ok-both _ _ r
+          holds = λ tells was will p. ok-three _ _ _ r
               (ok-map _ _ r (λ changed. holds-after told objects batch (numbers old) now was will tells c.sound p (image unit after.now) changed) (c.committed tells))
-              (ok-map _ _ r (λ low. planned-fits told objects batch (numbers old) now was will tells c.sound p blocks (size tells) low) c.fits))
+              (ok-map _ _ r (λ low. planned-fits told objects batch (numbers old) now was will tells c.sound p blocks (size tells) low) c.fits)
               (ok-map _ _ r (λ ready. ready.is_open.new) (c.open_after tells));
           full = λ is tells was will p. planned-full told objects batch (numbers old) now was will tells c.sound p blocks (size tells) (c.full is);
           any_moment = λ tells was will p. ⊎_elim

@@ -23,7 +23,7 @@ use Rattle.newt_store_change.specs.declared.fault.StoreFault.TheVariants.{Refuse
 use Rattle.newt_objects_commit.specs.Calls.{CommitsBatch, CommitsObjects}
 use Rattle.newt_objects_commit.specs.Commit.{AreKept}
 use Rattle.newt_objects_commit.specs.Patch.{IsBeforeOrPatched, Overwrites, patched_text}
-use Rattle.newt_objects_commit.proofs.Calls.{goes-on, kept-looked, ok-map, ok-both, ok-told}
+use Rattle.newt_objects_commit.proofs.Calls.{goes-on, kept-looked, ok-map, ok-both, ok-three, ok-told}
 use Rattle.newt_objects_commit.proofs.Exits.{faults-since, never-range, no-refusal, open-for-less, or-range, reads-only, spends-both}
 use Rattle.newt_objects_commit.proofs.Patching.{patch-nothing, patch-leaves, the-extent, would-be, would-some, text-length}
 
@@ -157,11 +157,10 @@ module _ {B : Type 0} (place : B → ℕ) (numbers : B → Numbers) (spare : B �
             λ tells was text holds here. would-be objects id at bytes batch holds.live kept.none (told_table told (held objects) (numbers old) unit before holds.live kept.are tells holds.of_image) there
             (patch tells holds.live holds.of_image) was text holds.are here in
             record {
-              patched = λ tells was text holds here. ok-both _ _ r
-                  (ok-both _ _ r
+              patched = λ tells was text holds here. ok-three _ _ _ r
                   (ok-map _ _ r (λ changed. changed_holds objects batch holds.live (patched_text id at bytes was text) (image unit between.now) (image unit after.now) (ap pages still ∙ holds.of_image) (would tells was text holds here) changed)
                   (c.committed tells))
-                  (is-ok r (fits-text tells was text holds here)))
+                  (is-ok r (fits-text tells was text holds here))
                   (ok-map _ _ r (λ ready. ready.is_open.new) (c.open_after tells));
               range = λ is. absurd (never-range r c.only is);
               past = λ tells was text holds here more. never-past _ (length text) (fits-text tells was text holds here) more;

@@ -26,7 +26,7 @@ use Rattle.newt_objects_commit.specs.Names.{names_of}
 use Rattle.newt_objects_commit.specs.Places.{place_of}
 use Rattle.newt_store_catalog.specs.declared.catalog.Catalog.{Catalog}
 use Rattle.newt_store_change.specs.declared.change.Change.{Change}
-use Rattle.newt_store_change.specs.declared.change.Change.TheVariants.{MakeSoup, DropSoup, Add, Remove, Move, Replace, Patch, AddIndex, DropIndex, SetTags}
+use Rattle.newt_store_change.specs.declared.change.Change.TheVariants.{MakeSoup, DropSoup, Add, Remove, Move, Replace, Patch, AddIndex, DropIndex, SetTags, SetInfo}
 use Rattle.newt_store_change.specs.Change.{changed_by, first_checks, full_check, refusal_of, dropped_soup, changed_soup, pages_put, pages_gone, is_patch, bytes_of, most_bytes}
 use Rattle.newt_store.specs.declared.next.Next.{Next}
 use Rattle.newt_store.specs.Next.{IsEitherStore, IsPlanOf, goes_pages, replaced_pages, turn_bytes}
@@ -52,6 +52,7 @@ no-patch (Patch sig uid node at bytes) never = absurd (never sig uid node at byt
 no-patch (AddIndex sig spec) never = refl
 no-patch (DropIndex sig paths) never = refl
 no-patch (SetTags sig table) never = refl
+no-patch (SetInfo sig info) never = refl
 
 -- ---- the first of checks in two parts
 
@@ -88,6 +89,7 @@ fits-check (DropIndex sig paths) blocks now s low = refl
 fits-check (Patch sig uid node at bytes) blocks now s low = refl
 fits-check (AddIndex sig spec) blocks now s low = first-not Full (nat_lt (cap blocks) (cost (changed_by (AddIndex sig spec) now s))) [] (not-more _ _ low)
 fits-check (SetTags sig table) blocks now s low = first-not Full (nat_lt (cap blocks) (cost (changed_by (SetTags sig table) now s))) [] (not-more _ _ low)
+fits-check (SetInfo sig info) blocks now s low = first-not Full (nat_lt (cap blocks) (cost (changed_by (SetInfo sig info) now s))) [] (not-more _ _ low)
 fits-check (MakeSoup name) blocks now s low = first-not Full (nat_lt (cap blocks) (cost (changed_by (MakeSoup name) now s))) [] (not-more _ _ low)
 fits-check (Add sig g) blocks now s low = first-not Full (nat_lt (cap blocks) (cost (changed_by (Add sig g) now s))) [] (not-more _ _ low)
 fits-check (Move a u b) blocks now s low = first-not Full (nat_lt (cap blocks) (cost (changed_by (Move a u b) now s))) [] (not-more _ _ low)
@@ -115,6 +117,7 @@ full-check (DropIndex sig paths) blocks now s other low more = absurd (omega (ar
 full-check (Patch sig uid node at bytes) blocks now s other low more = absurd (let isnt : true ≡ false = other in cc)
 full-check (AddIndex sig spec) blocks now s other low more = first-holds Full (nat_lt (cap blocks) (cost (changed_by (AddIndex sig spec) now s))) [] (more-than _ _ more)
 full-check (SetTags sig table) blocks now s other low more = first-holds Full (nat_lt (cap blocks) (cost (changed_by (SetTags sig table) now s))) [] (more-than _ _ more)
+full-check (SetInfo sig info) blocks now s other low more = first-holds Full (nat_lt (cap blocks) (cost (changed_by (SetInfo sig info) now s))) [] (more-than _ _ more)
 full-check (MakeSoup name) blocks now s other low more = first-holds Full (nat_lt (cap blocks) (cost (changed_by (MakeSoup name) now s))) [] (more-than _ _ more)
 full-check (Add sig g) blocks now s other low more = first-holds Full (nat_lt (cap blocks) (cost (changed_by (Add sig g) now s))) [] (more-than _ _ more)
 full-check (Move a u b) blocks now s other low more = first-holds Full (nat_lt (cap blocks) (cost (changed_by (Move a u b) now s))) [] (more-than _ _ more)
@@ -185,6 +188,7 @@ bytes-put (Patch sig uid node at bytes) now s other = absurd (let isnt : true �
 bytes-put (AddIndex sig spec) now s other = refl
 bytes-put (DropIndex sig paths) now s other = refl
 bytes-put (SetTags sig table) now s other = refl
+bytes-put (SetInfo sig info) now s other = refl
 
 -- the bytes of what is planned are those of the change, where it is not refused
 planned-bytes : (catalog : Catalog) (change : Change) (blocks now : ℕ) (s : Store) (next : Next) → is_patch change ≡ false → IsPlanOf catalog change now s next → refusal_of change blocks now s ≡ None → turn_bytes next s (changed_by change now s) ≡ most_bytes change blocks now s

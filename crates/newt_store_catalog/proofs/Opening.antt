@@ -1,6 +1,6 @@
 -- What is found where a store is opened, and what it is read as.
 use Rattle.newt_laws_images.proofs.Directories.{directory-parts}
-use Rattle.newt_spec_image.specs.Records.{version}
+use Rattle.newt_spec_image.specs.Records.{version, IsVersion}
 use Rattle.std.proofs.Common.{IsTrue, ◌≡◌, ◌≢◌, inl, inr, ℕ, ◌+◌, ◌<◌, ◌≤◌, ◌%◌, ◌==◌, Bool, true, false, cond, ◌&&◌, nat_le, nat_lt, ◌⊎◌, List, [], ◌∷◌, length, get_or, find, map as map_list, Option, Some, None, option_and_then, Result, Ok, Err, IfOk, OnOk, IsSome, is_some, refl, sym, ◌∙◌, ap, subst, arith, ⊎_elim}
 use Rattle.std.specs.List.{list_all}
 use Rattle.std.specs.FinMap as map
@@ -406,6 +406,10 @@ are-bytes bytes each = λ k d low. let P : ℕ → Type 0 = λ b. b < 256 in sub
 pub is-none : {X : Type 0} (o : Option X) → is_some o ≡ false → o ≡ None
 is-none None e = refl
 is-none (Some x) e = absurd (not_true true refl e)
+
+-- a version is one of two
+pub either-version : (n : ℕ) → IsVersion n → (n ≡ 1) ⊎ (n ≡ 2)
+either-version n is = ⊎_elim (λ (lt : n < 2). inl (omega (arith, lt, is.0))) (λ (ge : 2 ≤ n). inr (omega (arith, ge, is.1))) (cases_lt n 2)
 
 -- what is read as a directory, in the form of the image's version, is the root, if the bytes are those of object 0
 pub directory-by : (told : Bool) (read_from bytes text : List ℕ) (number : ℕ) (r : Result Directory BookFault) → OfObjects told read_from (HasObject 0 bytes) → text ≡ bytes → (IsTrue told → number ≡ version read_from)

@@ -33,7 +33,7 @@ use Rattle.newt_store_indexed.proofs.Reading.{shows-on}
 leaves-before : (catalog : Catalog) (change : Change) (now blocks : ℕ) (s : PlainStore) (unit : ℕ) (old new : Moment) → new ≡ old → StandsFor catalog s (image unit old) → IsDurable unit old
     → Leaves unit (IsBeforeOrChanged change blocks now s) old new
 leaves-before catalog change now blocks s unit old new same stands durable = subst (λ (m : Moment). Leaves unit (IsBeforeOrChanged change blocks now s) old m) (sym same) (Leaves-start (λ left may.
-    inl (ap readable (durable left may) ∙ read-back catalog.directory (place_of catalog.places) (names_of catalog.names) stands.texts s (image unit old) stands.holds stands.describes stands.fits)))
+    inl (ap readable (durable left may) ∙ read-back catalog.directory (place_of catalog.places) (names_of catalog.names) stands.texts s (image unit old) stands.holds stands.describes stands.fits stands.keeps)))
 
 module _ {B : Type 0} (place : B → ℕ) (numbers : B → Numbers) (stands : Bool → B → Outside → Type 0) (told : Bool) where
   pub changes-over : (a b c : Store B) (before between after : Outside) (change : Change) (now : ℕ) (result : Result ℕ StoreFault) → Reads place numbers stands told a b before between → NoFault before between

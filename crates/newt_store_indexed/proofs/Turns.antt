@@ -25,7 +25,7 @@ use Rattle.newt_store_indexed.specs.Stands.{StandsForOne}
 
 -- what is read of an image that stands for a store
 pub reads-it : (catalog : Catalog) (s : Plain) (now : List ℕ) → StandsFor catalog s now → readable now ≡ Some s
-reads-it catalog s now stands = read-back catalog.directory (place_of catalog.places) (names_of catalog.names) stands.texts s now stands.holds stands.describes stands.fits
+reads-it catalog s now stands = read-back catalog.directory (place_of catalog.places) (names_of catalog.names) stands.texts s now stands.holds stands.describes stands.fits stands.keeps
 
 -- a store that is read is the one that it stands for
 pub is-plain : (catalog : Catalog) (rows : List SoupRanges) (s : Plain) (now : List ℕ) (one : StandsForOne catalog rows now) → readable now ≡ Some s → one.plain ≡ s

@@ -4,6 +4,7 @@ use Rattle.std.proofs.Common.{ap, subst, refl, sym, ◌∙◌}
 use Rattle.newt_host.specs.Moments.{Change as Event, image, bytes_after}
 use Rattle.newt_host.specs.Outside.{Outside}
 use Rattle.newt_spec_image.specs.Pages.{pages}
+use Rattle.newt_spec_image.specs.Records.{version}
 use Rattle.newt_pagebook.specs.Book.{Numbers, IsSameFor}
 use Rattle.newt_spec_store.specs.Laid.{bare}
 use Rattle.newt_spec_store.specs.OfImage.{blocks_of}
@@ -28,13 +29,13 @@ use Rattle.newt_store_indexed.specs.Stands.{StandsForOne, StandsOn}
 pub formed_read : (bytes : List ℕ) (s : Plain) → readable bytes ≡ Some s → IsTrue (well_formed s)
 formed_read bytes s h =
     let is = image-sound stream_graph bytes s h in
-    (both (well_formed s) (fits (blocks_of bytes) s) (read-valid stream_graph (map.entries is.objects) (blocks_of bytes) s is.reads)).0
+    (both (well_formed s) (fits (blocks_of bytes) s) (read-valid stream_graph (version bytes) (map.entries is.objects) (blocks_of bytes) s is.reads)).0
 
 -- where memory and image stand for a store, the image is read as one whose soups are known
 pub read_as : (catalog : Catalog) (rows : List SoupRanges) (now : List ℕ) → StandsForOne catalog rows now → (s : Plain) × (readable now ≡ Some s) × (bare s ≡ bare_store catalog.directory)
 read_as catalog rows now one = (
   one.plain,
-  read-back catalog.directory (place_of catalog.places) (names_of catalog.names) one.stands.texts one.plain now one.stands.holds one.stands.describes one.stands.fits,
+  read-back catalog.directory (place_of catalog.places) (names_of catalog.names) one.stands.texts one.plain now one.stands.holds one.stands.describes one.stands.fits one.stands.keeps,
   one.stands.describes.bare_is,
 )
 

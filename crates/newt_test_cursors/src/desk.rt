@@ -128,8 +128,10 @@ fn the_33rd_cursor_is_refused(rt: HostRuntime) -> Result<(), Fail> {
 
 /// Whether the query of a cursor is over the soups of this name.
 fn is_over(desk: &Desk, cursor: u8, name: &[u8]) -> bool {
-    desk.query(cursor)
-        .is_some_and(|query| query.name.list() == name)
+    match desk.query(cursor) {
+        Some(query) => query.name.list() == name,
+        None => false,
+    }
 }
 
 fn close_and_open(rt: &impl Abort, alloc: Global, desk: &mut Desk) -> Result<(), Fail> {

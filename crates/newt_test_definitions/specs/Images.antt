@@ -4,9 +4,10 @@ use Rattle.std.specs.Prelude.{replicate}
 use Rattle.newt_graph.specs.Graph.{RawGraph}
 use Rattle.newt_spec_nsof.specs.Flat.{flat}
 use Rattle.newt_spec_nsof.specs.Lengths.{skeleton}
-use Rattle.newt_spec_store.specs.Store.{Entry, Store, make_soup, add_entry, change_soup, new_store}
+use Rattle.newt_spec_store.specs.Store.{Entry, Store, make_soup, add_entry, change_soup, new_store, with_info}
 use Rattle.newt_spec_store.specs.Cost.{directory_bytes}
 use Rattle.newt_spec_store.specs.Image.{Objects, entry_bytes}
+use Rattle.newt_test_definitions.specs.Graphs.{one_slot}
 use Rattle.newt_test_definitions.specs.Worlds.{wave, S}
 
 -- a reader of one flat text, for the example
@@ -30,3 +31,11 @@ abbrev pub objects_with_wave : Objects
 objects_with_wave =
     (2, replicate 3 0) ∷ (0, directory_bytes with_wave) ∷ (1, entry_bytes 0 wave_entry (2 ∷ []))
     ∷ []
+
+-- a reader of another flat text
+abbrev pub reads_slot : List ℕ → Option RawGraph
+reads_slot text = if bytes_eq text (flat one_slot) then Some one_slot else None
+
+-- a store with one soup, which has an info frame
+abbrev pub with_slot : Store
+with_slot = change_soup S (with_info (Some one_slot)) (make_soup S internal)

@@ -91,6 +91,16 @@ pub fn tags_from_text()
         ∷ "ok 2" ∷ "ok 5" ∷ "ok 0" ∷ []) }
 {}
 
+pub fn infos_from_text()
+    ensures { answers (blank_units 1) (in_lines ("format 0 Internal 7" ∷ "mount 0" ∷ "soup 0 S"
+        ∷ "info 0 S" ∷ "info 0 S {ver: 2}" ∷ "info 0 S" ∷ "info 0 S 5" ∷ "info 0 S <<w:*4>>"
+        ∷ "info 0 S {b: <<w:*4>>}" ∷ "info 0 S" ∷ "info 0 S nil" ∷ "info 0 S" ∷ "info 0 T"
+        ∷ "info 1 S {}" ∷ "info 0 S {a:" ∷ []))
+        ≡ in_lines ("ok" ∷ "ok 7 Internal" ∷ "ok 0" ∷ "ok nil" ∷ "ok" ∷ "ok {ver: 2}"
+        ∷ "error 44 info" ∷ "error 44 info" ∷ "error 44 info" ∷ "ok {ver: 2}" ∷ "ok" ∷ "ok nil"
+        ∷ "error 30 soup" ∷ "error 20 unit" ∷ "error 3 literal" ∷ []) }
+{}
+
 pub fn ranges_from_text()
     ensures { answers (blank_units 1) (in_lines ("format 0 Internal 7" ∷ "mount 0" ∷ "soup 0 S"
         ∷ "add 0 S {v: <<wave:*1200>>}" ∷ "vwrite 0 S 0 v 499 4142" ∷ "vread 0 S 0 v 498 4"

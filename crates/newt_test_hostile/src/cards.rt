@@ -85,11 +85,17 @@ fn a_changed_card_opens_as_the_format_says(rt: HostRuntime) -> Result<(), Fail> 
     expect_rows(alloc, &base(alloc)?, CARDS)
 }
 
+/// Where the blocks that vote begin.
+const VOTES: &[usize] = &[0, 4096, 8192];
+
 /// Whether all blocks that vote do so for a bank.
 fn all_vote(image: &[u8], bank: u8) -> bool {
-    [0usize, 4096, 8192]
-        .iter()
-        .all(|at| image.get(*at) == Some(&bank))
+    for at in VOTES {
+        if image.get(*at) != Some(&bank) {
+            return false;
+        }
+    }
+    true
 }
 
 /// Behind a record that is not begun a change goes to the other bank, for which all three vote then.

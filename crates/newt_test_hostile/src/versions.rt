@@ -20,16 +20,16 @@ const PAGE: usize = 500;
 
 /// Appends the pages of a directory, each with its number, object 0, its part and the whole length.
 fn push_pages(record: &mut Vec<u8>, directory: &[u8]) -> Result<(), Fail> {
-    let len = directory.len() as u32;
-    for (number, part) in (0u32..).zip(directory.chunks(PAGE)) {
+    let len = u32::try_from(directory.len()).unwrap_or(u32::MAX);
+    let mut number = 0u32;
+    for part in directory.chunks(PAGE) {
         for word in [number, 0, number, len] {
             record.extend_from_slice(&word.to_be_bytes())?;
         }
         record.extend_from_slice(part)?;
-        record.resize(
-            record.len().saturating_add(PAGE.saturating_sub(part.len())),
-            0,
-        )?;
+        let end = record.len().saturating_add(PAGE.saturating_sub(part.len()));
+        record.resize(end, 0)?;
+        number = number.saturating_add(1);
     }
     Ok(())
 }
@@ -38,12 +38,13 @@ fn push_pages(record: &mut Vec<u8>, directory: &[u8]) -> Result<(), Fail> {
 fn card_of(alloc: Global, count: u32, version: &[u8], directory: &[u8]) -> Result<Vec<u8>, Fail> {
     let mut pages = Vec::new(alloc);
     push_pages(&mut pages, directory)?;
-    let puts = directory.len().div_ceil(PAGE) as u16;
+    let puts = u16::try_from(directory.len().div_ceil(PAGE)).unwrap_or(u16::MAX);
+    let len = u32::try_from(pages.len()).unwrap_or(u32::MAX);
     let mut bank = NAME.to_vec(alloc)?;
     bank.extend_from_slice(version)?;
     bank.resize(16, 0)?;
     bank.push(0)?;
-    bank.extend_from_slice(&(pages.len() as u32).saturating_add(4).to_be_bytes())?;
+    bank.extend_from_slice(&len.saturating_add(4).to_be_bytes())?;
     bank.extend_from_slice(&puts.to_be_bytes())?;
     bank.extend_from_slice(&[0, 0])?;
     bank.extend_from_slice(&pages)?;
@@ -135,7 +136,7 @@ fn directory_of(alloc: Global, soups: u8, indexes: u8) -> Result<Vec<u8>, Fail> 
     bytes.push(soups)?;
     for soup in 0..soups {
         let name = format!(in alloc; "S{soup}")?;
-        bytes.push(name.len() as u8)?;
+        bytes.push(u8::try_from(name.len()).unwrap_or(u8::MAX))?;
         bytes.extend_from_slice(name.as_bytes())?;
         bytes.extend_from_slice(&[0, soup, 0, 0, 0, 0, indexes])?;
         for index in 0..indexes {

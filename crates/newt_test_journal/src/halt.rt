@@ -7,7 +7,7 @@ use std::num::ParseIntError;
 /// Why a row is not played: out of memory, a fault of the device, a text that is no row or does
 /// not fit the card, another thing than is wanted, or, of what a crash leaves within the call of a
 /// number, other records.
-#[derive(Clone, Copy, Debug, PartialEq, Eq)]
+#[derive(Clone, Copy, Debug)]
 pub(crate) enum Halt {
     Memory,
     Device,

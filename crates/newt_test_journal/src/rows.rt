@@ -128,6 +128,15 @@ fn expect_wear(host: &MemHost, last: &Last, word: &str, want: &str) -> Result<()
     Ok(())
 }
 
+fn expect_byte(part: &[u8], byte: u8) -> Result<(), Halt> {
+    for held in part {
+        if *held != byte {
+            return Err(Halt::Other);
+        }
+    }
+    Ok(())
+}
+
 // Each byte between two places.
 fn expect_all(host: &MemHost, places: &str, want: &str) -> Result<(), Halt> {
     if !has_card(host) {
@@ -137,8 +146,7 @@ fn expect_all(host: &MemHost, places: &str, want: &str) -> Result<(), Halt> {
     let (from, to): (usize, usize) = (from.parse()?, to.parse()?);
     let byte: u8 = want.parse()?;
     match host.bytes(CARD).get(from..to) {
-        Some(part) if part.iter().all(|held| *held == byte) => Ok(()),
-        Some(_) => Err(Halt::Other),
+        Some(part) => expect_byte(part, byte),
         None => Err(Halt::Row),
     }
 }

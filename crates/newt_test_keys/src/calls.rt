@@ -5,7 +5,7 @@ use crate::missing::rising;
 use crate::paths::{is_same, named, reached};
 use crate::walks::{near, walked};
 use newt_fold::folded;
-use newt_keys::{Kind, Order};
+use newt_keys::Order;
 use newt_test_tables::Asks;
 use std::alloc::Global;
 use std::test::Fail;
@@ -33,7 +33,7 @@ pub(crate) enum Call {
     /// Whether keys of four integers rise.
     Rising(Order),
     /// The ids of entries, from the first of the index of their keys to its last, and back.
-    Walked(Kind, Order),
+    Walked,
     /// The ids behind and before a pair, which the index need not have.
     Near,
 }
@@ -50,7 +50,7 @@ impl Asks for Call {
             Call::Key(declared) => key(alloc, declared, text),
             Call::Written(declared) => written(alloc, declared, text),
             Call::Rising(order) => rising(alloc, *order, text),
-            Call::Walked(kind, order) => walked(alloc, *kind, *order, text),
+            Call::Walked => walked(alloc, text),
             Call::Near => near(alloc, text),
         }
     }

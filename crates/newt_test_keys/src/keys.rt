@@ -68,11 +68,11 @@ fn told_part(alloc: Global, part: &Part) -> Result<String, Fail> {
 }
 
 fn push_parts(alloc: Global, to: &mut String, key: &Key) -> Result<(), Fail> {
-    for (i, part) in key.list().iter().enumerate() {
-        if i > 0 {
-            to.push(' ')?;
-        }
+    let mut mark = "";
+    for part in key.list() {
+        to.push_str(mark)?;
         to.push_str(&told_part(alloc, part)?)?;
+        mark = " ";
     }
     Ok(())
 }
@@ -169,12 +169,11 @@ fn a_value_of_a_query_is_a_key_of_the_types(rt: HostRuntime) -> Result<(), Fail>
 
 #[test]
 fn each_type_takes_its_values(rt: HostRuntime) -> Result<(), Fail> {
-    for (kind, row) in [
-        (Kind::Int, "{a: -536870912} => -536870912"),
-        (Kind::Char, "{a: $Z} => $90"),
-        (Kind::Symbol, "{a: 'ABC} => 'abc"),
-    ] {
-        expect_rows(rt.alloc(), &Call::Key(Declared::One(kind)), row)?;
-    }
-    Ok(())
+    let alloc = rt.alloc();
+    let integer = Call::Key(Declared::One(Kind::Int));
+    expect_rows(alloc, &integer, "{a: -536870912} => -536870912")?;
+    let character = Call::Key(Declared::One(Kind::Char));
+    expect_rows(alloc, &character, "{a: $Z} => $90")?;
+    let symbol = Call::Key(Declared::One(Kind::Symbol));
+    expect_rows(alloc, &symbol, "{a: 'ABC} => 'abc")
 }

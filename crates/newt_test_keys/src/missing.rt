@@ -53,13 +53,29 @@ fn keys(alloc: Global, spec: &IndexSpec, text: &str) -> Result<Vec<Key>, Fail> {
     Ok(keys)
 }
 
+/// Whether a key stands at this place: behind those before it, and before those behind it, and
+/// ties with itself.
+fn stands_at(place: usize, key: &Key, keys: &[Key], spec: &IndexSpec) -> bool {
+    let mut other: usize = 0;
+    for at_other in keys {
+        if compare(key, at_other, spec) != place.cmp(&other) {
+            return false;
+        }
+        other = other.wrapping_add(1);
+    }
+    true
+}
+
 /// Whether each key stands before those behind it, and ties with itself.
 fn rise(keys: &[Key], spec: &IndexSpec) -> bool {
-    keys.iter().enumerate().all(|(i, a)| {
-        keys.iter()
-            .enumerate()
-            .all(|(j, b)| compare(a, b, spec) == i.cmp(&j))
-    })
+    let mut place: usize = 0;
+    for key in keys {
+        if !stands_at(place, key, keys, spec) {
+            return false;
+        }
+        place = place.wrapping_add(1);
+    }
+    true
 }
 
 /// Whether keys of four integers rise.

@@ -38,8 +38,10 @@ fn add(index: &mut Index, uid: u32, entry: &Graph) -> Result<(), Fail> {
 /// The index of entries, whose ids rise from 0.
 fn filled(alloc: Global, spec: IndexSpec, entries: &[Graph]) -> Result<Index, Fail> {
     let mut index = Index::new(alloc, Some(spec));
-    for (entry, uid) in entries.iter().zip(0..100) {
+    let mut uid: u32 = 0;
+    for entry in entries {
         add(&mut index, uid, entry)?;
+        uid = uid.wrapping_add(1);
     }
     Ok(index)
 }
@@ -159,11 +161,35 @@ fn walked_in(alloc: Global, index: &Index, entries: &[Graph]) -> Result<String, 
     Ok(format!(in alloc; "{text}of {}", index.len())?)
 }
 
+fn kind_of(word: &str) -> Kind {
+    match word {
+        "string" => Kind::Text,
+        "symbol" => Kind::Symbol,
+        "int" => Kind::Int,
+        _ => Kind::Char,
+    }
+}
+
+fn order_of(word: &str) -> Order {
+    match word {
+        "ascend" => Order::Ascend,
+        _ => Order::Descend,
+    }
+}
+
+/// The declaration of a row: `string`, `symbol`, `int` or `char`, a colon, and `ascend` or
+/// `descend`.
+fn declared(alloc: Global, words: &str) -> Result<IndexSpec, Fail> {
+    let (kind, order) = words.split_once(':').ok_or("an order")?;
+    declaration(alloc, kind_of(kind), order_of(order))
+}
+
 /// The ids of entries, from the first of the index of their keys to its last, and back. They rise
-/// by the order of keys.
-pub(crate) fn walked(alloc: Global, kind: Kind, order: Order, text: &str) -> Result<String, Fail> {
+/// by the order of keys. Before them stands what is declared.
+pub(crate) fn walked(alloc: Global, text: &str) -> Result<String, Fail> {
+    let (words, text) = text.split_once(' ').ok_or("entries")?;
     let entries = entries_of(alloc, text)?;
-    let index = filled(alloc, declaration(alloc, kind, order)?, &entries)?;
+    let index = filled(alloc, declared(alloc, words)?, &entries)?;
     walked_in(alloc, &index, &entries)
 }
 
@@ -183,60 +209,25 @@ pub(crate) fn near(alloc: Global, text: &str) -> Result<String, Fail> {
 
 /// The ids of a walk forward and of one back, and how many there are. Ties rise by id in both
 /// orders, and an entry without a key is not there.
-const ASCENDING: &str = "
-{k: \"x\"} | {k: \"y\"} | {k: \"X\"} => 0 2 1 1 2 0 of 3
-{k: \"a\"} | {k: 5} | {k: \"c\"} | {k: \"e\"} => 0 2 3 3 2 0 of 3
-{k: 5} => of 0
-";
-
-const DESCENDING: &str = "
-{k: \"x\"} | {k: \"y\"} | {k: \"x\"} => 1 0 2 2 0 1 of 3
+const TIES: &str = "
+string:ascend {k: \"x\"} | {k: \"y\"} | {k: \"X\"} => 0 2 1 1 2 0 of 3
+string:ascend {k: \"a\"} | {k: 5} | {k: \"c\"} | {k: \"e\"} => 0 2 3 3 2 0 of 3
+string:ascend {k: 5} => of 0
+string:descend {k: \"x\"} | {k: \"y\"} | {k: \"x\"} => 1 0 2 2 0 1 of 3
 ";
 
 /// Keys that begin one another, each before those on its left: so none is told from another by its
 /// id.
-const BEGINNINGS: [(Kind, Order, &str); 8] = [
-    (
-        Kind::Text,
-        Order::Ascend,
-        "{k: \"ab\"} | {k: \"a \"} | {k: \"a\\u0000b\"} | {k: \"a\\u0000\"} | {k: \"a\", l: \"b\"} | {k: \"a\", l: \"\"} | {k: \"a\", m: \"\"} | {k: \"a\"} | {k: \"\\u0000\"} | {k: \"\"} => 9 8 7 6 5 4 3 2 1 0 0 1 2 3 4 5 6 7 8 9 of 10",
-    ),
-    (
-        Kind::Text,
-        Order::Descend,
-        "{k: \"\"} | {k: \"\\u0000\"} | {k: \"a\", l: \"\"} | {k: \"a\", l: \"b\"} | {k: \"a\", m: \"\"} | {k: \"a\"} | {k: \"a\\u0000\"} | {k: \"a\\u0000b\"} | {k: \"a \"} | {k: \"ab\"} => 9 8 7 6 5 4 3 2 1 0 0 1 2 3 4 5 6 7 8 9 of 10",
-    ),
-    (
-        Kind::Symbol,
-        Order::Ascend,
-        "{k: 'ab} | {k: '|a b|} | {k: 'a, l: 'b} | {k: 'a, l: 'a} | {k: 'a, m: 'a} | {k: 'A} => 5 4 3 2 1 0 0 1 2 3 4 5 of 6",
-    ),
-    (
-        Kind::Symbol,
-        Order::Descend,
-        "{k: 'a, l: 'a} | {k: 'a, l: 'b} | {k: 'a, m: 'a} | {k: 'A} | {k: '|a b|} | {k: 'ab} => 5 4 3 2 1 0 0 1 2 3 4 5 of 6",
-    ),
-    (
-        Kind::Int,
-        Order::Ascend,
-        "{k: 256} | {k: 1, l: 0} | {k: 1, l: -536870912} | {k: 1, m: 1} | {k: 1} | {k: 0} | {k: -1} | {k: -536870912} => 7 6 5 4 3 2 1 0 0 1 2 3 4 5 6 7 of 8",
-    ),
-    (
-        Kind::Int,
-        Order::Descend,
-        "{k: -536870912} | {k: -1} | {k: 0} | {k: 1, l: -536870912} | {k: 1, l: 0} | {k: 1, m: 1} | {k: 1} | {k: 256} => 7 6 5 4 3 2 1 0 0 1 2 3 4 5 6 7 of 8",
-    ),
-    (
-        Kind::Char,
-        Order::Ascend,
-        "{k: $\\0100} | {k: $b} | {k: $a, l: $b} | {k: $a, l: $a} | {k: $a, m: $a} | {k: $a} => 5 4 3 2 1 0 0 1 2 3 4 5 of 6",
-    ),
-    (
-        Kind::Char,
-        Order::Descend,
-        "{k: $a, l: $a} | {k: $a, l: $b} | {k: $a, m: $a} | {k: $a} | {k: $b} | {k: $\\0100} => 5 4 3 2 1 0 0 1 2 3 4 5 of 6",
-    ),
-];
+const BEGINNINGS: &str = "
+string:ascend {k: \"ab\"} | {k: \"a \"} | {k: \"a\\u0000b\"} | {k: \"a\\u0000\"} | {k: \"a\", l: \"b\"} | {k: \"a\", l: \"\"} | {k: \"a\", m: \"\"} | {k: \"a\"} | {k: \"\\u0000\"} | {k: \"\"} => 9 8 7 6 5 4 3 2 1 0 0 1 2 3 4 5 6 7 8 9 of 10
+string:descend {k: \"\"} | {k: \"\\u0000\"} | {k: \"a\", l: \"\"} | {k: \"a\", l: \"b\"} | {k: \"a\", m: \"\"} | {k: \"a\"} | {k: \"a\\u0000\"} | {k: \"a\\u0000b\"} | {k: \"a \"} | {k: \"ab\"} => 9 8 7 6 5 4 3 2 1 0 0 1 2 3 4 5 6 7 8 9 of 10
+symbol:ascend {k: 'ab} | {k: '|a b|} | {k: 'a, l: 'b} | {k: 'a, l: 'a} | {k: 'a, m: 'a} | {k: 'A} => 5 4 3 2 1 0 0 1 2 3 4 5 of 6
+symbol:descend {k: 'a, l: 'a} | {k: 'a, l: 'b} | {k: 'a, m: 'a} | {k: 'A} | {k: '|a b|} | {k: 'ab} => 5 4 3 2 1 0 0 1 2 3 4 5 of 6
+int:ascend {k: 256} | {k: 1, l: 0} | {k: 1, l: -536870912} | {k: 1, m: 1} | {k: 1} | {k: 0} | {k: -1} | {k: -536870912} => 7 6 5 4 3 2 1 0 0 1 2 3 4 5 6 7 of 8
+int:descend {k: -536870912} | {k: -1} | {k: 0} | {k: 1, l: -536870912} | {k: 1, l: 0} | {k: 1, m: 1} | {k: 1} | {k: 256} => 7 6 5 4 3 2 1 0 0 1 2 3 4 5 6 7 of 8
+char:ascend {k: $\\0100} | {k: $b} | {k: $a, l: $b} | {k: $a, l: $a} | {k: $a, m: $a} | {k: $a} => 5 4 3 2 1 0 0 1 2 3 4 5 of 6
+char:descend {k: $a, l: $a} | {k: $a, l: $b} | {k: $a, m: $a} | {k: $a} | {k: $b} | {k: $\\0100} => 5 4 3 2 1 0 0 1 2 3 4 5 of 6
+";
 
 /// The ids behind and before a pair that is there, and one that is not.
 const NEAR: &str = "
@@ -248,18 +239,12 @@ const NEAR: &str = "
 
 #[test]
 fn ties_rise_by_id_in_both_orders(rt: HostRuntime) -> Result<(), Fail> {
-    let ascending = Call::Walked(Kind::Text, Order::Ascend);
-    expect_rows(rt.alloc(), &ascending, ASCENDING)?;
-    let descending = Call::Walked(Kind::Text, Order::Descend);
-    expect_rows(rt.alloc(), &descending, DESCENDING)
+    expect_rows(rt.alloc(), &Call::Walked, TIES)
 }
 
 #[test]
 fn keys_that_begin_others_stand_as_they_compare(rt: HostRuntime) -> Result<(), Fail> {
-    for (kind, order, rows) in BEGINNINGS {
-        expect_rows(rt.alloc(), &Call::Walked(kind, order), rows)?;
-    }
-    Ok(())
+    expect_rows(rt.alloc(), &Call::Walked, BEGINNINGS)
 }
 
 #[test]

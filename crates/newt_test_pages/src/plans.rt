@@ -1,11 +1,19 @@
-//! Objects by plans: what is put is read back, also when the card is opened anew.
+//! Objects by plans: what is put is read back, also when the card is opened anew. A table is played
+//! on both books. A row is one of these:
+//!
+//! - `put ID SIZE`, `delete ID`: an object comes, in the place of another of its id, or goes.
+//! - `forget`: to put the object 7 anew, to put the object 9, and to delete the object 8 is planned,
+//!   and each plan is forgotten.
+//! - `live PAGES`: so many pages are live.
+//! - `next FROM PAGE`: the first page from a number on.
+//! - `held ID:SIZE ..`: these objects are there, and no others, also when the card is opened anew.
 ghost use Rattle.std.specs.Prelude.{◌≡◌, ◌<◌, ◌^◌, ℕ, [], true, length, OnOk, IfOk};
 ghost use Rattle.newt_test_pages.specs.Changes.{AreAtRest, AreStill};
 ghost use Rattle.newt_host.specs.Outside.{Outside};
 ghost use Rattle.newt_memhost.specs.Outside.{outside_of};
 ghost use Rattle.newt_pagebook.specs.Book.{Numbers};
 
-use crate::card::{fresh, opened};
+use crate::card::{expect, fresh, numbers, opened};
 use crate::changes::{assert_kept, delete, delete_plan, put, put_plan, scanned};
 use crate::objects::text;
 use newt_memhost::MemHost;
@@ -16,129 +24,6 @@ use newt_pages::DiskBook;
 use std::alloc::{AllocError, Global};
 use std::process::Abort;
 use std::test::Fail;
-
-// Puts these objects, one after another.
-fn put_each<P: PageBook>(
-    alloc: Global,
-    host: &mut MemHost,
-    book: &mut P,
-    objects: &mut Objects,
-    all: &[(u8, u32)],
-) -> Result<(), Fail>
-    requires book { P.stands true book.old (outside_of host.old) × (P.place book.old ≡ 0) }
-    requires objects { AreAtRest objects.old (P.numbers book.old) 0 (outside_of host.old) }
-    ensures book { OnOk result (P.stands true book.new (outside_of host.new) ×
-        (P.place book.new ≡ 0)) }
-    ensures objects { OnOk result (AreAtRest objects.new (P.numbers book.new) 0
-        (outside_of host.new)) }
-{
-    for (id, size) in all {
-        put(alloc, host, book, objects, *id, *size)?;
-    }
-    Ok(())
-}
-
-fn keep_each<P: PageBook>(
-    rt: &impl Abort,
-    alloc: Global,
-    host: &mut MemHost,
-    book: &mut P,
-    objects: &mut Objects,
-    all: &[(u8, u32)],
-    pages: u32,
-) -> Result<(), Fail>
-    requires book { P.stands true book.old (outside_of host.old) × (P.place book.old ≡ 0) }
-    requires objects { AreAtRest objects.old (P.numbers book.old) 0 (outside_of host.old) }
-{
-    put_each(alloc, host, book, objects, all)?;
-    assert!(rt; book.live() == pages);
-    assert_kept(rt, alloc, host, book, objects, all)
-}
-
-// Each object is put into a batch of its own, and is there beside the others.
-fn keeps<P: PageBook>(
-    rt: &impl Abort,
-    alloc: Global,
-    blocks: u32,
-    all: &[(u8, u32)],
-    pages: u32,
-) -> Result<(), Fail> {
-    let mut host = fresh::<P>(rt, alloc, blocks)?;
-    let mut book: P = opened(rt, alloc, &mut host)?;
-    let mut objects = scanned(alloc, &mut host, &mut book)?;
-    keep_each(rt, alloc, &mut host, &mut book, &mut objects, all, pages)
-}
-
-#[test]
-fn objects_are_put_and_found_again(rt: HostRuntime) -> Result<(), Fail> {
-    let all = [(3u8, 0u32), (5, 1), (6, 500), (8, 501), (9, 1_000_000)];
-    keeps::<PlainBook>(&rt, rt.alloc(), 520, &all, 2005)?;
-    keeps::<DiskBook>(&rt, rt.alloc(), 520, &all, 2005)
-}
-
-fn shorten<P: PageBook>(
-    rt: &impl Abort,
-    alloc: Global,
-    host: &mut MemHost,
-    book: &mut P,
-    objects: &mut Objects,
-) -> Result<(), Fail>
-    requires book { P.stands true book.old (outside_of host.old) × (P.place book.old ≡ 0) }
-    requires objects { AreAtRest objects.old (P.numbers book.old) 0 (outside_of host.old) }
-{
-    put_each(alloc, host, book, objects, &[(7, 1_200), (8, 501)])?;
-    assert!(rt; book.live() == 5);
-    put_each(alloc, host, book, objects, &[(7, 400)])?;
-    assert!(rt; book.live() == 3);
-    assert_kept(rt, alloc, host, book, objects, &[(7, 400), (8, 501)])
-}
-
-// What is put again is there instead: of the longer object no part is left.
-fn shortens<P: PageBook>(rt: &impl Abort, alloc: Global) -> Result<(), Fail> {
-    let mut host = fresh::<P>(rt, alloc, 13)?;
-    let mut book: P = opened(rt, alloc, &mut host)?;
-    let mut objects = scanned(alloc, &mut host, &mut book)?;
-    shorten(rt, alloc, &mut host, &mut book, &mut objects)
-}
-
-#[test]
-fn a_shorter_object_leaves_no_old_part(rt: HostRuntime) -> Result<(), Fail> {
-    shortens::<PlainBook>(&rt, rt.alloc())?;
-    shortens::<DiskBook>(&rt, rt.alloc())
-}
-
-fn delete_and_put<P: PageBook>(
-    rt: &impl Abort,
-    alloc: Global,
-    host: &mut MemHost,
-    book: &mut P,
-    objects: &mut Objects,
-) -> Result<(), Fail>
-    requires book { P.stands true book.old (outside_of host.old) × (P.place book.old ≡ 0) }
-    requires objects { AreAtRest objects.old (P.numbers book.old) 0 (outside_of host.old) }
-{
-    put_each(alloc, host, book, objects, &[(7, 1_200), (8, 501)])?;
-    delete(rt, alloc, host, book, objects, 7)?;
-    assert!(rt; book.next_page(0) == Some(3));
-    assert_kept(rt, alloc, host, book, objects, &[(8, 501)])?;
-    put_each(alloc, host, book, objects, &[(9, 501)])?;
-    assert!(rt; book.next_page(2) == Some(3));
-    assert_kept(rt, alloc, host, book, objects, &[(8, 501), (9, 501)])
-}
-
-// A deleted object's pages are gone, and their numbers are given again.
-fn deletes<P: PageBook>(rt: &impl Abort, alloc: Global) -> Result<(), Fail> {
-    let mut host = fresh::<P>(rt, alloc, 13)?;
-    let mut book: P = opened(rt, alloc, &mut host)?;
-    let mut objects = scanned(alloc, &mut host, &mut book)?;
-    delete_and_put(rt, alloc, &mut host, &mut book, &mut objects)
-}
-
-#[test]
-fn a_deleted_object_is_gone(rt: HostRuntime) -> Result<(), Fail> {
-    deletes::<PlainBook>(&rt, rt.alloc())?;
-    deletes::<DiskBook>(&rt, rt.alloc())
-}
 
 // Plans to put an object, and forgets the plan.
 fn put_and_forget(
@@ -185,42 +70,158 @@ fn plan_and_forget(rt: &impl Abort, alloc: Global, objects: &mut Objects) -> Res
     Ok(())
 }
 
-fn forget_and_put<P: PageBook>(
+// The objects of a row, each with its size.
+fn objects_of(alloc: Global, words: &str) -> Result<Vec<(u8, u32)>, AllocError> {
+    let mut all = Vec::new(alloc);
+    for word in words.split_whitespace() {
+        let (id, size) = word.split_once(':').unwrap_or((word, ""));
+        let id: u8 = id.parse().unwrap_or(0);
+        let size: u32 = size.parse().unwrap_or(0);
+        all.push((id, size))?;
+    }
+    Ok(all)
+}
+
+// Looks for what a row says of pages or objects, and changes nothing.
+fn look<P: PageBook>(
+    rt: &impl Abort,
+    alloc: Global,
+    host: &mut MemHost,
+    book: &mut P,
+    objects: &Objects,
+    row: &str,
+) -> Result<(), Fail>
+    requires book { P.stands true book.old (outside_of host.old) × (P.place book.old ≡ 0) }
+    requires objects { AreAtRest objects.now (P.numbers book.old) 0 (outside_of host.old) }
+    ensures book { OnOk result (P.stands true book.new (outside_of host.new) ×
+        (P.place book.new ≡ 0)) }
+    ensures objects { OnOk result (AreAtRest objects.now (P.numbers book.new) 0
+        (outside_of host.new)) }
+{
+    let (word, rest) = row.split_once(' ').unwrap_or((row, ""));
+    let (one, other, _, _) = numbers(rest);
+    match word {
+        "live" => expect(book.live() == one, row),
+        "next" => expect(book.next_page(one) == Some(other), row),
+        "held" => assert_kept(rt, alloc, host, book, objects, &objects_of(alloc, rest)?),
+        _ => Err(Fail::new("no row")),
+    }
+}
+
+// Plays one row.
+fn play_row<P: PageBook>(
     rt: &impl Abort,
     alloc: Global,
     host: &mut MemHost,
     book: &mut P,
     objects: &mut Objects,
+    row: &str,
+) -> Result<(), Fail>
+    requires book { P.stands true book.old (outside_of host.old) × (P.place book.old ≡ 0) }
+    requires objects { AreAtRest objects.old (P.numbers book.old) 0 (outside_of host.old) }
+    ensures book { OnOk result (P.stands true book.new (outside_of host.new) ×
+        (P.place book.new ≡ 0)) }
+    ensures objects { OnOk result (AreAtRest objects.new (P.numbers book.new) 0
+        (outside_of host.new)) }
+{
+    let (word, rest) = row.split_once(' ').unwrap_or((row, ""));
+    let (id, size, _, _) = numbers(rest);
+    match word {
+        "put" => put(alloc, host, book, objects, (id % 256) as u8, size),
+        "delete" => delete(rt, alloc, host, book, objects, id),
+        "forget" => {
+            plan_and_forget(rt, alloc, objects)?;
+            Ok(())
+        }
+        _ => look(rt, alloc, host, book, objects, row),
+    }
+}
+
+// Plays the rows of a table, one after another.
+fn play_rows<P: PageBook>(
+    rt: &impl Abort,
+    alloc: Global,
+    host: &mut MemHost,
+    book: &mut P,
+    objects: &mut Objects,
+    table: &str,
 ) -> Result<(), Fail>
     requires book { P.stands true book.old (outside_of host.old) × (P.place book.old ≡ 0) }
     requires objects { AreAtRest objects.old (P.numbers book.old) 0 (outside_of host.old) }
 {
-    put_each(alloc, host, book, objects, &[(7, 1_200), (8, 501)])?;
-    plan_and_forget(rt, alloc, objects)?;
-    assert_kept(rt, alloc, host, book, objects, &[(7, 1_200), (8, 501)])?;
-    put_each(alloc, host, book, objects, &[(9, 400)])?;
-    assert_kept(
-        rt,
-        alloc,
-        host,
-        book,
-        objects,
-        &[(7, 1_200), (8, 501), (9, 400)],
-    )
+    for row in table.lines() {
+        play_row(rt, alloc, host, book, objects, row)?;
+    }
+    Ok(())
 }
 
-// What is forgotten was never there, and may be planned again.
-fn forgets<P: PageBook>(rt: &impl Abort, alloc: Global) -> Result<(), Fail> {
-    let mut host = fresh::<P>(rt, alloc, 13)?;
+// Plays a table on a card of so many blocks.
+fn play<P: PageBook>(rt: &impl Abort, alloc: Global, blocks: u32, table: &str) -> Result<(), Fail> {
+    let mut host = fresh::<P>(rt, alloc, blocks)?;
     let mut book: P = opened(rt, alloc, &mut host)?;
     let mut objects = scanned(alloc, &mut host, &mut book)?;
-    forget_and_put(rt, alloc, &mut host, &mut book, &mut objects)
+    play_rows(rt, alloc, &mut host, &mut book, &mut objects, table)
+}
+
+// The same with each book.
+fn play_both(rt: &impl Abort, alloc: Global, blocks: u32, table: &str) -> Result<(), Fail> {
+    play::<PlainBook>(rt, alloc, blocks, table)?;
+    play::<DiskBook>(rt, alloc, blocks, table)
+}
+
+// Each object is put into a batch of its own, and is there beside the others.
+const PUTS: &str = "put 3 0
+put 5 1
+put 6 500
+put 8 501
+put 9 1000000
+live 2005
+held 3:0 5:1 6:500 8:501 9:1000000";
+
+// What is put again is there instead: of the longer object no part is left.
+const SHORTER: &str = "put 7 1200
+put 8 501
+live 5
+put 7 400
+live 3
+held 7:400 8:501";
+
+// A deleted object's pages are gone, and their numbers are given again.
+const DELETES: &str = "put 7 1200
+put 8 501
+delete 7
+next 0 3
+held 8:501
+put 9 501
+next 2 3
+held 8:501 9:501";
+
+// What is forgotten was never there, and may be planned again.
+const FORGOTTEN: &str = "put 7 1200
+put 8 501
+forget
+held 7:1200 8:501
+put 9 400
+held 7:1200 8:501 9:400";
+
+#[test]
+fn objects_are_put_and_found_again(rt: HostRuntime) -> Result<(), Fail> {
+    play_both(&rt, rt.alloc(), 520, PUTS)
+}
+
+#[test]
+fn a_shorter_object_leaves_no_old_part(rt: HostRuntime) -> Result<(), Fail> {
+    play_both(&rt, rt.alloc(), 13, SHORTER)
+}
+
+#[test]
+fn a_deleted_object_is_gone(rt: HostRuntime) -> Result<(), Fail> {
+    play_both(&rt, rt.alloc(), 13, DELETES)
 }
 
 #[test]
 fn a_forgotten_plan_changes_nothing(rt: HostRuntime) -> Result<(), Fail> {
-    forgets::<PlainBook>(&rt, rt.alloc())?;
-    forgets::<DiskBook>(&rt, rt.alloc())
+    play_both(&rt, rt.alloc(), 13, FORGOTTEN)
 }
 
 // The batch with one put and one delete.
@@ -263,8 +264,7 @@ fn assert_few(rt: &impl Abort, numbers: &[u32]) {
 }
 
 fn assert_all(rt: &impl Abort, numbers: &[u32]) {
-    assert!(rt; numbers.len() == 65_535);
-    assert!(rt; numbers.last() == Some(&65_535));
+    assert!(rt; numbers.len() == 65_535 && numbers.last() == Some(&65_535));
 }
 
 #[test]

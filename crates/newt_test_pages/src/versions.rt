@@ -3,9 +3,9 @@ ghost use Rattle.std.specs.Prelude.{◌≡◌, true, OnOk};
 ghost use Rattle.newt_memhost.specs.Outside.{outside_of};
 
 use crate::batches::{batch_of, changed};
+use crate::books::vote_of;
 use crate::card::{CARD, assert_pages, committed, fresh, has_card, host_of, opened, pages_in};
 use crate::crashes::assert_either;
-use crate::tests::vote_of;
 use newt_host::Host;
 use newt_memhost::MemHost;
 use newt_pagebook::PageBook;

@@ -41,15 +41,15 @@ pub fn expect_outputs(
 
 #[test]
 fn numbers_the_statuses(rt: HostRuntime) {
-    for (status, number) in [
-        (Status::Ok, 0u8),
-        (Status::Usage, 2),
-        (Status::Memory, 3),
-        (Status::Device(Unit(7)), 4),
-        (Status::Source, 5),
-        (Status::Sink, 6),
-        (Status::TooLong, 7),
-    ] {
-        assert_eq!(rt; status.exit(), number);
-    }
+    assert_exit(&rt, Status::Ok, 0);
+    assert_exit(&rt, Status::Usage, 2);
+    assert_exit(&rt, Status::Memory, 3);
+    assert_exit(&rt, Status::Device(Unit(7)), 4);
+    assert_exit(&rt, Status::Source, 5);
+    assert_exit(&rt, Status::Sink, 6);
+    assert_exit(&rt, Status::TooLong, 7);
+}
+
+fn assert_exit(rt: &impl Abort, status: Status, number: u8) {
+    assert!(rt; status.exit() == number, "at {number}");
 }

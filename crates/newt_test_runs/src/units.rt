@@ -28,7 +28,12 @@ const FIRST_RECORD: &[u8] =
     b"NSTORE\x00\x02\x00\x00\x00\x00\x00\x00\x00\x00\x00\x00\x00\x02\x08\x00\x01\x00\x00\x00\x00\x00\x00\x00\x00\x00\x00\x00\x00\x00\x00\x00\x00\x00\x10\x08Internal\x00\x00\x00\x07\x00\x00\x00";
 
 fn are_all(bytes: &[u8], byte: u8) -> bool {
-    bytes.iter().all(|other| *other == byte)
+    for other in bytes {
+        if *other != byte {
+            return false;
+        }
+    }
+    true
 }
 
 /// Whether the first bank of a unit of 13 blocks has the first record alone, and the votes are for

@@ -21,7 +21,7 @@ const FRESH: &str = "
 00000000 00000000 00000000 00000010
   08496E7465726E616C00000007000000
   00*484
-FF*19943
+FF*19939
 00*20480
 ";
 
@@ -48,6 +48,7 @@ const OTHER_BANK: usize = 32_768;
 
 /// Info frames.
 const INFOS: &str = "
+format 0 Internal 7 => ok
 mount 0 => ok 7 Internal
 soup 0 S => ok 0
 info 0 S => ok nil
@@ -286,5 +287,5 @@ fn a_stop_within_the_first_change_loses_nothing(rt: HostRuntime) -> Result<(), F
     for pick in PICKS {
         counts.add(expect_safe(alloc, &host, Unit(0), pick, ASK, &looks)?);
     }
-    counts.expect(0, 0)
+    counts.expect(804, 81)
 }

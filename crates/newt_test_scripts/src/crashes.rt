@@ -85,6 +85,14 @@ fn ends_line(host: &MemHost, script: &[u8], call: u64) -> bool
     }
 }
 
+/// Whether the last image is this one.
+fn ends_with(images: &[Vec<u8>], image: &[u8]) -> bool {
+    match images.last() {
+        Some(last) => last.as_slice() == image,
+        None => false,
+    }
+}
+
 /// What a unit holds where a run of a script reads on behind a line, and what a next run answers
 /// over it.
 fn looks_of(
@@ -103,7 +111,7 @@ fn looks_of(
     for call in 0..host.calls() {
         if ends_line(host, script, call) {
             let Crash { image, .. } = host.images(unit, call, Pick::New)?;
-            if !images.last().is_some_and(|last| *last == image) {
+            if !ends_with(&images, &image) {
                 answer = look(alloc, ask, &image)?;
             }
             images.push(image)?;
@@ -133,19 +141,34 @@ pub fn looks_behind(
 
 /// How many replies have begun in an output.
 pub fn begun(output: &[u8]) -> usize {
-    let ended = output.iter().filter(|byte| **byte == b'\n').count();
+    let mut ended: usize = 0;
+    for byte in output {
+        if *byte == b'\n' {
+            ended = ended.saturating_add(1);
+        }
+    }
     match output.last() {
         Some(b'\n') | None => ended,
         Some(_) => ended.saturating_add(1),
     }
 }
 
+/// Whether this is what stands behind so many lines.
+fn is_at(bytes: &[u8], lines: usize, all: &[Vec<u8>]) -> bool {
+    match all.get(lines) {
+        Some(one) => bytes == one.as_slice(),
+        None => false,
+    }
+}
+
 /// Of so many lines and one more the first behind which this is what stands.
 fn place_of(bytes: &[u8], lines: usize, all: &[Vec<u8>]) -> Option<usize> {
-    for place in [lines, lines.saturating_add(1)] {
-        if all.get(place).is_some_and(|one| bytes == one.as_slice()) {
-            return Some(place);
-        }
+    let next = lines.saturating_add(1);
+    if is_at(bytes, lines, all) {
+        return Some(lines);
+    }
+    if is_at(bytes, next, all) {
+        return Some(next);
     }
     None
 }

@@ -3,7 +3,7 @@ use newt_graph::Graph;
 use newt_nsof_read::{NsofFault, decode};
 use newt_nsof_write::{encode, encode_flat, encoded_len, skeleton_len};
 use newt_test_tables::push_word;
-use std::alloc::Global;
+use std::alloc::{AllocError, Global};
 use std::test::Fail;
 
 /// Appends names of five letters, each with its length before it, no two of them the same.
@@ -42,16 +42,29 @@ fn text_of(alloc: Global, given: &[u8], words: &str) -> Result<Vec<u8>, Fail> {
     bytes_of(alloc, words)
 }
 
+fn is_text(written: &Result<Vec<u8>, AllocError>, text: &[u8]) -> bool {
+    match written {
+        Ok(written) => written.as_slice() == text,
+        Err(_) => false,
+    }
+}
+
+fn is_length(told: &Result<u64, AllocError>, text: &[u8]) -> bool {
+    match told {
+        Ok(length) => *length == text.len() as u64,
+        Err(_) => false,
+    }
+}
+
 /// Whether this is the written text of a graph, in the length that is told beforehand.
 fn is_written(alloc: Global, graph: &Graph, text: &[u8]) -> bool {
-    encode(alloc, graph).is_ok_and(|written| written.as_slice() == text)
-        && encoded_len(alloc, graph).is_ok_and(|length| length == text.len() as u64)
+    is_text(&encode(alloc, graph), text) && is_length(&encoded_len(alloc, graph), text)
 }
 
 /// Whether this is the flat text of a graph, in a length of which that of its skeleton and so many
 /// bytes of large binaries are told beforehand.
 fn is_flat(alloc: Global, graph: &Graph, text: &[u8], large: u64) -> bool {
-    encode_flat(alloc, graph).is_ok_and(|flat| flat.as_slice() == text)
+    is_text(&encode_flat(alloc, graph), text)
         && skeleton_len(graph) == (text.len() as u64).saturating_sub(large)
 }
 
@@ -97,7 +110,15 @@ fn refusal(alloc: Global, given: &[u8]) -> &'static str {
 
 /// Whether each text that a stream begins with is malformed. A long stream is not tried.
 fn is_whole(alloc: Global, given: &[u8]) -> bool {
-    given.len() > 100 || (0..given.len()).all(|n| refusal(alloc, &given[..n]) == "malformed")
+    if given.len() > 100 {
+        return true;
+    }
+    for n in 0..given.len() {
+        if refusal(alloc, &given[..n]) != "malformed" {
+            return false;
+        }
+    }
+    true
 }
 
 /// Whether a stream has the answer of its row, and is malformed where it is cut off.
