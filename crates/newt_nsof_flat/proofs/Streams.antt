@@ -1,8 +1,8 @@
 -- The graphs that bytes are read as.
-use Rattle.std.proofs.Common.{◌≡◌, ℕ, ◌<◌, Bool, true, false, not, cond, ltb, List, [], ◌∷◌, Option, Some, None, option_and_then, refl, sym, ap, subst, ◌∙◌}
+use Rattle.std.proofs.Common.{◌≡◌, ℕ, ◌<◌, Bool, true, false, cond, ltb, List, [], ◌∷◌, Option, Some, None, option_and_then, refl, sym, ap, subst, ◌∙◌}
 use Rattle.std.specs.Prelude.{Result, Ok, Err, bytes_eq}
 use Rattle.std.specs.List.{AllByRecursion}
-use Rattle.std.proofs.lemmas.Bool.{ltb-true, and_parts, not-false}
+use Rattle.std.proofs.lemmas.Bool.{ltb-true, and_parts}
 use Rattle.std.proofs.lemmas.Slice.Eq.{bytes_eq-Decides}
 use Rattle.std.proofs.lemmas.Cmp.{nat_list_eq_equiv}
 use Rattle.std.proofs.lemmas.List.Elements.{All-from_recursion}
@@ -55,9 +55,14 @@ reads_graphs = record {
 pub written_is : (text : List ℕ) (g : RawGraph) → Spells text g → Ok g ≡ decoded text → flat g ≡ text → written stream_graph text ≡ Some g
 written_is text g h e same = rw (stream_is text g (ap are_bytes (sym same) ∙ written_fits g (spelled_is_graph text g h)) (sym e), same, nat_list_eq_equiv.refl text) refl
 
--- what was compared and found the same
-pub same_text : (g : RawGraph) (items shown text : List ℕ) → shown ≡ items → items ≡ flat g → not (bytes_eq shown text) ≡ false → flat g ≡ text
-same_text g items shown text e f h = sym f ∙ sym e ∙ (bytes_eq-Decides shown text).0 (not-false (bytes_eq shown text) h)
+-- a text that is read as a graph, and not written of it
+pub not_written : (text : List ℕ) (g : RawGraph) → Ok g ≡ decoded text → (flat g ≡ text → ⊥) → written stream_graph text ≡ None
+not_written text g e other = go (are_bytes text) (bytes_eq (flat g) text) refl refl
+  where
+    go : (b same : Bool) → are_bytes text ≡ b → bytes_eq (flat g) text ≡ same → written stream_graph text ≡ None
+    go false same h k = rw h refl
+    go true true h k = absurd (other ((bytes_eq-Decides (flat g) text).0 k))
+    go true false h k = rw (stream_is text g h (sym e), k) refl
 
 -- a flat text of a graph is one of a graph
 pub written_graph : (text : List ℕ) (g : RawGraph) → written stream_graph text ≡ Some g → IsGraph g

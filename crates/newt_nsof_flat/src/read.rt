@@ -6,7 +6,7 @@ ghost use Rattle.newt_nsof_flat.specs.Stream.{stream_graph};
 use crate::fault::FlatFault;
 use newt_graph::Graph;
 use newt_nsof_read::{NsofFault, decode};
-use newt_nsof_write::encode_flat_in;
+use newt_nsof_write::is_flat_text;
 use std::alloc::Global;
 
 /// The graph whose flat text this is. `Bad` comes only where it is that of no graph: also where
@@ -20,10 +20,10 @@ pub fn read_flat(alloc: Global, text: &[u8]) -> Result<Graph, FlatFault>
         Err(NsofFault::Memory) => return Err(FlatFault::Memory),
         Err(_) => return Err(FlatFault::Bad),
     };
-    let Ok(text_again) = encode_flat_in(alloc, &graph, text.len()) else {
+    let Ok(is_written) = is_flat_text(&graph, text) else {
         return Err(FlatFault::Memory);
     };
-    if text_again.as_slice() != text {
+    if !is_written {
         return Err(FlatFault::Bad);
     }
     Ok(graph)
