@@ -22,7 +22,7 @@ use Rattle.newt_laws_answers.proofs.Answers.{done, refused, unit-passes}
 -- ---- a unit that may be formatted or mounted
 
 module _ (w : World) (u blocks : ℕ) (m : Media) (h : IsReady w u blocks m) where
-  ready-passes : (rest : Checks) → first_of (no_unit w u ∷ bad_blocks w u ∷ is_mounted w u ∷ rest) ≡ first_of rest
+  pub ready-passes : (rest : Checks) → first_of (no_unit w u ∷ bad_blocks w u ∷ is_mounted w u ∷ rest) ≡ first_of rest
   ready-passes rest =
       first-false NoUnit _ (bad_blocks w u ∷ is_mounted w u ∷ rest) (ap is_none h.device_is)
       ∙ first-false Blocks _ (is_mounted w u ∷ rest) (ap (λ (o : Option Device). elim o [ None ↦ true | Some d ↦ nat_lt d.blocks 13 || nat_lt 4099 d.blocks ]) h.device_is ∙ h.enough)
