@@ -4,6 +4,7 @@ use Rattle.newt_host.specs.Moments.{Always, On, Synced, changes}
 use Rattle.newt_host.specs.Outside.{Outside, NoFault, OnDevices, Touches, Wears}
 use Rattle.newt_pagebook.specs.Stops.{HasStopCause}
 use Rattle.newt_pagebook.specs.declared.book.Stop.{Stop}
+use Rattle.newt_pagebook.specs.declared.book.Stop.TheVariants.{Device as Broken}
 use Rattle.newt_spec_store.specs.Keys.{Path}
 use Rattle.newt_spec_store.specs.Store.{Store, entry_at, new_store}
 use Rattle.newt_spec_world.specs.declared.command.Command.{Command}
@@ -24,6 +25,7 @@ use Rattle.newt_store_change.specs.Faults.{Does, GoesOn, HasFaultCause, IsEnd}
 use Rattle.newt_store_change.specs.declared.change.Change.{Change}
 use Rattle.newt_store_change.specs.declared.entry.Entry.{Entry}
 use Rattle.newt_store_change.specs.declared.fault.StoreFault.{StoreFault}
+use Rattle.newt_store_change.specs.declared.fault.StoreFault.TheVariants.{Stop as Ends}
 use Rattle.newt_engine_card.specs.Bounds.{Costs, CostsOn, FetchesAtMost, FetchesOn, IsOpenOrSame, LeftAlone, of_unit}
 use Rattle.newt_engine_units.specs.Answers.{Answers}
 use Rattle.newt_engine_units.specs.Breaks.{AtDevice, AtStop, FailsAlone, IsLeftAs}
@@ -45,6 +47,19 @@ pub record Ended {T : Type 0} (result : Result T StoreFault) (before after : Out
 abbrev pub CostsOf : {T : Type 0} → World → Command → Result T StoreFault → Outside → Outside → Type 0
 CostsOf w c result before after =
     Costs (most_programmed w c) (means_entries c) (most_fetched w c) result before after
+
+-- No sync of a unit is due any more: where one was, the unit was synced, and nothing else has happened; or its device has failed, and nothing has.
+pub record MakesSure {C : Type 0} (told : Bool) (unit : ℕ) (old new : Units C) (before after : Outside) (result : Result (Unit {0}) StoreFault) : Type 0 where
+  pub slots : OnOk result (new.slots.items ≡ with_due unit false old.slots.items)
+  pub default : new.default ≡ old.default
+  pub minute : new.minute ≡ old.minute
+  pub synced : IsTrue told → OnOk result (after.now ≡ (if is_due old unit then On unit Synced ∷ before.now else before.now))
+  pub same : OnErr result (new ≡ old)
+  pub nothing_done : IsTrue told → OnErr result (after.now ≡ before.now)
+  pub only : IfErr result (λ fault. fault ≡ Ends (Broken unit))
+  pub alone : Touches unit before after
+  pub costs : (after.programmed unit ≤ before.programmed unit) × Wears unit 0 1 before after
+  pub ends : Ended result before after
 
 module _ {C : Type 0} (reads : List ℕ → Option Store) (place : C → ℕ) (standing : Bool → C → Outside → Type 0) where
   -- What stands where the device of a unit has failed in a call: but for that unit the units stand for the world that they stood for, and nothing has happened to
@@ -127,19 +142,6 @@ module _ {C : Type 0} (reads : List ℕ → Option Store) (place : C → ℕ) (s
     pub cause : IfErr result (λ fault. HasFaultCause fault before after)
     pub broke : IfErr result (AtDevice (BreaksIn told command old new before after))
     pub no_fault : GoesOn result → NoFault before after
-
-  -- No sync of a unit is due any more: where one was, the unit was synced, and nothing else has happened; or its device has failed, and nothing has.
-  pub record MakesSure (told : Bool) (unit : ℕ) (old new : Units C) (before after : Outside) (result : Result (Unit {0}) StoreFault) : Type 0 where
-    pub slots : OnOk result (new.slots.items ≡ with_due unit false old.slots.items)
-    pub same_slots : OnErr result (new.slots.items ≡ old.slots.items)
-    pub default : new.default ≡ old.default
-    pub minute : new.minute ≡ old.minute
-    pub synced : IsTrue told → OnOk result (after.now ≡ (if is_due old unit then On unit Synced ∷ before.now else before.now))
-    pub nothing_done : IsTrue told → OnErr result (after.now ≡ before.now)
-    pub alone : Touches unit before after
-    pub costs : (after.programmed unit ≤ before.programmed unit) × Wears unit 0 1 before after
-    pub ends : Ended result before after
-    pub only : IfErr result (AtDevice (λ u. u ≡ unit))
 
   -- The device of a unit that has no store is made one with a store without soups, or the run ends;
   -- at each moment a crash leaves every other store as it was.

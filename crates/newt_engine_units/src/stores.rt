@@ -122,6 +122,7 @@ impl<C: Card> Units<C> {
     ) -> Result<(), StoreFault>
         requires stands { Stands C.place C.stands H.told self.now (H.outside host.old) }
         requires free { IsFree self.now ((H.outside host.old).blocks unit) unit }
+        requires sure { is_due self.now unit ≡ false }
         requires sig { sig_fits sig ≡ true }
         ensures { Makes C.reads C.place C.stands H.told unit name.now sig self.now
             (H.outside host.old) (H.outside host.new) result }
