@@ -1,7 +1,7 @@
 -- What stands where the device of a unit has failed in a call.
 use Rattle.std.proofs.Common.{◌≡◌, ◌≢◌, refl, ap, sym, ◌∙◌, subst, ℕ, zero, suc, List, [], ◌∷◌, ◌⊎◌, inl, inr, Bool, true, false, IsTrue, Option, Some, None, option_map, if◌then◌else◌}
 use Rattle.std.specs.Prelude.{Result, Ok, Err, IfErr, IsSome, is_some}
-use Rattle.newt_host.specs.Moments.{LeftBy, Moment, bytes_after, changes, image}
+use Rattle.newt_host.specs.Moments.{changes, image}
 use Rattle.newt_host.specs.Outside.{Outside, SameCards, Touches, NoFault}
 use Rattle.newt_pagebook.specs.Book.{IsSameFor}
 use Rattle.newt_pagebook.specs.Stops.{StopsAt}
@@ -17,7 +17,7 @@ use Rattle.newt_store_change.specs.declared.fault.StoreFault.{StoreFault}
 use Rattle.newt_store_change.specs.declared.fault.StoreFault.TheVariants.{Refused, Stop}
 use Rattle.newt_store_change.specs.Faults.{FaultsAt, NoDevice}
 use Rattle.newt_engine_units.specs.declared.units.Units.{Units}
-use Rattle.newt_engine_units.specs.Breaks.{AtDevice, AtStop, FailsAlone, IsLeftAs}
+use Rattle.newt_engine_units.specs.Breaks.{AtDevice, AtStop, FailsAlone}
 use Rattle.newt_engine_units.specs.Stands.{due_in, mounted_in, world_of}
 use Rattle.newt_engine_units.proofs.Slots.{Replaced, dues, marks}
 
@@ -79,14 +79,6 @@ fails-after {u} cards none f = record {
   attached = subst IsSome (cards.card u) f.attached;
   others = λ n other. f.others n other ∙ none.dev_faults n;
 }
-
--- ---- what is left
-
-pub left-same : (u : ℕ) (a b : Moment) → changes u b ≡ changes u a → IsLeftAs u a b
-left-same u a b same = record { image = ap bytes_after same; left = λ left may. subst (λ c. LeftBy c left) same may }
-
-pub left-after : {u : ℕ} {a b c : Moment} → IsLeftAs u a b → IsLeftAs u b c → IsLeftAs u a c
-left-after first second = record { image = second.image ∙ first.image; left = λ left may. first.left left (second.left left may) }
 
 -- ---- the world without a unit
 

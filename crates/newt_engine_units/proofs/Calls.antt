@@ -18,7 +18,6 @@ use Rattle.newt_laws_world.proofs.Units.{same-or-not}
 use Rattle.newt_spec_store.specs.Store.{Store}
 use Rattle.newt_spec_world.specs.World.{World, store_on_unit, change_store}
 use Rattle.newt_spec_world.specs.declared.command.Command.{Command}
-use Rattle.newt_laws_steps.specs.Answering.{Answering}
 use Rattle.newt_laws_answers.specs.There.{OnUnit}
 use Rattle.newt_laws_answers.proofs.Worlds.{world-alike, device-stays}
 use Rattle.newt_laws_answers.proofs.Units.{is-there}
@@ -29,7 +28,7 @@ use Rattle.newt_engine_card.specs.Cards.{LeavesEither, OthersSame}
 use Rattle.newt_store_change.specs.Faults.{Does, FaultsAt, GoesOn, HasFaultCause, IsRefused}
 use Rattle.newt_engine_units.specs.declared.units.Slot.{Slot}
 use Rattle.newt_engine_units.specs.declared.units.Units.{Units}
-use Rattle.newt_engine_units.specs.Breaks.{FailsAlone}
+use Rattle.newt_engine_units.specs.Breaks.{FailsAlone, Meanwhile}
 use Rattle.newt_engine_units.specs.Calls.{AreRead, Breaks, Ended}
 use Rattle.newt_engine_units.specs.Stands.{card_of, due_in, mounted_in, world_of, Stands}
 use Rattle.newt_engine_units.proofs.Broken.{fails-alone, its-devices, world-without}
@@ -225,7 +224,7 @@ module _ {C : Type 0} {reads : List ℕ → Option Store} {place : C → ℕ} {s
       → (blocks : ℕ) (a b : Store) (tests : ℕ → Checks)
       → (reads (image (place card) o.now) ≡ Some a → Leaves (place card) (LeavesEither reads (tests (o.blocks (place card))) a b) o.now p.now)
       → OnUnit (world_of reads units o) u blocks a → (command : Command) (v : World) → (first_of (tests blocks) ≡ None → store_on_unit v u ≡ Some b)
-      → Always (Answering reads (world_of reads units o) command v o.now) o.now p.now
+      → Always (Meanwhile reads (due_in units.slots.items) (world_of reads units o) command v o.now) o.now p.now
   call-moments {told} t e c s blocks a b tests leaves on command v makes =
       let st : Stands place stands true units o = subst (λ x. Stands place stands x units o) t s in
       let at = place-is c s in

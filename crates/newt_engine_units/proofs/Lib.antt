@@ -1,6 +1,7 @@
 pub mod Slots
 pub mod Marked
 pub mod Known
+pub mod Left
 pub mod Turns
 pub mod Broken
 pub mod Calls

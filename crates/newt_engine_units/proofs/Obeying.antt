@@ -25,8 +25,9 @@ use Rattle.newt_engine_units.specs.Breaks.{FailsAlone}
 use Rattle.newt_engine_units.specs.Calls.{AreRead, Breaks, BreaksIn, Changes, Ended, Obeys}
 use Rattle.newt_engine_units.specs.Stands.{Stands, world_of}
 use Rattle.newt_engine_units.specs.declared.units.Units.{Units}
-use Rattle.newt_engine_units.proofs.Broken.{err-device-map, fails-after, left-same, none-devices}
+use Rattle.newt_engine_units.proofs.Broken.{err-device-map, fails-after, none-devices}
 use Rattle.newt_engine_units.proofs.Costs.{costs-of, idle-costs, read-costs}
+use Rattle.newt_engine_units.proofs.Left.{left-same}
 use Rattle.newt_engine_units.proofs.Settings.{Setting, is-err, still}
 use Rattle.newt_engine_units.proofs.Slots.{but-of}
 

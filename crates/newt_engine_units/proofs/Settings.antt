@@ -12,7 +12,6 @@ use Rattle.newt_spec_world.specs.Reply.{Reply}
 use Rattle.newt_spec_world.specs.Step.{unsure_look}
 use Rattle.newt_spec_world.specs.World.{World, Device, store_of, unsure_on}
 use Rattle.newt_spec_world.specs.First.{media_of}
-use Rattle.newt_laws_steps.specs.Answering.{Answering}
 use Rattle.newt_spec_world.specs.Answer.{answer}
 use Rattle.newt_laws_answers.specs.Tests.{unit_checks, soup_checks, entry_checks, both_checks, ready_checks}
 use Rattle.newt_laws_answers.specs.There.{OnUnit, IsReady}
@@ -24,6 +23,7 @@ use Rattle.newt_store_change.specs.Faults.{RefusesBy, IsEnd}
 use Rattle.newt_engine_units.specs.Found.{HasSoup, HasEntry, FindsEntry}
 use Rattle.newt_engine_units.specs.declared.units.Units.{Units}
 use Rattle.newt_engine_units.specs.Answers.{Answers}
+use Rattle.newt_engine_units.specs.Breaks.{Meanwhile}
 use Rattle.newt_engine_units.specs.Looks.{known_unit, known_soup, known_checks, known_both, known_ready, IsFree}
 use Rattle.newt_engine_units.specs.Stands.{card_at, due_in, mounted_in, world_of, Stands, Eight}
 use Rattle.newt_engine_units.proofs.Known.{Laws, Plain, Found, on-known, card-known, mounted-known, unit-checks-are, checks-are, both-checks-are, ready-checks-are, ready-known, soup-found}
@@ -54,7 +54,7 @@ module _ {C : Type 0} {reads : List ℕ → Option Store} {place : C → ℕ} {s
   stand-told = subst (λ b. Stands place stands b units o) t at.stand
 
   -- nothing has happened
-  pub still : (c : Command) (v : World) (now : Moment) → now ≡ o.now → Always (Answering reads (world_of reads units o) c v o.now) o.now now
+  pub still : (c : Command) (v : World) (now : Moment) → now ≡ o.now → Always (Meanwhile reads (due_in units.slots.items) (world_of reads units o) c v o.now) o.now now
   still = still-moments at.laws units o at.eight stand-told
 
   -- a store is mounted

@@ -16,7 +16,7 @@ use Rattle.newt_spec_world.specs.Reply.{Reply}
 use Rattle.newt_spec_world.specs.First.{media_of}
 use Rattle.newt_spec_world.specs.Step.{is_accepted, is_format_of, looks_anew, looks_at, thrown_out, unsure_look, with_media}
 use Rattle.newt_spec_world.specs.World.{World, Device, Media, blank, lost, device, stores_of, stores_on, IsBlankOn, change_device}
-use Rattle.newt_laws_steps.specs.Answering.{Answering, ReadsOneOf, StaysBlank}
+use Rattle.newt_laws_steps.specs.Answering.{ReadsOneOf, StaysBlank}
 use Rattle.newt_laws_steps.specs.StandsFor.{seen, seen_on}
 use Rattle.newt_laws_answers.specs.Bounds.{most_programmed}
 use Rattle.newt_laws_answers.specs.Fetched.{most_fetched}
@@ -28,12 +28,13 @@ use Rattle.newt_store_change.specs.declared.fault.StoreFault.TheVariants.{Stop}
 use Rattle.newt_engine_units.specs.declared.units.Slot.{Slot}
 use Rattle.newt_engine_units.specs.declared.units.Units.{Units}
 use Rattle.newt_engine_units.specs.Answers.{Answers}
-use Rattle.newt_engine_units.specs.Breaks.{AtDevice, FailsAlone, IsLeftAs}
+use Rattle.newt_engine_units.specs.Breaks.{AtDevice, FailsAlone, HasStoreToFormat, IsLeftAs, Meanwhile}
 use Rattle.newt_engine_units.specs.Calls.{AreRead, Breaks, BreaksIn, Ended, MakesSure, Obeys}
 use Rattle.newt_engine_units.specs.Looks.{IsFree, attached_in, has_device}
 use Rattle.newt_engine_units.specs.Stands.{card_of, card_at, due_of, due_in, is_due, mounted_in, world_of, Stands, Eight}
-use Rattle.newt_engine_units.proofs.Broken.{fails-after, left-after, left-same, thrown-changed}
+use Rattle.newt_engine_units.proofs.Broken.{fails-after, thrown-changed}
 use Rattle.newt_engine_units.proofs.Few.{count-same}
+use Rattle.newt_engine_units.proofs.Left.{left-after, left-same}
 use Rattle.newt_engine_units.proofs.Known.{at-card, at-none, look-known}
 use Rattle.newt_engine_units.proofs.Marked.{attached-slot, due-here, due-other, mark-here, mark-other, slot-other, slot-here, stands-marked, world-slot}
 use Rattle.newt_engine_units.proofs.Costs.{synced-costs}
@@ -193,14 +194,18 @@ module _ {C : Type 0} {reads : List ℕ → Option Store} {place : C → ℕ} {s
       never : (c : Option (List ℕ)) → o.card u ≡ c → ⊥
       never c k = apart (sym (at-lost c k) ∙ ap media is.1 ∙ is.2)
 
+  -- what the unit may have left before, a crash may leave after it
+  left-then : IsTrue told → MayLeave u o.now (image u o.now) → IsLeftAs u o.now m.now
+  left-then t may = synced-left (is_due units u) u o.now m.now (made.synced t) may
+
   -- the sync leaves what the world has
-  pub sync-moments : IsTrue told → (c : Command) (after : World) → Always (Answering reads w c after o.now) o.now m.now
-  sync-moments t c after = go (is_due units u) refl
+  pub sync-moments : IsTrue told → MayLeave u o.now (image u o.now) → (c : Command) (after : World) → Always (Meanwhile reads (due_in units.slots.items) w c after o.now) o.now m.now
+  sync-moments t may c after = go (is_due units u) refl
     where
       s : Stands place stands true units o
       s = stand-told at t
 
-      go : (b : Bool) → is_due units u ≡ b → Always (Answering reads w c after o.now) o.now m.now
+      go : (b : Bool) → is_due units u ≡ b → Always (Meanwhile reads (due_in units.slots.items) w c after o.now) o.now m.now
       go false due = still at t c after m.now (subst (λ b. Synced-if b u o.now m.now) due (made.synced t))
       go true due =
           let now : m.now ≡ On u Synced ∷ o.now = subst (λ b. Synced-if b u o.now m.now) due (made.synced t) in
@@ -210,16 +215,18 @@ module _ {C : Type 0} {reads : List ℕ → Option Store} {place : C → ℕ} {s
             unread = synced-taken (is_due units u) u o.now m.now (made.synced t);
             crash = λ left may. tt;
           } in
-          let last : Answering reads w c after o.now m.now = on-unit at.laws units o at.eight s u Anything c after m.now there
+          let last : Meanwhile reads (due_in units.slots.items) w c after o.now m.now = on-unit at.laws units o at.eight s u Anything c after m.now there
                 (λ x left h p. absurd (both-ways (sym (store-reads at.laws units o at.eight s u x h).sure ∙ due)))
-                (λ is stays. blank-sure t due is) in
-          subst (λ k. Always (Answering reads w c after o.now) o.now k) (sym now)
-          (later (On u Synced) o.now (here (unchanged-moment at.laws units o at.eight s c after o.now refl refl (λ j. refl))) (subst (Answering reads w c after o.now) now last))
+                (λ is stays. blank-sure t due is)
+                (λ due formed. left-then t may) in
+          subst (λ k. Always (Meanwhile reads (due_in units.slots.items) w c after o.now) o.now k) (sym now)
+          (later (On u Synced) o.now (here (unchanged-moment at.laws units o at.eight s c after o.now refl refl (λ j. refl))) (subst (Meanwhile reads (due_in units.slots.items) w c after o.now) now last))
 
   -- and what is left behind it is left
-  pub moments-behind : IsTrue told → (c : Command) (after : World) → ((j : ℕ) → j ≢ u → is_format_of c j ≡ false) → {end : Moment} → Always (Answering reads v c after m.now) m.now end
-      → Always (Answering reads w c after o.now) o.now end
-  moments-behind t c after only {end} way = Always-append (sync-moments t c after) (Always-map (λ k a. behind k a) way)
+  pub moments-behind : IsTrue told → MayLeave u o.now (image u o.now) → (c : Command) (after : World) → ((j : ℕ) → j ≢ u → is_format_of c j ≡ false) → is_format_of c u ≡ true
+      → is_some (reads (image u m.now)) ≡ false → {end : Moment} → Always (Meanwhile reads (due_in mid.slots.items) v c after m.now) m.now end
+      → Always (Meanwhile reads (due_in units.slots.items) w c after o.now) o.now end
+  moments-behind t may c after only formed empty {end} way = Always-append (sync-moments t may c after) (Always-map (λ k a. behind k a) way)
     where
       s : Stands place stands true units o
       s = stand-told at t
@@ -252,21 +259,33 @@ module _ {C : Type 0} {reads : List ℕ → Option Store} {place : C → ℕ} {s
           go true due = inl (ap (λ b. b && is_accepted v c) (only j (blank-other j is due)))
           go false due = inl (ap (λ (x : World). is_format_of c j && is_accepted x c) (same-then due t) ∙ k)
 
-      left-then : (j : ℕ) (left : List ℕ) → IsBlankOn w j → MayLeave j m.now left → MayLeave j o.now left
-      left-then j left is may = go (is_due units u) refl
+      left-blank : (j : ℕ) (left : List ℕ) → IsBlankOn w j → MayLeave j m.now left → MayLeave j o.now left
+      left-blank j left is may = go (is_due units u) refl
         where
           go : (b : Bool) → is_due units u ≡ b → MayLeave j o.now left
           go true due = subst (λ c. LeftBy c left) (others t j (blank-other j is due)) may
           go false due = subst (λ k. MayLeave j k left) (subst (λ b. Synced-if b u o.now m.now) due (made.synced t)) may
 
-      behind : (k : Moment) → Answering reads v c after m.now k → Answering reads w c after o.now k
-      behind k a = record {
-        unread = a.unread ∙ synced-taken (is_due units u) u o.now m.now (made.synced t);
-        quiet = a.quiet ∙ synced-output (is_due units u) u o.now m.now (made.synced t);
-        stores = λ j x left h may. subst (λ xs. ReadsOneOf reads (xs ++ stores_on after j) left) (stores-kept j (has-other j x h))
-            (a.stores j x left (subst (λ xs. Among xs x) (sym (stores-kept j (has-other j x h))) h) may);
-        images = λ j is stays. a.images j (blank-kept j is) (stays-kept j is stays) ∙ images-same t j;
-        others = λ j left is stays may. left-then j left is (a.others j left (blank-kept j is) (stays-kept j is stays) may);
+      -- a unit of which a sync was due, where this one is formatted
+      left-unsure : (k : Moment) → Meanwhile reads (due_in mid.slots.items) v c after m.now k → (j : ℕ) → due_in units.slots.items j ≡ true → HasStoreToFormat reads c j o.now → IsLeftAs j o.now k
+      left-unsure k a j due store = go (same-or-not j u)
+        where
+          go : (j ≡ u) ⊎ (j ≡ u → ⊥) → IsLeftAs j o.now k
+          go (inl e) = absurd (both-ways (sym empty ∙ ap (λ bytes. is_some (reads bytes)) (images-same t u) ∙ ap (λ n. is_some (reads (image n o.now))) (sym e) ∙ store (ap (is_format_of c) e ∙ formed)))
+          go (inr other) = left-after (left-same j o.now m.now (others t j other))
+              (a.unsure j (due-other units mid u sure-slot made.slots j other ∙ due) (λ is. absurd (both-ways (sym (only j other) ∙ is))))
+
+      behind : (k : Moment) → Meanwhile reads (due_in mid.slots.items) v c after m.now k → Meanwhile reads (due_in units.slots.items) w c after o.now k
+      behind k b = let a = b.answering in record {
+        answering = record {
+          unread = a.unread ∙ synced-taken (is_due units u) u o.now m.now (made.synced t);
+          quiet = a.quiet ∙ synced-output (is_due units u) u o.now m.now (made.synced t);
+          stores = λ j x left h may. subst (λ xs. ReadsOneOf reads (xs ++ stores_on after j) left) (stores-kept j (has-other j x h))
+              (a.stores j x left (subst (λ xs. Among xs x) (sym (stores-kept j (has-other j x h))) h) may);
+          images = λ j is stays. a.images j (blank-kept j is) (stays-kept j is stays) ∙ images-same t j;
+          others = λ j left is stays may. left-blank j left is (a.others j left (blank-kept j is) (stays-kept j is stays) may);
+        };
+        unsure = left-unsure k b;
       }
 
   -- ---- where the device fails behind it
@@ -292,21 +311,21 @@ module _ {C : Type 0} {reads : List ℕ → Option Store} {place : C → ℕ} {s
       → BreaksIn reads place stands told c units after o p u
   sure-read-breaks c may looks failed = record {
     breaks = sure-breaks (still-breaks c looks.stand looks.world (λ t. looks.moment) failed).breaks;
-    same = λ t untorn unformed. left-after (synced-left (is_due units u) u o.now m.now (made.synced t) (may t)) (left-same u m.now _ (ap (changes u) looks.moment));
+    same = λ t untorn store. left-after (left-then t (may t)) (left-same u m.now _ (ap (changes u) looks.moment));
   }
 
   -- ---- a mount behind it
 
-  pub mount-obeys : {T : Type 0} (reply : T → Reply) {after : Units C} {p : Outside} (result : Result T StoreFault) → ((j : ℕ) → LeftAlone j m p) → p.now ≡ m.now → Ended result m p
+  pub mount-obeys : {T : Type 0} (reply : T → Reply) {after : Units C} {p : Outside} (result : Result T StoreFault) → (IsTrue told → MayLeave u o.now (image u o.now)) → ((j : ℕ) → LeftAlone j m p) → p.now ≡ m.now → Ended result m p
       → (GoesOn result → Stands place stands told after p) → (IsTrue told → Answers v (world_of reads after p) (command.Mount u) reply result)
       → IfErr result (AtDevice (BreaksIn reads place stands told (command.Mount u) units after o p)) → Obeys reads place stands told (command.Mount u) reply units after o p result
-  mount-obeys reply {after} {p} result alone moment ends stand answered broke =
+  mount-obeys reply {after} {p} result may alone moment ends stand answered broke =
       let both = ends-after made.ends tt ends in
       record {
         stands = stand;
         answered = λ t. subst (λ x. Answers x (world_of reads after p) (command.Mount u) reply result) (as-seen (command.Mount u) refl t) (answered t);
         moments = λ t. let c = command.Mount u in
-            subst (λ k. Always (Answering reads w c (answer (seen reads w o.now c) c).0 o.now) o.now k) (sym moment) (sync-moments t c (answer (seen reads w o.now c) c).0);
+            subst (λ k. Always (Meanwhile reads (due_in units.slots.items) w c (answer (seen reads w o.now c) c).0 o.now) o.now k) (sym moment) (sync-moments t (may t) c (answer (seen reads w o.now c) c).0);
         costs = λ t. synced-costs (most_programmed w (command.Mount u)) (most_fetched w (command.Mount u)) result u made.alone made.costs (images-same t) alone;
         alone = both.alone;
         cause = both.cause;
@@ -327,7 +346,7 @@ module _ {C : Type 0} {reads : List ℕ → Option Store} {place : C → ℕ} {s
   failed-world : IsTrue told → world_of reads mid m ≡ world_of reads units o
   failed-world t = ap (λ x. world_of reads x m) made.same ∙ world-still reads units o m made.alone.cards (nothing t)
 
-  pub failed-moments : IsTrue told → (c : Command) (after : World) → Always (Answering reads (world_of reads units o) c after o.now) o.now m.now
+  pub failed-moments : IsTrue told → (c : Command) (after : World) → Always (Meanwhile reads (due_in units.slots.items) (world_of reads units o) c after o.now) o.now m.now
   failed-moments t c after = still at t c after m.now (made.nothing_done t)
 
   failed-breaks : (c : Command) → FailsAlone o m u → BreaksIn reads place stands told c units mid o m u

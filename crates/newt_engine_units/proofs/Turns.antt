@@ -13,7 +13,7 @@ use Rattle.newt_spec_world.specs.declared.command.Command.{Command}
 use Rattle.newt_spec_world.specs.First.{media_of}
 use Rattle.newt_spec_world.specs.Step.{formats}
 use Rattle.newt_spec_world.specs.World.{World, Device, Media, blank, one, two, lost, device, store_of, stores_of, store_on_unit, stores_on, IsBlankOn, change_store, change_media}
-use Rattle.newt_laws_steps.specs.Answering.{Answering, ReadsOneOf, StaysBlank}
+use Rattle.newt_laws_steps.specs.Answering.{ReadsOneOf, StaysBlank}
 use Rattle.newt_laws_answers.specs.Tests.{formatted}
 use Rattle.newt_laws_answers.specs.WorldAt.{device_at, world_at}
 use Rattle.newt_laws_answers.proofs.Worlds.{card_device, device-here, device-stays, world-changed, world-alike}
@@ -22,7 +22,9 @@ use Rattle.newt_store_change.specs.declared.fault.StoreFault.TheVariants.{Refuse
 use Rattle.newt_engine_card.specs.Cards.{LeavesEither}
 use Rattle.newt_store_change.specs.Faults.{Does}
 use Rattle.newt_engine_units.specs.declared.units.Units.{Units}
+use Rattle.newt_engine_units.specs.Breaks.{HasStoreToFormat, IsLeftAs, Meanwhile}
 use Rattle.newt_engine_units.specs.Stands.{due_in, mounted_in, world_of, Stands}
+use Rattle.newt_engine_units.proofs.Left.{left-same}
 use Rattle.newt_engine_units.proofs.Slots.{Replaced, dues, marks}
 use Rattle.newt_engine_units.specs.Stands.{Eight}
 use Rattle.newt_engine_units.proofs.Known.{Laws, at-card, at-none}
@@ -178,30 +180,41 @@ module _ {C : Type 0} {reads : List ℕ → Option Store} {place : C → ℕ} {s
   still-one v j x m left h same may = (x, among-left (stores_on w j) (stores_on v j) x h, left-alone j x m left h same may)
 
   -- nothing has happened to any device
-  pub unchanged-moment : (c : Command) (v : World) (m : Moment) → taken m ≡ taken o.now → output m ≡ output o.now → ((j : ℕ) → changes j m ≡ changes j o.now) → Answering reads w c v o.now m
+  pub unchanged-moment : (c : Command) (v : World) (m : Moment) → taken m ≡ taken o.now → output m ≡ output o.now → ((j : ℕ) → changes j m ≡ changes j o.now) → Meanwhile reads (due_in units.slots.items) w c v o.now m
   unchanged-moment c v m unread quiet same = record {
-    unread = unread;
-    quiet = quiet;
-    stores = λ j x left h may. still-one v j x m left h (same j) may;
-    images = λ j empty stays. ap bytes_after (same j);
-    others = λ j left empty stays may. subst (λ c. LeftBy c left) (same j) may;
+    answering = record {
+      unread = unread;
+      quiet = quiet;
+      stores = λ j x left h may. still-one v j x m left h (same j) may;
+      images = λ j empty stays. ap bytes_after (same j);
+      others = λ j left empty stays may. subst (λ c. LeftBy c left) (same j) may;
+    };
+    unsure = λ j due formed. left-same j o.now m (same j);
   }
 
-  pub still-moments : (c : Command) (v : World) (now : Moment) → now ≡ o.now → Always (Answering reads w c v o.now) o.now now
-  still-moments c v now same = subst (λ m. Always (Answering reads w c v o.now) o.now m) (sym same) (here (unchanged-moment c v o.now refl refl (λ j. refl)))
+  pub still-moments : (c : Command) (v : World) (now : Moment) → now ≡ o.now → Always (Meanwhile reads (due_in units.slots.items) w c v o.now) o.now now
+  still-moments c v now same = subst (λ m. Always (Meanwhile reads (due_in units.slots.items) w c v o.now) o.now m) (sym same) (here (unchanged-moment c v o.now refl refl (λ j. refl)))
 
   -- a call on one unit: what holds of that unit, and nothing has happened to the others
-  on-unit : (u : ℕ) (P : List ℕ → Type 0) (c : Command) (v : World) (m : Moment) → AtMoment u P o.now m
+  pub on-unit : (u : ℕ) (P : List ℕ → Type 0) (c : Command) (v : World) (m : Moment) → AtMoment u P o.now m
       → ((x : Store) (left : List ℕ) → Among (stores_on w u) x → P left → ReadsOneOf reads (stores_on w u ++ stores_on v u) left)
-      → (IsBlankOn w u → StaysBlank w c v u → ⊥) → Answering reads w c v o.now m
-  on-unit u P c v m at stores none = record {
-    unread = at.unread;
-    quiet = at.output;
-    stores = λ j x left h may. one-of j x left h may (same-or-not j u);
-    images = λ j empty stays. ap bytes_after (at.others j (other j empty stays));
-    others = λ j left empty stays may. subst (λ c. LeftBy c left) (at.others j (other j empty stays)) may;
+      → (IsBlankOn w u → StaysBlank w c v u → ⊥) → (due_in units.slots.items u ≡ true → HasStoreToFormat reads c u o.now → IsLeftAs u o.now m)
+      → Meanwhile reads (due_in units.slots.items) w c v o.now m
+  on-unit u P c v m at stores none its = record {
+    answering = record {
+      unread = at.unread;
+      quiet = at.output;
+      stores = λ j x left h may. one-of j x left h may (same-or-not j u);
+      images = λ j empty stays. ap bytes_after (at.others j (other j empty stays));
+      others = λ j left empty stays may. subst (λ c. LeftBy c left) (at.others j (other j empty stays)) may;
+    };
+    unsure = λ j due formed. left-of j due formed (same-or-not j u);
   }
     where
+      left-of : (j : ℕ) → due_in units.slots.items j ≡ true → HasStoreToFormat reads c j o.now → (j ≡ u) ⊎ (j ≡ u → ⊥) → IsLeftAs j o.now m
+      left-of j due formed (inl is) = subst (λ k. IsLeftAs k o.now m) (sym is) (its (ap (due_in units.slots.items) (sym is) ∙ due) (subst (λ k. HasStoreToFormat reads c k o.now) is formed))
+      left-of j due formed (inr is) = left-same j o.now m (at.others j is)
+
       other : (j : ℕ) → IsBlankOn w j → StaysBlank w c v j → j ≡ u → ⊥
       other j empty stays is = none (subst (IsBlankOn w) is empty) (subst (StaysBlank w c v) is stays)
 
@@ -212,17 +225,19 @@ module _ {C : Type 0} {reads : List ℕ → Option Store} {place : C → ℕ} {s
 
   -- a call on one unit that has a store
   pub either-moments : (u : ℕ) (a b : Store) (tests : Checks) (c : Command) (v : World) (now : Moment) → store_on_unit w u ≡ Some a → (first_of tests ≡ None → store_on_unit v u ≡ Some b)
-      → Leaves u (LeavesEither reads tests a b) o.now now → Always (Answering reads w c v o.now) o.now now
-  either-moments u a b tests c v now has makes leaves = Always-map (λ m at. on-unit u (LeavesEither reads tests a b) c v m at either (λ empty stays. not-blank w u a has empty)) leaves
+      → Leaves u (LeavesEither reads tests a b) o.now now → Always (Meanwhile reads (due_in units.slots.items) w c v o.now) o.now now
+  either-moments u a b tests c v now has makes leaves = Always-map (λ m at. on-unit u (LeavesEither reads tests a b) c v m at either (λ empty stays. not-blank w u a has empty)
+      (λ due formed. absurd (both-ways (sym (store-reads u a (one-store w u a has)).sure ∙ due)))) leaves
     where
       either : (x : Store) (left : List ℕ) → Among (stores_on w u) x → LeavesEither reads tests a b left → ReadsOneOf reads (stores_on w u ++ stores_on v u) left
       either x left h (inl k) = (a, among-left (stores_on w u) (stores_on v u) a (one-store w u a has), k)
       either x left h (inr k) = (b, among-right (stores_on w u) (stores_on v u) b (one-store v u b (makes k.0)), k.1)
 
   -- a call on one unit that has no store, and has one afterwards
-  pub anything-moments : (u : ℕ) (b : Store) (c : Command) (v : World) (now : Moment) → IsBlankOn w u → formats w c u ≡ true → store_on_unit v u ≡ Some b → Leaves u Anything o.now now
-      → Always (Answering reads w c v o.now) o.now now
-  anything-moments u b c v now empty formatting makes leaves = Always-map (λ m at. on-unit u Anything c v m at (λ x left h p. absurd (blank-none w u x empty h)) (λ _ stays. formed stays)) leaves
+  pub anything-moments : (u : ℕ) (b : Store) (c : Command) (v : World) (now : Moment) → IsBlankOn w u → formats w c u ≡ true → store_on_unit v u ≡ Some b → due_in units.slots.items u ≡ false → Leaves u Anything o.now now
+      → Always (Meanwhile reads (due_in units.slots.items) w c v o.now) o.now now
+  anything-moments u b c v now empty formatting makes sure leaves = Always-map (λ m at. on-unit u Anything c v m at (λ x left h p. absurd (blank-none w u x empty h)) (λ _ stays. formed stays)
+      (λ due form. absurd (both-ways (sym sure ∙ due)))) leaves
     where
       formed : StaysBlank w c v u → ⊥
       formed (inl k) = both-ways (sym k ∙ formatting)

@@ -10,14 +10,13 @@ use Rattle.newt_spec_store.specs.Store.{Store, entry_at, new_store}
 use Rattle.newt_spec_world.specs.declared.command.Command.{Command}
 use Rattle.newt_spec_world.specs.declared.command.Command.TheVariants as command
 use Rattle.newt_spec_world.specs.Reply.{Reply}
-use Rattle.newt_spec_world.specs.Step.{formats, is_format_of, may_tear, thrown_out}
+use Rattle.newt_spec_world.specs.Step.{formats, may_tear, thrown_out}
 use Rattle.newt_spec_world.specs.World.{World, IsBlankOn, lost, store_on_unit, change_store}
 use Rattle.newt_laws_answers.specs.Bounds.{most_programmed}
 use Rattle.newt_laws_answers.specs.Fetched.{means_entries, most_fetched}
 use Rattle.newt_spec_world.specs.Answer.{answer}
 use Rattle.newt_laws_answers.specs.Tests.{formatted}
 use Rattle.newt_laws_answers.specs.There.{OnUnit}
-use Rattle.newt_laws_steps.specs.Answering.{Answering}
 use Rattle.newt_laws_steps.specs.StandsFor.{seen}
 use Rattle.newt_store_change.specs.Change.{changed_by, answer_of, refusals, refusal_of, most_bytes, bytes_fetched, pages_of_entry}
 use Rattle.newt_store_change.specs.Entries.{ReadsLarge, entry_said, large_fetches}
@@ -28,9 +27,9 @@ use Rattle.newt_store_change.specs.declared.fault.StoreFault.{StoreFault}
 use Rattle.newt_store_change.specs.declared.fault.StoreFault.TheVariants.{Stop as Ends}
 use Rattle.newt_engine_card.specs.Bounds.{Costs, CostsOn, FetchesAtMost, FetchesOn, IsOpenOrSame, LeftAlone, of_unit}
 use Rattle.newt_engine_units.specs.Answers.{Answers}
-use Rattle.newt_engine_units.specs.Breaks.{AtDevice, AtStop, FailsAlone, IsLeftAs}
+use Rattle.newt_engine_units.specs.Breaks.{AtDevice, AtStop, FailsAlone, HasStoreToFormat, IsLeftAs, Meanwhile}
 use Rattle.newt_engine_units.specs.Faces.{with_due}
-use Rattle.newt_engine_units.specs.Stands.{Stands, StandsBut, is_due, mounted_in, world_of}
+use Rattle.newt_engine_units.specs.Stands.{Stands, StandsBut, due_in, is_due, mounted_in, world_of}
 use Rattle.newt_engine_units.specs.declared.units.Units.{Units}
 
 -- How a call ends. The input, the output and what is attached are as they were, and no device has
@@ -70,10 +69,10 @@ module _ {C : Type 0} (reads : List ℕ → Option Store) (place : C → ℕ) (s
     pub others : IsTrue told → (n : ℕ) → n ≢ u → changes n after.now ≡ changes n before.now
     pub failed : FailsAlone before after u
 
-  -- And in a command: the unit is left as it was where its store was not to be written, and it was not to be formatted.
+  -- And in a command: the unit is left as it was where its store was not to be written, and it was not to be formatted where it was read as no store.
   pub record BreaksIn (told : Bool) (command : Command) (old new : Units C) (before after : Outside) (u : ℕ) : Type 0 where
     pub breaks : Breaks told old new before after u
-    pub same : IsTrue told → may_tear (world_of reads old before) command u ≡ false → is_format_of command u ≡ false → IsLeftAs u before.now after.now
+    pub same : IsTrue told → may_tear (world_of reads old before) command u ≡ false → HasStoreToFormat reads command u before.now → IsLeftAs u before.now after.now
 
   -- What every call promises that only reads: the units stand for the world that they stood for,
   -- the same units are mounted, and nothing has happened outside but reading.
@@ -115,7 +114,7 @@ module _ {C : Type 0} (reads : List ℕ → Option Store) (place : C → ℕ) (s
         Does (refusals change blocks w.minute s) (λ n. n ≡ answer_of change s) w (change_store w unit (changed_by change w.minute)) (world_of reads new after) result
     -- at each moment a crash leaves the stores of the world before, or, where the change is not refused, of any world that has the changed one there
     pub moments : IsTrue told → let w = world_of reads old before in (blocks : ℕ) (s : Store) → OnUnit w unit blocks s → (command : Command) (v : World)
-        → (refusal_of change blocks w.minute s ≡ None → store_on_unit v unit ≡ Some (changed_by change w.minute s)) → Always (Answering reads w command v before.now) before.now after.now
+        → (refusal_of change blocks w.minute s ≡ None → store_on_unit v unit ≡ Some (changed_by change w.minute s)) → Always (Meanwhile reads (due_in old.slots.items) w command v before.now) before.now after.now
     -- where one of its refusals holds nothing happens, whatever the answer
     pub idle : IsTrue told → let w = world_of reads old before in (blocks : ℕ) (s : Store) → OnUnit w unit blocks s → IsSome (refusal_of change blocks w.minute s)
         → after.now ≡ before.now
@@ -136,7 +135,7 @@ module _ {C : Type 0} (reads : List ℕ → Option Store) (place : C → ℕ) (s
     pub stands : GoesOn result → Stands place standing told new after
     pub answered : IsTrue told → Answers (seen reads (world_of reads old before) before.now command) (world_of reads new after) command reply result
     pub moments : IsTrue told → let w = world_of reads old before in
-        Always (Answering reads w command (answer (seen reads w before.now command) command).0 before.now) before.now after.now
+        Always (Meanwhile reads (due_in old.slots.items) w command (answer (seen reads w before.now command) command).0 before.now) before.now after.now
     pub costs : IsTrue told → CostsOf (world_of reads old before) command result before after
     pub alone : OnDevices before after
     pub cause : IfErr result (λ fault. HasFaultCause fault before after)
@@ -150,7 +149,7 @@ module _ {C : Type 0} (reads : List ℕ → Option Store) (place : C → ℕ) (s
     pub made : IsTrue told → OnOk result (world_of reads units after ≡ formatted (world_of reads units before) unit name sig)
     pub only : IfErr result (λ fault. IsEnd fault)
     pub moments : IsTrue told → let w = world_of reads units before in (command : Command) (v : World) → IsBlankOn w unit → formats w command unit ≡ true
-        → store_on_unit v unit ≡ Some (new_store name sig) → Always (Answering reads w command v before.now) before.now after.now
+        → store_on_unit v unit ≡ Some (new_store name sig) → Always (Meanwhile reads (due_in units.slots.items) w command v before.now) before.now after.now
     pub open_after : IsTrue told → GoesOn result → (u : ℕ) → IsOpenOrSame u before.now after.now
     pub ends : Ended result before after
     pub broke : IfErr result (AtDevice (λ u. (u ≡ unit) × Breaks told units units before after u))
@@ -162,7 +161,7 @@ module _ {C : Type 0} (reads : List ℕ → Option Store) (place : C → ℕ) (s
     pub answered : IsTrue told → let c = command.Format unit name sig in
         Answers (seen reads (world_of reads old before) before.now c) (world_of reads new after) c (λ _. Reply.done) result
     pub moments : IsTrue told → let w = world_of reads old before in let c = command.Format unit name sig in
-        Always (Answering reads w c (answer (seen reads w before.now c) c).0 before.now) before.now after.now
+        Always (Meanwhile reads (due_in old.slots.items) w c (answer (seen reads w before.now c) c).0 before.now) before.now after.now
     pub open_after : IsTrue told → GoesOn result → (u : ℕ) → IsOpenOrSame u before.now after.now
     pub ends : Ended result before after
     pub broke : IfErr result (AtDevice (BreaksIn told (command.Format unit name sig) old new before after))

@@ -11,7 +11,7 @@ ghost use Rattle.newt_engine_units.specs.Stands.{Stands, is_due};
 use crate::units::Units;
 use newt_base::{Name, Refusal, Sig};
 use newt_engine_card::Card;
-use newt_host::{Host, Unit};
+use newt_host::{Failed, Host, Unit};
 use newt_pagebook::{BookFault, LEAST_BLOCKS, MOST_BLOCKS, Stop};
 use newt_store_change::StoreFault;
 
@@ -44,11 +44,13 @@ impl<C: Card> Units<C> {
         if !self.is_due(unit) {
             return Ok(());
         }
-        if host.sync(unit).is_err() {
-            return Err(StoreFault::Stop(Stop::Device(unit)));
+        match host.sync(unit) {
+            Ok(()) => {
+                self.slots[unit.0 as usize].due = false;
+                Ok(())
+            }
+            Err(Failed) => Err(StoreFault::Stop(Stop::Device(unit))),
         }
-        self.slots[unit.0 as usize].due = false;
-        Ok(())
     }
 
     /// Opens the store of a unit, if it has a readable one.

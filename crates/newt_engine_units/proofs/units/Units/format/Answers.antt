@@ -1,6 +1,6 @@
 -- The unit is looked at and made sure of, its store is looked for, and it is formatted.
 use Rattle.std.proofs.Common.{◌≡◌, ◌≢◌, refl, sym, ap, ◌∙◌, subst, ℕ, IsTrue, true, false, inr}
-use Rattle.std.specs.Prelude.{OnOk}
+use Rattle.std.specs.Prelude.{OnOk, is_some}
 use Rattle.std.proofs.lemmas.Bool.{eq-eqb, ne_eqb}
 use Rattle.std.proofs.lemmas.Result.{err_from_is_err_and}
 use Rattle.newt_host.specs.Moments.{MayLeave, Moment, Always, changes, image}
@@ -11,15 +11,14 @@ use Rattle.newt_spec_world.specs.Step.{formats, is_format_of}
 use Rattle.newt_spec_world.specs.World.{World, IsBlankOn}
 use Rattle.newt_spec_world.specs.declared.command.Command.{Command}
 use Rattle.newt_spec_world.specs.declared.command.Command.TheVariants as command
-use Rattle.newt_laws_steps.specs.Answering.{Answering}
 use Rattle.newt_laws_steps.specs.StandsFor.{seen_on}
 use Rattle.newt_spec_world.specs.Answer.{answer}
 use Rattle.newt_laws_answers.specs.Tests.{formatted}
 use Rattle.newt_laws_answers.proofs.Stores.{format-not-ready}
 use Rattle.newt_engine_units.specs.Answers.{Answers}
-use Rattle.newt_engine_units.specs.Breaks.{AtDevice, FailsAlone}
+use Rattle.newt_engine_units.specs.Breaks.{AtDevice, FailsAlone, Meanwhile}
 use Rattle.newt_engine_units.specs.Calls.{Breaks, BreaksIn}
-use Rattle.newt_engine_units.specs.Stands.{Stands, world_of}
+use Rattle.newt_engine_units.specs.Stands.{Stands, due_in, world_of}
 use Rattle.newt_engine_units.proofs.Answering.{format-has-answers, format-answers, format-makes, format-blank, format-formats}
 use Rattle.newt_engine_units.proofs.Broken.{at-device-both, err-device-map, none-device}
 use Rattle.newt_engine_units.proofs.Costs.{same-before}
@@ -93,7 +92,7 @@ returns-in_err-has_store g c =
     record {
       stands = λ goes. e.looks.stand;
       answered = λ t. end-answers _ _ _ _ _ _ p e.has;
-      moments = λ t. subst (λ (k : Moment). Always (Answering g.C.Card.reads _ format _ o.now) o.now k) (sym e.looks.moment) (sync-moments at free made t format _);
+      moments = λ t. subst (λ (k : Moment). Always (Meanwhile g.C.Card.reads _ _ format _ o.now) o.now k) (sym e.looks.moment) (sync-moments at free made t (may t) format _);
       open_after = λ t goes u. inr (ap (image u) e.looks.moment ∙ images-same at free made t u);
       ends = ends-after made.ends tt (handed-ends _ p e.ends);
       broke = handed (AtDevice B) _ _ p (at-device-both (λ k. k ≡ c.args.unit) (FailsAlone m q) B _
@@ -111,6 +110,8 @@ returns-then-branch g c =
     let made = c.in_ok-make_sure.ensures in
     let then = now-setting at free made (record { eight = g.met.H.Host.eight c.make_sure.new.host; none = g.met.H.Host.none c.make_sure.new.host }) in
     let mid = world_of g.C.Card.reads c.make_sure.new.self m in
+    let may : IsTrue g.H.Host.told → MayLeave c.args.unit o.now (image c.args.unit o.now) = λ t.
+    history-leaves _ (changes c.args.unit o.now) (g.met.H.Host.history c.args.host.now c.args.unit t (free-card c.requires.stands free)) in
     let e = c.in_ok-has_store.ensures in
     record {
       stands = λ goes. e.looks.stand;
@@ -119,7 +120,7 @@ returns-then-branch g c =
           subst (λ x. Answers x (world_of g.C.Card.reads c.make_sure.new.self q) format (λ _. Reply.done) _) (as-seen at free made format refl t)
           (format-has-answers mid _ c.args.unit _ (g.C.Card.reads (image c.args.unit m.now)) c.args.name.now c.args.sig (ready-there then t c.args.unit (now-free at free made) (now-sure at free made)) refl
           (sym (e.has t) ∙ c.if-branch.true) same);
-      moments = λ t. subst (λ (k : Moment). Always (Answering g.C.Card.reads _ format _ o.now) o.now k) (sym e.looks.moment) (sync-moments at free made t format _);
+      moments = λ t. subst (λ (k : Moment). Always (Meanwhile g.C.Card.reads _ _ format _ o.now) o.now k) (sym e.looks.moment) (sync-moments at free made t (may t) format _);
       open_after = λ t goes u. inr (ap (image u) e.looks.moment ∙ images-same at free made t u);
       ends = ends-after made.ends tt (ends-after e.ends tt (none-ends {T = Unit {0}} _ tt));
       broke = tt;
@@ -139,6 +140,8 @@ returns g c =
     let then = now-setting at free made (record { eight = g.met.H.Host.eight c.make_sure.new.host; none = g.met.H.Host.none c.make_sure.new.host }) in
     let before : World = world_of g.C.Card.reads c.args.self.now o in
     let mid : World = world_of g.C.Card.reads c.make_sure.new.self m in
+    let may : IsTrue g.H.Host.told → MayLeave c.args.unit o.now (image c.args.unit o.now) = λ t.
+    history-leaves _ (changes c.args.unit o.now) (g.met.H.Host.history c.args.host.now c.args.unit t (free-card c.requires.stands free)) in
     let e = c.in_ok-has_store.ensures in
     let found = g.C.Card.reads (image c.args.unit m.now) in
     let same = world-still g.C.Card.reads c.make_sure.new.self m q e.looks.alone.cards (λ j. ap (changes j) e.looks.moment) in
@@ -158,16 +161,16 @@ returns g c =
           (subst (λ (x : World). IsBlankOn x u) (sym same) (format-blank mid mid u _ found c.args.name.now c.args.sig (ready t) refl empty))
           (subst (λ (x : World). formats x format u ≡ true) (sym same) (format-formats mid mid u _ found c.args.name.now c.args.sig (ready t) refl empty))
           (format-makes mid mid u _ found c.args.name.now c.args.sig (ready t) refl empty) in
-          subst (λ (x : World). Always (Answering g.C.Card.reads before format (answer x format).0 o.now) o.now p.now) (as-seen at free made format refl t)
-          (moments-behind at free made t format v (λ j other. ne_eqb u j (λ k. other (sym k)))
-          (subst (λ (k : Moment). Always (Answering g.C.Card.reads mid format v k) k p.now) e.looks.moment
-          (subst (λ (x : World). Always (Answering g.C.Card.reads x format v q.now) q.now p.now) same way)));
+          subst (λ (x : World). Always (Meanwhile g.C.Card.reads (due_in c.args.self.now.slots.items) before format (answer x format).0 o.now) o.now p.now) (as-seen at free made format refl t)
+          (moments-behind at free made t (may t) format v (λ j other. ne_eqb u j (λ k. other (sym k))) (eq-eqb u u refl) empty
+          (subst (λ (k : Moment). Always (Meanwhile g.C.Card.reads (due_in c.make_sure.new.self.slots.items) mid format v k) k p.now) e.looks.moment
+          (subst (λ (x : World). Always (Meanwhile g.C.Card.reads (due_in c.make_sure.new.self.slots.items) x format v q.now) q.now p.now) same way)));
       open_after = λ t goes j. same-before j o.now q.now p.now (ap (image j) e.looks.moment ∙ images-same at free made t j) (c.make.ensures.open_after t goes j);
       ends = ends-after made.ends tt (ends-after e.ends tt c.make.ensures.ends);
       broke = err-device-map P B c.make.result (λ k b. subst B (sym b.0) (record {
         breaks = sure-breaks at free made (breaks-behind e.looks (e.ends.no_fault tt)
             (subst (Breaks g.C.Card.reads g.C.Card.place g.C.Card.stands g.H.Host.told c.make_sure.new.self c.make_sure.new.self q p) b.0 b.1));
-        same = λ t untorn unformed. absurd (both-ways (sym unformed ∙ eq-eqb u u refl));
+        same = λ t untorn store. absurd (both-ways (sym (sym (e.has t) ∙ c.if-branch.false) ∙ ap (λ bytes. is_some (g.C.Card.reads bytes)) (images-same at free made t u) ∙ store (eq-eqb u u refl)));
       })) c.make.ensures.broke;
     }
 

@@ -35,7 +35,7 @@ returns-in-Ok g c =
           (λ t. Leaves-others (e.any_moment t)) free (λ t. (c.in-Ok.ensures.formatted t).1) c.requires.stands;
       made = λ t. world-formatted g.C.Card.reads c.args.self.now c.args.unit o p c.args.name.now c.args.sig e.alone.cards (Leaves-others (e.any_moment t)) c.requires.sure free (c.in-Ok.ensures.formatted t).0;
       only = tt;
-      moments = λ t command v has formatting makes. anything-moments at.laws c.args.self.now o at.eight (stand-told at t) c.args.unit _ command v _ has formatting makes (e.any_moment t);
+      moments = λ t command v has formatting makes. anything-moments at.laws c.args.self.now o at.eight (stand-told at t) c.args.unit _ command v _ has formatting makes c.requires.sure (e.any_moment t);
       open_after = λ t goes. opened-alone c.args.unit o.now p.now (c.in-Ok.ensures.open_after t) (Leaves-others (e.any_moment t));
       ends = record { alone = on-devices e.alone; cause = tt; failed = tt; no_fault = λ goes. c.in-Ok.ensures.no_fault };
       broke = tt;
@@ -53,7 +53,7 @@ returns-in-Err g c =
       stands = λ goes. absurd goes;
       made = λ t. tt;
       only = tt;
-      moments = λ t command v has formatting makes. anything-moments at.laws c.args.self.now o at.eight (stand-told at t) c.args.unit _ command v _ has formatting makes (e.any_moment t);
+      moments = λ t command v has formatting makes. anything-moments at.laws c.args.self.now o at.eight (stand-told at t) c.args.unit _ command v _ has formatting makes c.requires.sure (e.any_moment t);
       open_after = λ t goes. absurd goes;
       ends = record {
         alone = on-devices e.alone;

@@ -74,7 +74,7 @@ returns-in_err-card g c =
     let e = c.in_err-card.ensures in
     let p = err_from_is_err_and c.from_residual-in_err-card.result c.from_residual-in_err-card.ensures.1 in
     let B : ℕ → Type 0 = BreaksIn g.C.Card.reads g.C.Card.place g.C.Card.stands g.H.Host.told (command.Mount c.args.unit) c.args.self.now c.make_sure.new.self o q in
-    mount-obeys at free made (λ x. Reply.store x.0 x.1) _ e.looks.untouched e.looks.moment (handed-ends _ p e.ends) (λ goes. e.looks.stand)
+    mount-obeys at free made (λ x. Reply.store x.0 x.1) _ may e.looks.untouched e.looks.moment (handed-ends _ p e.ends) (λ goes. e.looks.stand)
     (λ t. subst (λ r. Answers (world_of g.C.Card.reads c.make_sure.new.self m) (world_of g.C.Card.reads c.make_sure.new.self q) (command.Mount c.args.unit) (λ x. Reply.store x.0 x.1) r)
     (sym (is-err _ _ p))
     (mount-unopened at.laws c.make_sure.new.self c.args.unit m q then.eight (stand-told then t) (now-free at free made) (now-sure at free made)
@@ -91,12 +91,14 @@ returns-in_err-face g c =
     let free = c.in_ok-find_ready.ensures in
     let made = c.in_ok-make_sure.ensures in
     let then = now-setting at free made (record { eight = g.met.H.Host.eight c.make_sure.new.host; none = g.met.H.Host.none c.make_sure.new.host }) in
+    let may : IsTrue g.H.Host.told → MayLeave c.args.unit o.now (image c.args.unit o.now) = λ t.
+    history-leaves _ (changes c.args.unit o.now) (g.met.H.Host.history c.args.host.now c.args.unit t (free-card c.requires free)) in
     let e = c.in_ok-card.ensures in
     let there = e.opened in
     let p = err_from_is_err_and c.from_residual-in_err-face.result c.from_residual-in_err-face.ensures.1 in
     let none = admits-none (card_faces g.C.Card.soups c.make_sure.new.self.slots.items) (g.C.Card.soups c.in_ok-card.card) _ c.in_err-face.ensures in
     let B : ℕ → Type 0 = BreaksIn g.C.Card.reads g.C.Card.place g.C.Card.stands g.H.Host.told (command.Mount c.args.unit) c.args.self.now c.make_sure.new.self o q in
-    mount-obeys at free made (λ x. Reply.store x.0 x.1) _ e.looks.untouched e.looks.moment (ends-after e.ends tt (handed-ends _ p (none-ends {T = ℕ × List ℕ} _ none))) (λ goes. e.looks.stand)
+    mount-obeys at free made (λ x. Reply.store x.0 x.1) _ may e.looks.untouched e.looks.moment (ends-after e.ends tt (handed-ends _ p (none-ends {T = ℕ × List ℕ} _ none))) (λ goes. e.looks.stand)
     (λ t. subst (λ r. Answers (world_of g.C.Card.reads c.make_sure.new.self m) (world_of g.C.Card.reads c.make_sure.new.self q) (command.Mount c.args.unit) (λ x. Reply.store x.0 x.1) r)
     (sym (is-err _ _ p))
     (mount-refuses at.laws c.make_sure.new.self c.args.unit c.in_ok-card.card m q then.eight (stand-told then t) (now-free at free made) (now-sure at free made)
@@ -106,14 +108,17 @@ returns-in_err-face g c =
 pub returns : goal.returns
 returns g c =
     let at = begins g c.requires in
+    let o = g.H.Host.outside c.args.host.now in
     let m = g.H.Host.outside c.make_sure.new.host in
     let q = g.H.Host.outside c.open_store.new.host in
     let free = c.in_ok-find_ready.ensures in
     let made = c.in_ok-make_sure.ensures in
     let then = now-setting at free made (record { eight = g.met.H.Host.eight c.make_sure.new.host; none = g.met.H.Host.none c.make_sure.new.host }) in
+    let may : IsTrue g.H.Host.told → MayLeave c.args.unit o.now (image c.args.unit o.now) = λ t.
+    history-leaves _ (changes c.args.unit o.now) (g.met.H.Host.history c.args.host.now c.args.unit t (free-card c.requires free)) in
     let e = c.in_ok-card.ensures in
     let there = e.opened in
-    mount-obeys at free made (λ x. Reply.store x.0 x.1) _ e.looks.untouched e.looks.moment (record { alone = e.ends.alone; cause = tt; failed = tt; no_fault = λ goes. e.ends.no_fault tt })
+    mount-obeys at free made (λ x. Reply.store x.0 x.1) _ may e.looks.untouched e.looks.moment (record { alone = e.ends.alone; cause = tt; failed = tt; no_fault = λ goes. e.ends.no_fault tt })
     (λ goes. mounted-stands at.laws c.make_sure.new.self c.args.unit c.in_ok-card.card g.H.Host.told q c.put.new.self c.put.ensures.slots c.put.ensures.default (now-free at free made).attached (now-sure at free made)
     _ c.in_ok-face.ensures.0 there.0 there.1 e.looks.stand)
     (λ t. mount-answers at.laws c.make_sure.new.self c.args.unit c.in_ok-card.card m q then.eight (stand-told then t) (now-free at free made) (now-sure at free made)
