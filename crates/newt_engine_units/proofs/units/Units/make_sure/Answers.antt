@@ -1,26 +1,18 @@
 -- The unit is synced where that is due.
-use Rattle.std.proofs.Common.{arith, ◌≡◌, refl, ap, sym, ◌∙◌, Bool, true, false, not, ◌∷◌, if◌then◌else◌, Ok, Err}
+use Rattle.std.proofs.Common.{arith, ◌≡◌, refl, ap, sym, ◌∙◌, true, false, ◌∷◌, if◌then◌else◌, Ok}
 use Rattle.newt_host.specs.Moments.{On, Synced}
 use Rattle.newt_host.proofs.Outside.{Touches-no_fault, Touches-refl}
-use Rattle.newt_engine_units.specs.Stands.{due_in, due_of, is_due}
+use Rattle.newt_engine_units.specs.Stands.{due_of, is_due}
 use Rattle.newt_engine_units.proofs.Broken.{fails-alone}
 use Rattle.newt_engine_units.proofs.Calls.{on-devices}
 use Rattle.newt_engine_units.proofs.Marked.{attached-bound, free-card, slot-set, slot-so}
 use Rattle.newt_engine_units.proofs.Obeying.{none-ends}
 use Rattle.newt_engine_units.proofs.units.Units.make_sure.Goals as goal
 
-not-true : (b : Bool) → not b ≡ true → b ≡ false
-not-true true h = cc
-not-true false h = refl
-
-not-false : (b : Bool) → not b ≡ false → b ≡ true
-not-false true h = refl
-not-false false h = cc
-
 pub returns-then-not-is_due : goal.returns-then-not-is_due
 returns-then-not-is_due g c =
     let o = g.H.Host.outside c.args.host.now in
-    let sure : is_due c.args.self.now c.args.unit ≡ false = sym c.is_due.ensures ∙ not-true c.is_due.result c.if-not-is_due.true in
+    let sure : is_due c.args.self.now c.args.unit ≡ false = sym c.is_due.ensures ∙ c.if-not-is_due.true in
     record {
       slots = sym (slot-so (λ slot. record slot { due = false }) c.args.self.now.slots.items c.args.unit (λ slot at. ap (λ b. record slot { due = b }) (sym (sym (ap due_of at) ∙ sure))));
       default = refl;
@@ -37,7 +29,7 @@ returns-then-not-is_due g c =
 pub returns-in-Ok : goal.returns-in-Ok
 returns-in-Ok g c =
     let o = g.H.Host.outside c.args.host.now in
-    let due : is_due c.args.self.now c.args.unit ≡ true = sym c.is_due.ensures ∙ not-false c.is_due.result c.if-not-is_due.false in
+    let due : is_due c.args.self.now c.args.unit ≡ true = sym c.is_due.ensures ∙ c.if-not-is_due.false in
     let call = c.in-Ok.ensures.call in
     record {
       slots = slot-set (λ slot. record slot { due = false }) c.args.self.now.slots.items c.args.unit c.unit.inside.0 c.index_mut.result.now (sym c.unit.view_is)
