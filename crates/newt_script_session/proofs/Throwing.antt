@@ -1,6 +1,7 @@
 -- Counts of faults behind one another.
-use Rattle.std.proofs.Common.{◌≡◌, ◌⊎◌, inl, inr, ℕ, ◌+◌, ◌-◌, ◌^◌, ◌≤◌, Bool, true, false, cond, List, [], ◌∷◌, ◌++◌, length, filter, refl, sym, ◌∙◌, ap, subst, arith}
+use Rattle.std.proofs.Common.{◌≡◌, ℕ, ◌+◌, ◌≤◌, Bool, true, false, cond, List, [], ◌∷◌, ◌++◌, length, filter, refl, sym, ◌∙◌, ap, subst, arith}
 use Rattle.std.proofs.lemmas.List.{length-append}
+use Rattle.newt_host.specs.Outside.{Rose}
 use Rattle.newt_spec_script.specs.Rows.{Row, throws, thrown_count}
 use Rattle.newt_spec_world.specs.Reply.{Reply}
 use Rattle.newt_laws_steps.specs.Thrown.{Failed, RoseBy, RowsFailed, RowsThrew, Threw}
@@ -28,7 +29,7 @@ threw_one row was is t = record { later = t.later; rose = λ unit. go unit (thro
   where
     go : (unit : ℕ) (b : Bool) → throws unit row.1 ≡ b → RoseBy (thrown_count unit (row ∷ [])) (was unit) (is unit)
     go unit true e = subst (λ (n : ℕ). RoseBy n (was unit) (is unit)) (sym (thrown_one unit row [] ∙ ap (λ (b : Bool). cond b 1 0 + 0) e)) (t.rose unit e)
-    go unit false e = subst (λ (n : ℕ). RoseBy n (was unit) (is unit)) (sym (thrown_one unit row [] ∙ ap (λ (b : Bool). cond b 1 0 + 0) e)) (inl (omega (arith, t.later unit)))
+    go unit false e = subst (λ (n : ℕ). RoseBy n (was unit) (is unit)) (sym (thrown_one unit row [] ∙ ap (λ (b : Bool). cond b 1 0 + 0) e)) (omega (arith, t.later unit))
 
 pub failed_one : (row : Row) (was is : ℕ → ℕ) → Failed row.1 was is → RowsFailed (row ∷ []) was is
 failed_one row was is failed unit none = go (throws unit row.1) refl
@@ -40,12 +41,10 @@ failed_one row was is failed unit none = go (throws unit row.1) refl
 -- ---- rows behind one another
 
 both_rose : (a b was mid is : ℕ) → was ≤ mid → mid ≤ is → RoseBy a was mid → RoseBy b mid is → RoseBy (a + b) was is
-both_rose a b was mid is low high (inl first) (inl second) = inl (omega (arith, first, second))
-both_rose a b was mid is low high (inl first) (inr last) = inr last
-both_rose a b was mid is low high (inr last) second = inr (omega (arith, last, high))
+both_rose a b was mid is low high first second = omega (arith, first, second)
 
 pub threw_none : (was is : ℕ → ℕ) → ((unit : ℕ) → is unit ≡ was unit) → RowsThrew [] was is
-threw_none was is same = record { later = λ unit. omega (arith, same unit); rose = λ unit. inl (omega (arith, same unit)) }
+threw_none was is same = record { later = λ unit. omega (arith, same unit); rose = λ unit. omega (arith, same unit) }
 
 pub threw_both : (a b : List Row) (was mid is : ℕ → ℕ) → RowsThrew a was mid → RowsThrew b mid is → RowsThrew (a ++ b) was is
 threw_both a b was mid is x y = record {
@@ -76,7 +75,7 @@ failed_same rows was mid is same t unit none = same unit ∙ t unit none
 pub threw_after : (reply : Reply) (was mid is : ℕ → ℕ) → ((unit : ℕ) → is unit ≡ mid unit) → Threw reply was mid → Threw reply was is
 threw_after reply was mid is same t = record {
   later = λ unit. omega (arith, same unit, t.later unit);
-  rose = λ unit e. subst (λ (n : ℕ). RoseBy 1 (was unit) n) (sym (same unit)) (t.rose unit e);
+  rose = λ unit e. subst (λ (n : ℕ). Rose (was unit) n) (sym (same unit)) (t.rose unit e);
 }
 
 pub failed_after : (reply : Reply) (was mid is : ℕ → ℕ) → ((unit : ℕ) → is unit ≡ mid unit) → Failed reply was mid → Failed reply was is

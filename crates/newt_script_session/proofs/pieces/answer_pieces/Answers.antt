@@ -156,7 +156,7 @@ pieces-preserved g c =
           let v = c.pieces.invariant.going told w means in
           let devices = subst (λ (t : Bool). SameDevices t (g.H.Host.outside c.pieces.host) mid) told c.read_piece.ensures.call.devices in
           let counts = c.read_piece.ensures.call.devices.counts.dev_faults in
-    let same = λ (u : World) (stood : it.means c.pieces.interpreter (g.H.Host.outside c.pieces.host) u).
+          let same = λ (u : World) (stood : it.means c.pieces.interpreter (g.H.Host.outside c.pieces.host) u).
           g.met.I.Interpreter.same_worlds c.pieces.interpreter (g.H.Host.outside c.pieces.host) mid u devices stood in
           let going = going_took it.step it.store_of_image _ _ v.0 _ _ _ _ _ _ _ _ _ mid.now _ _ mid.dev_faults (c.in_ok-moved.ensures.took told).moment same counts v.2 v.3 in
           let unread = c.in_ok-feed.ensures.call.unread.moments told in
