@@ -1,8 +1,8 @@
 -- From what a crash leaves in one command to what it leaves in a script.
-use Rattle.std.proofs.Common.{◌≡◌, ◌⊎◌, inl, inr, ℕ, zero, suc, ◌+◌, ◌-◌, ◌<◌, ◌≤◌, Bool, true, false, List, [], ◌∷◌, ◌++◌, length, Option, Ok, Err, refl, sym, ◌∙◌, ap, subst, append_assoc, append-nil, arith}
+use Rattle.std.proofs.Common.{◌≡◌, ◌⊎◌, inr, ℕ, zero, suc, ◌+◌, ◌-◌, ◌<◌, ◌≤◌, Bool, true, false, List, [], ◌∷◌, ◌++◌, length, Option, Ok, Err, refl, sym, ◌∙◌, ap, subst, append_assoc, append-nil, arith}
 use Rattle.std.specs.Prelude.{drop}
 use Rattle.std.proofs.lemmas.List.{length-append}
-use Rattle.newt_host.specs.Moments.{Moment, Change, LeftBy, MayLeave, Always, here, changes, image, output as printed}
+use Rattle.newt_host.specs.Moments.{Moment, Change, LeftBy, MayLeave, Always, here, changes, output as printed}
 use Rattle.newt_host.specs.Outside.{PrintsSome}
 use Rattle.newt_host.proofs.Moments.{Always-map}
 use Rattle.newt_host.proofs.Printing.{changes-printed, output-printed}
@@ -17,7 +17,7 @@ use Rattle.newt_spec_world.specs.Reply.{Reply, reply_line, reply_text}
 use Rattle.newt_spec_world.specs.World.{World, stores_on, IsBlankOn}
 use Rattle.newt_spec_world.specs.declared.command.Command.{Command}
 use Rattle.newt_script_session.specs.Counted.{CountedAt}
-use Rattle.newt_script_session.specs.Moments.{Behind, Between, BlankThrough, CrashAt, Fresh, Leaves, SafeAt, Untouched, formats_next, item_formats, replies_begun, begun, worlds_behind}
+use Rattle.newt_script_session.specs.Moments.{Behind, Between, BlankThrough, CrashAt, Fresh, Leaves, SafeAt, Untouched, item_formats, replies_begun, begun, worlds_behind}
 use Rattle.newt_script_session.specs.Stream.{put_out}
 
 some_text : (r : Reply) → 0 < length (reply_text r)

@@ -1,19 +1,19 @@
 -- One item: it is answered, and its reply is taken.
-use Rattle.std.proofs.Common.{◌≡◌, ℕ, ◌+◌, Bool, true, false, cond, List, [], ◌∷◌, ◌++◌, Option, Result, Ok, Err, refl, sym, ◌∙◌, ap, subst, append-nil, arith}
+use Rattle.std.proofs.Common.{◌≡◌, ℕ, ◌+◌, Bool, List, [], ◌∷◌, ◌++◌, Option, Result, Ok, Err, refl, sym, ◌∙◌, ap, subst}
 use Rattle.newt_host.specs.Moments.{Moment, Always, changes, output as printed}
 use Rattle.newt_host.specs.Outside.{Outside}
 use Rattle.newt_host.proofs.Moments.{Always-append, Always-last, Always-map}
-use Rattle.newt_spec_script.specs.Rows.{Goes, Row, Stepping, output_of, throws, thrown_count}
+use Rattle.newt_spec_script.specs.Rows.{Goes, Row, Stepping, output_of}
 use Rattle.newt_spec_script.specs.Script.{Item}
 use Rattle.newt_spec_store.specs.Store.{Store}
 use Rattle.newt_spec_world.specs.Reply.{reply_text}
 use Rattle.newt_spec_world.specs.World.{World}
 use Rattle.newt_script_session.specs.Answered.{Given, Ran}
 use Rattle.newt_script_session.specs.Causes.{HasSinkCause}
-use Rattle.newt_script_session.specs.Moments.{Fresh, SafeAt, Untouched}
+use Rattle.newt_script_session.specs.Moments.{SafeAt, Untouched}
 use Rattle.newt_script_session.specs.Run.{HaltedIn}
 use Rattle.newt_script_session.specs.Stream.{Puts, WroteSome, put_out}
-use Rattle.newt_laws_steps.specs.Thrown.{Failed, RowsFailed, RowsThrew, Threw}
+use Rattle.newt_laws_steps.specs.Thrown.{Failed, Threw}
 use Rattle.newt_script_session.specs.declared.halt.Halt.{Halt}
 use Rattle.newt_script_session.specs.declared.halt.Halt.TheVariants.{Memory, Source, Sink, TooLong}
 use Rattle.newt_script_session.proofs.Crashing.{AnsweringItem, AtRest, answering_leaves, safe_answering, safe_writing, untouched_next, untouched_same}

@@ -4,7 +4,7 @@ use Rattle.std.specs.Prelude.{Option, Some, Ok, Err}
 use Rattle.newt_host.specs.Moments.{Moment, MayLeave, output as printed}
 use Rattle.newt_laws_steps.specs.Answering.{ReadsOneOf}
 use Rattle.newt_spec_graph.specs.Lists.{Among, Each}
-use Rattle.newt_spec_script.specs.Rows.{Row, reply_texts, world_at, world_behind}
+use Rattle.newt_spec_script.specs.Rows.{Row, reply_texts, world_at}
 use Rattle.newt_spec_script.specs.Script.{Item}
 use Rattle.newt_spec_store.specs.Store.{Store}
 use Rattle.newt_spec_world.specs.Reply.{reply_text}

@@ -1,5 +1,5 @@
 -- A script in which no device failed, in the words of the top call.
-use Rattle.std.proofs.Common.{◌≡◌, ℕ, List, [], ◌++◌, Option, Some, None, Result, Ok, Err, refl, sym, ◌∙◌, ap, append-nil}
+use Rattle.std.proofs.Common.{◌≡◌, ℕ, List, [], ◌++◌, Result, Ok, Err, refl, sym, ◌∙◌, ap, append-nil}
 use Rattle.newt_host.specs.Meanings.{held, out_of}
 use Rattle.newt_host.specs.Outside.{Outside, Rose}
 use Rattle.newt_laws_steps.proofs.Runs.{first-sure}
@@ -22,7 +22,6 @@ use Rattle.newt_store_catalog.specs.Readable.{readable}
 use Rattle.newt_top.specs.Modes.{first, NoDeviceFailed, RanCounted, RanScript}
 use Rattle.newt_top.specs.Script.{output, summary_of}
 use Rattle.newt_top.specs.Status.{ended_as, status_of}
-use Rattle.newt_top.specs.declared.status.Status.{Status}
 use Rattle.newt_top.specs.declared.status.Status.TheVariants as statuses
 
 -- the output of a script is that of its items
