@@ -33,10 +33,10 @@ pub vacant-push : (es : Entries) (e : ℕ × Option Extent) → Vacant es → e.
 vacant-push [] e v none = (none, tt)
 vacant-push (d ∷ es) e v none = (v.0, vacant-push es e v.1 none)
 
-below_is : (a b : ℕ) → a < b → nat_cmp a b ≡ Less
+pub below_is : (a b : ℕ) → a < b → nat_cmp a b ≡ Less
 below_is a b low = sym (nat_cmp_is a b Less low)
 
-above_is : (a b : ℕ) → b < a → nat_cmp a b ≡ Greater
+pub above_is : (a b : ℕ) → b < a → nat_cmp a b ≡ Greater
 above_is a b low = sym (nat_cmp_is a b Greater low)
 
 not_less : (a b : ℕ) → b ≤ a → nat_cmp a b ≡ Less → ⊥
@@ -46,7 +46,7 @@ not_less a b high e = ⊎_elim
     (cases_lt b a)
 
 -- a key above the query is not found
-past : (id q : ℕ) (es : Entries) → AllByRecursion (λ k. nat_cmp id k ≡ Less) (keys_of es) → q < id → lookup (is_at (nat_cmp q)) es ≡ None
+pub past : (id q : ℕ) (es : Entries) → AllByRecursion (λ k. nat_cmp id k ≡ Less) (keys_of es) → q ≤ id → lookup (is_at (nat_cmp q)) es ≡ None
 past id q [] all low = refl
 past id q (e ∷ es) all low = ⊎_elim
     (λ (above : id < e.0). ap (λ (r : Ordering). cond (is_eq r) (Some e.1) (lookup (is_at (nat_cmp q)) es)) (below_is q e.0 (omega arith)) ∙ past id q es all.1 low)
@@ -56,7 +56,7 @@ past id q (e ∷ es) all low = ⊎_elim
 -- below the first object none is found
 before : (done t : Entries) (id q : ℕ) (row : Option Extent) → IsStrictlySortedBy nat_cmp (keys_of (done ++ (id, row) ∷ t)) → Vacant done → q < id → option_flatten (lookup (is_at (nat_cmp q)) (done ++ (id, row) ∷ t)) ≡ None
 before [] t id q row sorted v low =
-    ap (λ (r : Ordering). option_flatten (cond (is_eq r) (Some row) (lookup (is_at (nat_cmp q)) t))) (below_is q id low) ∙ ap option_flatten (past id q t (sorted_head nat_cmp id (keys_of t) sorted) low)
+    ap (λ (r : Ordering). option_flatten (cond (is_eq r) (Some row) (lookup (is_at (nat_cmp q)) t))) (below_is q id low) ∙ ap option_flatten (past id q t (sorted_head nat_cmp id (keys_of t) sorted) (omega arith))
 before (e ∷ done) t id q row sorted v low = ⊎_elim
     (λ (here : is_at (nat_cmp q) e.0 ≡ true). ap (λ (b : Bool). option_flatten (cond b (Some e.1) (lookup (is_at (nat_cmp q)) (done ++ (id, row) ∷ t)))) here ∙ v.0)
     (λ (not : is_at (nat_cmp q) e.0 ≡ false). ap (λ (b : Bool). option_flatten (cond b (Some e.1) (lookup (is_at (nat_cmp q)) (done ++ (id, row) ∷ t)))) not
@@ -93,15 +93,15 @@ pub above_it : (id : ℕ) → Begins (Excluded id) (id + 1)
 above_it id q later = let low : id < q = omega arith in ap (λ (r : Ordering). is_lt r && true) (below_is id q low)
 
 module _ (rows : Rows) (bound : Bound ℕ) (from : ℕ) (begins : Begins bound from) (sorted : tree.IsOrdered nat_cmp rows) where
-  abbrev part : Entries
+  abbrev pub part : Entries
   part = entries_between nat_cmp bound Unbounded rows.entries
 
-  part_sorted : IsStrictlySortedBy nat_cmp (keys_of part)
+  pub part_sorted : IsStrictlySortedBy nat_cmp (keys_of part)
   part_sorted = subst (IsStrictlySortedBy nat_cmp) (sym (keys-filter (range_contains nat_cmp bound Unbounded) rows.entries))
       (IsStrictlySortedBy-filter nat_cmp (range_contains nat_cmp bound Unbounded) (keys_of rows.entries) sorted)
 
   -- what is looked up from a number on is found in the part
-  in_part : (q : ℕ) → from ≤ q → lookup (is_at (nat_cmp q)) part ≡ lookup (is_at (nat_cmp q)) rows.entries
+  pub in_part : (q : ℕ) → from ≤ q → lookup (is_at (nat_cmp q)) part ≡ lookup (is_at (nat_cmp q)) rows.entries
   in_part q later = lookup-filter-keys (is_at (nat_cmp q)) (range_contains nat_cmp bound Unbounded) true
       (λ k same. ap (range_contains nat_cmp bound Unbounded) (sym (is_same q k (sym (same_test q k) ∙ same))) ∙ begins q later) rows.entries
 

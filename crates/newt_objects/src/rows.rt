@@ -1,13 +1,15 @@
 // The rows of the table: an object by its id, or a place kept for one.
-ghost use Rattle.std.specs.Prelude.{◌≡◌, ◌≢◌, ℕ, ◌+◌, IsSome, Some, OnOk};
+ghost use Rattle.std.specs.Prelude.{◌≡◌, ◌≢◌, ℕ, ◌+◌, ◌++◌, ◌∷◌, [], if◌then◌else◌};
+ghost use Rattle.std.specs.Prelude.{is_some, IsSome, Some, OnOk, IfOk};
 ghost use Rattle.std.specs.BTreeMap as tree;
 ghost use Rattle.std.specs.Ordering.{nat_cmp};
 ghost use Rattle.std.specs.Option.{option_copied};
 ghost use Rattle.newt_objects.specs.Headers.{held_in};
 ghost use Rattle.newt_objects.specs.Extents.{IsNextIn};
+ghost use Rattle.newt_objects.specs.Listed.{AreNexts};
 
 use crate::extent::Extent;
-use std::alloc::AllocError;
+use std::alloc::{AllocError, Global};
 use std::collections::BTreeMap;
 use std::ops::Bound;
 
@@ -81,14 +83,28 @@ pub(crate) fn next_row(rows: &BTreeMap<u32, Option<Extent>>, from: u32) -> Optio
     None
 }
 
-/// The least id above `above` that has an object.
-pub(crate) fn row_after(rows: &BTreeMap<u32, Option<Extent>>, above: u32) -> Option<u32>
-    ensures { IsNextIn (held_in rows.now) (above + 1) result }
+// Appends the id of a row, if it has an object.
+fn list_row(ids: &mut Vec<u32>, id: u32, row: &Option<Extent>) -> Result<(), AllocError>
+    ensures { OnOk result (ids.new.items ≡ ids.old.items
+        ++ (if is_some row.now then id ∷ [] else [])) }
 {
-    for (id, row) in rows.range((Bound::Excluded(above), Bound::Unbounded)) {
-        if row.is_some() {
-            return Some(*id);
-        }
+    if row.is_some() {
+        ids.push(id)?;
     }
-    None
+    Ok(())
+}
+
+/// The ids above `above` that have an object, in rising order.
+pub(crate) fn rows_after(
+    alloc: Global,
+    rows: &BTreeMap<u32, Option<Extent>>,
+    above: u32,
+) -> Result<Vec<u32>, AllocError>
+    ensures { IfOk result (λ ids. AreNexts (held_in rows.now) (above + 1) ids.items) }
+{
+    let mut ids = Vec::new(alloc);
+    for (id, row) in rows.range((Bound::Excluded(above), Bound::Unbounded)) {
+        list_row(&mut ids, *id, row)?;
+    }
+    Ok(ids)
 }

@@ -8,3 +8,4 @@ pub mod Rows
 pub mod Exits
 pub mod Lying
 pub mod Gathering
+pub mod Listed

@@ -83,30 +83,3 @@ owns-more ids x id first old new so none now others = record {
 pub owned-already : (ids : List ℕ) (i id r : ℕ) (first old : Owners) → i < length ids → OwnsThese (take i ids) id first old → old (get_or ids i 0) ≡ Some r → AreOwned ids first
 owned-already ids i id r first old low so is = λ free once.
     none-some r (sym (free (get_or ids i 0) (among-get ids i 0 low)) ∙ sym (so.others (get_or ids i 0) (λ m. not_yet ids i once low m)) ∙ is)
-
--- ---- each object with an even id
-
--- every such object up to an id has an owner
-abbrev pub AreOwnedTo : ℕ → Table → Owners → Type 0
-AreOwnedTo last table owner = (id : ℕ) → IsSome (table id) → id ≢ 0 → id % 2 ≡ 0 → id < last + 1 → IsSome (owner id)
-
-pub owned-none : (table : Table) (owner : Owners) → AreOwnedTo 0 table owner
-owned-none table owner = λ id there n even low. absurd (n (omega (arith, low)))
-
-pub owned-next : (last id : ℕ) (table : Table) (owner : Owners) → IsNextIn table (last + 1) (Some id) → (id % 2 ≡ 0 → IsSome (owner id)) → AreOwnedTo last table owner → AreOwnedTo id table owner
-owned-next last id table owner next owned so = λ q there n even low. ⊎_elim
-    (λ (before : q < last + 1). so q there n even before)
-    (λ (from : last + 1 ≤ q). ⊎_elim
-    (λ (before : q < id). absurd (gone q there (next.least id q refl from before)))
-    (λ (not : id ≤ q). let same : id ≡ q = omega (arith, not, low) in subst (λ (p : ℕ). IsSome (owner p)) same (owned (ap (λ (p : ℕ). p % 2) same ∙ even)))
-    (cases_lt q id))
-    (cases_lt q (last + 1))
-  where
-    gone : (q : ℕ) → IsSome (table q) → table q ≡ None → ⊥
-    gone q there none = not_true false (subst (λ (o : Option Extent). IsSome o) none there) refl
-
-pub owned-all : (last : ℕ) (table : Table) (owner : Owners) → AreOwnedTo last table owner → ((q : ℕ) → last + 1 ≤ q → table q ≡ None) → (id : ℕ) → IsSome (table id) → id ≢ 0 → id % 2 ≡ 0 → IsSome (owner id)
-owned-all last table owner so none id there n even = ⊎_elim
-    (λ (before : id < last + 1). so id there n even before)
-    (λ (from : last + 1 ≤ id). absurd (not_true false (subst (λ (o : Option Extent). IsSome o) (none id from) there) refl))
-    (cases_lt id (last + 1))

@@ -236,19 +236,17 @@ fn is_owned(owners: &BTreeMap<u32, u32>, id: u32) -> bool
     owners.get(&id).is_some()
 }
 
-/// Whether each object with an even id above 0 has an owner.
-fn are_owned(objects: &Objects, owners: &BTreeMap<u32, u32>) -> bool
-    ensures owned { result ≡ true → (id : ℕ) → IsSome (held objects.now id) → id ≢ 0 → id % 2 ≡ 0
+/// Whether each of these objects with an even id has an owner.
+fn are_owned(ids: &[u32], owners: &BTreeMap<u32, u32>) -> bool
+    ensures owned { result ≡ true → (id : ℕ) → Among ids.now id → id % 2 ≡ 0
         → IsSome (owner_of owners.now id) }
-    ensures not_owned { result ≡ false → (id : ℕ) × IsSome (held objects.now id) × (id ≢ 0) ×
-        (id % 2 ≡ 0) × (owner_of owners.now id ≡ None) }
+    ensures not_owned { result ≡ false → (id : ℕ) × Among ids.now id × (id % 2 ≡ 0) ×
+        (owner_of owners.now id ≡ None) }
 {
-    let mut last = 0;
-    while let Some(id) = objects.next_after(last) {
-        if !is_owned(owners, id) {
+    for id in ids {
+        if !is_owned(owners, *id) {
             return false;
         }
-        last = id;
     }
     true
 }
@@ -396,8 +394,9 @@ fn find_records<P: PageBook, G: Gatherer, H: Host>(
         names,
         owners,
     };
+    let ids = objects.ids_after(alloc, 0)?;
     let mut last = 0;
-    while let Some(id) = objects.next_after(last) {
+    for id in &ids {
         find_object(
             alloc,
             host,
@@ -407,11 +406,11 @@ fn find_records<P: PageBook, G: Gatherer, H: Host>(
             &mut finding,
             gatherer,
             last,
-            id,
+            *id,
         )?;
-        last = id;
+        last = *id;
     }
-    if !are_owned(objects, &finding.owners) {
+    if !are_owned(&ids, &finding.owners) {
         return Err(BookFault::NotStore);
     }
     Ok(finding)

@@ -1,7 +1,8 @@
-use Rattle.std.proofs.Common.{◌-◌}
+use Rattle.std.proofs.Common.{◌+◌, drop}
 use Rattle.newt_host.specs.Moments.{image}
 use Rattle.newt_host.specs.Outside.{NoFault}
 use Rattle.newt_objects.specs.Held.{held}
+use Rattle.newt_objects.specs.Listed.{AreNexts}
 use Rattle.newt_soupdir.specs.Bare.{bare_store}
 use Rattle.newt_objects_commit.specs.Names.{names_of}
 use Rattle.newt_objects_commit.specs.Places.{place_of}
@@ -18,8 +19,6 @@ invariant-loop-id g l =
       reads : ReadsOf place g.P.PageBook.numbers g.P.PageBook.stands g.H.Host.told l.objects l.fn.book l.book (outside l.fn.host) (outside l.host);
       no_fault : NoFault (outside l.fn.host) (outside l.host);
       found : IsFoundTo g.H.Host.told (image (place l.fn.book) (outside l.fn.host).now) (held l.objects) l.directory l.last (place_of l.finding.places) (names_of l.finding.names) (owner_of l.finding.owners);
+      ahead : AreNexts (held l.objects) (l.last + 1) (drop l.id-index l.ids.items);
       gathered : OfObjects g.H.Host.told (image (place l.fn.book) (outside l.fn.host).now) (HasGathered g.G.Gatherer.gathers (bare_store l.directory) (place_of l.finding.places) l.gatherer);
     }
-
-abbrev pub decreases-loop-id : goal.decreases-loop-id
-decreases-loop-id g l = 4294967296 - l.last
