@@ -22,7 +22,7 @@ use Rattle.newt_laws_answers.proofs.Units.{is-mounted}
 use Rattle.newt_engine_units.specs.declared.units.Slot.{Slot}
 use Rattle.newt_engine_units.specs.declared.units.Units.{Units}
 use Rattle.newt_engine_units.specs.Faces.{card_face, card_faces}
-use Rattle.newt_engine_units.specs.Stands.{card_at, mounted_in, world_of, Stands, Eight}
+use Rattle.newt_engine_units.specs.Stands.{card_at, due_in, mounted_in, world_of, Stands, Eight}
 use Rattle.newt_engine_units.proofs.Known.{Laws, at-device, card-known, none-mounted}
 
 -- ---- the faces of the world are those of the cards
@@ -37,7 +37,7 @@ map-twice f g (x ∷ xs) = ap {A = List _} (λ ys. f (g x) ∷ ys) (map-twice f 
 
 module _ {C : Type 0} {reads : List ℕ → Option Store} {place : C → ℕ} {soups : C → Store} {stands : Bool → C → Outside → Type 0} (l : Laws reads place soups stands)
     (units : Units C) (o : Outside) (e : Eight o) (s : Stands place stands true units o) where
-  face-known : (u : ℕ) → face_of (device_at reads (mounted_in units.slots.items) o u) ≡ card_face soups (card_at units.slots.items u)
+  face-known : (u : ℕ) → face_of (device_at reads (due_in units.slots.items) (mounted_in units.slots.items) o u) ≡ card_face soups (card_at units.slots.items u)
   face-known u = ap face_of (sym (at-device l units o e s u)) ∙ go (card_at units.slots.items u) refl
     where
       shown : Option Store → Face
@@ -50,7 +50,7 @@ module _ {C : Type 0} {reads : List ℕ → Option Store} {place : C → ℕ} {s
           ap shown (is-mounted (world_of reads units o) u (o.blocks u) k.store k.on) ∙ ap {A = Store} {B = Face} (λ t. Some (t.sig, t.name)) k.known
 
   pub faces-known : faces (world_of reads units o) ≡ card_faces soups units.slots.items
-  faces-known = map-twice face_of (device_at reads (mounted_in units.slots.items) o) unit_numbers ∙ map-alike _ _ face-known unit_numbers
+  faces-known = map-twice face_of (device_at reads (due_in units.slots.items) (mounted_in units.slots.items) o) unit_numbers ∙ map-alike _ _ face-known unit_numbers
 
 -- ---- the list of stores
 

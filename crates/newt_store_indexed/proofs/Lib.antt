@@ -9,3 +9,4 @@ pub mod Changing
 pub mod Turns
 pub mod Carded
 pub mod Opened
+pub mod Blocks

@@ -22,6 +22,7 @@ returns-clause-stands g c told outside s = record {
   few = s.few;
   attached = s.attached;
   cards = s.cards;
+  sure = s.sure;
   durable = s.durable;
   default = λ u h. subst (λ n. mounted_in c.args.self.now.slots.items n ≡ true) (some-same _ _ h) c.in_ok-find_unit.ensures;
 }
