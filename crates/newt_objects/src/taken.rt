@@ -148,27 +148,6 @@ fn take_rows(flags: &mut Vec<bool>, rows: &BTreeMap<u32, Option<Extent>>) -> boo
     true
 }
 
-/// Which page numbers all objects have. None where two of them have one number.
-pub(crate) fn taken_by(
-    alloc: Global,
-    rows: &BTreeMap<u32, Option<Extent>>,
-) -> Result<Option<Taken>, AllocError>
-    ensures { IfOk result (λ taken. IsKnown (held_in rows.now) taken) }
-{
-    // Its contract tells that the rows rise.
-    let _count = rows.len();
-    let mut flags = vec![in alloc; false; PAGE_NUMBERS as usize]?;
-    let full = vec![in alloc; false; GROUPS as usize]?;
-    if take_rows(&mut flags, rows) {
-        return Ok(Some(Taken {
-            flags,
-            full,
-            low: 0,
-        }));
-    }
-    Ok(None)
-}
-
 // Whether the flag of a place is set.
 fn has_flag(flags: &[bool], place: u32) -> bool
     ensures { IsTrue result → slice_get flags.now place ≡ Some true }
@@ -220,6 +199,41 @@ pub(crate) fn is_full(taken: &mut Taken, group: u32) -> bool
         make_full(taken, group);
     }
     full
+}
+
+// Makes known which groups are full.
+fn find_full(taken: &mut Taken)
+    requires size { length taken.old.flags.items ≡ 65536 }
+    requires full { AreFull taken.old }
+    ensures flags { taken.new.flags.items ≡ taken.old.flags.items }
+    ensures full { AreFull taken.new }
+{
+    for group in 0..GROUPS {
+        is_full(taken, group);
+    }
+}
+
+/// Which page numbers all objects have. None where two of them have one number.
+pub(crate) fn taken_by(
+    alloc: Global,
+    rows: &BTreeMap<u32, Option<Extent>>,
+) -> Result<Option<Taken>, AllocError>
+    ensures { IfOk result (λ taken. IsKnown (held_in rows.now) taken) }
+{
+    // Its contract tells that the rows rise.
+    let _count = rows.len();
+    let mut flags = vec![in alloc; false; PAGE_NUMBERS as usize]?;
+    let full = vec![in alloc; false; GROUPS as usize]?;
+    if take_rows(&mut flags, rows) {
+        let mut taken = Taken {
+            flags,
+            full,
+            low: 0,
+        };
+        find_full(&mut taken);
+        return Ok(Some(taken));
+    }
+    Ok(None)
 }
 
 /// Makes known which page numbers the objects have, unless two of them have one number.

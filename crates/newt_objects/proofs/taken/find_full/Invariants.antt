@@ -1,0 +1,9 @@
+use Rattle.std.proofs.Common.{◌≡◌}
+use Rattle.newt_objects.specs.Taken.{AreFull}
+use Rattle.newt_objects.proofs.taken.find_full.Given as goal
+
+abbrev pub invariant-loop-group : goal.invariant-loop-group
+invariant-loop-group l = record {
+  flags : l.taken.flags.items ≡ l.fn.taken.flags.items;
+  full : AreFull l.taken;
+}
