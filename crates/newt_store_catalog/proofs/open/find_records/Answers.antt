@@ -3,14 +3,13 @@ use Rattle.newt_spec_image.specs.Records.{version}
 use Rattle.newt_host.specs.Moments.{image}
 use Rattle.newt_host.proofs.Outside.{NoFault-refl, NoFault-append}
 use Rattle.newt_objects.specs.Held.{held}
+use Rattle.newt_objects.specs.Listed.{AreNexts}
 use Rattle.newt_pagebook.specs.declared.book.BookFault.{BookFault}
 use Rattle.newt_pagebook.specs.declared.book.BookFault.TheVariants.{Memory}
 use Rattle.newt_spec_graph.specs.Lists.{Among}
-use Rattle.newt_laws_images.specs.Found.{IsFound}
 use Rattle.newt_soupdir.specs.Bare.{bare_store}
-use Rattle.newt_nsof_flat.specs.Stream.{stream_graph}
-use Rattle.newt_objects_commit.specs.Names.{AreSoundNames, names_of}
-use Rattle.newt_objects_commit.specs.Places.{AreSoundPlaces, place_of}
+use Rattle.newt_objects_commit.specs.Names.{names_of}
+use Rattle.newt_objects_commit.specs.Places.{place_of}
 use Rattle.newt_store_catalog.specs.declared.open.Finding.{Finding}
 use Rattle.newt_store_catalog.specs.Gathering.{HasGathered}
 use Rattle.newt_store_catalog.specs.Opening.{OfObjects, owner_of}
@@ -30,7 +29,7 @@ loop-id-init g c = record {
     sound = sound-none (held c.args.objects.now) (place_of c.new-places.result) (names_of c.new-names.result) (owner_of c.no_owners-owners.result) c.new-places.ensures c.new-names.ensures c.no_owners-owners.ensures;
     found = λ tells texts h. found-none texts (bare_store c.args.directory.now) (place_of c.new-places.result) (names_of c.new-names.result) c.new-places.ensures;
   };
-  ahead = c.in_ok-ids.ensures;
+  ahead = subst (λ (ids : List ℕ). AreNexts (held c.args.objects.now) 1 ids) (sym c.deref-id-items.ensures.value) c.in_ok-ids.ensures;
   gathered = λ tells texts h. gathered-none g.G.Gatherer.gathers (bare_store c.args.directory.now) texts (place_of c.new-places.result) c.args.gatherer.now c.new-places.ensures c.requires.begun;
 }
 
@@ -40,7 +39,7 @@ find_object-requires-clause-root g c =
     subst (λ (b : List ℕ). IsDirectory g.H.Host.told b c.args.directory.now) (sym (same-image _ _ _ _ i.reads.same_place i.reads.looks.moment)) c.requires.root
 
 pub find_object-requires-clause-next : goal.find_object-requires-clause-next
-find_object-requires-clause-next g c = (listed-next (held c.args.objects.now) (c.loop-id.last + 1) c.in_ok-ids.ids.items c.loop-id.id-index (omega arith) c.loop-id.invariant.ahead).0
+find_object-requires-clause-next g c = (listed-next (held c.args.objects.now) (c.loop-id.last + 1) c.deref-id-items.result.now c.loop-id.id-index (omega arith) c.loop-id.invariant.ahead).0
 
 pub find_object-requires-clause-found : goal.find_object-requires-clause-found
 find_object-requires-clause-found g c =
@@ -60,9 +59,9 @@ loop-id-preserved g c =
     record {
       reads = reads-on i.reads e.searches.book;
       no_fault = NoFault-append i.no_fault (e.searches.ends.no_fault tt);
-      found = subst (λ (b : List ℕ). IsFoundTo g.H.Host.told b (held c.args.objects.now) c.args.directory.now (get_or c.in_ok-ids.ids.items c.loop-id.id-index 0) (place_of c.find_object.new.finding.places) (names_of c.find_object.new.finding.names) (owner_of c.find_object.new.finding.owners))
+      found = subst (λ (b : List ℕ). IsFoundTo g.H.Host.told b (held c.args.objects.now) c.args.directory.now (get_or c.deref-id-items.result.now c.loop-id.id-index 0) (place_of c.find_object.new.finding.places) (names_of c.find_object.new.finding.names) (owner_of c.find_object.new.finding.owners))
           (same-image _ _ _ _ i.reads.same_place i.reads.looks.moment) e.found;
-      ahead = (listed-next (held c.args.objects.now) (c.loop-id.last + 1) c.in_ok-ids.ids.items c.loop-id.id-index (omega arith) i.ahead).1;
+      ahead = (listed-next (held c.args.objects.now) (c.loop-id.last + 1) c.deref-id-items.result.now c.loop-id.id-index (omega arith) i.ahead).1;
       gathered = subst (λ (b : List ℕ). OfObjects g.H.Host.told b (HasGathered g.G.Gatherer.gathers (bare_store c.args.directory.now) (place_of c.find_object.new.finding.places) c.find_object.new.gatherer))
           (same-image _ _ _ _ i.reads.same_place i.reads.looks.moment) e.gathered;
     }
@@ -81,7 +80,7 @@ returns-then-not-are_owned g c =
             let there = listed-there (held c.args.objects.now) 1 c.in_ok-ids.ids.items c.in_ok-ids.ensures o.0 (subst (λ (ids : List ℕ). Among ids o.0) c.deref.ensures.value o.1) in
             large-not-named g.H.Host.told c.args.objects.now (g.P.PageBook.numbers c.args.book.now) (g.P.PageBook.place c.args.book.now) (g.H.Host.outside c.args.host.now) c.requires.can.kept tells
             c.loop-id.last (place_of c.loop-id.finding.places) (names_of c.loop-id.finding.names) (owner_of c.loop-id.finding.owners) (bare_store c.args.directory.now) i.found.sound i.found.found
-            (listed-end (held c.args.objects.now) (c.loop-id.last + 1) c.in_ok-ids.ids.items c.loop-id.id-index (omega arith) i.ahead) o.0 there.0 (λ zero. omega (arith, zero, there.1)) o.2 o.3)
+            (listed-end (held c.args.objects.now) (c.loop-id.last + 1) c.deref-id-items.result.now c.loop-id.id-index (omega arith) i.ahead) o.0 there.0 (λ zero. omega (arith, zero, there.1)) o.2 o.3)
             i.no_fault;
       };
     }
@@ -97,7 +96,7 @@ returns g c =
             found-all (version (image (g.P.PageBook.place c.args.book.now) (g.H.Host.outside c.args.host.now).now)) texts c.args.directory.now c.loop-id.last (held c.args.objects.now) (place_of c.loop-id.finding.places) (names_of c.loop-id.finding.names) (owner_of c.loop-id.finding.owners) (c.requires.root.root tells texts h)
             i.found.sound (i.found.found tells texts h)
             (λ q from. kept-none g.H.Host.told c.args.objects.now (g.P.PageBook.numbers c.args.book.now) (g.P.PageBook.place c.args.book.now) (g.H.Host.outside c.args.host.now) c.requires.can.kept tells texts h q
-            (listed-end (held c.args.objects.now) (c.loop-id.last + 1) c.in_ok-ids.ids.items c.loop-id.id-index (omega arith) i.ahead q from))
+            (listed-end (held c.args.objects.now) (c.loop-id.last + 1) c.deref-id-items.result.now c.loop-id.id-index (omega arith) i.ahead q from))
             (λ id bytes at n even. c.are_owned.ensures.owned c.if-not-are_owned.false id (subst (λ (ids : List ℕ). Among ids id) (sym c.deref.ensures.value)
             (there-listed (held c.args.objects.now) 1 c.in_ok-ids.ids.items c.in_ok-ids.ensures id (omega (arith, n))
             (kept-there g.H.Host.told c.args.objects.now (g.P.PageBook.numbers c.args.book.now) (g.P.PageBook.place c.args.book.now) (g.H.Host.outside c.args.host.now) c.requires.can.kept tells texts h id bytes at))) even);
@@ -111,8 +110,8 @@ returns-in_err-find_object g c =
     let i = c.loop-id.invariant in
     let e = c.find_object.ensures in
     let fault : BookFault = c.in_err-find_object.field-0.0 in
-    let r : Result Finding BookFault = c.from_residual.result in
-    let fails : Fails r fault = c.from_residual.ensures.1 in
+    let r : Result Finding BookFault = c.from_residual-in_err-find_object.result in
+    let fails : Fails r fault = c.from_residual-in_err-find_object.ensures.1 in
     record {
       found = no-value r fault _ fails;
       gathered = no-value r fault _ fails;

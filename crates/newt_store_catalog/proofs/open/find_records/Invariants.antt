@@ -19,6 +19,6 @@ invariant-loop-id g l =
       reads : ReadsOf place g.P.PageBook.numbers g.P.PageBook.stands g.H.Host.told l.objects l.fn.book l.book (outside l.fn.host) (outside l.host);
       no_fault : NoFault (outside l.fn.host) (outside l.host);
       found : IsFoundTo g.H.Host.told (image (place l.fn.book) (outside l.fn.host).now) (held l.objects) l.directory l.last (place_of l.finding.places) (names_of l.finding.names) (owner_of l.finding.owners);
-      ahead : AreNexts (held l.objects) (l.last + 1) (drop l.id-index l.ids.items);
+      ahead : AreNexts (held l.objects) (l.last + 1) (drop l.id-index l.id-items);
       gathered : OfObjects g.H.Host.told (image (place l.fn.book) (outside l.fn.host).now) (HasGathered g.G.Gatherer.gathers (bare_store l.directory) (place_of l.finding.places) l.gatherer);
     }
