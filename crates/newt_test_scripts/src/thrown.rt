@@ -99,6 +99,7 @@ fn times_thrown(output: &[u8]) -> usize {
 }
 
 /// A call that fails: its unit, and what was written before it.
+#[derive(Clone, Copy)]
 struct Failing<'a> {
     call: u64,
     unit: Unit,
