@@ -216,9 +216,9 @@ module _ {C : Type 0} {reads : List ℕ → Option Store} {place : C → ℕ} {s
             crash = λ left may. tt;
           } in
           let last : Meanwhile reads (due_in units.slots.items) w c after o.now m.now = on-unit at.laws units o at.eight s u Anything c after m.now there
-                (λ x left h p. absurd (both-ways (sym (store-reads at.laws units o at.eight s u x h).sure ∙ due)))
-                (λ is stays. blank-sure t due is)
-                (λ due formed. left-then t may) in
+          (λ x left h p. absurd (both-ways (sym (store-reads at.laws units o at.eight s u x h).sure ∙ due)))
+          (λ is stays. blank-sure t due is)
+          (λ due formed. left-then t may) in
           subst (λ k. Always (Meanwhile reads (due_in units.slots.items) w c after o.now) o.now k) (sym now)
           (later (On u Synced) o.now (here (unchanged-moment at.laws units o at.eight s c after o.now refl refl (λ j. refl))) (subst (Meanwhile reads (due_in units.slots.items) w c after o.now) now last))
 
