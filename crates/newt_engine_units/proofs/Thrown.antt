@@ -104,7 +104,7 @@ module _ {C : Type 0} {reads : List ℕ → Option Store} {place : C → ℕ} {s
   device-there u has = go (o.card u) refl
     where
       go : (c : Option (List ℕ)) → o.card u ≡ c → (d : Device) × (device w u ≡ Some d)
-      go None k = absurd (subst IsSome k has)
+      go None k = absurd (both-ways (subst IsSome k has))
       go (Some name) k = (card_device reads (due_in units.slots.items u) (o.blocks u) (image u o.now) (mounted_in units.slots.items u), at-card l units o e s u name k)
 
   module _ {mid : Units C} {p : Outside} {c : Command} {u : ℕ} (b : BreaksIn reads place stands true c units mid o p u) where
@@ -127,7 +127,7 @@ module _ {C : Type 0} {reads : List ℕ → Option Store} {place : C → ℕ} {s
         held found is due = there (o.card u) refl
           where
             there : (k : Option (List ℕ)) → o.card u ≡ k → (d : Device) × (device w u ≡ Some d) × (d.media ≡ media_of found)
-            there None k = absurd (subst IsSome k b.breaks.failed.attached)
+            there None k = absurd (both-ways (subst IsSome k b.breaks.failed.attached))
             there (Some name) k = (
               card_device reads (due_in units.slots.items u) (o.blocks u) (image u o.now) (mounted_in units.slots.items u),
               at-card l units o e s u name k,
@@ -158,13 +158,13 @@ module _ {C : Type 0} {reads : List ℕ → Option Store} {place : C → ℕ} {s
             stores = let k = held (Some x) is due in ap (λ (d : Option Device). elim d [ None ↦ [] | Some d ↦ stores_of d.media ]) k.1 ∙ ap stores_of k.2
 
             one-of : may_tear w c u ≡ true → (left : List ℕ) → (y : Store) → reads left ≡ Some y → Among ((x ∷ []) ++ stores_on v u) y → (reads left ≡ Some x) ⊎ (reads left ≡ Some (store_after w c u x))
-            one-of torn left y found (inl same) = inl (found ∙ ap Some (sym same))
-            one-of torn left y found (inr among) = inr (found ∙ ap Some (after x y torn among))
+            one-of tears left y found (inl same) = inl (found ∙ ap Some (sym same))
+            one-of tears left y found (inr among) = inr (found ∙ ap Some (after x y tears among))
 
             go : (k : Bool) → may_tear w c u ≡ k → Holds reads p.now u (if k then two x (store_after w c u x) else one x)
-            go true torn = λ left may.
+            go true tears = λ left may.
                 let k = last.answering.stores u x left (subst (λ xs. Among xs x) (sym stores) (inl refl)) may in
-                one-of torn left k.0 k.2 (subst (λ xs. Among (xs ++ stores_on v u) k.0) stores k.1)
+                one-of tears left k.0 k.2 (subst (λ xs. Among (xs ++ stores_on v u) k.0) stores k.1)
             go false untorn = holds-left reads u o.now p.now (one x) (b.same refl untorn (λ formed. subst IsSome (sym is) refl)) h
 
         known : (found : Option Store) → reads (image u o.now) ≡ found → due_in units.slots.items u ≡ false → Holds reads o.now u (media_of found) → Holds reads p.now u (torn w c u (media_of found))
