@@ -27,7 +27,7 @@ use Rattle.newt_store_change.specs.declared.fault.StoreFault.{StoreFault}
 use Rattle.newt_store_change.specs.declared.fault.StoreFault.TheVariants.{Stop as Ends}
 use Rattle.newt_engine_card.specs.Bounds.{Costs, CostsOn, FetchesAtMost, FetchesOn, IsOpenOrSame, LeftAlone, of_unit}
 use Rattle.newt_engine_units.specs.Answers.{Answers}
-use Rattle.newt_engine_units.specs.Breaks.{AtDevice, AtStop, FailsAlone, HasStoreToFormat, IsLeftAs, Meanwhile}
+use Rattle.newt_engine_units.specs.Breaks.{AtDevice, AtStop, FailsAlone, HasStoreToFormat, Meanwhile}
 use Rattle.newt_engine_units.specs.Faces.{with_due}
 use Rattle.newt_engine_units.specs.Stands.{Stands, StandsBut, due_in, is_due, mounted_in, world_of}
 use Rattle.newt_engine_units.specs.declared.units.Units.{Units}
@@ -69,17 +69,20 @@ module _ {C : Type 0} (reads : List ℕ → Option Store) (place : C → ℕ) (s
     pub others : IsTrue told → (n : ℕ) → n ≢ u → changes n after.now ≡ changes n before.now
     pub failed : FailsAlone before after u
 
-  -- And in a command: the unit is left as it was where its store was not to be written, and it was not to be formatted where it was read as no store.
+  -- And in a command: nothing at all has happened where the store of the unit was not to be written, no sync of it was due, and it was not to be formatted.
   pub record BreaksIn (told : Bool) (command : Command) (old new : Units C) (before after : Outside) (u : ℕ) : Type 0 where
     pub breaks : Breaks told old new before after u
-    pub same : IsTrue told → may_tear (world_of reads old before) command u ≡ false → HasStoreToFormat reads command u before.now → IsLeftAs u before.now after.now
+    pub same : IsTrue told → may_tear (world_of reads old before) command u ≡ false → is_due old u ≡ false
+        → HasStoreToFormat reads (world_of reads old before) command u before.now → after.now ≡ before.now
 
   -- What every call promises that only reads: the units stand for the world that they stood for,
-  -- the same units are mounted, and nothing has happened outside but reading.
+  -- the same units are mounted, of the same ones a sync is due, and nothing has happened outside but
+  -- reading.
   pub record AreRead (told : Bool) (old new : Units C) (before after : Outside) : Type 0 where
     pub stand : Stands place standing told new after
     pub world : IsTrue told → world_of reads new after ≡ world_of reads old before
     pub marks : (u : ℕ) → mounted_in new.slots.items u ≡ mounted_in old.slots.items u
+    pub dues : (u : ℕ) → due_in new.slots.items u ≡ due_in old.slots.items u
     pub moment : after.now ≡ before.now
     pub untouched : (u : ℕ) → LeftAlone u before after
     pub alone : OnDevices before after
@@ -92,6 +95,7 @@ module _ {C : Type 0} (reads : List ℕ → Option Store) (place : C → ℕ) (s
         → FetchesAtMost (of_unit unit (512 * pages_of_entry (entry_at soup uid s))) before after
     pub cause : IfErr result (λ stop. HasStopCause stop before after)
     pub failed : IfErr result (AtStop (FailsAlone before after))
+    pub its : IfErr result (AtStop (λ u. u ≡ unit))
     pub no_fault : OnOk result (NoFault before after)
 
   -- Bytes of a large binary of such an entry are read, or the first test that holds is answered; but
@@ -119,6 +123,7 @@ module _ {C : Type 0} (reads : List ℕ → Option Store) (place : C → ℕ) (s
     pub idle : IsTrue told → let w = world_of reads old before in (blocks : ℕ) (s : Store) → OnUnit w unit blocks s → IsSome (refusal_of change blocks w.minute s)
         → after.now ≡ before.now
     pub marks : (u : ℕ) → mounted_in new.slots.items u ≡ mounted_in old.slots.items u
+    pub dues : (u : ℕ) → due_in new.slots.items u ≡ due_in old.slots.items u
     pub costs : IsTrue told → let w = world_of reads old before in (blocks : ℕ) (s : Store) → OnUnit w unit blocks s →
         CostsOn unit (most_bytes change blocks w.minute s) result before after
     pub fetches : IsTrue told → let w = world_of reads old before in (blocks : ℕ) (s : Store) → OnUnit w unit blocks s →
