@@ -1,7 +1,7 @@
 -- The unit is looked at and made sure of, its store is looked for, and it is formatted.
 use Rattle.std.proofs.Common.{◌≡◌, refl, sym, ap, ◌∙◌, subst, ℕ, IsTrue, true, inr, Err}
 use Rattle.std.specs.Prelude.{OnOk, is_some}
-use Rattle.std.proofs.lemmas.Bool.{eq-eqb, ne_eqb}
+use Rattle.std.proofs.lemmas.Bool.{ne_eqb}
 use Rattle.std.proofs.lemmas.Result.{err_from_is_err_and}
 use Rattle.newt_base.specs.declared.Refusal.TheVariants.{Store as HasStore}
 use Rattle.newt_store_change.specs.declared.fault.StoreFault.TheVariants.{Refused}
@@ -9,7 +9,7 @@ use Rattle.newt_host.specs.Moments.{MayLeave, Moment, Always, changes, image}
 use Rattle.newt_host.proofs.Histories.{history-leaves}
 use Rattle.newt_spec_graph.proofs.Lists.{both-ways}
 use Rattle.newt_spec_world.specs.Reply.{Reply}
-use Rattle.newt_spec_world.specs.Step.{formats, is_format_of}
+use Rattle.newt_spec_world.specs.Step.{formats}
 use Rattle.newt_spec_world.specs.World.{World, IsBlankOn}
 use Rattle.newt_spec_world.specs.declared.command.Command.{Command}
 use Rattle.newt_spec_world.specs.declared.command.Command.TheVariants as command
@@ -94,7 +94,7 @@ returns-in_err-has_store g c =
     record {
       stands = λ goes. e.looks.stand;
       answered = λ t. end-answers _ _ _ _ _ _ p e.has;
-      moments = λ t. sync-still at free made t (may t) format _ _ e.looks.moment;
+      moments = λ t. sync-still at free made t (may t) format _ refl _ e.looks.moment;
       open_after = λ t goes u. inr (ap (image u) e.looks.moment ∙ images-same at free made t u);
       ends = ends-after made.ends tt (handed-ends _ p e.ends);
       broke = handed (AtDevice B) _ _ p (at-device-both (λ k. k ≡ c.args.unit) (FailsAlone m q) B _
@@ -122,7 +122,7 @@ returns-then-branch g c =
           subst (λ x. Answers {T = Unit {0}} x (world_of g.C.Card.reads c.make_sure.new.self q) format (λ _. Reply.done) (Err (Refused HasStore))) (as-seen at free made format refl t)
           (format-has-answers mid _ c.args.unit _ (g.C.Card.reads (image c.args.unit m.now)) c.args.name.now c.args.sig (ready-there then t c.args.unit (now-free at free made) (now-sure at free made)) refl
           (sym (e.has t) ∙ c.if-branch.true) same);
-      moments = λ t. sync-still at free made t (may t) format _ _ e.looks.moment;
+      moments = λ t. sync-still at free made t (may t) format _ refl _ e.looks.moment;
       open_after = λ t goes u. inr (ap (image u) e.looks.moment ∙ images-same at free made t u);
       ends = ends-after made.ends tt (ends-after e.ends tt (none-ends {T = Unit {0}} _ tt));
       broke = tt;
