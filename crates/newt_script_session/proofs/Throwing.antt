@@ -6,7 +6,7 @@ use Rattle.newt_spec_world.specs.Reply.{Reply}
 use Rattle.newt_laws_steps.specs.Thrown.{Failed, RoseBy, RowsFailed, RowsThrew, Threw}
 
 -- how many there are of one row
-thrown_one : (unit : ℕ) (row : Row) (rows : List Row) → thrown_count unit (row ∷ rows) ≡ cond (throws unit row.1) 1 0 + thrown_count unit rows
+pub thrown_one : (unit : ℕ) (row : Row) (rows : List Row) → thrown_count unit (row ∷ rows) ≡ cond (throws unit row.1) 1 0 + thrown_count unit rows
 thrown_one unit row rows = go (throws unit row.1)
   where
     go : (b : Bool) → length (cond b (row ∷ filter (λ (r : Row). throws unit r.1) rows) (filter (λ (r : Row). throws unit r.1) rows)) ≡ cond b 1 0 + thrown_count unit rows

@@ -9,4 +9,3 @@ pub mod Changing
 pub mod Turns
 pub mod Carded
 pub mod Opened
-pub mod Blocks

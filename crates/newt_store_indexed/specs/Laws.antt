@@ -1,5 +1,5 @@
 -- What the units ask of a card, of a store that stands for its unit. This project's own.
-use Rattle.std.specs.Prelude.{◌≡◌, ℕ, ◌*◌, ◌/◌, Bool, true, IsTrue, List, length, Some}
+use Rattle.std.specs.Prelude.{◌≡◌, ℕ, ◌*◌, Bool, true, IsTrue, List, length, Some}
 use Rattle.std.proofs.Common.{ap, subst, refl, sym, ◌∙◌}
 use Rattle.newt_host.specs.Moments.{Change as Event, image, bytes_after}
 use Rattle.newt_host.specs.Outside.{Outside}
@@ -15,11 +15,11 @@ use Rattle.newt_laws_images.proofs.Gathering.{image-sound}
 use Rattle.std.specs.FinMap as map
 use Rattle.newt_soupdir.specs.Bare.{bare_store}
 use Rattle.newt_nsof_flat.specs.Stream.{stream_graph}
+use Rattle.newt_objects_commit.proofs.Committing.{blocks-are}
 use Rattle.newt_objects_commit.specs.Places.{place_of}
 use Rattle.newt_objects_commit.specs.Names.{names_of}
 use Rattle.newt_store.proofs.Reading.{both, read-back}
 use Rattle.newt_store_catalog.specs.Readable.{readable}
-use Rattle.newt_store_indexed.proofs.Blocks.{whole-blocks}
 use Rattle.newt_store_catalog.specs.Stands.{IsSound, StandsFor}
 use Rattle.newt_store_catalog.specs.declared.catalog.Catalog.{Catalog}
 use Rattle.newt_index_ranges.specs.declared.rows.SoupRanges.{SoupRanges}
@@ -36,7 +36,7 @@ formed_read bytes s h =
 pub fits_read : (blocks : ℕ) (bytes : List ℕ) (s : Plain) → length bytes ≡ blocks * 4096 → readable bytes ≡ Some s → IsTrue (valid blocks s)
 fits_read blocks bytes s size h =
     let is = image-sound stream_graph bytes s h in
-    subst (λ n. IsTrue (valid n s)) (ap (λ n. n / 4096) size ∙ whole-blocks blocks) (read-valid stream_graph (version bytes) (map.entries is.objects) (blocks_of bytes) s is.reads)
+    subst (λ n. IsTrue (valid n s)) (blocks-are bytes blocks size) (read-valid stream_graph (version bytes) (map.entries is.objects) (blocks_of bytes) s is.reads)
 
 -- where memory and image stand for a store, the image is read as one whose soups are known
 pub read_as : (catalog : Catalog) (rows : List SoupRanges) (now : List ℕ) → StandsForOne catalog rows now → (s : Plain) × (readable now ≡ Some s) × (bare s ≡ bare_store catalog.directory)
