@@ -7,6 +7,7 @@ use Rattle.newt_index.specs.Spots.{spot_hit}
 use Rattle.newt_engine_hits.specs.declared.present.Present.{Present}
 use Rattle.newt_engine_cursors.proofs.Standing.{key-present, present-keys, stands-query}
 use Rattle.std.proofs.lemmas.Result.{err_from_is_err_and}
+use Rattle.newt_host.proofs.Outside.{NoFault-refl}
 use Rattle.newt_engine_hits.proofs.Reading.{any-reading, asked-read, end-read, is-read, not-read}
 use Rattle.newt_engine_hits.proofs.Stores.{stores-formed}
 use Rattle.newt_engine_cursors.proofs.settling.present_key.Goals as goal
@@ -34,7 +35,7 @@ returns-in-None-clause-found g c t apart =
 pub returns-in_err-hit-clause-reading : goal.returns-in_err-hit-clause-reading
 returns-in_err-hit-clause-reading g c =
     let r = c.from_residual.result in
-    end-read (not-read c.requires) (asked-read refl) (any-reading c.in_err-hit.ensures.reading) r (err_from_is_err_and r c.from_residual.ensures.1)
+    end-read (not-read c.requires) (NoFault-refl _) (asked-read refl) (any-reading c.in_err-hit.ensures.reading) r (err_from_is_err_and r c.from_residual.ensures.1)
 
 pub returns-in-Some-2-clause-reading : goal.returns-in-Some-2-clause-reading
 returns-in-Some-2-clause-reading g c = is-read c.in_ok-hit.ensures.reading.read c.in_ok-hit.ensures.reading.no_fault (asked-read refl)

@@ -15,7 +15,7 @@ use Rattle.std.specs.Prelude.{slice_get}
 use Rattle.newt_engine_cursors.specs.Reached.{IsAtHand}
 use Rattle.newt_engine_hits.proofs.Reading.{asked-read, not-read}
 use Rattle.newt_engine_cursors.specs.World.{world_with}
-use Rattle.newt_engine_cursors.proofs.Calls.{settles-end}
+use Rattle.newt_engine_cursors.proofs.Calls.{all-kept, settles-end}
 use Rattle.newt_engine_cursors.proofs.Reaches.{no-watchers}
 use Rattle.newt_engine_cursors.proofs.settling.settle_entry.Goals as goal
 
@@ -25,6 +25,8 @@ returns-then-not-is_watched-clause-settles g c = record {
   desk = c.requires.desk;
   settled = λ t apart. sym (no-watchers c.args.store c.args.soup c.args.uid (world_with g.C.Card.reads c.args.units.now c.args.desk.now (g.H.Host.outside c.args.host.now)) (c.if-not-is_watched.ensures refl));
   cause = tt;
+  failed = tt;
+  kept = tt;
   no_fault = NoFault-refl _;
 }
 
@@ -36,14 +38,15 @@ returns-then-not-is_watched-clause-unread g c none u = omega arith
 
 pub returns-in_err-entry-clause-settles : goal.returns-in_err-entry-clause-settles
 returns-in_err-entry-clause-settles g c =
-    settles-end (λ (r : Result (Unit {0}) Stop) (w v : World). OnOk r (v ≡ settle_reached (on_entry c.args.store c.args.soup c.args.uid) w)) (not-read c.requires.stands) c.in_err-entry.ensures.reading c.requires.desk
+    settles-end (λ (r : Result (Unit {0}) Stop) (w v : World). OnOk r (v ≡ settle_reached (on_entry c.args.store c.args.soup c.args.uid) w)) (not-read c.requires.stands) (NoFault-refl _) c.in_err-entry.ensures.reading c.requires.desk (all-kept _)
     c.from_residual.result (err_from_is_err_and c.from_residual.result c.from_residual.ensures.1) (λ w v. tt)
 
 pub returns-in_err-give_keys-clause-settles : goal.returns-in_err-give_keys-clause-settles
 returns-in_err-give_keys-clause-settles g c =
     let r = c.from_residual-in_err-give_keys.result in
     settles-end {S = Unit {0}} {asks = true} (λ (r : Result (Unit {0}) Stop) (w v : World). OnOk r (v ≡ settle_reached (on_entry c.args.store c.args.soup c.args.uid) w)) {stop = Memory}
-    c.in_ok-entry.ensures.reading.read (record { read = not-read c.in_ok-entry.ensures.reading.read.stand; cause = tt; no_fault = tt; unread = asked-read refl }) c.in_err-give_keys.ensures.desk
+    c.in_ok-entry.ensures.reading.read c.in_ok-entry.ensures.reading.no_fault
+    (record { read = not-read c.in_ok-entry.ensures.reading.read.stand; cause = tt; failed = tt; no_fault = tt; unread = asked-read refl }) c.in_err-give_keys.ensures.desk tt
     r (err_from_is_err_and r c.from_residual-in_err-give_keys.ensures.1) (λ w v. tt)
 
 pub returns-clause-settles : goal.returns-clause-settles
@@ -62,5 +65,7 @@ returns-clause-settles g c =
           (subst (λ (v : World). (n : ℕ) → IsAtHand v c.args.store c.args.soup c.args.uid c.in_ok-entry.entry (flat (slice_get c.args.desk.now n))) (sym same) (c.in_ok-entry.ensures.entry t)))
           ∙ ap (λ (v : World). settle_reached (on_entry c.args.store c.args.soup c.args.uid) (with_cursors c.args.desk.now v)) same;
       cause = tt;
+      failed = tt;
+      kept = tt;
       no_fault = read.no_fault;
     }

@@ -25,6 +25,8 @@ returns-in-Nowhere-clause-settles g c = record {
       let w = world_with g.C.Card.reads c.args.units.now c.args.desk.now (g.H.Host.outside c.args.host.now) in
       sym (nowhere-stays w) ∙ ap (λ (r : Reach). settle_reached r w) (ap seen_reach (sym c.in-Nowhere.is));
   cause = tt;
+  failed = tt;
+  kept = tt;
   no_fault = NoFault-refl _;
 }
 
