@@ -21,6 +21,10 @@ pub cause-since : (o p q : Outside) (stop : Stop) → OnDevices o p → HasStopC
 cause-since o p q Memory a h = tt
 cause-since o p q (Device u) a h = let x = a.dev_faults u in omega (arith, h)
 
+-- what holds of a device that failed, where the error is handed on
+pub handed-stop : {T : Type 0} (P : ℕ → Type 0) (stop : Stop) → AtStop P stop → (result : Result T Stop) → (e : Stop) × (result ≡ Err e) × (e ≡ stop) → IfErr result (AtStop P)
+handed-stop {T} P stop at result is = subst (λ (r : Result T Stop). IfErr r (AtStop P)) (sym (is.1 ∙ ap {B = Result T Stop} (λ e. Err e) is.2)) at
+
 -- ---- what is fetched
 
 -- nothing is, unless words or texts are asked for

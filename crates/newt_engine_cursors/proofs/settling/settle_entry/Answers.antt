@@ -6,14 +6,15 @@ use Rattle.newt_host.proofs.Outside.{NoFault-refl}
 use Rattle.newt_pagebook.specs.declared.book.Stop.{Stop}
 use Rattle.newt_pagebook.specs.declared.book.Stop.TheVariants.{Memory}
 use Rattle.newt_spec_query.specs.Cursor.{Cursor}
-use Rattle.newt_spec_world.specs.World.{World, flat}
+use Rattle.newt_spec_world.specs.World.{World, flat, mounted_store}
 use Rattle.newt_laws_reach.specs.Reach.{on_entry, settle_reached}
 use Rattle.newt_laws_world.specs.Cursors.{with_cursors}
 use Rattle.newt_laws_world.specs.Settled.{MountedApart}
 use Rattle.newt_engine_units.specs.Stands.{Eight, Stands, world_of}
 use Rattle.std.specs.Prelude.{slice_get}
 use Rattle.newt_engine_cursors.specs.Reached.{IsAtHand}
-use Rattle.newt_engine_hits.proofs.Reading.{asked-read, not-read}
+use Rattle.newt_engine_hits.specs.Present.{has_sig}
+use Rattle.newt_engine_hits.proofs.Reading.{asked-read, handed-stop, not-read}
 use Rattle.newt_engine_cursors.specs.World.{world_with}
 use Rattle.newt_engine_cursors.proofs.Calls.{all-kept, settles-end}
 use Rattle.newt_engine_cursors.proofs.Reaches.{no-watchers}
@@ -69,3 +70,14 @@ returns-clause-settles g c =
       kept = tt;
       no_fault = read.no_fault;
     }
+
+pub returns-in_err-entry-clause-own : goal.returns-in_err-entry-clause-own
+returns-in_err-entry-clause-own g c t =
+    let w = world_of g.C.Card.reads c.args.units.now (g.H.Host.outside c.args.host.now) in
+    handed-stop (λ u. has_sig c.args.store (mounted_store w u) ≡ true) _ (c.in_err-entry.ensures.own t) c.from_residual.result (err_from_is_err_and c.from_residual.result c.from_residual.ensures.1)
+
+pub returns-in_err-give_keys-clause-own : goal.returns-in_err-give_keys-clause-own
+returns-in_err-give_keys-clause-own g c t =
+    let w = world_of g.C.Card.reads c.args.units.now (g.H.Host.outside c.args.host.now) in
+    let r = c.from_residual-in_err-give_keys.result in
+    handed-stop (λ u. has_sig c.args.store (mounted_store w u) ≡ true) Memory tt r (err_from_is_err_and r c.from_residual-in_err-give_keys.ensures.1)
