@@ -46,8 +46,11 @@ returns-in-Some g c =
       alone = on-devices c.apply.ensures.alone;
       cause = cause-of _ _ _ _ c.apply.ensures.cause;
       broke = its-devices (λ u. (u ≡ c.args.unit) × Breaks g.C.Card.reads g.C.Card.place g.C.Card.stands g.H.Host.told c.args.self.now (later c.args.self.now c.unit.inside.0 c.index_mut.result.now c.apply.new.self) o p u)
-          (g.C.Card.place c.in-Some.card) o p c.apply.result (at-unit, subst (Breaks g.C.Card.reads g.C.Card.place g.C.Card.stands g.H.Host.told c.args.self.now (later c.args.self.now c.unit.inside.0 c.index_mut.result.now c.apply.new.self) o p)
-          (sym at-unit) (call-breaks laws eight call c.requires.stands c.apply.ensures.others)) c.apply.ensures.cause;
+          (g.C.Card.place c.in-Some.card) o p c.apply.result (
+            at-unit,
+            subst (Breaks g.C.Card.reads g.C.Card.place g.C.Card.stands g.H.Host.told c.args.self.now (later c.args.self.now c.unit.inside.0 c.index_mut.result.now c.apply.new.self) o p)
+                (sym at-unit) (call-breaks laws eight call c.requires.stands c.apply.ensures.others),
+          ) c.apply.ensures.cause;
       no_fault = c.apply.ensures.no_fault;
     }
 

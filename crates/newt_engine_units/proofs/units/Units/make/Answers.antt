@@ -61,11 +61,14 @@ returns-in-Err g c =
         failed = its-stops {T = Unit {0}} (FailsAlone o p) c.args.unit o p (Err c.in-Err.stop) failed c.in-Err.ensures.cause;
         no_fault = λ goes. absurd goes;
       };
-      broke = its-stops {T = Unit {0}} B c.args.unit o p (Err c.in-Err.stop) (refl, record {
-        stands = but-beside g.C.Card.place g.C.Card.stands g.met.C.Card.kept g.met.C.Card.durable g.H.Host.told c.args.self.now c.args.unit o p e.alone.cards
-            (λ t. Leaves-others (e.any_moment t)) (but-of g.C.Card.place g.C.Card.stands g.H.Host.told c.args.self.now c.args.unit o c.requires.stands);
-        world = λ t. world-beside g.C.Card.reads c.args.self.now c.args.unit o p e.alone.cards (Leaves-others (e.any_moment t));
-        others = λ t. Leaves-others (e.any_moment t);
-        failed = failed;
-      }) c.in-Err.ensures.cause;
+      broke = its-stops {T = Unit {0}} B c.args.unit o p (Err c.in-Err.stop) (
+        refl,
+        record {
+          stands = but-beside g.C.Card.place g.C.Card.stands g.met.C.Card.kept g.met.C.Card.durable g.H.Host.told c.args.self.now c.args.unit o p e.alone.cards
+              (λ t. Leaves-others (e.any_moment t)) (but-of g.C.Card.place g.C.Card.stands g.H.Host.told c.args.self.now c.args.unit o c.requires.stands);
+          world = λ t. world-beside g.C.Card.reads c.args.self.now c.args.unit o p e.alone.cards (Leaves-others (e.any_moment t));
+          others = λ t. Leaves-others (e.any_moment t);
+          failed = failed;
+        },
+      ) c.in-Err.ensures.cause;
     }
