@@ -164,7 +164,7 @@ module _ {C : Type 0} {reads : List ℕ → Option Store} {place : C → ℕ} {s
         desk = d;
         settled = λ t apart. ends _ _;
         cause = cause-since _ _ _ stop a.alone h.cause;
-        failed = failed-since {T = S} a f (Err stop) h.failed;
+        failed = failed-since {T = S} q a f (Err stop) h.failed;
         kept = kept;
         no_fault = tt;
       })

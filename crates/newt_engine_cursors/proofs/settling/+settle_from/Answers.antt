@@ -19,13 +19,13 @@ use Rattle.newt_engine_cursors.proofs.Cursors.{before-change, change-one, from-b
 use Rattle.newt_engine_cursors.proofs.Reaches.{given-where, handed-own}
 use Rattle.newt_engine_cursors.proofs.settling.+settle_from.Goals as goal
 
-pub settle_from-returns-then-from_ge_PLACES-clause-settles : goal.settle_from-returns-then-from_ge_PLACES-clause-settles
-settle_from-returns-then-from_ge_PLACES-clause-settles g t c = record {
+pub settle_from-returns-then-from-ge-PLACES-clause-settles : goal.settle_from-returns-then-from-ge-PLACES-clause-settles
+settle_from-returns-then-from-ge-PLACES-clause-settles g t c = record {
   read = not-read c.requires.stands;
   desk = c.requires.desk;
   settled = λ told apart.
       let base = world_of g.C.Card.reads c.args.units.now (g.H.Host.outside c.args.host.now) in
-      let test = c.if-from_ge_PLACES.true in
+      let test = c.if-from-ge-PLACES.true in
       let places = c.requires.desk.places in
       let none : length c.args.desk.now ≤ c.args.from = omega (arith, test, places) in
       sym (ap (λ (ks : List (Option Cursor)). with_cursors ks base) (from-behind c.args.from (settle_where (seen_reach c.args.reach.now) base) c.args.desk.now none));
@@ -35,8 +35,8 @@ settle_from-returns-then-from_ge_PLACES-clause-settles g t c = record {
   no_fault = NoFault-refl _;
 }
 
-pub settle_from-returns-then-from_ge_PLACES-clause-unread : goal.settle_from-returns-then-from_ge_PLACES-clause-unread
-settle_from-returns-then-from_ge_PLACES-clause-unread g t c none u = omega arith
+pub settle_from-returns-then-from-ge-PLACES-clause-unread : goal.settle_from-returns-then-from-ge-PLACES-clause-unread
+settle_from-returns-then-from-ge-PLACES-clause-unread g t c none u = omega arith
 
 pub settle_from-returns-in_err-key-clause-settles : goal.settle_from-returns-in_err-key-clause-settles
 settle_from-returns-in_err-key-clause-settles g t c =
