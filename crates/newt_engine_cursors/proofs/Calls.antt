@@ -48,9 +48,9 @@ unread-query (Some j) k e h = ap (λ (x : Cursor). asks_texts x.query.spec) (som
 -- ---- a device that fails
 
 -- the cursors are as they were
-pub all-kept : {was : List (Option Cursor)} (stop : Stop) → AtStop (λ u. was ≡ was) stop
-all-kept Memory = tt
-all-kept (Device u) = refl
+pub all-kept : (was : List (Option Cursor)) (stop : Stop) → AtStop (λ u. was ≡ was) stop
+all-kept was Memory = tt
+all-kept was (Device u) = refl
 
 module _ {C : Type 0} {reads : List ℕ → Option Store} {place : C → ℕ} {stands : Bool → C → Outside → Type 0} {told : Bool} {units : Units C} {was : List (Option Cursor)} {o : Outside} where
   -- ---- a call that turns the world into another
