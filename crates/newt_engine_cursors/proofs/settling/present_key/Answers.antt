@@ -1,5 +1,6 @@
 -- The key of the hit.
 use Rattle.std.proofs.Common.{arith, ◌≡◌, ◌∙◌, ◌*◌, ap, refl, sym, subst, option_map, ℕ, true}
+use Rattle.std.specs.Prelude.{IfErr}
 use Rattle.newt_cursor.specs.Seen.{query_of}
 use Rattle.newt_spec_graph.proofs.Lists.{some-same}
 use Rattle.newt_spec_query.specs.Hits.{Hit, Query}
@@ -65,5 +66,6 @@ returns-in_err-hit-clause-own g c t q h stands =
     let w = world_of g.C.Card.reads c.args.units.now (g.H.Host.outside c.args.host.now) in
     let at = spot_hit c.in-Some.spot.now in
     let same = ap (λ (x : Query × Hit). x.1.store) (some-same (query_of c.in-Some.query.now, at) (q, h) (c.in-Some.ensures ∙ sym stands)) in
-    handed-stop (λ u. has_sig h.store (mounted_store w u) ≡ true) _ (subst (λ (n : ℕ). AtStop (λ u. has_sig n (mounted_store w u) ≡ true) _) same (c.in_err-hit.ensures.own t))
-    c.from_residual.result (err_from_is_err_and c.from_residual.result c.from_residual.ensures.1)
+    let r = c.from_residual.result in
+    subst (λ (n : ℕ). IfErr r (AtStop (λ u. has_sig n (mounted_store w u) ≡ true))) same
+    (handed-stop (λ u. has_sig at.store (mounted_store w u) ≡ true) _ (c.in_err-hit.ensures.own t) r (err_from_is_err_and r c.from_residual.ensures.1))
