@@ -1,6 +1,5 @@
 -- A cursor that was moved to a hit stands on one.
-use Rattle.std.proofs.Common.{◌≡◌, refl, ap, sym, ◌∙◌, subst, ℕ, zero, suc, Bool, true, false, ◌&&◌, ◌==◌, cond, ◌⊎◌, inl, inr, List, [], ◌∷◌, find, filter, Option, Some, None, option_map, option_and_then, IsTrue}
-use Rattle.std.specs.Prelude.{slice_get}
+use Rattle.std.proofs.Common.{◌≡◌, refl, ap, sym, ◌∙◌, subst, ℕ, Bool, true, false, ◌&&◌, cond, ◌⊎◌, inl, inr, List, [], ◌∷◌, find, filter, Option, Some, None, option_map, option_and_then, IsTrue}
 use Rattle.std.specs.List.{last_or}
 use Rattle.std.proofs.lemmas.Bool.{eq-eqb}
 use Rattle.newt_spec_graph.specs.Lists.{Among, Each}
@@ -8,17 +7,14 @@ use Rattle.newt_spec_graph.proofs.Lists.{among-filter, both-ways, some-same, non
 use Rattle.newt_spec_store.specs.Keys.{IndexSpec}
 use Rattle.newt_spec_store.specs.Valid.{well_formed}
 use Rattle.newt_spec_query.specs.Hits.{Query, Hit}
-use Rattle.newt_spec_query.specs.Cursor.{Cursor, Place, start, finish, on, on_or, first_place, is_after, is_before, last_place, same_identity}
+use Rattle.newt_spec_query.specs.Cursor.{Cursor, Place, start, finish, on_or, first_place, is_after, is_before, last_place, same_identity}
 use Rattle.newt_spec_world.specs.Alias.{Spot}
 use Rattle.newt_spec_world.specs.Answer.{spot_of}
-use Rattle.newt_spec_world.specs.World.{World, change_at, cursor, flat, hits_of, mounted_stores}
-use Rattle.newt_laws_world.specs.Cursors.{with_cursors}
+use Rattle.newt_spec_world.specs.World.{World, cursor, hits_of, mounted_stores}
 use Rattle.newt_laws_world.specs.Settled.{MountedApart}
 use Rattle.newt_laws_images.proofs.Chosen.{find-passes}
 use Rattle.newt_engine_hits.specs.Present.{Present, identity, present_in}
 use Rattle.newt_engine_hits.specs.declared.ways.Way.TheVariants.{On, Back}
-use Rattle.newt_engine_cursors.specs.Keyed.{stands_on}
-use Rattle.newt_cursor.specs.Desk.{put_on}
 use Rattle.newt_engine_cursors.specs.Motions.{ComesAmong, IsAmong, leads_to_hits, step_of}
 use Rattle.newt_engine_cursors.specs.declared.stepping.Motion.{Motion}
 use Rattle.newt_engine_cursors.specs.declared.stepping.Motion.TheVariants as motion

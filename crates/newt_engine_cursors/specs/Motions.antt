@@ -1,5 +1,5 @@
 -- How a cursor is moved. All of it is this project's own.
-use Rattle.std.specs.Prelude.{◌≡◌, ℕ, Bool, true, false, List, Option, Some, is_none, Result, Ok, Err}
+use Rattle.std.specs.Prelude.{◌≡◌, ℕ, Bool, true, false, List, Some, is_none, Result, Ok, Err}
 use Rattle.newt_base.specs.declared.Refusal.TheVariants.{Cursor as NoCursor}
 use Rattle.newt_spec_store.specs.Keys.{IndexSpec}
 use Rattle.newt_spec_graph.specs.Lists.{Among}

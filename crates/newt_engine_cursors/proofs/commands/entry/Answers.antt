@@ -1,5 +1,5 @@
 -- The cursor is open or it is not; what is shown is that of the settled world.
-use Rattle.std.proofs.Common.{arith, ◌≡◌, ◌∙◌, ◌*◌, ap, refl, sym, ℕ, true, false}
+use Rattle.std.proofs.Common.{arith, ◌≡◌, ◌∙◌, ◌*◌, ap, refl, sym, ℕ}
 use Rattle.std.specs.Prelude.{Result, is_none, slice_get}
 use Rattle.std.proofs.lemmas.Result.{err_from_is_err_and}
 use Rattle.newt_spec_graph.proofs.Lists.{both-ways}

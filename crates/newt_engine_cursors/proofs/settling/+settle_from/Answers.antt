@@ -1,5 +1,5 @@
 -- The key of the place is read, those behind it take theirs, and then it does.
-use Rattle.std.proofs.Common.{arith, ◌≡◌, ◌∙◌, ap, sym, subst, ◌+◌, ◌≤◌, ℕ, length, List, Option, Some}
+use Rattle.std.proofs.Common.{arith, ◌≡◌, ◌∙◌, ap, sym, subst, ◌+◌, ◌≤◌, length, List, Option, Some}
 use Rattle.std.specs.Prelude.{option_and_then, slice_get}
 use Rattle.newt_host.proofs.Outside.{NoFault-append, NoFault-refl}
 use Rattle.newt_spec_query.specs.Cursor.{Cursor}

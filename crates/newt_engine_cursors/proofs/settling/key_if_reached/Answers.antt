@@ -1,5 +1,5 @@
 -- An entry that is reached has its present key, and of any other none is asked.
-use Rattle.std.proofs.Common.{arith, ◌≡◌, ◌∙◌, ◌*◌, sym, subst, true, ℕ, Option}
+use Rattle.std.proofs.Common.{arith, ◌≡◌, sym, subst, true, Option}
 use Rattle.std.specs.Prelude.{IfOk, slice_get}
 use Rattle.newt_spec_store.specs.Keys.{Key}
 use Rattle.newt_spec_world.specs.World.{flat, mounted_store}

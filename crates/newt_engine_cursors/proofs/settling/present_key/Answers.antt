@@ -1,5 +1,5 @@
 -- The key of the hit.
-use Rattle.std.proofs.Common.{arith, ◌≡◌, ◌∙◌, ◌*◌, ap, refl, sym, subst, option_map, ℕ, true}
+use Rattle.std.proofs.Common.{arith, ◌≡◌, ◌∙◌, ap, refl, sym, subst, option_map, ℕ, true}
 use Rattle.std.specs.Prelude.{IfErr}
 use Rattle.newt_cursor.specs.Seen.{query_of}
 use Rattle.newt_spec_graph.proofs.Lists.{some-same}

@@ -1,12 +1,11 @@
 -- The hit is where its signatures say, and its entry is read.
-use Rattle.std.proofs.Common.{arith, ◌≡◌, ◌∙◌, ◌*◌, ap, sym, subst, refl, ℕ, true, Some}
+use Rattle.std.proofs.Common.{arith, ◌≡◌, ◌∙◌, ap, sym, subst, refl, ℕ, true, Some}
 use Rattle.std.proofs.lemmas.Result.{IfOk-weaker}
 use Rattle.newt_host.proofs.Outside.{NoFault-refl}
 use Rattle.newt_index.specs.Spots.{spot_hit}
 use Rattle.newt_spec_graph.proofs.Lists.{some-same, none-some}
 use Rattle.newt_spec_query.specs.Cursor.{Cursor, on}
 use Rattle.newt_spec_store.specs.Store.{Store}
-use Rattle.newt_laws_answers.specs.Fetched.{pages_shown}
 use Rattle.newt_engine_units.specs.Stands.{Stands, Eight, world_of}
 use Rattle.newt_engine_units.proofs.Known.{Laws}
 use Rattle.newt_engine_hits.proofs.Presence.{present-at}

@@ -1,5 +1,5 @@
 -- The entry, or that it is no longer a hit.
-use Rattle.std.proofs.Common.{arith, ◌≡◌, ◌∙◌, ◌*◌, ap, sym, subst, refl, ℕ, true, Option, Some}
+use Rattle.std.proofs.Common.{arith, ◌≡◌, ◌∙◌, ap, subst, refl, true, Option, Some}
 use Rattle.std.proofs.lemmas.Result.{IfOk-weaker, err_from_is_err_and}
 use Rattle.newt_cursor.specs.Seen.{query_of}
 use Rattle.newt_index.specs.Spots.{spot_hit}

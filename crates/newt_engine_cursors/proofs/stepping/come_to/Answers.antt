@@ -1,5 +1,5 @@
 -- The place fits, and what is shown is what the cursor shows there.
-use Rattle.std.proofs.Common.{arith, ◌≡◌, ◌∙◌, ◌*◌, refl, subst, sym, ap, ℕ, true, List, Option}
+use Rattle.std.proofs.Common.{arith, ◌≡◌, ◌∙◌, ◌*◌, subst, sym, ap, true, List, Option}
 use Rattle.std.specs.Prelude.{Result, IfOk, slice_get}
 use Rattle.std.proofs.lemmas.Result.{err_from_is_err_and}
 use Rattle.newt_host.proofs.Outside.{NoFault-refl}

@@ -1,5 +1,5 @@
 -- The cursor is open, the literal is a key of its index, and it steps there.
-use Rattle.std.proofs.Common.{arith, ◌≡◌, ◌∙◌, ◌*◌, ap, sym, subst, ℕ, true}
+use Rattle.std.proofs.Common.{arith, ◌∙◌, ◌*◌, ap, sym, subst, ℕ, true}
 use Rattle.std.specs.Prelude.{Result, is_none}
 use Rattle.std.proofs.lemmas.Result.{err_from_is_err_and}
 use Rattle.newt_pagebook.specs.declared.book.Stop.TheVariants.{Memory}
