@@ -3,10 +3,11 @@ use Rattle.std.specs.Prelude.{◌≡◌, ◌≢◌, ℕ, Bool, true, List, Optio
 use Rattle.newt_host.specs.Moments.{Moment, MayLeave, image}
 use Rattle.newt_host.specs.Outside.{Outside}
 use Rattle.newt_laws_steps.specs.Answering.{Answering}
+use Rattle.newt_laws_steps.specs.StandsFor.{seen}
 use Rattle.newt_pagebook.specs.declared.book.Stop.{Stop}
 use Rattle.newt_pagebook.specs.declared.book.Stop.TheVariants.{Memory, Device}
 use Rattle.newt_spec_store.specs.Store.{Store}
-use Rattle.newt_spec_world.specs.Step.{is_format_of}
+use Rattle.newt_spec_world.specs.Step.{formats}
 use Rattle.newt_spec_world.specs.World.{World}
 use Rattle.newt_spec_world.specs.declared.command.Command.{Command}
 use Rattle.newt_store_change.specs.declared.fault.StoreFault.{StoreFault}
@@ -31,12 +32,12 @@ pub record IsLeftAs (u : ℕ) (before after : Moment) : Type 0 where
   pub image : image u after ≡ image u before
   pub left : (left : List ℕ) → MayLeave u after left → MayLeave u before left
 
--- the command is no format of a unit that is read as no store
-abbrev pub HasStoreToFormat : (List ℕ → Option Store) → Command → ℕ → Moment → Type 0
-HasStoreToFormat reads c u now = is_format_of c u ≡ true → IsSome (reads (image u now))
+-- the command does not format the unit: where it would, the unit is read as a store
+abbrev pub HasStoreToFormat : (List ℕ → Option Store) → World → Command → ℕ → Moment → Type 0
+HasStoreToFormat reads w c u now = formats (seen reads w now c) c u ≡ true → IsSome (reads (image u now))
 
 -- What holds at each moment while a command turns the world w into v, where of these units a sync is due, and w does not know what they hold: a unit that w knows is
--- left as it has it, or v; and one of which a sync is due is left as it was, unless it is formatted where it was read as no store.
+-- left as it has it, or v; and one of which a sync is due is left as it was, unless it is formatted.
 pub record Meanwhile (reads : List ℕ → Option Store) (due : ℕ → Bool) (w : World) (c : Command) (v : World) (start now : Moment) : Type 0 where
   pub answering : Answering reads w c v start now
-  pub unsure : (u : ℕ) → due u ≡ true → HasStoreToFormat reads c u start → IsLeftAs u start now
+  pub unsure : (u : ℕ) → due u ≡ true → HasStoreToFormat reads w c u start → IsLeftAs u start now

@@ -27,7 +27,7 @@ use Rattle.newt_store_change.specs.declared.fault.StoreFault.{StoreFault}
 use Rattle.newt_store_change.specs.declared.fault.StoreFault.TheVariants.{Stop as Ends}
 use Rattle.newt_engine_card.specs.Bounds.{Costs, CostsOn, FetchesAtMost, FetchesOn, IsOpenOrSame, LeftAlone, of_unit}
 use Rattle.newt_engine_units.specs.Answers.{Answers}
-use Rattle.newt_engine_units.specs.Breaks.{AtDevice, AtStop, FailsAlone, HasStoreToFormat, IsLeftAs, Meanwhile}
+use Rattle.newt_engine_units.specs.Breaks.{AtDevice, AtStop, FailsAlone, HasStoreToFormat, Meanwhile}
 use Rattle.newt_engine_units.specs.Faces.{with_due}
 use Rattle.newt_engine_units.specs.Stands.{Stands, StandsBut, due_in, is_due, mounted_in, world_of}
 use Rattle.newt_engine_units.specs.declared.units.Units.{Units}
@@ -69,10 +69,11 @@ module _ {C : Type 0} (reads : List ℕ → Option Store) (place : C → ℕ) (s
     pub others : IsTrue told → (n : ℕ) → n ≢ u → changes n after.now ≡ changes n before.now
     pub failed : FailsAlone before after u
 
-  -- And in a command: the unit is left as it was where its store was not to be written, and it was not to be formatted where it was read as no store.
+  -- And in a command: nothing at all has happened where the store of the unit was not to be written, no sync of it was due, and it was not to be formatted.
   pub record BreaksIn (told : Bool) (command : Command) (old new : Units C) (before after : Outside) (u : ℕ) : Type 0 where
     pub breaks : Breaks told old new before after u
-    pub same : IsTrue told → may_tear (world_of reads old before) command u ≡ false → HasStoreToFormat reads command u before.now → IsLeftAs u before.now after.now
+    pub same : IsTrue told → may_tear (world_of reads old before) command u ≡ false → is_due old u ≡ false
+        → HasStoreToFormat reads (world_of reads old before) command u before.now → after.now ≡ before.now
 
   -- What every call promises that only reads: the units stand for the world that they stood for,
   -- the same units are mounted, and nothing has happened outside but reading.
