@@ -15,3 +15,4 @@ pub mod Resolving
 pub mod Costs
 pub mod Obeying
 pub mod Sure
+pub mod Thrown

@@ -199,7 +199,7 @@ module _ {C : Type 0} {reads : List ℕ → Option Store} {place : C → ℕ} {s
   left-then t may = synced-left (is_due units u) u o.now m.now (made.synced t) may
 
   -- the sync leaves what the world has
-  pub sync-moments : IsTrue told → MayLeave u o.now (image u o.now) → (c : Command) (after : World) → Always (Meanwhile reads (due_in units.slots.items) w c after o.now) o.now m.now
+  sync-moments : IsTrue told → MayLeave u o.now (image u o.now) → (c : Command) (after : World) → Always (Meanwhile reads (due_in units.slots.items) w c after o.now) o.now m.now
   sync-moments t may c after = go (is_due units u) refl
     where
       s : Stands place stands true units o
@@ -221,6 +221,10 @@ module _ {C : Type 0} {reads : List ℕ → Option Store} {place : C → ℕ} {s
           (λ due formed. left-then t may) in
           subst (λ k. Always (Meanwhile reads (due_in units.slots.items) w c after o.now) o.now k) (sym now)
           (later (On u Synced) o.now (here (unchanged-moment at.laws units o at.eight s c after o.now refl refl (λ j. refl))) (subst (Meanwhile reads (due_in units.slots.items) w c after o.now) now last))
+
+  -- and where nothing has happened behind it
+  pub sync-still : IsTrue told → MayLeave u o.now (image u o.now) → (c : Command) (after : World) (end : Moment) → end ≡ m.now → Always (Meanwhile reads (due_in units.slots.items) w c after o.now) o.now end
+  sync-still t may c after end same = subst (λ k. Always (Meanwhile reads (due_in units.slots.items) w c after o.now) o.now k) (sym same) (sync-moments t may c after)
 
   -- and what is left behind it is left
   pub moments-behind : IsTrue told → MayLeave u o.now (image u o.now) → (c : Command) (after : World) → ((j : ℕ) → j ≢ u → is_format_of c j ≡ false) → is_format_of c u ≡ true
@@ -324,8 +328,7 @@ module _ {C : Type 0} {reads : List ℕ → Option Store} {place : C → ℕ} {s
       record {
         stands = stand;
         answered = λ t. subst (λ x. Answers x (world_of reads after p) (command.Mount u) reply result) (as-seen (command.Mount u) refl t) (answered t);
-        moments = λ t. let c = command.Mount u in
-            subst (λ k. Always (Meanwhile reads (due_in units.slots.items) w c (answer (seen reads w o.now c) c).0 o.now) o.now k) (sym moment) (sync-moments t (may t) c (answer (seen reads w o.now c) c).0);
+        moments = λ t. let c = command.Mount u in sync-still t (may t) c (answer (seen reads w o.now c) c).0 p.now moment;
         costs = λ t. synced-costs (most_programmed w (command.Mount u)) (most_fetched w (command.Mount u)) result u made.alone made.costs (images-same t) alone;
         alone = both.alone;
         cause = both.cause;

@@ -1,8 +1,10 @@
 -- The unit is looked at and made sure of, its store is looked for, and it is formatted.
-use Rattle.std.proofs.Common.{◌≡◌, ◌≢◌, refl, sym, ap, ◌∙◌, subst, ℕ, IsTrue, true, false, inr}
+use Rattle.std.proofs.Common.{◌≡◌, refl, sym, ap, ◌∙◌, subst, ℕ, IsTrue, true, inr, Err}
 use Rattle.std.specs.Prelude.{OnOk, is_some}
 use Rattle.std.proofs.lemmas.Bool.{eq-eqb, ne_eqb}
 use Rattle.std.proofs.lemmas.Result.{err_from_is_err_and}
+use Rattle.newt_base.specs.declared.Refusal.TheVariants.{Store as HasStore}
+use Rattle.newt_store_change.specs.declared.fault.StoreFault.TheVariants.{Refused}
 use Rattle.newt_host.specs.Moments.{MayLeave, Moment, Always, changes, image}
 use Rattle.newt_host.proofs.Histories.{history-leaves}
 use Rattle.newt_spec_graph.proofs.Lists.{both-ways}
@@ -23,10 +25,10 @@ use Rattle.newt_engine_units.proofs.Answering.{format-has-answers, format-answer
 use Rattle.newt_engine_units.proofs.Broken.{at-device-both, err-device-map, none-device}
 use Rattle.newt_engine_units.proofs.Costs.{same-before}
 use Rattle.newt_engine_units.proofs.Marked.{free-card}
-use Rattle.newt_engine_units.specs.Looks.{known_ready}
+use Rattle.newt_engine_units.specs.Looks.{IsFree, known_ready}
 use Rattle.newt_engine_units.proofs.Obeying.{breaks-behind, end-answers, handed, handed-ends, none-ends, none-refused, ends-after}
 use Rattle.newt_engine_units.proofs.Settings.{Setting, still, not-looked, ready-refused, ready-there}
-use Rattle.newt_engine_units.proofs.Sure.{as-seen, failed-device, failed-end, failed-moments, failed-stands, images-same, moments-behind, now-free, now-setting, now-stands, now-sure, sure-breaks, sure-read-breaks, sync-moments}
+use Rattle.newt_engine_units.proofs.Sure.{as-seen, failed-device, failed-end, failed-moments, failed-stands, images-same, moments-behind, now-free, now-setting, now-stands, now-sure, sure-breaks, sure-read-breaks, sync-still}
 use Rattle.newt_engine_units.proofs.Turns.{world-still}
 use Rattle.newt_engine_units.proofs.units.Units.format.Given.{Over}
 use Rattle.newt_engine_units.proofs.units.Units.format.Goals as goal
@@ -92,7 +94,7 @@ returns-in_err-has_store g c =
     record {
       stands = λ goes. e.looks.stand;
       answered = λ t. end-answers _ _ _ _ _ _ p e.has;
-      moments = λ t. subst (λ (k : Moment). Always (Meanwhile g.C.Card.reads _ _ format _ o.now) o.now k) (sym e.looks.moment) (sync-moments at free made t (may t) format _);
+      moments = λ t. sync-still at free made t (may t) format _ _ e.looks.moment;
       open_after = λ t goes u. inr (ap (image u) e.looks.moment ∙ images-same at free made t u);
       ends = ends-after made.ends tt (handed-ends _ p e.ends);
       broke = handed (AtDevice B) _ _ p (at-device-both (λ k. k ≡ c.args.unit) (FailsAlone m q) B _
@@ -117,10 +119,10 @@ returns-then-branch g c =
       stands = λ goes. e.looks.stand;
       answered = λ t.
           let same = world-still g.C.Card.reads c.make_sure.new.self m q e.looks.alone.cards (λ j. ap (changes j) e.looks.moment) in
-          subst (λ x. Answers x (world_of g.C.Card.reads c.make_sure.new.self q) format (λ _. Reply.done) _) (as-seen at free made format refl t)
+          subst (λ x. Answers {T = Unit {0}} x (world_of g.C.Card.reads c.make_sure.new.self q) format (λ _. Reply.done) (Err (Refused HasStore))) (as-seen at free made format refl t)
           (format-has-answers mid _ c.args.unit _ (g.C.Card.reads (image c.args.unit m.now)) c.args.name.now c.args.sig (ready-there then t c.args.unit (now-free at free made) (now-sure at free made)) refl
           (sym (e.has t) ∙ c.if-branch.true) same);
-      moments = λ t. subst (λ (k : Moment). Always (Meanwhile g.C.Card.reads _ _ format _ o.now) o.now k) (sym e.looks.moment) (sync-moments at free made t (may t) format _);
+      moments = λ t. sync-still at free made t (may t) format _ _ e.looks.moment;
       open_after = λ t goes u. inr (ap (image u) e.looks.moment ∙ images-same at free made t u);
       ends = ends-after made.ends tt (ends-after e.ends tt (none-ends {T = Unit {0}} _ tt));
       broke = tt;
@@ -183,3 +185,11 @@ has_store-requires g c =
     let free = c.in_ok-find_ready.ensures in
     let made = c.in_ok-make_sure.ensures in
     record { stands = now-stands at free made; free = now-free at free made; sure = now-sure at free made }
+
+pub make-requires-clause-free : goal.make-requires-clause-free
+make-requires-clause-free g c =
+    let free = now-free (begins g c.requires.stands) c.in_ok-find_ready.ensures c.in_ok-make_sure.ensures in
+    subst (λ n. IsFree c.make_sure.new.self n c.args.unit) (sym (c.in_ok-has_store.ensures.looks.alone.cards.blocks c.args.unit)) free
+
+pub make-requires-clause-sure : goal.make-requires-clause-sure
+make-requires-clause-sure g c = now-sure (begins g c.requires.stands) c.in_ok-find_ready.ensures c.in_ok-make_sure.ensures
