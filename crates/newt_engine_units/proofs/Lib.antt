@@ -15,4 +15,3 @@ pub mod Resolving
 pub mod Costs
 pub mod Obeying
 pub mod Sure
-pub mod Thrown

@@ -39,7 +39,7 @@ module _ {C : Type 0} (f : Slot C → Slot C) where
   get-other (x ∷ slots) (suc u) zero h = refl
   get-other (x ∷ slots) (suc u) (suc j) h = get-other slots u j (λ e. h (ap suc e))
 
-  same-length : (slots : List (Slot C)) (u : ℕ) → length (with_slot u f slots) ≡ length slots
+  pub same-length : (slots : List (Slot C)) (u : ℕ) → length (with_slot u f slots) ≡ length slots
   same-length [] u = refl
   same-length (x ∷ slots) zero = refl
   same-length (x ∷ slots) (suc u) = ap suc (same-length slots u)
@@ -105,13 +105,14 @@ module _ {C : Type 0} (units later : Units C) (u : ℕ) (f : Slot C → Slot C) 
     -- the units stand where they stood but for this one, and it does
     pub stands-marked : (place : C → ℕ) (stands : Bool → C → Outside → Type 0) (told : Bool) (o : Outside) → (f slot).attached ≡ slot.attached
         → ((c : C) → (f slot).card ≡ Some c → stands told c o × (place c ≡ u)) → ((f slot).due ≡ true → is_some (f slot).card ≡ false) → ((f slot).due ≡ false → IsTrue told → IsSome (o.card u) → IsDurable u o.now)
-        → ((v : ℕ) → later.default ≡ Some v → mounted_in later.slots.items v ≡ true) → card_count (with_slot u f units.slots.items) ≤ 4 → StandsBut place stands u told units o → Stands place stands told later o
-    stands-marked place stands told o keeps there sure still default few s = record {
+        → ((v : ℕ) → later.default ≡ Some v → mounted_in later.slots.items v ≡ true) → (later.default ≡ None → (v : ℕ) → mounted_in later.slots.items v ≡ false) → card_count (with_slot u f units.slots.items) ≤ 4 → StandsBut place stands u told units o → Stands place stands told later o
+    stands-marked place stands told o keeps there sure still default none few s = record {
       eight = ap length is ∙ same-length f units.slots.items u ∙ s.eight;
       few = subst (λ slots. card_count slots ≤ 4) (sym is) few;
       attached = λ j x h. attached j x h (same-or-not j u);
       cards = λ j c h. cards j c h (same-or-not j u);
       default = default;
+      none = none;
       sure = λ j h. dues j h (same-or-not j u);
       durable = λ t j h due. durables t j h due (same-or-not j u);
     }

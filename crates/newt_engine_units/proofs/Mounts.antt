@@ -1,5 +1,5 @@
 -- Stores that are mounted and unmounted, and units that are thrown out.
-use Rattle.std.proofs.Common.{arith, ◌≤◌, ◌≡◌, refl, ap, sym, ◌∙◌, subst, ℕ, List, [], ◌∷◌, ◌⊎◌, inl, inr, Bool, true, false, not, ◌&&◌, ◌||◌, IsTrue, Option, Some, None, cond, unwrap_or, length, replicate, nat_le, option_map, ◌==◌}
+use Rattle.std.proofs.Common.{arith, ◌≤◌, ◌<◌, ◌≡◌, refl, ap, sym, ◌∙◌, subst, ℕ, List, [], ◌∷◌, ◌⊎◌, inl, inr, Bool, true, false, not, ◌&&◌, ◌||◌, IsTrue, Option, Some, None, cond, unwrap_or, length, replicate, nat_le, option_map, ◌==◌}
 use Rattle.std.specs.Prelude.{slice_get, is_some, IsSome, Ok, Err}
 use Rattle.std.specs.List.{list_any}
 use Rattle.std.proofs.lemmas.Bool.{eq-eqb, ne_eqb}
@@ -33,11 +33,11 @@ use Rattle.newt_pagebook.specs.declared.book.Stop.{Stop as End}
 use Rattle.newt_store_change.specs.Faults.{NoDevice}
 use Rattle.newt_engine_units.specs.Faces.{Admits, Opens, beside_checks, card_face, card_faces, default_after, with_card, with_slot, without}
 use Rattle.newt_engine_units.specs.Looks.{attached_in, IsFree}
-use Rattle.newt_engine_units.specs.Stands.{card_at, due_of, due_in, mounted_in, world_of, Stands, StandsBut, Eight}
+use Rattle.newt_engine_units.specs.Stands.{card_at, card_of, due_of, due_in, mounted_in, world_of, Stands, StandsBut, Eight}
 use Rattle.newt_engine_units.proofs.Few.{count-put, count-less, few-admitted}
 use Rattle.newt_engine_units.proofs.Known.{Laws, ready-known}
-use Rattle.newt_engine_units.proofs.Marked.{attached-slot, mounted-slot, due-here, due-other, mark-here, mark-other, stands-marked, world-slot}
-use Rattle.newt_engine_units.proofs.Shown.{any-first, face-some, faces-known, position-passes}
+use Rattle.newt_engine_units.proofs.Marked.{attached-slot, mounted-slot, due-here, due-other, mark-here, mark-other, same-length, stands-marked, world-slot}
+use Rattle.newt_engine_units.proofs.Shown.{any-first, face-some, faces-known, low-or-high, past-end, position-fails, position-passes}
 use Rattle.newt_engine_units.proofs.Slots.{but-of}
 use Rattle.newt_engine_units.proofs.Turns.{world-still}
 
@@ -88,6 +88,7 @@ module _ {C : Type 0} {reads : List ℕ → Option Store} {place : C → ℕ} {s
       (λ due. absurd (both-ways (sym sure ∙ ap due_of slot.1 ∙ due)))
       (λ due t has. s.durable t u has sure)
       (λ v h. marked v (same-or-not v u) (go units.default refl v (sym default ∙ h)))
+      (λ h. absurd (none-some _ (sym h ∙ default)))
       (let a = few-admitted soups units.slots.items s.eight sig admitted in let b = count-put units.slots.items u card in omega (arith, a, b)) (but-of place stands told units u p s)
     where
       with : Slot C → Slot C
@@ -188,10 +189,37 @@ module _ {C : Type 0} (soups : C → Store) (units later : Units C) (u : ℕ) (f
       go None e k = absurd (none-some v k)
       go (Some x) e k = test x e (u == x) refl k
 
+  -- where there is none, nothing is mounted
+  none-mounted : (slot : Slot C) → slice_get units.slots.items u ≡ Some slot → (units.default ≡ None → (v : ℕ) → mounted_in units.slots.items v ≡ false) → length units.slots.items ≡ 8
+      → later.default ≡ None → (v : ℕ) → mounted_in later.slots.items v ≡ false
+  none-mounted slot at was eight h v = go units.default refl (sym default ∙ h)
+    where
+      fs : List Face
+      fs = card_faces soups later.slots.items
+
+      size : length later.slots.items ≡ 8
+      size = ap length is ∙ same-length f units.slots.items u ∙ eight
+
+      beside : units.default ≡ None → (v ≡ u) ⊎ (v ≡ u → ⊥) → mounted_in later.slots.items v ≡ false
+      beside e (inl i) = ap (mounted_in later.slots.items) i ∙ mark-here units later u f is slot at ∙ ap is_some (none slot)
+      beside e (inr other) = mark-other units later u f is v other ∙ was e v
+
+      shown : first_shown fs ≡ None → (v < 8) ⊎ (8 ≤ v) → mounted_in later.slots.items v ≡ false
+      shown e (inl low) = sym (face-some soups (card_at later.slots.items v)) ∙ position-fails is_some (λ j. card_face soups (card_at later.slots.items j)) 0 8 e v (omega arith) (omega (arith, low))
+      shown e (inr high) = ap (λ x. is_some (card_of x)) (past-end later.slots.items v (subst (λ n. n ≤ v) (sym size) high))
+
+      go : (d : Option ℕ) → units.default ≡ d → default_after fs d u ≡ None → mounted_in later.slots.items v ≡ false
+      go None e k = beside e (same-or-not v u)
+      go (Some x) e k = test (u == x) k
+        where
+          test : (b : Bool) → cond b (first_shown fs) (Some x) ≡ None → mounted_in later.slots.items v ≡ false
+          test true k = shown k (low-or-high v 8)
+          test false k = absurd (none-some x (sym k))
+
   pub gone-stands : (slot : Slot C) → slice_get units.slots.items u ≡ Some slot → (f slot).attached ≡ slot.attached → (place : C → ℕ) (stands : Bool → C → Outside → Type 0) (told : Bool) (o : Outside)
       → ((f slot).due ≡ false → IsTrue told → IsSome (o.card u) → IsDurable u o.now) → StandsBut place stands u told units o → Stands place stands told later o
   gone-stands slot at keeps place stands told o still s = stands-marked units later u f is slot at place stands told o keeps
-      (λ c h. absurd (none-some c (sym (none slot) ∙ h))) (λ due. ap is_some (none slot)) still (default-mounted s.default)
+      (λ c h. absurd (none-some c (sym (none slot) ∙ h))) (λ due. ap is_some (none slot)) still (default-mounted s.default) (none-mounted slot at s.none s.eight)
       (let a = count-less f none units.slots.items u in let b = s.few in omega (arith, a, b)) s
 
   -- the default of the world after it

@@ -27,7 +27,6 @@ use Rattle.newt_engine_units.specs.Stands.{Stands, world_of}
 use Rattle.newt_engine_units.specs.declared.units.Units.{Units}
 use Rattle.newt_engine_units.proofs.Broken.{err-device-map, fails-after, none-devices}
 use Rattle.newt_engine_units.proofs.Costs.{costs-of, idle-costs, read-costs}
-use Rattle.newt_engine_units.proofs.Left.{left-same}
 use Rattle.newt_engine_units.proofs.Settings.{Setting, is-err, still}
 use Rattle.newt_engine_units.proofs.Slots.{but-of}
 
@@ -126,7 +125,7 @@ module _ {C : Type 0} {reads : List ℕ → Option Store} {place : C → ℕ} {s
       others = λ t n other. ap (changes n) (same t);
       failed = failed;
     };
-    same = λ t untorn unformed. left-same u o.now p.now (ap (changes u) (same t));
+    same = λ t untorn sure unformed. same t;
   }
 
   -- in a call that reads

@@ -1,6 +1,6 @@
 -- What all the stores that are mounted show.
-use Rattle.std.proofs.Common.{arith, ◌≡◌, refl, ap, sym, ◌∙◌, ℕ, zero, suc, ◌+◌, ◌<◌, List, [], ◌∷◌, ◌++◌, Bool, true, false, ◌||◌, cond, drop, map, append_assoc, Option, Some, None, option_map}
-use Rattle.std.specs.Prelude.{is_some, Result, Ok, Err, IfOk}
+use Rattle.std.proofs.Common.{arith, ◌≡◌, refl, ap, sym, ◌∙◌, ℕ, zero, suc, ◌+◌, ◌<◌, ◌≤◌, ◌⊎◌, inl, inr, length, List, [], ◌∷◌, ◌++◌, Bool, true, false, ◌||◌, cond, drop, map, append_assoc, Option, Some, None, option_map}
+use Rattle.std.specs.Prelude.{is_some, slice_get, Result, Ok, Err, IfOk}
 use Rattle.std.specs.declared.alloc.AllocError.{AllocError}
 use Rattle.std.proofs.lemmas.List.{map-append}
 use Rattle.std.specs.List.{list_any, position_from, cons_option}
@@ -8,6 +8,7 @@ use Rattle.newt_host.specs.Outside.{Outside}
 use Rattle.newt_reply.specs.Said.{store_row}
 use Rattle.newt_reply.specs.declared.rows.StoreLine.{StoreLine}
 use Rattle.newt_spec_graph.proofs.Lists.{some-same, none-some}
+use Rattle.newt_laws_world.proofs.Units.{same-or-not}
 use Rattle.newt_spec_store.specs.Store.{Store}
 use Rattle.newt_spec_world.specs.First.{unit_numbers}
 use Rattle.newt_spec_world.specs.declared.command.Command.TheVariants as command
@@ -68,6 +69,16 @@ stores-if-ok l units o e s (Ok rows) h = stores-answers l units o e s (map store
 stores-if-ok l units o e s (Err error) h = h
 
 -- ---- one unit after another
+
+pub low-or-high : (u n : ℕ) → (u < n) ⊎ (n ≤ u)
+low-or-high u zero = inr (omega arith)
+low-or-high zero (suc n) = inl (omega arith)
+low-or-high (suc u) (suc n) = elim (low-or-high u n) [ inl h ↦ inl (omega (arith, h)) | inr h ↦ inr (omega (arith, h)) ]
+
+pub past-end : {X : Type 0} (xs : List X) (u : ℕ) → length xs ≤ u → slice_get xs u ≡ None
+past-end [] u h = refl
+past-end (x ∷ xs) zero h = absurd (omega (arith, h))
+past-end (x ∷ xs) (suc u) h = past-end xs u (omega (arith, h))
 
 -- the next of the eight
 pub drop-step : {X : Type 0} (g : ℕ → X) (n : ℕ) → n < 8 → drop n (map g unit_numbers) ≡ g n ∷ drop (n + 1) (map g unit_numbers)
@@ -149,3 +160,16 @@ position-passes test g k (suc n) u h = go (test (g k)) refl h (position-passes t
     go : (b : Bool) → test (g k) ≡ b → cond b (Some k) (position_from test (k + 1) (map g (from (k + 1) n))) ≡ Some u → (position_from test (k + 1) (map g (from (k + 1) n)) ≡ Some u → test (g u) ≡ true) → test (g u) ≡ true
     go true e h more = ap (λ j. test (g j)) (sym (some-same k u h)) ∙ e
     go false e h more = more h
+
+-- and where none passes, each fails
+pub position-fails : {X : Type 0} (test : X → Bool) (g : ℕ → X) (k n : ℕ) → position_from test k (map g (from k n)) ≡ None → (u : ℕ) → k ≤ u → u < k + n → test (g u) ≡ false
+position-fails test g k zero h u low high = absurd (omega (arith, low, high))
+position-fails test g k (suc n) h u low high = go (test (g k)) refl h (same-or-not u k)
+  where
+    go : (b : Bool) → test (g k) ≡ b → cond b (Some k) (position_from test (k + 1) (map g (from (k + 1) n))) ≡ None → (u ≡ k) ⊎ (u ≡ k → ⊥) → test (g u) ≡ false
+    go true e h is = absurd (none-some k (sym h))
+    go false e h (inl is) = ap (λ j. test (g j)) is ∙ e
+    go false e h (inr other) = position-fails test g (k + 1) n h u (above u k low other) (omega (arith, high))
+
+    above : (u k : ℕ) → k ≤ u → (u ≡ k → ⊥) → k + 1 ≤ u
+    above u k low other = elim (low-or-high k u) [ inl lt ↦ omega (arith, lt) | inr le ↦ absurd (other (omega (arith, le, low))) ]

@@ -86,6 +86,7 @@ module _ {C : Type 0} (place : C → ℕ) (stands : Bool → C → Outside → T
     attached = s.attached;
     cards = λ j c other h. s.cards j c h;
     default = s.default;
+    none = s.none;
     sure = s.sure;
     durable = λ t j other h due. s.durable t j h due;
   }
@@ -99,6 +100,7 @@ module _ {C : Type 0} (place : C → ℕ) (stands : Bool → C → Outside → T
     attached = s.attached;
     cards = λ j c h. at j c h (same-or-not j u);
     default = s.default;
+    none = s.none;
     sure = s.sure;
     durable = λ t j h due. rest t j h due (same-or-not j u);
   }
@@ -135,6 +137,7 @@ module _ {C : Type 0} (place : C → ℕ) (stands : Bool → C → Outside → T
     attached = λ j slot h. s.attached j slot h ∙ ap is_some (sym (cards.card j));
     cards = λ j c other h. kept-card told u j c o p cards others other (s.cards j c other h);
     default = s.default;
+    none = s.none;
     sure = s.sure;
     durable = λ t j other h due. durable-same j o.now p.now (others t j other) (s.durable t j other (subst IsSome (cards.card j) h) due);
   }
@@ -147,6 +150,7 @@ module _ {C : Type 0} (place : C → ℕ) (stands : Bool → C → Outside → T
     attached = λ u slot h. s.attached u slot h ∙ ap is_some (sym (cards.card u));
     cards = λ u c h. let was = s.cards u c h in (kept told c o p was.0 (record { card = cards.card (place c); blocks = cards.blocks (place c); changes = λ t. same t (place c) }), was.1);
     default = s.default;
+    none = s.none;
     sure = s.sure;
     durable = λ t u h due. durable-same u o.now p.now (same t u) (s.durable t u (subst IsSome (cards.card u) h) due);
   }
@@ -166,6 +170,7 @@ module _ {C : Type 0} (place : C → ℕ) (stands : Bool → C → Outside → T
     attached = attached-same units later u card next r (λ j b. b ≡ is_some (p.card j)) (λ j slot h. s.attached j slot h ∙ ap is_some (sym (cards.card j)));
     cards = λ j c other h. kept-card told u j c o p cards others other (s.cards j c (sym (card-other units later u card next r j other) ∙ h));
     default = λ j h. marks units later u card next r j ∙ s.default j (sym r.default ∙ h);
+    none = λ h j. marks units later u card next r j ∙ s.none (sym r.default ∙ h) j;
     sure = λ j h. marks units later u card next r j ∙ s.sure j (sym (dues units later u card next r j) ∙ h);
     durable = λ t j other h due. durable-same j o.now p.now (others t j other) (s.durable t j (subst IsSome (cards.card j) h) (sym (dues units later u card next r j) ∙ due));
   }
@@ -218,6 +223,7 @@ module _ {C : Type 0} (units : Units C) (xs : List Bool) (items : units.slots.it
     attached = λ u slot h. fresh-attached (λ u b. b ≡ is_some (o.card u)) xs known u slot (sym (ap (λ slots. slice_get slots u) items) ∙ h);
     cards = λ u card h. absurd (none-some card (sym (no-card u) ∙ h));
     default = λ u h. absurd (none-some u (sym default ∙ h));
+    none = λ h u. fresh-marks u;
     sure = λ u h. fresh-marks u;
     durable = λ t u h due. durable t u h;
   }

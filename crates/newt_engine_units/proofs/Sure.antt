@@ -14,7 +14,7 @@ use Rattle.newt_spec_world.specs.declared.command.Command.TheVariants as command
 use Rattle.newt_spec_world.specs.Answer.{answer}
 use Rattle.newt_spec_world.specs.Reply.{Reply}
 use Rattle.newt_spec_world.specs.First.{media_of}
-use Rattle.newt_spec_world.specs.Step.{is_accepted, is_format_of, looks_anew, looks_at, thrown_out, unsure_look, with_media}
+use Rattle.newt_spec_world.specs.Step.{formats, is_accepted, is_format_of, looks_anew, looks_at, thrown_out, unsure_look, with_media}
 use Rattle.newt_spec_world.specs.World.{World, Device, Media, blank, lost, device, stores_of, stores_on, IsBlankOn, change_device}
 use Rattle.newt_laws_steps.specs.Answering.{ReadsOneOf, StaysBlank}
 use Rattle.newt_laws_steps.specs.StandsFor.{seen, seen_on}
@@ -122,6 +122,7 @@ module _ {C : Type 0} {reads : List ℕ → Option Store} {place : C → ℕ} {s
       (λ due. absurd (both-ways due))
       (λ due t has. durable t has (is_due units u) refl)
       (λ v h. marks-same v ∙ at.stand.default v (sym made.default ∙ h))
+      (λ h v. marks-same v ∙ at.stand.none (sym made.default ∙ h) v)
       (let a = count-same sure-slot (λ slot. refl) units.slots.items u in let b = at.stand.few in subst (λ n. n ≤ 4) (sym a) b)
       (but-beside place stands at.laws.kept at.laws.durable told units u o m made.alone.cards others (but-of place stands told units u o at.stand))
     where
@@ -227,7 +228,7 @@ module _ {C : Type 0} {reads : List ℕ → Option Store} {place : C → ℕ} {s
   sync-still t may c after end same = subst (λ k. Always (Meanwhile reads (due_in units.slots.items) w c after o.now) o.now k) (sym same) (sync-moments t may c after)
 
   -- and what is left behind it is left
-  pub moments-behind : IsTrue told → MayLeave u o.now (image u o.now) → (c : Command) (after : World) → ((j : ℕ) → j ≢ u → is_format_of c j ≡ false) → is_format_of c u ≡ true
+  pub moments-behind : IsTrue told → MayLeave u o.now (image u o.now) → (c : Command) (after : World) → ((j : ℕ) → j ≢ u → is_format_of c j ≡ false) → formats (seen reads w o.now c) c u ≡ true
       → is_some (reads (image u m.now)) ≡ false → {end : Moment} → Always (Meanwhile reads (due_in mid.slots.items) v c after m.now) m.now end
       → Always (Meanwhile reads (due_in units.slots.items) w c after o.now) o.now end
   moments-behind t may c after only formed empty {end} way = Always-append (sync-moments t may c after) (Always-map (λ k a. behind k a) way)
@@ -271,13 +272,13 @@ module _ {C : Type 0} {reads : List ℕ → Option Store} {place : C → ℕ} {s
           go false due = subst (λ k. MayLeave j k left) (subst (λ b. Synced-if b u o.now m.now) due (made.synced t)) may
 
       -- a unit of which a sync was due, where this one is formatted
-      left-unsure : (k : Moment) → Meanwhile reads (due_in mid.slots.items) v c after m.now k → (j : ℕ) → due_in units.slots.items j ≡ true → HasStoreToFormat reads c j o.now → IsLeftAs j o.now k
+      left-unsure : (k : Moment) → Meanwhile reads (due_in mid.slots.items) v c after m.now k → (j : ℕ) → due_in units.slots.items j ≡ true → HasStoreToFormat reads w c j o.now → IsLeftAs j o.now k
       left-unsure k a j due store = go (same-or-not j u)
         where
           go : (j ≡ u) ⊎ (j ≡ u → ⊥) → IsLeftAs j o.now k
-          go (inl e) = absurd (both-ways (sym empty ∙ ap (λ bytes. is_some (reads bytes)) (images-same t u) ∙ ap (λ n. is_some (reads (image n o.now))) (sym e) ∙ store (ap (is_format_of c) e ∙ formed)))
+          go (inl e) = absurd (both-ways (sym empty ∙ ap (λ bytes. is_some (reads bytes)) (images-same t u) ∙ ap (λ n. is_some (reads (image n o.now))) (sym e) ∙ store (ap (formats (seen reads w o.now c) c) e ∙ formed)))
           go (inr other) = left-after (left-same j o.now m.now (others t j other))
-              (a.unsure j (due-other units mid u sure-slot made.slots j other ∙ due) (λ is. absurd (both-ways (sym (only j other) ∙ is))))
+              (a.unsure j (due-other units mid u sure-slot made.slots j other ∙ due) (λ is. absurd (both-ways (sym (ap (λ b. b && is_accepted (seen reads v m.now c) c) (only j other)) ∙ is))))
 
       behind : (k : Moment) → Meanwhile reads (due_in mid.slots.items) v c after m.now k → Meanwhile reads (due_in units.slots.items) w c after o.now k
       behind k b = let a = b.answering in record {
@@ -315,7 +316,7 @@ module _ {C : Type 0} {reads : List ℕ → Option Store} {place : C → ℕ} {s
       → BreaksIn reads place stands told c units after o p u
   sure-read-breaks c may looks failed = record {
     breaks = sure-breaks (still-breaks c looks.stand looks.world (λ t. looks.moment) failed).breaks;
-    same = λ t untorn store. left-after (left-then t (may t)) (left-same u m.now _ (ap (changes u) looks.moment));
+    same = λ t untorn sure store. looks.moment ∙ subst (λ b. Synced-if b u o.now m.now) sure (made.synced t);
   }
 
   -- ---- a mount behind it

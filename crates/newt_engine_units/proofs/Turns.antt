@@ -198,7 +198,7 @@ module _ {C : Type 0} {reads : List ℕ → Option Store} {place : C → ℕ} {s
   -- a call on one unit: what holds of that unit, and nothing has happened to the others
   pub on-unit : (u : ℕ) (P : List ℕ → Type 0) (c : Command) (v : World) (m : Moment) → AtMoment u P o.now m
       → ((x : Store) (left : List ℕ) → Among (stores_on w u) x → P left → ReadsOneOf reads (stores_on w u ++ stores_on v u) left)
-      → (IsBlankOn w u → StaysBlank w c v u → ⊥) → (due_in units.slots.items u ≡ true → HasStoreToFormat reads c u o.now → IsLeftAs u o.now m)
+      → (IsBlankOn w u → StaysBlank w c v u → ⊥) → (due_in units.slots.items u ≡ true → HasStoreToFormat reads w c u o.now → IsLeftAs u o.now m)
       → Meanwhile reads (due_in units.slots.items) w c v o.now m
   on-unit u P c v m at stores none its = record {
     answering = record {
@@ -211,8 +211,8 @@ module _ {C : Type 0} {reads : List ℕ → Option Store} {place : C → ℕ} {s
     unsure = λ j due formed. left-of j due formed (same-or-not j u);
   }
     where
-      left-of : (j : ℕ) → due_in units.slots.items j ≡ true → HasStoreToFormat reads c j o.now → (j ≡ u) ⊎ (j ≡ u → ⊥) → IsLeftAs j o.now m
-      left-of j due formed (inl is) = subst (λ k. IsLeftAs k o.now m) (sym is) (its (ap (due_in units.slots.items) (sym is) ∙ due) (subst (λ k. HasStoreToFormat reads c k o.now) is formed))
+      left-of : (j : ℕ) → due_in units.slots.items j ≡ true → HasStoreToFormat reads w c j o.now → (j ≡ u) ⊎ (j ≡ u → ⊥) → IsLeftAs j o.now m
+      left-of j due formed (inl is) = subst (λ k. IsLeftAs k o.now m) (sym is) (its (ap (due_in units.slots.items) (sym is) ∙ due) (subst (λ k. HasStoreToFormat reads w c k o.now) is formed))
       left-of j due formed (inr is) = left-same j o.now m (at.others j is)
 
       other : (j : ℕ) → IsBlankOn w j → StaysBlank w c v j → j ≡ u → ⊥

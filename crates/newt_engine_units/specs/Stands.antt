@@ -65,13 +65,14 @@ pub record Eight (outside : Outside) : Type 0 where
 
 module _ {C : Type 0} (place : C → ℕ) (stands : Bool → C → Outside → Type 0) where
   -- The units stand for a host: there are eight, each knows whether it has a device, at most four cards are mounted, each stands on its own unit, the default
-  -- one is mounted, and where no sync is due nothing is pending. Of a unit with a card none is due.
+  -- one is mounted, and none is where there is no default, and where no sync is due nothing is pending. Of a unit with a card none is due.
   pub record Stands (told : Bool) (units : Units C) (outside : Outside) : Type 0 where
     pub eight : length units.slots.items ≡ 8
     pub few : AreFew units
     pub attached : (u : ℕ) (slot : Slot C) → slice_get units.slots.items u ≡ Some slot → slot.attached ≡ is_some (outside.card u)
     pub cards : (u : ℕ) (card : C) → card_at units.slots.items u ≡ Some card → stands told card outside × (place card ≡ u)
     pub default : (u : ℕ) → units.default ≡ Some u → mounted_in units.slots.items u ≡ true
+    pub none : units.default ≡ None → (u : ℕ) → mounted_in units.slots.items u ≡ false
     pub sure : (u : ℕ) → due_in units.slots.items u ≡ true → mounted_in units.slots.items u ≡ false
     pub durable : IsTrue told → (u : ℕ) → IsSome (outside.card u) → due_in units.slots.items u ≡ false → IsDurable u outside.now
 
@@ -82,5 +83,6 @@ module _ {C : Type 0} (place : C → ℕ) (stands : Bool → C → Outside → T
     pub attached : (u : ℕ) (slot : Slot C) → slice_get units.slots.items u ≡ Some slot → slot.attached ≡ is_some (outside.card u)
     pub cards : (u : ℕ) (card : C) → u ≢ but → card_at units.slots.items u ≡ Some card → stands told card outside × (place card ≡ u)
     pub default : (u : ℕ) → units.default ≡ Some u → mounted_in units.slots.items u ≡ true
+    pub none : units.default ≡ None → (u : ℕ) → mounted_in units.slots.items u ≡ false
     pub sure : (u : ℕ) → due_in units.slots.items u ≡ true → mounted_in units.slots.items u ≡ false
     pub durable : IsTrue told → (u : ℕ) → u ≢ but → IsSome (outside.card u) → due_in units.slots.items u ≡ false → IsDurable u outside.now

@@ -164,7 +164,8 @@ returns g c =
           (subst (λ (x : World). formats x format u ≡ true) (sym same) (format-formats mid mid u _ found c.args.name.now c.args.sig (ready t) refl empty))
           (format-makes mid mid u _ found c.args.name.now c.args.sig (ready t) refl empty) in
           subst (λ (x : World). Always (Meanwhile g.C.Card.reads (due_in c.args.self.now.slots.items) before format (answer x format).0 o.now) o.now p.now) (as-seen at free made format refl t)
-          (moments-behind at free made t (may t) format v (λ j other. ne_eqb u j (λ k. other (sym k))) (eq-eqb u u refl) empty
+          (moments-behind at free made t (may t) format v (λ j other. ne_eqb u j (λ k. other (sym k)))
+          (subst (λ (x : World). formats x format u ≡ true) (as-seen at free made format refl t) (format-formats mid mid u _ found c.args.name.now c.args.sig (ready t) refl empty)) empty
           (subst (λ (k : Moment). Always (Meanwhile g.C.Card.reads (due_in c.make_sure.new.self.slots.items) mid format v k) k p.now) e.looks.moment
           (subst (λ (x : World). Always (Meanwhile g.C.Card.reads (due_in c.make_sure.new.self.slots.items) x format v q.now) q.now p.now) same way)));
       open_after = λ t goes j. same-before j o.now q.now p.now (ap (image j) e.looks.moment ∙ images-same at free made t j) (c.make.ensures.open_after t goes j);
@@ -172,7 +173,10 @@ returns g c =
       broke = err-device-map P B c.make.result (λ k b. subst B (sym b.0) (record {
         breaks = sure-breaks at free made (breaks-behind e.looks (e.ends.no_fault tt)
             (subst (Breaks g.C.Card.reads g.C.Card.place g.C.Card.stands g.H.Host.told c.make_sure.new.self c.make_sure.new.self q p) b.0 b.1));
-        same = λ t untorn store. absurd (both-ways (sym (sym (e.has t) ∙ c.if-branch.false) ∙ ap (λ bytes. is_some (g.C.Card.reads bytes)) (images-same at free made t u) ∙ store (eq-eqb u u refl)));
+        same = λ t untorn sure store.
+            let empty = sym (e.has t) ∙ c.if-branch.false in
+            absurd (both-ways (sym empty ∙ ap (λ bytes. is_some (g.C.Card.reads bytes)) (images-same at free made t u)
+            ∙ store (subst (λ (x : World). formats x format u ≡ true) (as-seen at free made format refl t) (format-formats mid mid u _ found c.args.name.now c.args.sig (ready t) refl empty))));
       })) c.make.ensures.broke;
     }
 
