@@ -39,10 +39,6 @@ abbrev pub IsAmong : List Hit → Place → Type 0
 IsAmong hs (on h) = Among hs h
 IsAmong hs _ = Unit {0}
 
--- a cursor that is open stands on a hit of its query, or on no entry (this project's own)
-abbrev pub StandsAmong : World → ℕ → Type 0
-StandsAmong w n = (k : Cursor) → cursor w n ≡ Some k → IsAmong (hits_of w k.query) k.place
-
 -- the place is on a hit of the query of a cursor that is open, or on no entry (this project's own)
 abbrev pub ComesAmong : World → ℕ → Place → Type 0
 ComesAmong w n place = (k : Cursor) → cursor w n ≡ Some k → IsAmong (hits_of w k.query) place

@@ -93,6 +93,7 @@ module _ {C : Type 0} (reads : List ℕ → Option Store) (place : C → ℕ) (s
         → FetchesAtMost (of_unit unit (512 * pages_of_entry (entry_at soup uid s))) before after
     pub cause : IfErr result (λ stop. HasStopCause stop before after)
     pub failed : IfErr result (AtStop (FailsAlone before after))
+    pub its : IfErr result (AtStop (λ u. u ≡ unit))
     pub no_fault : OnOk result (NoFault before after)
 
   -- Bytes of a large binary of such an entry are read, or the first test that holds is answered; but
