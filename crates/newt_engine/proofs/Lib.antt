@@ -9,3 +9,9 @@ pub mod Settling
 pub mod Starting
 pub mod Obeying
 pub mod Serving
+pub mod Seeing
+pub mod Lifting
+pub mod Thrown
+pub mod Halfway
+pub mod Outcast
+pub mod Applying

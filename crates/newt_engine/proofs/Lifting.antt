@@ -34,7 +34,7 @@ holds-left reads start now u lost l h = tt
 -- ---- what is meant of the units
 
 -- what a unit holds, and nothing that is known where it has no device
-abbrev held-on : World → ℕ → Media
+abbrev pub held-on : World → ℕ → Media
 held-on w u = elim (device w u) [ None ↦ lost | Some d ↦ d.media ]
 
 over-alike : (f g : ℕ → Media) (us : List (Option Device)) → ((u : ℕ) (d : Device) → flat (slice_get us u) ≡ Some d → f u ≡ g u) → over_units f us ≡ over_units g us

@@ -17,6 +17,7 @@ use Rattle.newt_spec_world.specs.Step.{Step, thrown, formats, is_accepted, is_fo
 use Rattle.newt_spec_world.specs.World.{World, Device, Media, blank, one, two, lost, device, is_unsure, settle, store_of, store_on_unit, stores_of, stores_on, IsBlankOn}
 use Rattle.newt_spec_world.specs.declared.command.Command.{Command}
 use Rattle.newt_spec_world.specs.declared.command.Command.TheVariants as command
+use Rattle.newt_laws_changes.specs.Later.{StoreLater}
 use Rattle.newt_laws_world.proofs.Units.{device-other, device-same, same-or-not}
 use Rattle.newt_laws_steps.specs.Answering.{Answering, ReadsOneOf}
 use Rattle.newt_laws_steps.specs.Meant.{MountedSure, meant_by, over, over_device}
@@ -95,7 +96,7 @@ written-unformed w (command.Format _ _ _) u h = absurd (both-ways h)
 written-unformed w c u h = refl
 
 -- where nothing refuses it, its units are those of the answer
-units-of : (w : World) (c : Command) (n : ℕ) → first_of (checks w c) ≡ None → device (answer w c).0 n ≡ device (changed w c) n
+pub units-of : (w : World) (c : Command) (n : ℕ) → first_of (checks w c) ≡ None → device (answer w c).0 n ≡ device (changed w c) n
 unfolding answer
 units-of w c n e = ap (λ (o : Option Refusal). device (answered w c o).0 n) e
 
@@ -117,11 +118,12 @@ module _ (f : ℕ → Media) (w : World) (sure : MountedSure w) where
   -- the store after it is that of the answer
   pub after-is : (c : Command) (u : ℕ) (s : Store) (d : Device) → device w u ≡ Some d → d.media ≡ one s → may_tear (meant_by f w) c u ≡ true
       → (x : Store) → Among (stores_on (answer w c).0 u) x → x ≡ store_after (meant_by f w) c u s
-  after-is c u s d at holds tears x k = among (subst (λ xs. Among xs x) (stores-by (answer w c).0 u e (units-of w c u passed ∙ r.1) ∙ ap stores_of g.1) k) ∙ sym (ap (λ o. unwrap_or o s) there)
+  after-is c u s d at holds tears x k = among (subst (λ xs. Among xs x) (stores-by (answer w c).0 u kept-on.0 (units-of w c u passed ∙ kept-on.1) ∙ ap stores_of g.1) k) ∙ sym (ap (λ o. unwrap_or o s) there)
     where
       torn-w : may_tear w c u ≡ true
       torn-w = sym (tears-m c u) ∙ tears
 
+      looks : (writes w c u ≡ true) × (looks_anew w c ≡ None)
       looks = writes-looks w c u torn-w
 
       passed : first_of (checks w c) ≡ None
@@ -133,13 +135,8 @@ module _ (f : ℕ → Media) (w : World) (sure : MountedSure w) where
       kept-on : Device-kept (Some d) (device (changed w c) u)
       kept-on = subst (λ o. Device-kept o (device (changed w c) u)) at (row-kept w c u (written-unformed w c u looks.0))
 
-      r = kept-on
-
-      e : Device
-      e = r.0
-
-      g : (t : Store) × (e.media ≡ one t) × _
-      g = subst (λ m. Goes-on m e.media) holds r.2
+      g : (t : Store) × (kept-on.0.media ≡ one t) × StoreLater s t
+      g = subst (λ m. Goes-on m kept-on.0.media) holds kept-on.2
 
       among : (g.0 ≡ x) ⊎ ⊥ → x ≡ g.0
       among (inl i) = sym i
@@ -147,7 +144,7 @@ module _ (f : ℕ → Media) (w : World) (sure : MountedSure w) where
 
       there : store_on_unit (changed (meant_by f w) c) u ≡ Some g.0
       there = ap (option_and_then (λ (d : Device). store_of d.media)) (sym (units-of (meant_by f w) c u passed-m) ∙ ap (λ (a : World × Reply). device a.0 u) (answer-m f w c sure looks.1)
-          ∙ device-m f (answer w c).0 u ∙ ap (option_map (over_device (f u))) (units-of w c u passed ∙ r.1))
+          ∙ device-m f (answer w c).0 u ∙ ap (option_map (over_device (f u))) (units-of w c u passed ∙ kept-on.1))
           ∙ ap (λ (m : Media). store_of (over (f u) m)) g.1
 
 -- ---- the unit is thrown out
@@ -252,7 +249,7 @@ module _ (reads : List ℕ → Option Store) (marks : Marks) (before : Outside) 
   -- ---- the moments
 
   -- the stores that it may have then
-  out : Device → Device
+  abbrev out : Device → Device
   out d = record d { media = torn w c u d.media; mounted = false }
 
   thrown-there : device (world_thrown w c u) u ≡ Some (out (over_device (f u) on.0))
@@ -330,10 +327,10 @@ module _ (reads : List ℕ → Option Store) (marks : Marks) (before : Outside) 
 
   -- ---- what is stood for then
 
-  module _ (next : Marks) (then : IsKept reads next after) (cards : SameCards before after) (is : known reads next after ≡ settle (thrown_out w0 u (λ _. lost)))
+  module _ (next : Marks) (stays : IsKept reads next after) (cards : SameCards before after) (is : known reads next after ≡ settle (thrown_out w0 u (λ _. lost)))
       (holds : (n : ℕ) → marks.due n ≡ true → Holds reads before.now n (f n)) (none : (n : ℕ) → before.card n ≡ None → f n ≡ lost) where
     pub thrown-stood-for : StandsFor reads next after (world_thrown w c u)
-    thrown-stood-for = thrown-stands reads next after w0 f u (torn w c u) on.0 sure-w0 then is on.1 (left-then m refl (marks.due u) refl) each
+    thrown-stood-for = thrown-stands reads next after w0 f u (torn w c u) on.0 sure-w0 stays is on.1 (left-then m refl (marks.due u) refl) each
       where
         each : (n : ℕ) → n ≢ u → next.due n ≡ true → Holds reads after.now n (f n)
         each n other due = go (before.card n) refl
@@ -341,9 +338,9 @@ module _ (reads : List ℕ → Option Store) (marks : Marks) (before : Outside) 
             go : (card : Option (List ℕ)) → before.card n ≡ card → Holds reads after.now n (f n)
             go None e = subst (Holds reads after.now n) (sym (none n e)) tt
             go (Some name) e =
-                let d = known-some reads next after then n (ap is_some (cards.card n ∙ e)) in
+                let d = known-some reads next after stays n (ap is_some (cards.card n ∙ e)) in
                 let same-device : device w0 n ≡ Some d.0 = sym (device-other w0 u (λ (x : Device). record x { media = lost; mounted = false }) n other) ∙ sym (ap (λ (x : World). device x n) is) ∙ d.1 in
-                let old : marks.due n ≡ true = sym (known-due reads marks before kept n d.0 same-device) ∙ known-due reads next after then n d.0 d.1 ∙ due in
+                let old : marks.due n ≡ true = sym (known-due reads marks before kept n d.0 same-device) ∙ known-due reads next after stays n d.0 d.1 ∙ due in
                 holds-left reads before.now after.now n (f n) (left-same n before.now after.now (others n other)) (holds n old)
 
 -- ---- every world that is stood for
@@ -356,20 +353,20 @@ pub lift-thrown : (reads : List ℕ → Option Store) (marks : Marks) (before : 
     → (next : Marks) → IsKept reads next after → SameCards before after → known reads next after ≡ settle (thrown_out (known reads marks before) u (λ _. lost))
     → (w : World) → StandsFor reads marks before w
     → (v : World) × Turned reads w c before.now v (Reply.thrown u) × StandsFor reads next after v × Always (Answering reads w c v before.now) before.now after.now
-lift-thrown reads marks before c kept history after way u attached others same next then cards is w stands =
-    subst (λ (x : World). (v : World) × Turned reads x c before.now v (Reply.thrown u) × StandsFor reads next after v × Always (Answering reads x c v before.now) before.now after.now) (sym meant)
+lift-thrown reads marks before c kept history after way u attached others same next stays cards is v stands =
+    subst (λ (x : World). (y : World) × Turned reads x c before.now y (Reply.thrown u) × StandsFor reads next after y × Always (Answering reads x c y before.now) before.now after.now) (sym meant)
     (world_thrown (meant_by f w0) c u, record { step = thrown {u = u} refl refl; is_plain = λ quiet. absurd (quiet u refl) },
-    thrown-stood-for reads marks before c kept history f stood after way u attached others same next then cards is (λ n due. held-holds reads marks before kept w stands n) (held-none reads marks before kept w stands),
+    thrown-stood-for reads marks before c kept history f stood after way u attached others same next stays cards is (λ n due. held-holds reads marks before kept v stands n) (held-none reads marks before kept v stands),
     thrown-moments reads marks before c kept history f stood after way u attached others same)
   where
     w0 : World
     w0 = known reads marks before
 
     f : ℕ → Media
-    f = held-on w
+    f = held-on v
 
-    meant : w ≡ meant_by f w0
-    meant = meant-held reads marks before kept w stands
+    meant : v ≡ meant_by f w0
+    meant = meant-held reads marks before kept v stands
 
     stood : StandsFor reads marks before (meant_by f w0)
     stood = subst (StandsFor reads marks before) meant stands

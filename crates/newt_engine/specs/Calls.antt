@@ -9,6 +9,7 @@ use Rattle.newt_laws_steps.specs.Thrown.{Failed, Threw}
 use Rattle.newt_reply.specs.Said.{said}
 use Rattle.newt_reply.specs.declared.reply.Reply.{Reply}
 use Rattle.newt_reply.specs.declared.reply.Reply.TheVariants as reply
+use Rattle.newt_spec_script.specs.Rows.{throws}
 use Rattle.newt_spec_store.specs.Store.{Store}
 use Rattle.newt_spec_world.specs.Answer.{answer}
 use Rattle.newt_spec_world.specs.Changed.{changed}
@@ -39,6 +40,10 @@ use Rattle.newt_engine.specs.Standing.{Standing, means, stood_for}
 use Rattle.newt_engine.specs.declared.world.World.{World}
 use Rattle.std.specs.declared.alloc.AllocError.{AllocError}
 
+-- the reply says of no unit that its device failed
+abbrev pub IsNotThrown : Reply → Type 0
+IsNotThrown it = (u : ℕ) → throws u (said it) ≡ false
+
 module _ {C : Type 0} (reads : List ℕ → Option Store) (place : C → ℕ) (standing : Bool → C → Outside → Type 0) where
   -- A command that uses no cursor, by the world without cursors, as the command sees it: the units
   -- answer it, the cursors stay what they were, and only what may take memory or use a device ends
@@ -57,6 +62,7 @@ module _ {C : Type 0} (reads : List ℕ → Option Store) (place : C → ℕ) (s
     pub no_fault : GoesOn result → NoFault before after
     pub ends : takes_memory command ≡ false → IfErr result (λ fault. IsRefusal fault)
     pub device : uses_device command ≡ false → IfErr result (λ fault. NoDevice fault)
+    pub quiet : IfOk result (λ it. IsNotThrown it)
 
   -- A command that uses no device, by the world without cursors, whatever the devices hold: the
   -- units answer it, the cursors stay what they were, and only want of memory ends the run, and that
@@ -67,6 +73,7 @@ module _ {C : Type 0} (reads : List ℕ → Option Store) (place : C → ℕ) (s
         → Answers (world_of reads old.units outside) (world_of reads new.units outside) command said result
     pub desk : new.desk ≡ old.desk
     pub device : IfErr result (λ fault. NoDevice fault)
+    pub quiet : IfOk result (λ it. IsNotThrown it)
     pub ends : takes_memory command ≡ false → IfErr result (λ fault. IsRefusal fault)
 
   -- The cursors that are reached are settled, and a reply is handed on; or the run ends. Devices are
@@ -98,6 +105,7 @@ module _ {C : Type 0} (reads : List ℕ → Option Store) (place : C → ℕ) (s
     pub no_fault : GoesOn result → NoFault before after
     pub ends : takes_memory command ≡ false → IfErr result (λ fault. IsRefusal fault)
     pub device : uses_device command ≡ false → IfErr result (λ fault. NoDevice fault)
+    pub quiet : IfOk result (λ it. IsNotThrown it)
 
   -- What stands where the device of a unit has failed in a command: but for that unit all is as it was; and nothing at all has happened where the store of the
   -- unit was not to be written, no sync of it was due, and it was not to be formatted.
@@ -134,6 +142,7 @@ module _ {C : Type 0} (reads : List ℕ → Option Store) (place : C → ℕ) (s
     pub no_fault : GoesOn result → NoFault before after
     pub ends : takes_memory command ≡ false → IfErr result (λ fault. IsRefusal fault)
     pub device : uses_device command ≡ false → IfErr result (λ fault. NoDevice fault)
+    pub quiet : IfOk result (λ it. IsNotThrown it)
 
 module _ {C : Type 0} (reads : List ℕ → Option Store) where
   -- How a command ends. What is attached, the input and the output are as they were. But for a
@@ -154,7 +163,7 @@ module _ {C : Type 0} (reads : List ℕ → Option Store) where
     pub failed : IfOk result (λ it. Failed (said it) before.dev_faults after.dev_faults)
     pub later : (u : ℕ) → before.dev_faults u ≤ after.dev_faults u
     pub never_memory : takes_memory command ≡ false → IsOk result
-    pub never_thrown : uses_device command ≡ false → IfOk result (λ it. (u : ℕ) → it ≢ reply.Thrown u)
+    pub never_thrown : uses_device command ≡ false → IfOk result (λ it. IsNotThrown it)
 
 module _ {C : Type 0} (reads : List ℕ → Option Store) (place : C → ℕ) (standing : Bool → C → Outside → Type 0) where
   -- What the world promises of any command. From each world that it stood for it has made a step to
