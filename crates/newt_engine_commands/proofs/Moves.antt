@@ -179,33 +179,43 @@ module _ (w : World) (u to : ℕ) (name target : List ℕ) (sig into uid : ℕ) 
   removed-makes now n a = makes added u h.blocks h.store without between_answer (Reply.number k.soup.next_uid) on-added (between-done a.passed)
 
   -- up to the end of the first change
-  pub first-moments : (reads : List ℕ → Option Store) (x : World) (a b c : Moment) → x ≡ w → b ≡ a → Always (Answering reads x between_answer.0 b) b c → Always (Answering reads w between_answer.0 a) a c
-  first-moments reads x a b c is start way = subst (λ (m : Moment). Always (Answering reads w between_answer.0 m) m c) start (subst (λ (y : World). Always (Answering reads y between_answer.0 b) b c) is way)
+  pub first-moments : (reads : List ℕ → Option Store) (due : ℕ → Bool) (x : World) (a b c : Moment) → x ≡ w → b ≡ a → Always (Meanwhile reads due x between_command between_answer.0 b) b c
+      → Always (Meanwhile reads due w between_command between_answer.0 a) a c
+  first-moments reads due x a b c is start way = subst (λ (m : Moment). Always (Meanwhile reads due w between_command between_answer.0 m) m c) start
+      (subst (λ (y : World). Always (Meanwhile reads due y between_command between_answer.0 b) b c) is way)
 
   -- and of the second
-  pub both-moments : (reads : List ℕ → Option Store) (now : World) (n : ℕ) (a b c : Moment) → WasAdded now n
-      → Always (Answering reads w between_answer.0 a) a b → Always (Answering reads now between_answer.0 b) b c → Always (Answering reads w between_answer.0 a) a c
-  both-moments reads now n a b c was first second = Always-append first (Always-map (λ m at. record {
-    unread = at.unread ∙ last.unread;
-    quiet = at.quiet ∙ last.quiet;
-    stores = λ j y left d may. stores m at j y left d may (same-or-not j to);
-    others = λ j d i. at.others j (none-there j d (same-or-not j to)) i ∙ last.others j d i;
-  }) (subst (λ (y : World). Always (Answering reads y between_answer.0 b) b c) was.world second))
+  pub both-moments : (reads : List ℕ → Option Store) (due : ℕ → Bool) (now : World) (n : ℕ) (a b c : Moment) → WasAdded now n
+      → Always (Meanwhile reads due w between_command between_answer.0 a) a b → Always (Meanwhile reads due now between_command between_answer.0 b) b c → Always (Meanwhile reads due w between_command between_answer.0 a) a c
+  both-moments reads due now n a b c was first second = Always-append first (Always-map (λ m t. let at = t.answering in record {
+    answering = record {
+      unread = at.unread ∙ last.answering.unread;
+      quiet = at.quiet ∙ last.answering.quiet;
+      stores = λ j y left d may. stores m at j y left d may (same-or-not j to);
+      images = λ j empty stays. at.images j (blank-there j empty) (inl refl) ∙ last.answering.images j empty stays;
+      others = λ j left empty stays may. last.answering.others j left empty stays (at.others j left (blank-there j empty) (inl refl) may);
+    };
+    unsure = λ j sync formed. left-after (last.unsure j sync formed) (t.unsure j sync (λ fmt. absurd (both-ways fmt)));
+  }) (subst (λ (y : World). Always (Meanwhile reads due y between_command between_answer.0 b) b c) was.world second))
     where
-      last : Answering reads w between_answer.0 a b
+      last : Meanwhile reads due w between_command between_answer.0 a b
       last = Always-last first
 
-      elsewhere : (j : ℕ) → (j ≡ to → ⊥) → store_on_unit added j ≡ store_on_unit w j
-      elsewhere j d = ap (option_and_then (λ (d : Device). store_of d.media)) (device-other w to (λ d. record d { media = change_media add d.media }) j d)
+      elsewhere : (j : ℕ) → (j ≡ to → ⊥) → device added j ≡ device w j
+      elsewhere j d = device-other w to (λ d. record d { media = change_media add d.media }) j d
 
-      none-there : (j : ℕ) → store_on_unit w j ≡ None → (j ≡ to) ⊎ (j ≡ to → ⊥) → store_on_unit added j ≡ None
-      none-there j d (inl i) = absurd (none-some k.store (sym d ∙ ap (store_on_unit w) i ∙ is-there w to k.blocks k.store k.on))
-      none-there j d (inr i) = elsewhere j i ∙ d
+      stores-at : Option Device → List Store
+      stores-at o = elim o [ None ↦ [] | Some d ↦ stores_of d.media ]
 
-      stores : (m : Moment) → Answering reads added between_answer.0 b m → (j : ℕ) (y : Store) (left : List ℕ) → store_on_unit w j ≡ Some y → MayLeave j m left → (j ≡ to) ⊎ (j ≡ to → ⊥)
-          → (reads left ≡ Some y) ⊎ (reads left ≡ store_on_unit between_answer.0 j)
-      stores m at j y left d may (inl i) = elim (at.stores j (add k.store) left (ap (store_on_unit added) i ∙ is-there added to k.blocks (add k.store) there-added) may) [
-        | inl r ↦ inr (r ∙ sym (added-makes w refl was.passed) ∙ ap (store_on_unit between_answer.0) (sym i))
-        | inr r ↦ inr r
-      ]
-      stores m at j y left d may (inr i) = at.stores j y left (elsewhere j i ∙ d) may
+      -- the target has a store
+      blank-there : (j : ℕ) → IsBlankOn w j → IsBlankOn added j
+      blank-there j empty = go (same-or-not j to)
+        where
+          go : (j ≡ to) ⊎ (j ≡ to → ⊥) → IsBlankOn added j
+          go (inl i) = absurd (none-some k.store (sym (ap (λ (d : Device). store_of d.media) (some-same empty.0 _ (sym empty.1 ∙ ap (device w) i ∙ k.on.device_is)) ) ∙ ap store_of empty.2 ∙ refl))
+          go (inr other) = (empty.0, elsewhere j other ∙ empty.1, empty.2)
+
+      stores : (m : Moment) → Answering reads added between_command between_answer.0 b m → (j : ℕ) (y : Store) (left : List ℕ) → Among (stores_on w j) y → MayLeave j m left → (j ≡ to) ⊎ (j ≡ to → ⊥)
+          → ReadsOneOf reads (stores_on w j ++ stores_on between_answer.0 j) left
+      stores m at j y left d may (inl i) = ?target
+      stores m at j y left d may (inr i) = subst (λ xs. ReadsOneOf reads (xs ++ stores_on between_answer.0 j) left) (ap stores-at (elsewhere j i)) (at.stores j y left (subst (λ xs. Among xs y) (sym (ap stores-at (elsewhere j i))) d) may)

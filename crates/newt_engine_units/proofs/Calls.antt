@@ -277,6 +277,7 @@ module _ {C : Type 0} {reads : List ℕ → Option Store} {place : C → ℕ} {s
     stand = call-stands c s (λ t j h. ap (changes j) looks.moment) there;
     world = λ t. call-still reads c looks.moment;
     marks = λ j. marks units (later units n slot next) u card next (replaced c) j;
+    dues = λ j. dues units (later units n slot next) u card next (replaced c) j;
     moment = looks.moment;
     untouched = all-alone looks;
     alone = on-devices looks.alone;
@@ -308,6 +309,7 @@ read-still reads {place} {stands} kept durable {told} {units} {u} {o} {p} looks 
   stand = stands-still place stands kept durable told units o p looks.alone.cards (λ t j. ap (changes j) looks.moment) s;
   world = λ t. world-still reads units o p looks.alone.cards (λ j. ap (changes j) looks.moment);
   marks = λ j. refl;
+  dues = λ j. refl;
   moment = looks.moment;
   untouched = all-alone looks;
   alone = on-devices looks.alone;

@@ -76,11 +76,13 @@ module _ {C : Type 0} (reads : List ℕ → Option Store) (place : C → ℕ) (s
         → HasStoreToFormat reads (world_of reads old before) command u before.now → after.now ≡ before.now
 
   -- What every call promises that only reads: the units stand for the world that they stood for,
-  -- the same units are mounted, and nothing has happened outside but reading.
+  -- the same units are mounted, of the same ones a sync is due, and nothing has happened outside but
+  -- reading.
   pub record AreRead (told : Bool) (old new : Units C) (before after : Outside) : Type 0 where
     pub stand : Stands place standing told new after
     pub world : IsTrue told → world_of reads new after ≡ world_of reads old before
     pub marks : (u : ℕ) → mounted_in new.slots.items u ≡ mounted_in old.slots.items u
+    pub dues : (u : ℕ) → due_in new.slots.items u ≡ due_in old.slots.items u
     pub moment : after.now ≡ before.now
     pub untouched : (u : ℕ) → LeftAlone u before after
     pub alone : OnDevices before after
@@ -121,6 +123,7 @@ module _ {C : Type 0} (reads : List ℕ → Option Store) (place : C → ℕ) (s
     pub idle : IsTrue told → let w = world_of reads old before in (blocks : ℕ) (s : Store) → OnUnit w unit blocks s → IsSome (refusal_of change blocks w.minute s)
         → after.now ≡ before.now
     pub marks : (u : ℕ) → mounted_in new.slots.items u ≡ mounted_in old.slots.items u
+    pub dues : (u : ℕ) → due_in new.slots.items u ≡ due_in old.slots.items u
     pub costs : IsTrue told → let w = world_of reads old before in (blocks : ℕ) (s : Store) → OnUnit w unit blocks s →
         CostsOn unit (most_bytes change blocks w.minute s) result before after
     pub fetches : IsTrue told → let w = world_of reads old before in (blocks : ℕ) (s : Store) → OnUnit w unit blocks s →

@@ -5,7 +5,7 @@ use Rattle.newt_store_change.specs.Change.{changed_by, answer_of, refusals, most
 use Rattle.newt_engine_units.proofs.Calls.{Called, later, replaced, mounted-bound, not-there, cause-of, on-devices, call-stands, call-does, call-moments, call-costs, call-fetches-on, call-idle, call-breaks, place-is}
 use Rattle.newt_engine_units.proofs.Broken.{its-devices}
 use Rattle.newt_engine_units.proofs.Known.{Laws}
-use Rattle.newt_engine_units.proofs.Slots.{marks}
+use Rattle.newt_engine_units.proofs.Slots.{dues, marks}
 use Rattle.newt_engine_units.specs.Stands.{Eight}
 use Rattle.newt_engine_units.proofs.units.Units.change.Goals as goal
 
@@ -38,6 +38,7 @@ returns-in-Some g c =
       moments = λ t blocks s on. call-moments laws t eight call c.requires.stands blocks s (changed_by c.args.change minute s)
           (λ blocks. refusals c.args.change blocks minute s) (c.apply.ensures.any_moment t s) on;
       marks = λ j. marks c.args.self.now (later c.args.self.now c.unit.inside.0 c.index_mut.result.now c.apply.new.self) c.args.unit c.in-Some.card c.apply.new.self (replaced call) j;
+      dues = λ j. dues c.args.self.now (later c.args.self.now c.unit.inside.0 c.index_mut.result.now c.apply.new.self) c.args.unit c.in-Some.card c.apply.new.self (replaced call) j;
       costs = λ t blocks s on. call-costs laws t eight call c.requires.stands (c.apply.ensures.others t) blocks s
           (λ blocks. most_bytes c.args.change blocks minute s) _
           (λ reads. record { programmed = λ room. (c.apply.ensures.costs t s reads room).programmed; wears = λ room. c.apply.ensures.wears t s reads room }) (c.apply.ensures.open_after t) c.apply.ensures.nothing_done on;
