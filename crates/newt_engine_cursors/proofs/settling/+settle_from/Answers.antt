@@ -17,13 +17,13 @@ use Rattle.newt_engine_cursors.specs.Reached.{seen_reach}
 use Rattle.newt_engine_cursors.proofs.Calls.{all-kept, settles-end, settles-reads}
 use Rattle.newt_engine_cursors.proofs.Cursors.{before-change, change-one, from-behind, from-next, given-fits}
 use Rattle.newt_engine_cursors.proofs.Reaches.{given-where, handed-own}
-use Rattle.newt_engine_cursors.proofs.settling.settle_from.Goals as goal
+use Rattle.newt_engine_cursors.proofs.settling.+settle_from.Goals as goal
 
-pub returns-then-from_ge_PLACES-clause-settles : goal.returns-then-from_ge_PLACES-clause-settles
-returns-then-from_ge_PLACES-clause-settles g c = record {
+pub settle_from-returns-then-from_ge_PLACES-clause-settles : goal.settle_from-returns-then-from_ge_PLACES-clause-settles
+settle_from-returns-then-from_ge_PLACES-clause-settles g t c = record {
   read = not-read c.requires.stands;
   desk = c.requires.desk;
-  settled = λ t apart.
+  settled = λ told apart.
       let base = world_of g.C.Card.reads c.args.units.now (g.H.Host.outside c.args.host.now) in
       let test = c.if-from_ge_PLACES.true in
       let places = c.requires.desk.places in
@@ -35,57 +35,57 @@ returns-then-from_ge_PLACES-clause-settles g c = record {
   no_fault = NoFault-refl _;
 }
 
-pub returns-then-from_ge_PLACES-clause-unread : goal.returns-then-from_ge_PLACES-clause-unread
-returns-then-from_ge_PLACES-clause-unread g c none u = omega arith
+pub settle_from-returns-then-from_ge_PLACES-clause-unread : goal.settle_from-returns-then-from_ge_PLACES-clause-unread
+settle_from-returns-then-from_ge_PLACES-clause-unread g t c none u = omega arith
 
-pub returns-in_err-key-clause-settles : goal.returns-in_err-key-clause-settles
-returns-in_err-key-clause-settles g c =
+pub settle_from-returns-in_err-key-clause-settles : goal.settle_from-returns-in_err-key-clause-settles
+settle_from-returns-in_err-key-clause-settles g t c =
     settles-end (λ (r : Result (Unit {0}) Stop) (w v : World). OnOk r (v ≡ settled_from (seen_reach c.args.reach.now) c.args.from w)) (not-read c.requires.stands) (NoFault-refl _) c.in_err-key.ensures.reading c.requires.desk
     (all-kept _) c.from_residual.result (err_from_is_err_and c.from_residual.result c.from_residual.ensures.1) (λ w v. tt)
 
-pub returns-in_err-key-clause-unread : goal.returns-in_err-key-clause-unread
-returns-in_err-key-clause-unread g c none = c.in_err-key.ensures.unread (none c.args.from)
+pub settle_from-returns-in_err-key-clause-unread : goal.settle_from-returns-in_err-key-clause-unread
+settle_from-returns-in_err-key-clause-unread g t c none = c.in_err-key.ensures.unread (none c.args.from)
 
-pub returns-in_err-settle_from-clause-settles : goal.returns-in_err-settle_from-clause-settles
-returns-in_err-settle_from-clause-settles g c =
+pub settle_from-returns-in_err-settle_from-clause-settles : goal.settle_from-returns-in_err-settle_from-clause-settles
+settle_from-returns-in_err-settle_from-clause-settles g t c =
     let read = c.in_ok-key.ensures.reading in
     let s = c.in_err-settle_from.ensures.settles in
     let r = c.from_residual-in_err-settle_from.result in
     settles-end (λ (r : Result (Unit {0}) Stop) (w v : World). OnOk r (v ≡ settled_from (seen_reach c.args.reach.now) c.args.from w)) read.read read.no_fault (settles-reads s) s.desk s.kept
     r (err_from_is_err_and r c.from_residual-in_err-settle_from.ensures.1) (λ w v. tt)
 
-pub returns-in_err-settle_from-clause-before : goal.returns-in_err-settle_from-clause-before
-returns-in_err-settle_from-clause-before g c n less = c.in_err-settle_from.ensures.before n (omega (arith, less))
+pub settle_from-returns-in_err-settle_from-clause-before : goal.settle_from-returns-in_err-settle_from-clause-before
+settle_from-returns-in_err-settle_from-clause-before g t c n less = c.in_err-settle_from.ensures.before n (omega (arith, less))
 
-pub returns-in_err-settle_from-clause-unread : goal.returns-in_err-settle_from-clause-unread
-returns-in_err-settle_from-clause-unread g c none u =
+pub settle_from-returns-in_err-settle_from-clause-unread : goal.settle_from-returns-in_err-settle_from-clause-unread
+settle_from-returns-in_err-settle_from-clause-unread g t c none u =
     let x = c.in_ok-key.ensures.unread (none c.args.from) u in
     let y = c.in_err-settle_from.ensures.unread none u in
     omega (arith, x, y)
 
-pub returns-in_err-settle_from-clause-own : goal.returns-in_err-settle_from-clause-own
-returns-in_err-settle_from-clause-own g c t =
+pub settle_from-returns-in_err-settle_from-clause-own : goal.settle_from-returns-in_err-settle_from-clause-own
+settle_from-returns-in_err-settle_from-clause-own g t c told =
     let r = c.from_residual-in_err-settle_from.result in
-    handed-own (seen_reach c.args.reach.now) _ _ (c.in_ok-key.ensures.reading.read.world t) _ (c.in_err-settle_from.ensures.own t) r (err_from_is_err_and r c.from_residual-in_err-settle_from.ensures.1)
+    handed-own (seen_reach c.args.reach.now) _ _ (c.in_ok-key.ensures.reading.read.world told) _ (c.in_err-settle_from.ensures.own told) r (err_from_is_err_and r c.from_residual-in_err-settle_from.ensures.1)
 
-pub returns-clause-settles : goal.returns-clause-settles
-returns-clause-settles g c =
+pub settle_from-returns-clause-settles : goal.settle_from-returns-clause-settles
+settle_from-returns-clause-settles g t c =
     let key = c.in_ok-key in
     let s = c.in_ok-settle_from.ensures.settles in
     let here : flat (slice_get c.settle_from.new.desk c.args.from) ≡ flat (slice_get c.args.desk.now c.args.from) = ap flat (c.in_ok-settle_from.ensures.before c.args.from (omega arith)) in
     record {
       read = read-then key.ensures.reading.read s.read;
       desk = subst DeskFits (sym c.take_key.ensures) (given-fits key.key c.settle_from.new.desk c.args.from s.desk (λ k e. key.ensures.key k (sym here ∙ e)));
-      settled = λ t apart.
+      settled = λ told apart.
           let base = world_of g.C.Card.reads c.args.units.now (g.H.Host.outside c.args.host.now) in
           let mid = world_of g.C.Card.reads c.key_if_reached.new.units (g.H.Host.outside c.key_if_reached.new.host) in
           let r = seen_reach c.args.reach.now in
-          let same = key.ensures.reading.read.world t in
+          let same = key.ensures.reading.read.world told in
           let behind : c.settle_from.new.desk ≡ change_from (c.args.from + 1) (settle_where r base) c.args.desk.now =
-          ap (λ (w : World). w.cursors) (s.settled t (subst MountedApart (sym same) apart)) ∙ ap (λ (w : World). change_from (c.args.from + 1) (settle_where r w) c.args.desk.now) same in
+          ap (λ (w : World). w.cursors) (s.settled told (subst MountedApart (sym same) apart)) ∙ ap (λ (w : World). change_from (c.args.from + 1) (settle_where r w) c.args.desk.now) same in
           let gives : (k : Cursor) → flat (slice_get c.settle_from.new.desk c.args.from) ≡ Some k → given key.key k ≡ settle_where r base k = λ k e.
-          given-where r base k key.key (key.ensures.found t apart ∙ ap (option_and_then (key_where r base)) (sym here ∙ e)) in
-          ap (with_cursors c.take_key.new.desk) (s.read.world t ∙ same)
+          given-where r base k key.key (key.ensures.found told apart ∙ ap (option_and_then (key_where r base)) (sym here ∙ e)) in
+          ap (with_cursors c.take_key.new.desk) (s.read.world told ∙ same)
           ∙ ap (λ (ks : List (Option Cursor)). with_cursors ks base) (c.take_key.ensures
           ∙ change-one (given key.key) (settle_where r base) c.settle_from.new.desk c.args.from gives
           ∙ ap (change_at c.args.from (settle_where r base)) behind
@@ -96,13 +96,13 @@ returns-clause-settles g c =
       no_fault = NoFault-append key.ensures.reading.no_fault s.no_fault;
     }
 
-pub returns-clause-before : goal.returns-clause-before
-returns-clause-before g c n less =
+pub settle_from-returns-clause-before : goal.settle_from-returns-clause-before
+settle_from-returns-clause-before g t c n less =
     ap (λ (ks : List (Option Cursor)). slice_get ks n) c.take_key.ensures ∙ before-change (given c.in_ok-key.key) c.settle_from.new.desk c.args.from n less
     ∙ c.in_ok-settle_from.ensures.before n (omega (arith, less))
 
-pub returns-clause-unread : goal.returns-clause-unread
-returns-clause-unread g c none u =
+pub settle_from-returns-clause-unread : goal.settle_from-returns-clause-unread
+settle_from-returns-clause-unread g t c none u =
     let x = c.in_ok-key.ensures.unread (none c.args.from) u in
     let y = c.in_ok-settle_from.ensures.unread none u in
     omega (arith, x, y)
