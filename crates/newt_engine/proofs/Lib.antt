@@ -15,3 +15,4 @@ pub mod Thrown
 pub mod Halfway
 pub mod Outcast
 pub mod Applying
+pub mod Looking

@@ -49,7 +49,7 @@ pub look-none : (w : World) (u : ℕ) → unsure_on w u ≡ false → unsure_loo
 look-none w u e = ap (λ b. looked (is_none (first_of (look_checks w u)) && b) u) e ∙ looked-none (is_none (first_of (look_checks w u))) u
 
 -- the unit that is looked at
-look-is : (w : World) (c : Command) (u : ℕ) → looks_anew w c ≡ Some u → (looks_at c ≡ Some u) × (unsure_look w u ≡ Some u)
+pub look-is : (w : World) (c : Command) (u : ℕ) → looks_anew w c ≡ Some u → (looks_at c ≡ Some u) × (unsure_look w u ≡ Some u)
 look-is w c u looks = go (looks_at c) refl looks
   where
     its : (a : Bool) (v : ℕ) → looked a v ≡ Some u → v ≡ u
@@ -62,7 +62,7 @@ look-is w c u looks = go (looks_at c) refl looks
         let is : v ≡ u = its (is_none (first_of (look_checks w v)) && unsure_on w v) v h in
         (e ∙ ap {B = Option ℕ} (λ n. Some n) is, subst (λ n. unsure_look w n ≡ Some u) is h)
 
-look-unsure : (w : World) (u : ℕ) → unsure_look w u ≡ Some u → unsure_on w u ≡ true
+pub look-unsure : (w : World) (u : ℕ) → unsure_look w u ≡ Some u → unsure_on w u ≡ true
 look-unsure w u h = go (unsure_on w u) refl
   where
     go : (b : Bool) → unsure_on w u ≡ b → unsure_on w u ≡ true
