@@ -90,7 +90,7 @@ thrown-failed u o p failed n h = failed.others n (λ is. both-ways (sym h ∙ eq
 
 -- ---- thrown out
 
-out-apart : (w : World) (u : ℕ) → MountedApart w → MountedApart (thrown_out w u (λ _. lost))
+pub out-apart : (w : World) (u : ℕ) → MountedApart w → MountedApart (thrown_out w u (λ _. lost))
 out-apart w u h = sigs-apart (change_device w u (λ d. record d { media = lost; mounted = false })) w
     (change-sigs w u (λ d. record d { media = lost; mounted = false }) (λ d t f. absurd (none-some t f))) h
 

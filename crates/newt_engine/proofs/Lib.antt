@@ -16,3 +16,4 @@ pub mod Halfway
 pub mod Outcast
 pub mod Applying
 pub mod Looking
+pub mod Applied

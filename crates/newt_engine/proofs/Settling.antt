@@ -13,7 +13,7 @@ use Rattle.newt_spec_query.specs.Cursor.{Cursor}
 use Rattle.newt_spec_store.specs.Store.{Store}
 use Rattle.newt_spec_world.specs.declared.command.Command.{Command}
 use Rattle.newt_spec_world.specs.declared.command.Command.TheVariants as command
-use Rattle.newt_spec_world.specs.Step.{formats, is_format_of}
+use Rattle.newt_spec_world.specs.Step.{formats, is_format_of, looks_anew}
 use Rattle.newt_spec_world.specs.Reply as plain
 use Rattle.newt_spec_world.specs.Changed.{changed}
 use Rattle.newt_spec_world.specs.Refused.{checks}
@@ -26,7 +26,7 @@ use Rattle.newt_laws_world.proofs.Uncursored.{changed-apart, checks-apart}
 use Rattle.newt_laws_world.specs.Cursors.{all_closed, with_cursors, uses_cursors}
 use Rattle.newt_laws_steps.specs.Answering.{StaysBlank}
 use Rattle.newt_laws_steps.specs.Meant.{MountedSure}
-use Rattle.newt_laws_steps.specs.StandsFor.{known, seen}
+use Rattle.newt_laws_steps.specs.StandsFor.{known, seen, seen_on}
 use Rattle.newt_laws_steps.proofs.Held.{stands-left, stands-sure}
 use Rattle.newt_laws_steps.proofs.StoodFor.{known-stands}
 use Rattle.newt_spec_world.specs.Answer.{answer, answered}
@@ -162,7 +162,7 @@ module _ (ks : List (Option Cursor)) (w : World) (closed : IsTrue (all_closed w)
 -- what a command sees of the known world, without its cursors
 module _ {C : Type 0} {reads : List ℕ → Option Store} {place : C → ℕ} {soups : C → Store} {stands : Bool → C → Outside → Type 0} (l : Laws reads place soups stands)
     (told : Bool) (units : Units C) (ks : List (Option Cursor)) (o : Outside) (s : Standing reads place stands told units ks o) (t : IsTrue told) (c : Command) where
-  start-formed : Every Wf (world_of reads units o)
+  pub start-formed : Every Wf (world_of reads units o)
   start-formed = known-formed l units ks o (standing-told s t)
 
   start-sure : MountedSure (world_of reads units o)
@@ -226,3 +226,13 @@ quiet_with {reads = reads} l told units ks o p s t same c v =
       };
       unsure = λ u sync formed. record { image = refl; left = λ left may. may };
     }))
+
+-- a command that uses a cursor looks at no unit anew
+pub seen_cursors : (reads : List ℕ → Option Store) (w : World) (now : Moment) (c : Command) → uses_cursors c ≡ true → seen reads w now c ≡ w
+seen_cursors reads w now c h = ap (seen_on reads w now) (nothing c h)
+  where
+    nothing : (c : Command) → uses_cursors c ≡ true → looks_anew w c ≡ None
+    unfolding uses_cursors
+    nothing (command.Format _ _ _) h = cc
+    nothing (command.Mount _) h = cc
+    nothing c h = refl
