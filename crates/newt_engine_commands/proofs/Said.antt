@@ -84,19 +84,19 @@ unrefused reply w v c x never h = go (first_of (checks w c)) refl
 
 -- ---- where the device fails
 
-module _ {C : Type 0} {reads : List ℕ → Option Store} {place : C → ℕ} {standing : Bool → C → Outside → Type 0} {told : Bool} {u : ℕ} {change : Change} {units mid later : Units C} {o m p : Outside}
+module _ {C : Type 0} {reads : List ℕ → Option Store} {place : C → ℕ} {standing : Bool → C → Outside → Type 0} {told : Bool} {u : ℕ} {change : Change} {later : Units C} {p : Outside}
     {result : Result ℕ StoreFault} (c : Command) where
-  pub change-breaks : Changes reads place standing told u change units later o p result → (IsTrue told → may_tear (world_of reads units o) c u ≡ false → p.now ≡ o.now)
+  pub change-breaks : {units : Units C} {o : Outside} → Changes reads place standing told u change units later o p result → (IsTrue told → may_tear (world_of reads units o) c u ≡ false → p.now ≡ o.now)
       → IfErr result (AtDevice (BreaksIn reads place standing told c units later o p))
-  change-breaks e untorn = err-device-map _ _ result (λ n b. record {
+  change-breaks {units} {o} e untorn = err-device-map _ _ result (λ n b. record {
     breaks = b.1;
     same = λ t tears sure store. untorn t (subst (λ k. may_tear (world_of reads units o) c k ≡ false) b.0 tears);
   }) e.broke
 
   -- behind a read
-  pub behind-breaks : AreRead reads place standing told units mid o m → NoFault o m → Changes reads place standing told u change mid later m p result
+  pub behind-breaks : {units mid : Units C} {o m : Outside} → AreRead reads place standing told units mid o m → NoFault o m → Changes reads place standing told u change mid later m p result
       → (IsTrue told → may_tear (world_of reads mid m) c u ≡ false → p.now ≡ m.now) → IfErr result (AtDevice (BreaksIn reads place standing told c units later o p))
-  behind-breaks looks none e untorn = err-device-map _ _ result (λ n b. record {
+  behind-breaks {units} {mid} {o} {m} looks none e untorn = err-device-map _ _ result (λ n b. record {
     breaks = breaks-behind looks none b.1;
     same = λ t tears sure store. untorn t (subst (λ k. may_tear (world_of reads mid m) c k ≡ false) b.0 (ap (λ (w : World). may_tear w c n) (looks.world t) ∙ tears)) ∙ looks.moment;
   }) e.broke
