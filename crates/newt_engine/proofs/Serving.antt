@@ -14,7 +14,6 @@ use Rattle.newt_spec_world.specs.Step.{formats, is_format_of, may_tear, moves_aw
 use Rattle.newt_spec_world.specs.World as plain_world
 use Rattle.newt_spec_world.specs.World.{lost, settle}
 use Rattle.newt_spec_world.specs.declared.command.Command.{Command}
-use Rattle.newt_spec_world.specs.declared.command.Command.TheVariants as command
 use Rattle.newt_spec_world.specs.Refused.{checks}
 use Rattle.newt_spec_world.specs.Reply as plain
 use Rattle.newt_laws_world.specs.Cursors.{uses_cursors, with_cursors}
@@ -43,7 +42,7 @@ use Rattle.newt_engine.specs.declared.world.World.{World}
 use Rattle.newt_engine.proofs.Costing.{alone_few, settled_costs, unread_uses_cursor}
 use Rattle.newt_engine.proofs.Looking.{seen-with}
 use Rattle.newt_engine.proofs.Obeying.{handed_obeyed}
-use Rattle.newt_engine.proofs.Settling.{fault_answers, moments_with, seen-whole, stands_after, start-formed, whole}
+use Rattle.newt_engine.proofs.Settling.{fault_answers, moments_with, seen-whole, stands_after, start-formed, whole, writes_with}
 
 pub err-device-both : {T : Type 0} (P Q R : ℕ → Type 0) (result : Result T StoreFault) → ((u : ℕ) → P u → Q u → R u) → IfErr result (AtDevice P) → IfErr result (AtDevice Q) → IfErr result (AtDevice R)
 err-device-both P Q R (Ok x) f h k = tt
@@ -51,14 +50,10 @@ err-device-both P Q R (Err fault) f h k = at-device-both P Q R fault f h k
 
 -- ---- with cursors and without
 
-writes-with : (ks : List (Option Cursor)) (w : plain_world.World) (c : Command) (u : ℕ) → writes (with_cursors ks w) c u ≡ writes w c u
-writes-with ks w (command.Addu s g) u = refl
-writes-with ks w c u = refl
-
 module _ (ks : List (Option Cursor)) (w : plain_world.World) (c : Command) (none : uses_cursors c ≡ false) where
   tears-with : (u : ℕ) → may_tear (with_cursors ks w) c u ≡ may_tear w c u
   tears-with u = ap (λ (o : Checks). (is_none (first_of o) && writes (with_cursors ks w) c u) && not (moves_away c u)) (checks-apart ks w c none)
-      ∙ ap (λ b. (is_none (first_of (checks w c)) && b) && not (moves_away c u)) (writes-with ks w c u)
+      ∙ ap (λ b. (is_none (first_of (checks w c)) && b) && not (moves_away c u)) (writes_with ks w c u)
 
   formats-with : (u : ℕ) → formats (with_cursors ks w) c u ≡ formats w c u
   formats-with u = ap (λ (o : Checks). is_format_of c u && is_none (first_of o)) (checks-apart ks w c none)

@@ -13,7 +13,7 @@ use Rattle.newt_spec_query.specs.Cursor.{Cursor}
 use Rattle.newt_spec_store.specs.Store.{Store}
 use Rattle.newt_spec_world.specs.declared.command.Command.{Command}
 use Rattle.newt_spec_world.specs.declared.command.Command.TheVariants as command
-use Rattle.newt_spec_world.specs.Step.{formats, is_format_of, looks_anew}
+use Rattle.newt_spec_world.specs.Step.{formats, is_format_of, looks_anew, writes}
 use Rattle.newt_spec_world.specs.Reply as plain
 use Rattle.newt_spec_world.specs.Changed.{changed}
 use Rattle.newt_spec_world.specs.Refused.{checks}
@@ -173,6 +173,10 @@ module _ {C : Type 0} {reads : List ℕ → Option Store} {place : C → ℕ} {s
   seen-whole = (seen-closed reads (world_of reads units o) o.now c refl, seen-formed reads (world_of reads units o) o.now c l.formed start-formed,
       seen-apart reads (world_of reads units o) o.now c start-sure (s.apart t), seen-settled reads (world_of reads units o) o.now c start-sure ks (s.settled t))
 
+pub writes_with : (ks : List (Option Cursor)) (w : World) (c : Command) (u : ℕ) → writes (with_cursors ks w) c u ≡ writes w c u
+writes_with ks w (command.Addu s g) u = refl
+writes_with ks w c u = refl
+
 -- the moments of the world with its cursors
 pub moments_with : (reads : List ℕ → Option Store) (due : ℕ → Bool) (w : World) (ks : List (Option Cursor)) (c : Command) (v : World) (start now : Moment) → uses_cursors c ≡ false
     → Always (Meanwhile reads due w c v start) start now → Always (Meanwhile reads due (with_cursors ks w) c (settle (with_cursors ks v)) start) start now
@@ -185,6 +189,7 @@ moments_with reads due w ks c v start now none way = Always-map (λ m h. record 
     others = λ u left is stays may. h.answering.others u left is (stays-with u stays) may;
   };
   unsure = λ u sync formed. h.unsure u sync (λ fmt. formed (formats-with u fmt));
+  beside = λ u unwritten unlooked. h.beside u (sym (writes_with ks w c u) ∙ unwritten) unlooked;
 }) way
   where
     same : (x : World) (u : ℕ) → formats (with_cursors ks x) c u ≡ formats x c u
@@ -225,6 +230,7 @@ quiet_with {reads = reads} l told units ks o p s t same c v =
         others = λ u left is stays may. may;
       };
       unsure = λ u sync formed. record { image = refl; left = λ left may. may };
+      beside = λ u unwritten unlooked. refl;
     }))
 
 -- a command that uses a cursor looks at no unit anew

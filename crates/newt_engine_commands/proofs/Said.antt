@@ -106,7 +106,7 @@ module _ {C : Type 0} {reads : List ℕ → Option Store} {place : C → ℕ} {s
 -- another way to say of which units one is due
 pub dues-moments : {reads : List ℕ → Option Store} {a b : ℕ → Bool} {w : World} {c : Command} {v : World} {start now : Moment} → ((u : ℕ) → a u ≡ b u) → Always (Meanwhile reads b w c v start) start now
     → Always (Meanwhile reads a w c v start) start now
-dues-moments same way = Always-map (λ m h. record { answering = h.answering; unsure = λ u due. h.unsure u (sym (same u) ∙ due) }) way
+dues-moments same way = Always-map (λ m h. record { answering = h.answering; unsure = λ u due. h.unsure u (sym (same u) ∙ due); beside = h.beside }) way
 
 -- behind a read
 pub behind-moments : {C : Type 0} {reads : List ℕ → Option Store} {place : C → ℕ} {standing : Bool → C → Outside → Type 0} {told : Bool} {units mid : Units C} {o m : Outside} (c : Command) (v : World) {now : Moment}
@@ -129,8 +129,8 @@ module _ {C : Type 0} {reads : List ℕ → Option Store} {place : C → ℕ} {s
       (does-done tests (λ n. n ≡ answer_of change s) (world_of reads units o) (change_store (world_of reads units o) u made) (world_of reads later p) result (said-made (λ n. n ≡ answer_of change s) (λ n k. k)))
 
   -- what a crash leaves
-  pub said-moments : (c : Command) (v : World) → (first_of tests ≡ None → store_on_unit v u ≡ Some (made s)) → Always (Meanwhile reads (due_in units.slots.items) (world_of reads units o) c v o.now) o.now p.now
-  said-moments c v makes = e.moments t blocks s on c v (λ passed. makes (sym said.tests_are ∙ passed) ∙ ap {B = Option Store} (λ x. Some x) (sym said.made_is))
+  pub said-moments : (c : Command) (v : World) → writes (world_of reads units o) c u ≡ true → (first_of tests ≡ None → store_on_unit v u ≡ Some (made s)) → Always (Meanwhile reads (due_in units.slots.items) (world_of reads units o) c v o.now) o.now p.now
+  said-moments c v written makes = e.moments t blocks s on c v written (λ passed. makes (sym said.tests_are ∙ passed) ∙ ap {B = Option Store} (λ x. Some x) (sym said.made_is))
 
   -- where its store is not to be written nothing happens, also behind a call that left the world
   pub behind-untorn : (w : World) → world_of reads units o ≡ w → (c : Command) → writes (world_of reads units o) c u ≡ true → moves_away c u ≡ false → (first_of tests ≡ None → first_of (checks w c) ≡ None)

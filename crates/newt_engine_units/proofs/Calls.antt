@@ -16,6 +16,7 @@ use Rattle.newt_pagebook.specs.declared.book.Stop.TheVariants as stops
 use Rattle.newt_spec_graph.proofs.Lists.{both-ways}
 use Rattle.newt_laws_world.proofs.Units.{same-or-not}
 use Rattle.newt_spec_store.specs.Store.{Store}
+use Rattle.newt_spec_world.specs.Step.{writes}
 use Rattle.newt_spec_world.specs.World.{World, store_on_unit, change_store}
 use Rattle.newt_spec_world.specs.declared.command.Command.{Command}
 use Rattle.newt_laws_answers.specs.There.{OnUnit}
@@ -223,13 +224,13 @@ module _ {C : Type 0} {reads : List ℕ → Option Store} {place : C → ℕ} {s
   pub call-moments : {told : Bool} → IsTrue told → Eight o → Called place told units u n slot card next o p → Stands place stands told units o
       → (blocks : ℕ) (a b : Store) (tests : ℕ → Checks)
       → (reads (image (place card) o.now) ≡ Some a → Leaves (place card) (LeavesEither reads (tests (o.blocks (place card))) a b) o.now p.now)
-      → OnUnit (world_of reads units o) u blocks a → (command : Command) (v : World) → (first_of (tests blocks) ≡ None → store_on_unit v u ≡ Some b)
+      → OnUnit (world_of reads units o) u blocks a → (command : Command) (v : World) → writes (world_of reads units o) command u ≡ true → (first_of (tests blocks) ≡ None → store_on_unit v u ≡ Some b)
       → Always (Meanwhile reads (due_in units.slots.items) (world_of reads units o) command v o.now) o.now p.now
-  call-moments {told} t e c s blocks a b tests leaves on command v makes =
+  call-moments {told} t e c s blocks a b tests leaves on command v written makes =
       let st : Stands place stands true units o = subst (λ x. Stands place stands x units o) t s in
       let at = place-is c s in
       let k = on-known l units o e st u blocks a on in
-      either-moments l units o e st u a b (tests (o.blocks u)) command v p.now (is-there (world_of reads units o) u blocks a on) (λ h. makes (ap (λ m. first_of (tests m)) k.2 ∙ h))
+      either-moments l units o e st u a b (tests (o.blocks u)) command v p.now (is-there (world_of reads units o) u blocks a on) written (λ h. makes (ap (λ m. first_of (tests m)) k.2 ∙ h))
       (subst (λ m. Leaves m (LeavesEither reads (tests (o.blocks m)) a b) o.now p.now) at (leaves (ap (λ m. reads (image m o.now)) at ∙ k.3)))
 
   -- where it is refused nothing happens

@@ -14,7 +14,7 @@ use Rattle.newt_spec_world.specs.declared.command.Command.TheVariants as command
 use Rattle.newt_spec_world.specs.Answer.{answer}
 use Rattle.newt_spec_world.specs.Reply.{Reply}
 use Rattle.newt_spec_world.specs.First.{media_of}
-use Rattle.newt_spec_world.specs.Step.{formats, is_accepted, is_format_of, looks_anew, looks_at, thrown_out, unsure_look, with_media}
+use Rattle.newt_spec_world.specs.Step.{formats, is_accepted, is_format_of, looks_anew, looks_at, thrown_out, unsure_look, with_media, writes}
 use Rattle.newt_spec_world.specs.World.{World, Device, Media, blank, lost, device, stores_of, stores_on, IsBlankOn, change_device}
 use Rattle.newt_laws_steps.specs.Answering.{ReadsOneOf, StaysBlank}
 use Rattle.newt_laws_steps.specs.StandsFor.{seen, seen_on}
@@ -41,7 +41,7 @@ use Rattle.newt_engine_units.proofs.Costs.{synced-costs}
 use Rattle.newt_engine_units.proofs.Obeying.{ends-after, still-breaks}
 use Rattle.newt_engine_units.proofs.Settings.{Setting, stand-told, still}
 use Rattle.newt_engine_units.proofs.Slots.{but-beside, but-of, durable-same, stands-still}
-use Rattle.newt_engine_units.proofs.Turns.{blank-none, on-unit, store-reads, unchanged-moment, world-still}
+use Rattle.newt_engine_units.proofs.Turns.{blank-none, formats-looks, on-unit, store-reads, unchanged-moment, world-still}
 
 -- ---- what has happened
 
@@ -82,6 +82,12 @@ synced-left true u a b is may = record {
 synced-left false u a b is may = left-same u a b (ap (changes u) is)
 
 -- ---- what stands then
+
+-- a command that looks at a unit writes none
+looks-write : (w : World) (c : Command) (j : ℕ) {u : ℕ} → looks_at c ≡ Some u → writes w c j ≡ false
+looks-write w (command.Format _ _ _) j h = refl
+looks-write w (command.Mount _) j h = refl
+looks-write w c j h = absurd (none-some _ h)
 
 module _ {C : Type 0} {reads : List ℕ → Option Store} {place : C → ℕ} {soups : C → Store} {stands : Bool → C → Outside → Type 0} {told : Bool} {units mid : Units C} {o m : Outside} {u : ℕ}
     (at : Setting reads place soups stands told units o) (free : IsFree units (o.blocks u) u) (made : MakesSure told u units mid o m (Ok tt)) where
@@ -200,8 +206,8 @@ module _ {C : Type 0} {reads : List ℕ → Option Store} {place : C → ℕ} {s
   left-then t may = synced-left (is_due units u) u o.now m.now (made.synced t) may
 
   -- the sync leaves what the world has
-  sync-moments : IsTrue told → MayLeave u o.now (image u o.now) → (c : Command) (after : World) → Always (Meanwhile reads (due_in units.slots.items) w c after o.now) o.now m.now
-  sync-moments t may c after = go (is_due units u) refl
+  sync-moments : IsTrue told → MayLeave u o.now (image u o.now) → (c : Command) (after : World) → looks_at c ≡ Some u → Always (Meanwhile reads (due_in units.slots.items) w c after o.now) o.now m.now
+  sync-moments t may c after looks = go (is_due units u) refl
     where
       s : Stands place stands true units o
       s = stand-told at t
@@ -219,19 +225,19 @@ module _ {C : Type 0} {reads : List ℕ → Option Store} {place : C → ℕ} {s
           let last : Meanwhile reads (due_in units.slots.items) w c after o.now m.now = on-unit at.laws units o at.eight s u Anything c after m.now there
           (λ x left h p. absurd (both-ways (sym (store-reads at.laws units o at.eight s u x h).sure ∙ due)))
           (λ is stays. blank-sure t due is)
-          (λ due formed. left-then t may) in
+          (λ due formed. left-then t may) (λ unwritten unlooked. unlooked looks) in
           subst (λ k. Always (Meanwhile reads (due_in units.slots.items) w c after o.now) o.now k) (sym now)
           (later (On u Synced) o.now (here (unchanged-moment at.laws units o at.eight s c after o.now refl refl (λ j. refl))) (subst (Meanwhile reads (due_in units.slots.items) w c after o.now) now last))
 
   -- and where nothing has happened behind it
-  pub sync-still : IsTrue told → MayLeave u o.now (image u o.now) → (c : Command) (after : World) (end : Moment) → end ≡ m.now → Always (Meanwhile reads (due_in units.slots.items) w c after o.now) o.now end
-  sync-still t may c after end same = subst (λ k. Always (Meanwhile reads (due_in units.slots.items) w c after o.now) o.now k) (sym same) (sync-moments t may c after)
+  pub sync-still : IsTrue told → MayLeave u o.now (image u o.now) → (c : Command) (after : World) → looks_at c ≡ Some u → (end : Moment) → end ≡ m.now → Always (Meanwhile reads (due_in units.slots.items) w c after o.now) o.now end
+  sync-still t may c after looks end same = subst (λ k. Always (Meanwhile reads (due_in units.slots.items) w c after o.now) o.now k) (sym same) (sync-moments t may c after looks)
 
   -- and what is left behind it is left
   pub moments-behind : IsTrue told → MayLeave u o.now (image u o.now) → (c : Command) (after : World) → ((j : ℕ) → j ≢ u → is_format_of c j ≡ false) → formats (seen reads w o.now c) c u ≡ true
       → is_some (reads (image u m.now)) ≡ false → {end : Moment} → Always (Meanwhile reads (due_in mid.slots.items) v c after m.now) m.now end
       → Always (Meanwhile reads (due_in units.slots.items) w c after o.now) o.now end
-  moments-behind t may c after only formed empty {end} way = Always-append (sync-moments t may c after) (Always-map (λ k a. behind k a) way)
+  moments-behind t may c after only formed empty {end} way = Always-append (sync-moments t may c after (formats-looks (seen reads w o.now c) c u formed)) (Always-map (λ k a. behind k a) way)
     where
       s : Stands place stands true units o
       s = stand-told at t
@@ -291,6 +297,8 @@ module _ {C : Type 0} {reads : List ℕ → Option Store} {place : C → ℕ} {s
           others = λ j left is stays may. left-blank j left is (a.others j left (blank-kept j is) (stays-kept j is stays) may);
         };
         unsure = left-unsure k b;
+        beside = λ j unwritten unlooked. b.beside j (looks-write v c j (formats-looks (seen reads w o.now c) c u formed)) unlooked
+            ∙ others t j (λ is. unlooked (formats-looks (seen reads w o.now c) c u formed ∙ ap {B = Option ℕ} (λ n. Some n) (sym is)));
       }
 
   -- ---- where the device fails behind it
@@ -329,7 +337,7 @@ module _ {C : Type 0} {reads : List ℕ → Option Store} {place : C → ℕ} {s
       record {
         stands = stand;
         answered = λ t. subst (λ x. Answers x (world_of reads after p) (command.Mount u) reply result) (as-seen (command.Mount u) refl t) (answered t);
-        moments = λ t. let c = command.Mount u in sync-still t (may t) c (answer (seen reads w o.now c) c).0 p.now moment;
+        moments = λ t. let c = command.Mount u in sync-still t (may t) c (answer (seen reads w o.now c) c).0 refl p.now moment;
         costs = λ t. synced-costs (most_programmed w (command.Mount u)) (most_fetched w (command.Mount u)) result u made.alone made.costs (images-same t) alone;
         alone = both.alone;
         cause = both.cause;

@@ -10,7 +10,7 @@ use Rattle.newt_spec_store.specs.Store.{Store, entry_at, new_store}
 use Rattle.newt_spec_world.specs.declared.command.Command.{Command}
 use Rattle.newt_spec_world.specs.declared.command.Command.TheVariants as command
 use Rattle.newt_spec_world.specs.Reply.{Reply}
-use Rattle.newt_spec_world.specs.Step.{formats, may_tear, thrown_out}
+use Rattle.newt_spec_world.specs.Step.{formats, may_tear, thrown_out, writes}
 use Rattle.newt_spec_world.specs.World.{World, IsBlankOn, lost, store_on_unit, change_store}
 use Rattle.newt_laws_answers.specs.Bounds.{most_programmed}
 use Rattle.newt_laws_answers.specs.Fetched.{means_entries, most_fetched}
@@ -117,7 +117,7 @@ module _ {C : Type 0} (reads : List ℕ → Option Store) (place : C → ℕ) (s
     pub made : IsTrue told → let w = world_of reads old before in (blocks : ℕ) (s : Store) → OnUnit w unit blocks s →
         Does (refusals change blocks w.minute s) (λ n. n ≡ answer_of change s) w (change_store w unit (changed_by change w.minute)) (world_of reads new after) result
     -- at each moment a crash leaves the stores of the world before, or, where the change is not refused, of any world that has the changed one there
-    pub moments : IsTrue told → let w = world_of reads old before in (blocks : ℕ) (s : Store) → OnUnit w unit blocks s → (command : Command) (v : World)
+    pub moments : IsTrue told → let w = world_of reads old before in (blocks : ℕ) (s : Store) → OnUnit w unit blocks s → (command : Command) (v : World) → writes w command unit ≡ true
         → (refusal_of change blocks w.minute s ≡ None → store_on_unit v unit ≡ Some (changed_by change w.minute s)) → Always (Meanwhile reads (due_in old.slots.items) w command v before.now) before.now after.now
     -- where one of its refusals holds nothing happens, whatever the answer
     pub idle : IsTrue told → let w = world_of reads old before in (blocks : ℕ) (s : Store) → OnUnit w unit blocks s → IsSome (refusal_of change blocks w.minute s)

@@ -88,7 +88,7 @@ returns g c =
           let fits = entry-fits h.store c.args.name.now h.soup c.args.uid x h.formed h.named found in
           let v = (answer w (command.Copy c.args.unit c.args.name.now c.args.uid c.args.to c.args.target.now)).0 in
           behind-moments (command.Copy c.args.unit c.args.name.now c.args.uid c.args.to c.args.target.now) v t read.looks
-          (said-moments e t there (add-said k.blocks c.read_entry.new.self.minute c.in_ok-soup.into k.store k.soup k.by_sig c.in_ok-graph.field-0.graph) _ v
+          (said-moments e t there (add-said k.blocks c.read_entry.new.self.minute c.in_ok-soup.into k.store k.soup k.by_sig c.in_ok-graph.field-0.graph) _ v (eq-eqb c.args.to c.args.to refl)
           (λ tests. subst (λ (y : World). store_on_unit v c.args.to ≡ Some (change_soup k.soup.name (add_entry y.minute x.graph) k.store)) (sym same)
           (copy-makes w w c.args.unit h.blocks h.store c.args.name.now h.soup c.args.uid h.on h.named refl c.args.to k.blocks k.store c.args.target.now k.soup k.on k.named k.name_is x found fits
           (subst (λ (y : World). first_of (add_tests k.blocks y.minute k.soup.name x.graph k.store k.soup) ≡ None) same tests))));

@@ -38,7 +38,7 @@ returns-then-has_entry g c =
           record {
             answered = inside-answers w c.args.unit name target c.args.soup c.args.into c.args.uid x k refl _ _
                 (said-made e t x.of.on said (λ n. n ≡ k.soup.next_uid) (λ n is. is ∙ moved-uid x.of.blocks w.minute c.args.soup x.of.store x.of.soup x.of.by_sig c.args.uid x.entry x.found c.args.into k.soup into));
-            moments = said-moments e t x.of.on said _ _ (inside-makes w c.args.unit name target c.args.soup c.args.into c.args.uid x k refl);
+            moments = said-moments e t x.of.on said _ _ (ap (λ b. b || b) (eq-eqb c.args.unit c.args.unit refl)) (inside-makes w c.args.unit name target c.args.soup c.args.into c.args.uid x k refl);
             untorn = said-untorn e t x.of.on said (command.Move c.args.unit name c.args.uid c.args.unit target) (λ n. Reply.number n) k.soup.next_uid (λ n. n ≡ k.soup.next_uid)
                 (ap (λ b. b || b) (eq-eqb c.args.unit c.args.unit refl)) (ap (λ b. b && not b) (eq-eqb c.args.unit c.args.unit refl)) (λ r q. cc) refl
                 (inside-answers w c.args.unit name target c.args.soup c.args.into c.args.uid x k refl _);

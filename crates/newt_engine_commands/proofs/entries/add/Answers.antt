@@ -46,7 +46,7 @@ returns-clause-obeyed g c =
           add-answers w _ c.args.unit h.blocks h.store h.on refl c.args.name.now h.soup h.named h.name_is c.args.graph _ (said-made e t h.on (add-said h.blocks w.minute c.in_ok-soup.soup h.store h.soup h.by_sig c.args.graph) (λ n. n ≡ h.soup.next_uid) (λ n is. is ∙ added-uid h.blocks w.minute c.in_ok-soup.soup h.store h.soup h.by_sig c.args.graph));
       moments = λ t.
           let h = has-soup at t c.args.unit c.args.name.now c.in_ok-soup.soup c.in_ok-soup.ensures in
-          said-moments e t h.on (add-said h.blocks w.minute c.in_ok-soup.soup h.store h.soup h.by_sig c.args.graph) _ _ (add-makes w w c.args.unit h.blocks h.store h.on refl c.args.name.now h.soup h.named h.name_is c.args.graph);
+          said-moments e t h.on (add-said h.blocks w.minute c.in_ok-soup.soup h.store h.soup h.by_sig c.args.graph) _ _ (eq-eqb c.args.unit c.args.unit refl) (add-makes w w c.args.unit h.blocks h.store h.on refl c.args.name.now h.soup h.named h.name_is c.args.graph);
       costs = λ t.
           let h = has-soup at t c.args.unit c.args.name.now c.in_ok-soup.soup c.in_ok-soup.ensures in
           add-costs h c.args.graph (said-costs e t h.on (add-said h.blocks w.minute c.in_ok-soup.soup h.store h.soup h.by_sig c.args.graph));
@@ -78,7 +78,7 @@ returns-clause-as_stream g c =
           addx-answers w _ c.args.unit h.blocks h.store h.on refl c.args.name.now h.soup h.named h.name_is c.args.graph _ (said-made e t h.on (add-said h.blocks w.minute c.in_ok-soup.soup h.store h.soup h.by_sig c.args.graph) (λ n. n ≡ h.soup.next_uid) (λ n is. is ∙ added-uid h.blocks w.minute c.in_ok-soup.soup h.store h.soup h.by_sig c.args.graph));
       moments = λ t.
           let h = has-soup at t c.args.unit c.args.name.now c.in_ok-soup.soup c.in_ok-soup.ensures in
-          said-moments e t h.on (add-said h.blocks w.minute c.in_ok-soup.soup h.store h.soup h.by_sig c.args.graph) _ _ (addx-makes w w c.args.unit h.blocks h.store h.on refl c.args.name.now h.soup h.named h.name_is c.args.graph);
+          said-moments e t h.on (add-said h.blocks w.minute c.in_ok-soup.soup h.store h.soup h.by_sig c.args.graph) _ _ (eq-eqb c.args.unit c.args.unit refl) (addx-makes w w c.args.unit h.blocks h.store h.on refl c.args.name.now h.soup h.named h.name_is c.args.graph);
       costs = λ t.
           let h = has-soup at t c.args.unit c.args.name.now c.in_ok-soup.soup c.in_ok-soup.ensures in
           addx-costs h c.args.graph (said-costs e t h.on (add-said h.blocks w.minute c.in_ok-soup.soup h.store h.soup h.by_sig c.args.graph));
@@ -111,7 +111,7 @@ returns-clause-to_default g c d =
           addu-answers w _ c.args.unit h.blocks h.store h.on refl c.args.name.now h.soup h.named h.name_is c.args.graph (ap (λ o. unwrap_or o 8) d) _ (said-made e t h.on (add-said h.blocks w.minute c.in_ok-soup.soup h.store h.soup h.by_sig c.args.graph) (λ n. n ≡ h.soup.next_uid) (λ n is. is ∙ added-uid h.blocks w.minute c.in_ok-soup.soup h.store h.soup h.by_sig c.args.graph));
       moments = λ t.
           let h = has-soup at t c.args.unit c.args.name.now c.in_ok-soup.soup c.in_ok-soup.ensures in
-          said-moments e t h.on (add-said h.blocks w.minute c.in_ok-soup.soup h.store h.soup h.by_sig c.args.graph) _ _ (addu-makes w w c.args.unit h.blocks h.store h.on refl c.args.name.now h.soup h.named h.name_is c.args.graph (ap (λ o. unwrap_or o 8) d));
+          said-moments e t h.on (add-said h.blocks w.minute c.in_ok-soup.soup h.store h.soup h.by_sig c.args.graph) _ _ (eq-eqb _ c.args.unit (ap (λ o. unwrap_or o 8) d)) (addu-makes w w c.args.unit h.blocks h.store h.on refl c.args.name.now h.soup h.named h.name_is c.args.graph (ap (λ o. unwrap_or o 8) d));
       costs = λ t.
           let h = has-soup at t c.args.unit c.args.name.now c.in_ok-soup.soup c.in_ok-soup.ensures in
           addu-costs h c.args.graph (ap (λ o. unwrap_or o 8) d) (said-costs e t h.on (add-said h.blocks w.minute c.in_ok-soup.soup h.store h.soup h.by_sig c.args.graph));

@@ -65,7 +65,7 @@ returns g c =
           let h = has-soup at t c.args.unit c.args.name.now c.in_ok-soup.soup c.in_ok-soup.ensures in
           let may : MayDeclare {T = IndexSpec} c.args.parts.now h.soup (Ok c.in_ok-spec.spec) = subst (λ x. MayDeclare {T = IndexSpec} x h.soup (Ok c.in_ok-spec.spec)) c.list-words.ensures
           (c.in_ok-spec.ensures.may (g.H.Host.outside c.args.host.now) at.eight (stand-told at t) h.blocks h.store h.soup h.on h.by_sig) in
-          said-moments e t h.on (index-said h.blocks w.minute c.in_ok-soup.soup h.store h.soup h.by_sig c.in_ok-spec.spec) _ _ (index-makes w w c.args.unit h.blocks h.store h.on refl c.args.name.now h.soup h.named h.name_is c.args.parts.now c.in_ok-spec.spec words may.0 may.1);
+          said-moments e t h.on (index-said h.blocks w.minute c.in_ok-soup.soup h.store h.soup h.by_sig c.in_ok-spec.spec) _ _ (eq-eqb c.args.unit c.args.unit refl) (index-makes w w c.args.unit h.blocks h.store h.on refl c.args.name.now h.soup h.named h.name_is c.args.parts.now c.in_ok-spec.spec words may.0 may.1);
       costs = λ t.
           let h = has-soup at t c.args.unit c.args.name.now c.in_ok-soup.soup c.in_ok-soup.ensures in
           let may : MayDeclare {T = IndexSpec} c.args.parts.now h.soup (Ok c.in_ok-spec.spec) = subst (λ x. MayDeclare {T = IndexSpec} x h.soup (Ok c.in_ok-spec.spec)) c.list-words.ensures

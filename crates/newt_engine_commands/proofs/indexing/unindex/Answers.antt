@@ -55,7 +55,7 @@ returns g c =
           unindex-answers w _ c.args.unit h.blocks h.store h.on refl c.args.name.now h.soup h.named h.name_is c.args.paths (ap (λ x. has_paths x h.soup.specs) (sym c.list.ensures) ∙ sym (c.has_index.ensures (g.H.Host.outside c.args.host.now) at.eight (stand-told at t) h.blocks h.store h.soup h.on h.by_sig) ∙ c.if-not-has_index.false) _ (said-done e t h.on (unindex-said h.blocks w.minute c.in_ok-soup.soup h.store h.soup h.by_sig c.args.paths) _ is);
       moments = λ t.
           let h = has-soup at t c.args.unit c.args.name.now c.in_ok-soup.soup c.in_ok-soup.ensures in
-          said-moments e t h.on (unindex-said h.blocks w.minute c.in_ok-soup.soup h.store h.soup h.by_sig c.args.paths) _ _ (λ _. unindex-makes w w c.args.unit h.blocks h.store h.on refl c.args.name.now h.soup h.named h.name_is c.args.paths (ap (λ x. has_paths x h.soup.specs) (sym c.list.ensures) ∙ sym (c.has_index.ensures (g.H.Host.outside c.args.host.now) at.eight (stand-told at t) h.blocks h.store h.soup h.on h.by_sig) ∙ c.if-not-has_index.false));
+          said-moments e t h.on (unindex-said h.blocks w.minute c.in_ok-soup.soup h.store h.soup h.by_sig c.args.paths) _ _ (eq-eqb c.args.unit c.args.unit refl) (λ _. unindex-makes w w c.args.unit h.blocks h.store h.on refl c.args.name.now h.soup h.named h.name_is c.args.paths (ap (λ x. has_paths x h.soup.specs) (sym c.list.ensures) ∙ sym (c.has_index.ensures (g.H.Host.outside c.args.host.now) at.eight (stand-told at t) h.blocks h.store h.soup h.on h.by_sig) ∙ c.if-not-has_index.false));
       costs = λ t.
           let h = has-soup at t c.args.unit c.args.name.now c.in_ok-soup.soup c.in_ok-soup.ensures in
           unindex-costs h c.args.paths c.args.paths (ap (λ x. has_paths x h.soup.specs) (sym c.list.ensures) ∙ sym (c.has_index.ensures (g.H.Host.outside c.args.host.now) at.eight (stand-told at t) h.blocks h.store h.soup h.on h.by_sig) ∙ c.if-not-has_index.false) refl (done-costs c.change.result is (said-costs e t h.on (unindex-said h.blocks w.minute c.in_ok-soup.soup h.store h.soup h.by_sig c.args.paths)));

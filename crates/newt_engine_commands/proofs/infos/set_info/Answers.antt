@@ -46,7 +46,7 @@ returns g c =
           info-answers w _ c.args.unit h.blocks h.store h.on refl c.args.name.now h.soup h.named h.name_is c.args.literal c.info_of-info.result c.info_of-info.ensures _ (said-done e t h.on (info-said h.blocks w.minute c.in_ok-soup.soup h.store h.soup h.by_sig c.info_of-info.result) _ is);
       moments = λ t.
           let h = has-soup at t c.args.unit c.args.name.now c.in_ok-soup.soup c.in_ok-soup.ensures in
-          said-moments e t h.on (info-said h.blocks w.minute c.in_ok-soup.soup h.store h.soup h.by_sig c.info_of-info.result) _ _ (info-makes w w c.args.unit h.blocks h.store h.on refl c.args.name.now h.soup h.named h.name_is c.args.literal c.info_of-info.result c.info_of-info.ensures);
+          said-moments e t h.on (info-said h.blocks w.minute c.in_ok-soup.soup h.store h.soup h.by_sig c.info_of-info.result) _ _ (eq-eqb c.args.unit c.args.unit refl) (info-makes w w c.args.unit h.blocks h.store h.on refl c.args.name.now h.soup h.named h.name_is c.args.literal c.info_of-info.result c.info_of-info.ensures);
       costs = λ t.
           let h = has-soup at t c.args.unit c.args.name.now c.in_ok-soup.soup c.in_ok-soup.ensures in
           info-costs h c.args.literal c.info_of-info.result c.info_of-info.ensures (done-costs c.change.result is (said-costs e t h.on (info-said h.blocks w.minute c.in_ok-soup.soup h.store h.soup h.by_sig c.info_of-info.result)));

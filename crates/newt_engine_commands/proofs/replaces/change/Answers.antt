@@ -48,7 +48,7 @@ returns g c =
       moments = λ t.
           let k = c.in_ok-soup.ensures.found (g.H.Host.outside c.args.host.now) at.eight (stand-told at t) in
           let h = k.of in
-          said-moments e t h.on (replace-said h.blocks w.minute c.in_ok-soup.soup h.store h.soup h.by_sig c.args.uid k.entry k.found c.args.graph) _ _
+          said-moments e t h.on (replace-said h.blocks w.minute c.in_ok-soup.soup h.store h.soup h.by_sig c.args.uid k.entry k.found c.args.graph) _ _ (eq-eqb c.args.unit c.args.unit refl)
           (change-makes w w c.args.unit h.blocks h.store h.on refl c.args.name.now h.soup h.named h.name_is c.args.uid k.entry k.found c.args.graph);
       costs = λ t.
           let k = c.in_ok-soup.ensures.found (g.H.Host.outside c.args.host.now) at.eight (stand-told at t) in

@@ -101,7 +101,7 @@ returns g c =
           let fits = entry-fits h.store c.args.name.now h.soup c.args.uid x h.formed h.named found in
           let v = (answer w (command.Set c.args.unit c.args.name.now c.args.uid c.args.path.now c.args.value.now)).0 in
           behind-moments (command.Set c.args.unit c.args.name.now c.args.uid c.args.path.now c.args.value.now) v t read.looks
-          (said-moments e t (subst (λ y. OnUnit y c.args.unit h.blocks h.store) (sym same) h.on) (replace-said h.blocks c.read_entry.new.self.minute c.in_ok-soup.soup h.store h.soup h.by_sig c.args.uid x found c.in_ok-made.made) _ v
+          (said-moments e t (subst (λ y. OnUnit y c.args.unit h.blocks h.store) (sym same) h.on) (replace-said h.blocks c.read_entry.new.self.minute c.in_ok-soup.soup h.store h.soup h.by_sig c.args.uid x found c.in_ok-made.made) _ v (eq-eqb c.args.unit c.args.unit refl)
           (λ tests. subst (λ (y : World). store_on_unit v c.args.unit ≡ Some (replaced y.minute h.soup.name c.args.uid c.in_ok-made.made h.store)) (sym same)
           (set-makes w w c.args.unit h.blocks h.store h.on refl c.args.name.now h.soup h.named h.name_is c.args.uid x found c.args.path.now c.args.value.now c.in_ok-made.made c.in_ok-made.ensures.form fits
           (subst (λ (y : World). first_of (replace_tests h.blocks y.minute h.soup.name c.args.uid c.in_ok-made.made h.store) ≡ None) same tests))));

@@ -47,7 +47,7 @@ returns g c =
           (said-done e t h.on (drop-said h.blocks w.minute c.in_ok-soup.soup h.store h.soup h.by_sig) _ is);
       moments = λ t.
           let h = has-soup at t c.args.unit c.args.name.now c.in_ok-soup.soup c.in_ok-soup.ensures in
-          said-moments e t h.on (drop-said h.blocks w.minute c.in_ok-soup.soup h.store h.soup h.by_sig) _ _
+          said-moments e t h.on (drop-said h.blocks w.minute c.in_ok-soup.soup h.store h.soup h.by_sig) _ _ (eq-eqb c.args.unit c.args.unit refl)
           (λ _. drop-makes w w c.args.unit h.blocks h.store h.on refl c.args.name.now h.soup h.named h.name_is);
       costs = λ t.
           let h = has-soup at t c.args.unit c.args.name.now c.in_ok-soup.soup c.in_ok-soup.ensures in

@@ -45,7 +45,7 @@ returns g c =
           soup-answers w _ c.args.unit _ p.store p.on refl c.args.name _ (said-made e t p.on (make-said _ w.minute c.args.name p.store) (λ n. n ≡ p.store.next_soup) (λ n is. is));
       moments = λ t.
           let p = (unit-there at t c.args.unit c.in_ok-find_unit.ensures).1 in
-          said-moments e t p.on (make-said _ w.minute c.args.name p.store) _ _ (soup-makes w w c.args.unit _ p.store p.on refl c.args.name);
+          said-moments e t p.on (make-said _ w.minute c.args.name p.store) _ _ (eq-eqb c.args.unit c.args.unit refl) (soup-makes w w c.args.unit _ p.store p.on refl c.args.name);
       costs = λ t.
           let p = (unit-there at t c.args.unit c.in_ok-find_unit.ensures).1 in
           on-costs (said-costs e t p.on (make-said _ w.minute c.args.name p.store)).programs (soup-most w c.args.unit _ p.store c.args.name p.on) (λ means. absurd (both-ways means));

@@ -66,7 +66,7 @@ returns g c =
           tags-answers w _ c.args.unit h.blocks h.store h.on refl c.args.name.now h.soup h.named h.name_is c.args.path.now c.args.symbols.now few c.in_ok-table.table words _ (said-done e t h.on (tags-said h.blocks w.minute c.in_ok-soup.soup h.store h.soup h.by_sig c.in_ok-table.table) _ is);
       moments = λ t.
           let h = has-soup at t c.args.unit c.args.name.now c.in_ok-soup.soup c.in_ok-soup.ensures in
-          said-moments e t h.on (tags-said h.blocks w.minute c.in_ok-soup.soup h.store h.soup h.by_sig c.in_ok-table.table) _ _ (tags-makes w w c.args.unit h.blocks h.store h.on refl c.args.name.now h.soup h.named h.name_is c.args.path.now c.args.symbols.now few c.in_ok-table.table words);
+          said-moments e t h.on (tags-said h.blocks w.minute c.in_ok-soup.soup h.store h.soup h.by_sig c.in_ok-table.table) _ _ (eq-eqb c.args.unit c.args.unit refl) (tags-makes w w c.args.unit h.blocks h.store h.on refl c.args.name.now h.soup h.named h.name_is c.args.path.now c.args.symbols.now few c.in_ok-table.table words);
       costs = λ t.
           let h = has-soup at t c.args.unit c.args.name.now c.in_ok-soup.soup c.in_ok-soup.ensures in
           tags-costs h c.args.path.now c.args.symbols.now few c.in_ok-table.table words (done-costs c.change.result is (said-costs e t h.on (tags-said h.blocks w.minute c.in_ok-soup.soup h.store h.soup h.by_sig c.in_ok-table.table)));

@@ -94,7 +94,7 @@ returns-in_err-has_store g c =
     record {
       stands = λ goes. e.looks.stand;
       answered = λ t. end-answers _ _ _ _ _ _ p e.has;
-      moments = λ t. sync-still at free made t (may t) format _ _ e.looks.moment;
+      moments = λ t. sync-still at free made t (may t) format _ refl _ e.looks.moment;
       open_after = λ t goes u. inr (ap (image u) e.looks.moment ∙ images-same at free made t u);
       ends = ends-after made.ends tt (handed-ends _ p e.ends);
       broke = handed (AtDevice B) _ _ p (at-device-both (λ k. k ≡ c.args.unit) (FailsAlone m q) B _
@@ -122,7 +122,7 @@ returns-then-branch g c =
           subst (λ x. Answers {T = Unit {0}} x (world_of g.C.Card.reads c.make_sure.new.self q) format (λ _. Reply.done) (Err (Refused HasStore))) (as-seen at free made format refl t)
           (format-has-answers mid _ c.args.unit _ (g.C.Card.reads (image c.args.unit m.now)) c.args.name.now c.args.sig (ready-there then t c.args.unit (now-free at free made) (now-sure at free made)) refl
           (sym (e.has t) ∙ c.if-branch.true) same);
-      moments = λ t. sync-still at free made t (may t) format _ _ e.looks.moment;
+      moments = λ t. sync-still at free made t (may t) format _ refl _ e.looks.moment;
       open_after = λ t goes u. inr (ap (image u) e.looks.moment ∙ images-same at free made t u);
       ends = ends-after made.ends tt (ends-after e.ends tt (none-ends {T = Unit {0}} _ tt));
       broke = tt;
