@@ -17,3 +17,4 @@ pub mod Outcast
 pub mod Applying
 pub mod Looking
 pub mod Applied
+pub mod Alone
