@@ -11,7 +11,7 @@ use Rattle.newt_spec_world.specs.declared.command.Command.TheVariants as command
 use Rattle.newt_engine_units.proofs.Broken.{thrown-changed}
 use Rattle.newt_engine.specs.Groups.{is_between}
 
-abbrev Alone : World → World → ℕ → Type 0
+abbrev pub Alone : World → World → ℕ → Type 0
 Alone w v u = thrown_out v u (λ _. lost) ≡ thrown_out w u (λ _. lost)
 
 store-alone : (w : World) (u : ℕ) (f : Store → Store) → Alone w (change_store w u f) u
@@ -24,15 +24,18 @@ copy-alone : (w : World) (x u : ℕ) (name : List ℕ) (e : Option Entry) → (x
 copy-alone w x u name None h = refl
 copy-alone w x u name (Some e) h = soup-alone w x u name (add_entry w.minute e.graph) h
 
-same-unit : (t x u : ℕ) → not (t == x) ≡ false → (x == u) || (t == u) ≡ true → ((t == u) ≡ true) × ((x == u) ≡ true)
-same-unit t x u within h = go (x == u) (t == u) refl refl h
+pub unit-is : (t x : ℕ) → not (t == x) ≡ false → t ≡ x
+unit-is t x within = eqb-true t x (kept (t == x) within)
   where
     kept : (b : Bool) → not b ≡ false → b ≡ true
     kept true h = refl
     kept false h = sym h
 
+pub same-unit : (t x u : ℕ) → not (t == x) ≡ false → (x == u) || (t == u) ≡ true → ((t == u) ≡ true) × ((x == u) ≡ true)
+same-unit t x u within h = go (x == u) (t == u) refl refl h
+  where
     is : t ≡ x
-    is = eqb-true t x (kept (t == x) within)
+    is = unit-is t x within
 
     go : (a b : Bool) → (x == u) ≡ a → (t == u) ≡ b → a || b ≡ true → ((t == u) ≡ true) × ((x == u) ≡ true)
     go true b i j h = (ap (λ n. n == u) is ∙ i, i)

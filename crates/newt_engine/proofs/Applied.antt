@@ -20,6 +20,7 @@ use Rattle.newt_laws_world.specs.Settled.{IsSettled, MountedApart}
 use Rattle.newt_laws_world.proofs.Kept.{all-false}
 use Rattle.newt_laws_world.proofs.Mounted.{row-apart}
 use Rattle.newt_laws_world.proofs.Settled.{settle-settles}
+use Rattle.newt_laws_steps.specs.StandsFor.{StandsFor}
 use Rattle.newt_laws_steps.proofs.Standing.{is-accepted}
 use Rattle.newt_spec_world.specs.Refused.{checks}
 use Rattle.newt_engine_card.specs.Bounds.{IsOpenOrSame}
@@ -63,7 +64,7 @@ module _ {C : Type 0} {reads : List ℕ → Option Store} {place : C → ℕ} {s
     refused = λ t r is w means.
         let k = lift-answer reads (marks_of old) o c (units_kept laws old.units old.desk o (standing-told begun t)) (may t) (good t) p (e.moments t)
         (marks_of new) (units_kept laws new.units new.desk p (standing-told (e.stands tt) t)) e.alone.cards (said it) (e.answered t) w means in
-        refused-leaves reads _ w c o.now k.0 it r is k.1 k.2;
+        refused-leaves reads (StandsFor reads (marks_of new) p) w c o.now k.0 it r is k.1 k.2;
   }
 
   -- ---- it is refused

@@ -18,3 +18,4 @@ pub mod Applying
 pub mod Looking
 pub mod Applied
 pub mod Alone
+pub mod Failing

@@ -1,6 +1,6 @@
 -- What a command sees of a world: the same stores that are mounted, so the same hits.
 use Rattle.std.proofs.Common.{◌≡◌, ◌⊎◌, inl, inr, refl, ap, sym, ◌∙◌, subst, ℕ, zero, suc, List, [], ◌∷◌, Bool, true, false, ◌&&◌, cond, IsTrue, Option, Some, None, option_map, is_none}
-use Rattle.std.specs.Prelude.{slice_get, filter_map}
+use Rattle.std.specs.Prelude.{⊤, slice_get, filter_map}
 use Rattle.std.specs.List.{cons_option}
 use Rattle.newt_host.specs.Moments.{Moment, image}
 use Rattle.newt_spec_graph.specs.Lists.{Pairs}
@@ -51,7 +51,7 @@ module _ (reads : List ℕ → Option Store) (w : World) (now : Moment) (c : Com
       read blocks u None e = tt
       read blocks u (Some s) e = formed (image u now) s e
 
-      put : (u n : ℕ) → (k : _) (d : Device) → device (with_media w u (media_of (reads (image u now)))) n ≡ Some d → (n ≡ u) ⊎ (n ≡ u → ⊥) → OnMedia Wf d.blocks d.media
+      put : (u n : ℕ) (k : ⊤) (d : Device) → device (with_media w u (media_of (reads (image u now)))) n ≡ Some d → (n ≡ u) ⊎ (n ≡ u → ⊥) → OnMedia Wf d.blocks d.media
       put u n k d is (inl e) =
           let r = mapped (λ (d : Device). record d { media = media_of (reads (image u now)) }) (device w u) d
           (sym (device-same w u (λ d. record d { media = media_of (reads (image u now)) })) ∙ ap (device (with_media w u (media_of (reads (image u now))))) (sym e) ∙ is) in

@@ -213,7 +213,7 @@ reaches-one w _ means = absurd (both-ways means)
 
 -- ---- what is reached is on the unit that is written
 
-has-same : (sig : ℕ) (o : Option Store) → has_sig sig o ≡ true → (s : Store) × (o ≡ Some s) × (s.sig ≡ sig)
+pub has-same : (sig : ℕ) (o : Option Store) → has_sig sig o ≡ true → (s : Store) × (o ≡ Some s) × (s.sig ≡ sig)
 has-same sig None h = absurd (both-ways h)
 has-same sig (Some s) h = (s, refl, eqb-true s.sig sig h)
 

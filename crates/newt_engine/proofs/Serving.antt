@@ -66,8 +66,8 @@ fails_with {reads = reads} {old = old} {new = new} {o = o} {p} {u} c none desk b
   desk = desk;
   world = λ t. ap (λ ks. thrown_out (with_cursors ks (world_of reads new.units p)) u (λ _. lost)) desk ∙ ap (with_cursors old.desk) (b.breaks.world t);
   others = b.breaks.others;
-  same = λ t tears sure store. b.same t (sym (tears-with old.desk (world_of reads old.units o) c none u) ∙ tears) sure
-      (λ fmt. store (ap (λ (x : plain_world.World). formats x c u) (seen-with reads (world_of reads old.units o) o.now c old.desk) ∙ formats-with old.desk (seen reads (world_of reads old.units o) o.now c) c none u ∙ fmt));
+  same = λ t tears sure store. ap (changes u) (b.same t (sym (tears-with old.desk (world_of reads old.units o) c none u) ∙ tears) sure
+      (λ fmt. store (ap (λ (x : plain_world.World). formats x c u) (seen-with reads (world_of reads old.units o) o.now c old.desk) ∙ formats-with old.desk (seen reads (world_of reads old.units o) o.now c) c none u ∙ fmt)));
   failed = b.breaks.failed;
 }
 
@@ -79,7 +79,7 @@ fails_reading {reads = reads} {place} {stands} {told} {old} {new} {o} {p} {u} c 
   desk = desk;
   world = λ t. ap (λ ks. thrown_out (with_cursors ks (world_of reads new.units p)) u (λ _. lost)) desk ∙ ap (λ (x : plain_world.World). thrown_out (with_cursors old.desk x) u (λ _. lost)) (looks.world t);
   others = λ t n other. ap (changes n) looks.moment;
-  same = λ t tears sure store. looks.moment;
+  same = λ t tears sure store. ap (changes u) looks.moment;
   failed = failed;
 }
 

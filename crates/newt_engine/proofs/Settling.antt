@@ -48,6 +48,8 @@ use Rattle.newt_engine_units.proofs.Known.{Laws}
 use Rattle.newt_engine_cursors.specs.Fits.{DeskFits}
 use Rattle.newt_engine_cursors.specs.World.{world_with}
 use Rattle.newt_engine_cursors.proofs.Reaches.{reach-beside}
+use Rattle.newt_spec_script.specs.Rows.{throws}
+use Rattle.newt_engine.specs.Calls.{IsNotThrown}
 use Rattle.newt_engine.specs.Ends.{takes_memory, uses_device}
 use Rattle.newt_engine.specs.Laws.{units_kept}
 use Rattle.newt_engine.specs.Standing.{Standing, marks_with}
@@ -109,6 +111,11 @@ module _ (ks : List (Option Cursor)) (w : World) (closed : IsTrue (all_closed w)
   pub settled_after : (v later : World) (r : plain.Reply) → answer w c ≡ (v, r) → later ≡ settle (with_cursors ks v) → answer (with_cursors ks w) c ≡ (later, r)
   settled_after v later r done is = whole ∙ ap (λ (a : World × plain.Reply). (settle (with_cursors ks a.0), a.1)) done ∙ ap {A = World} (λ x. (x, r)) (sym is)
 
+  -- what is done where nothing refuses it
+  pub done_changed : (v : World) (r : plain.Reply) → first_of (checks w c) ≡ None → answer w c ≡ (v, r) → v ≡ changed w c
+  unfolding answer
+  done_changed v r passed done = sym (sym (ap (λ (o : Option Refusal). (answered w c o).0) passed) ∙ ap (λ (a : World × plain.Reply). a.0) done)
+
   -- to settle them is to settle those that the command reaches
   pub reached_after : (v : World) (r : plain.Reply) → first_of (checks w c) ≡ None → answer w c ≡ (v, r) → settle (with_cursors ks v) ≡ settle_reached (reach w c) (with_cursors ks v)
   unfolding answer
@@ -158,6 +165,10 @@ module _ (ks : List (Option Cursor)) (w : World) (closed : IsTrue (all_closed w)
   pub apart_after : (v : World) (r : plain.Reply) → answer w c ≡ (v, r) → MountedApart v
   apart_after v r done = subst MountedApart (ap (λ (a : World × plain.Reply). a.0) done) (answer-apart w c apart)
 
+-- the reply is handed on
+pub settled_quiet : (reply : Reply) (result : Result Reply StoreFault) → IfOk result (λ same. same ≡ reply) → IsNotThrown reply → IfOk result (λ it. IsNotThrown it)
+settled_quiet reply (Ok x) same quiet = λ u. ap (λ k. throws u (said k)) same ∙ quiet u
+settled_quiet reply (Err fault) same quiet = tt
 
 -- what a command sees of the known world, without its cursors
 module _ {C : Type 0} {reads : List ℕ → Option Store} {place : C → ℕ} {soups : C → Store} {stands : Bool → C → Outside → Type 0} (l : Laws reads place soups stands)
@@ -189,7 +200,7 @@ moments_with reads due w ks c v start now none way = Always-map (λ m h. record 
     others = λ u left is stays may. h.answering.others u left is (stays-with u stays) may;
   };
   unsure = λ u sync formed. h.unsure u sync (λ fmt. formed (formats-with u fmt));
-  beside = λ u unwritten unlooked. h.beside u (sym (writes_with ks w c u) ∙ unwritten) unlooked;
+  beside = λ u unwritten unformed sure. h.beside u (sym (writes_with ks w c u) ∙ unwritten) unformed sure;
 }) way
   where
     same : (x : World) (u : ℕ) → formats (with_cursors ks x) c u ≡ formats x c u
@@ -230,7 +241,7 @@ quiet_with {reads = reads} l told units ks o p s t same c v =
         others = λ u left is stays may. may;
       };
       unsure = λ u sync formed. record { image = refl; left = λ left may. may };
-      beside = λ u unwritten unlooked. refl;
+      beside = λ u unwritten unformed sure. refl;
     }))
 
 -- a command that uses a cursor looks at no unit anew

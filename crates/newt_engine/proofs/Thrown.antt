@@ -70,7 +70,7 @@ writes-m f w (command.Addu s g) u = refl
 writes-m f w c u = refl
 
 -- one that looks at a unit writes none
-unwritten : (w : World) (c : Command) (u n : ℕ) → looks_at c ≡ Some n → writes w c u ≡ false
+pub unwritten : (w : World) (c : Command) (u n : ℕ) → looks_at c ≡ Some n → writes w c u ≡ false
 unwritten w (command.Format _ _ _) u n h = refl
 unwritten w (command.Mount _) u n h = refl
 unwritten w c u n h = absurd (none-some n h)
@@ -154,7 +154,7 @@ module _ (reads : List ℕ → Option Store) (marks : Marks) (before : Outside) 
     (f : ℕ → Media) (stands : StandsFor reads marks before (meant_by f (known reads marks before)))
     (after : Outside) (way : Always (Meanwhile reads marks.due (known reads marks before) c (answer (seen reads (known reads marks before) before.now c) c).0 before.now) before.now after.now)
     (u : ℕ) (attached : IsSome (before.card u)) (others : (n : ℕ) → n ≢ u → changes n after.now ≡ changes n before.now)
-    (same : may_tear (known reads marks before) c u ≡ false → marks.due u ≡ false → HasStoreToFormat reads (known reads marks before) c u before.now → after.now ≡ before.now) where
+    (same : may_tear (known reads marks before) c u ≡ false → marks.due u ≡ false → HasStoreToFormat reads (known reads marks before) c u before.now → changes u after.now ≡ changes u before.now) where
   abbrev w0 : World
   w0 = known reads marks before
 
@@ -239,8 +239,8 @@ module _ (reads : List ℕ → Option Store) (marks : Marks) (before : Outside) 
     where
       go : (a : Bool) → may_tear w c u ≡ a → Holds reads after.now u (if a then two s (store_after w c u s) else one s)
       go true tears = torn-left s e due tears after.now last
-      go false tears = subst (λ (now : Moment). Holds reads now u (one s))
-          (sym (same (sym (tears-m f w0 sure-w0 c u) ∙ tears) due (λ fmt. is-read reads marks before c kept history f stands u s (subst (λ xs. Among xs s) (sym (its-stores ∙ ap stores_of e)) (inl refl)))))
+      go false tears = holds-left reads before.now after.now u (one s)
+          (left-same u before.now after.now (same (sym (tears-m f w0 sure-w0 c u) ∙ tears) due (λ fmt. is-read reads marks before c kept history f stands u s (subst (λ xs. Among xs s) (sym (its-stores ∙ ap stores_of e)) (inl refl)))))
           (subst (Holds reads before.now u) e held)
   left-then (two a b) e true due = holds-left reads before.now after.now u (two a b)
       (due-left reads marks before c kept history f stands after.now last u due a (subst (λ xs. Among xs a) (sym (its-stores ∙ ap stores_of e)) (inl refl))) (subst (Holds reads before.now u) e held)
@@ -296,7 +296,7 @@ module _ (reads : List ℕ → Option Store) (marks : Marks) (before : Outside) 
 
       go : (b : Bool) → may_tear w c u ≡ b → ReadsOneOf reads (stores_on w u ++ stores_on (world_thrown w c u) u) left
       go false tears = still-stores u
-          (ap (changes u) (same (sym (tears-m f w0 sure-w0 c u) ∙ tears) due (λ fmt. is-read reads marks before c kept history f stands u s (subst (λ xs. Among xs s) (sym there-after) k))))
+          (same (sym (tears-m f w0 sure-w0 c u) ∙ tears) due (λ fmt. is-read reads marks before c kept history f stands u s (subst (λ xs. Among xs s) (sym there-after) k)))
           s left now still (subst (λ xs. Among xs s) (sym there-after) k) may
       go true tears = subst (λ xs. ReadsOneOf reads (xs ++ stores_on (world_thrown w c u) u) left) (sym there-after)
           (subst (λ xs. ReadsOneOf reads (x ∷ xs) left)
@@ -349,7 +349,7 @@ pub lift-thrown : (reads : List ℕ → Option Store) (marks : Marks) (before : 
     → ((u : ℕ) → IsSome (before.card u) → MayLeave u before.now (image u before.now))
     → (after : Outside) → Always (Meanwhile reads marks.due (known reads marks before) c (answer (seen reads (known reads marks before) before.now c) c).0 before.now) before.now after.now
     → (u : ℕ) → IsSome (before.card u) → ((n : ℕ) → n ≢ u → changes n after.now ≡ changes n before.now)
-    → (may_tear (known reads marks before) c u ≡ false → marks.due u ≡ false → HasStoreToFormat reads (known reads marks before) c u before.now → after.now ≡ before.now)
+    → (may_tear (known reads marks before) c u ≡ false → marks.due u ≡ false → HasStoreToFormat reads (known reads marks before) c u before.now → changes u after.now ≡ changes u before.now)
     → (next : Marks) → IsKept reads next after → SameCards before after → known reads next after ≡ settle (thrown_out (known reads marks before) u (λ _. lost))
     → (w : World) → StandsFor reads marks before w
     → (v : World) × Turned reads w c before.now v (Reply.thrown u) × StandsFor reads next after v × Always (Answering reads w c v before.now) before.now after.now

@@ -107,7 +107,7 @@ module _ {C : Type 0} (reads : List ℕ → Option Store) (place : C → ℕ) (s
     pub device : uses_device command ≡ false → IfErr result (λ fault. NoDevice fault)
     pub quiet : IfOk result (λ it. IsNotThrown it)
 
-  -- What stands where the device of a unit has failed in a command: but for that unit all is as it was; and nothing at all has happened where the store of the
+  -- What stands where the device of a unit has failed in a command: but for that unit all is as it was; and nothing has happened to it where the store of the
   -- unit was not to be written, no sync of it was due, and it was not to be formatted.
   pub record Fails (told : Bool) (command : Command) (old new : World C) (before after : Outside) (u : ℕ) : Type 0 where
     pub stands : StandsBut place standing u told new.units after
@@ -115,7 +115,7 @@ module _ {C : Type 0} (reads : List ℕ → Option Store) (place : C → ℕ) (s
     pub world : IsTrue told → thrown_out (stood_for reads new after) u (λ _. lost) ≡ thrown_out (stood_for reads old before) u (λ _. lost)
     pub others : IsTrue told → (n : ℕ) → n ≢ u → changes n after.now ≡ changes n before.now
     pub same : IsTrue told → may_tear (stood_for reads old before) command u ≡ false → is_due old.units u ≡ false → HasStoreToFormat reads (stood_for reads old before) command u before.now
-        → after.now ≡ before.now
+        → changes u after.now ≡ changes u before.now
     pub failed : FailsAlone before after u
 
   -- And where it is the source of a move whose target has the entry already: nothing is undone there. But for that unit all is as after the move, with its cursors.

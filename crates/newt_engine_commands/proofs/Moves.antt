@@ -216,7 +216,7 @@ module _ (w : World) (u to : ℕ) (name target : List ℕ) (sig into uid : ℕ) 
       others = λ j left empty stays may. last.answering.others j left empty stays (at.others j left (blank-there j empty) (inl refl) may);
     };
     unsure = λ j sync formed. left-after (last.unsure j sync formed) (t.unsure j sync (λ fmt. absurd (both-ways fmt)));
-    beside = λ j unwritten unlooked. t.beside j unwritten unlooked ∙ last.beside j unwritten unlooked;
+    beside = λ j unwritten unformed sure. t.beside j unwritten unformed sure ∙ last.beside j unwritten unformed sure;
   }) (subst (λ (y : World). Always (Meanwhile reads due y between_command between_answer.0 b) b c) was.world second))
     where
       last : Meanwhile reads due w between_command between_answer.0 a b

@@ -106,7 +106,7 @@ module _ {C : Type 0} {reads : List ℕ → Option Store} {place : C → ℕ} {s
 -- another way to say of which units one is due
 pub dues-moments : {reads : List ℕ → Option Store} {a b : ℕ → Bool} {w : World} {c : Command} {v : World} {start now : Moment} → ((u : ℕ) → a u ≡ b u) → Always (Meanwhile reads b w c v start) start now
     → Always (Meanwhile reads a w c v start) start now
-dues-moments same way = Always-map (λ m h. record { answering = h.answering; unsure = λ u due. h.unsure u (sym (same u) ∙ due); beside = h.beside }) way
+dues-moments same way = Always-map (λ m h. record { answering = h.answering; unsure = λ u due. h.unsure u (sym (same u) ∙ due); beside = λ u unwritten unformed sure. h.beside u unwritten unformed (λ looks. sym (same u) ∙ sure looks) }) way
 
 -- behind a read
 pub behind-moments : {C : Type 0} {reads : List ℕ → Option Store} {place : C → ℕ} {standing : Bool → C → Outside → Type 0} {told : Bool} {units mid : Units C} {o m : Outside} (c : Command) (v : World) {now : Moment}
