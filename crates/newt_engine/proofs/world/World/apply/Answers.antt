@@ -33,19 +33,19 @@ returns-in-Ok g c = applied-done (laws g) c.requires.stands (may_leave g c.args.
 pub returns-in-Err-Refused : goal.returns-in-Err-Refused
 returns-in-Err-Refused g c =
     let h = c.in-Err-Refused in
-    applied-refused (laws g) c.requires.stands (may_leave g c.args.host.now) (valid_there g c.args.host.now) h.refusal (h.ensures tt)
+    applied-refused (laws g) c.requires.stands (may_leave g c.args.host.now) (valid_there g c.args.host.now) h.refusal h.ensures
 
 pub throw_out-requires : goal.throw_out-requires
 throw_out-requires g c =
     let h = c.in-Err-Stop-Device in
-    let k = broke-stands h.unit (h.ensures tt) in
-    slot-there h.unit (units_are g c.serve.new.host) k.0 (subst IsSome (sym ((h.ensures tt).alone.cards.card h.unit)) k.1)
+    let k = broke-stands h.unit h.ensures in
+    slot-there h.unit (units_are g c.serve.new.host) k.0 (subst IsSome (sym (h.ensures.alone.cards.card h.unit)) k.1)
 
 pub returns-in-Err-Stop-Device : goal.returns-in-Err-Stop-Device
 returns-in-Err-Stop-Device g c =
     let h = c.in-Err-Stop-Device in
     let k = c.throw_out.ensures in
-    applied-thrown (laws g) c.requires.stands (may_leave g c.args.host.now) (valid_there g c.args.host.now) (units_are g c.serve.new.host) h.unit (h.ensures tt) refl k.stands k.world
+    applied-thrown (laws g) c.requires.stands (may_leave g c.args.host.now) (valid_there g c.args.host.now) (units_are g c.serve.new.host) h.unit h.ensures refl k.stands k.world
 
 pub returns-in-Err-Stop-Memory : goal.returns-in-Err-Stop-Memory
-returns-in-Err-Stop-Memory g c = applied-memory (laws g) c.requires.stands (may_leave g c.args.host.now) (valid_there g c.args.host.now) _ (c.in-Err-Stop-Memory.ensures tt)
+returns-in-Err-Stop-Memory g c = applied-memory (laws g) c.requires.stands (may_leave g c.args.host.now) (valid_there g c.args.host.now) _ c.in-Err-Stop-Memory.ensures
