@@ -14,7 +14,7 @@ use Rattle.newt_engine.specs.Groups.{is_between}
 abbrev pub Alone : World → World → ℕ → Type 0
 Alone w v u = thrown_out v u (λ _. lost) ≡ thrown_out w u (λ _. lost)
 
-store-alone : (w : World) (u : ℕ) (f : Store → Store) → Alone w (change_store w u f) u
+pub store-alone : (w : World) (u : ℕ) (f : Store → Store) → Alone w (change_store w u f) u
 store-alone w u f = thrown-changed w (change_store w u f) u (λ d. record d { media = change_media f d.media }) (λ d. refl) refl
 
 soup-alone : (w : World) (t u : ℕ) (name : List ℕ) (f : Soup → Soup) → (t == u) ≡ true → Alone w (change_soup_in w t name f) u

@@ -19,3 +19,4 @@ pub mod Looking
 pub mod Applied
 pub mod Alone
 pub mod Failing
+pub mod Halved

@@ -117,12 +117,15 @@ module _ (ks : List (Option Cursor)) (w : World) (closed : IsTrue (all_closed w)
   done_changed v r passed done = sym (sym (ap (λ (o : Option Refusal). (answered w c o).0) passed) ∙ ap (λ (a : World × plain.Reply). a.0) done)
 
   -- to settle them is to settle those that the command reaches
+  pub row_settled : settle (with_cursors ks (changed w c)) ≡ settle_reached (reach w c) (with_cursors ks (changed w c))
+  row_settled = subst (λ (r : Reach). settle (with_cursors ks (changed w c)) ≡ settle_reached r (with_cursors ks (changed w c))) (reach-beside ks w c)
+      (subst (λ (x : World). settle x ≡ settle_reached (reach (with_cursors ks w) c) x) (changed-apart ks w c none) (row-reached (with_cursors ks w) c formed apart settled))
+
+  -- by what is answered
   pub reached_after : (v : World) (r : plain.Reply) → first_of (checks w c) ≡ None → answer w c ≡ (v, r) → settle (with_cursors ks v) ≡ settle_reached (reach w c) (with_cursors ks v)
   unfolding answer
   reached_after v r passed done = subst (λ (x : World). settle (with_cursors ks x) ≡ settle_reached (reach w c) (with_cursors ks x))
-      (sym (ap (λ (o : Option Refusal). (answered w c o).0) passed) ∙ ap (λ (a : World × plain.Reply). a.0) done)
-      (subst (λ (r : Reach). settle (with_cursors ks (changed w c)) ≡ settle_reached r (with_cursors ks (changed w c))) (reach-beside ks w c)
-      (subst (λ (x : World). settle x ≡ settle_reached (reach (with_cursors ks w) c) x) (changed-apart ks w c none) (row-reached (with_cursors ks w) c formed apart settled)))
+      (sym (ap (λ (o : Option Refusal). (answered w c o).0) passed) ∙ ap (λ (a : World × plain.Reply). a.0) done) row_settled
 
   -- which the call has done
   pub settled_reached : (v later : World) (r : plain.Reply) (result : Result Reply StoreFault) (ls : List (Option Cursor)) (reached : Reach) → ls ≡ ks → first_of (checks w c) ≡ None → answer w c ≡ (v, r)
@@ -246,10 +249,10 @@ quiet_with {reads = reads} l told units ks o p s t same c v =
 
 -- a command that uses a cursor looks at no unit anew
 pub seen_cursors : (reads : List ℕ → Option Store) (w : World) (now : Moment) (c : Command) → uses_cursors c ≡ true → seen reads w now c ≡ w
+unfolding uses_cursors
 seen_cursors reads w now c h = ap (seen_on reads w now) (nothing c h)
   where
     nothing : (c : Command) → uses_cursors c ≡ true → looks_anew w c ≡ None
-    unfolding uses_cursors
     nothing (command.Format _ _ _) h = cc
     nothing (command.Mount _) h = cc
     nothing c h = refl
