@@ -1,7 +1,7 @@
 -- What a command costs, by what a call on the units costs.
 use Rattle.std.proofs.Common.{arith, ◌≡◌, ap, sym, ◌∙◌, subst, ℕ, ◌+◌, ◌*◌, ◌≤◌, List, true, false, Option, inr}
 use Rattle.std.specs.Prelude.{Result}
-use Rattle.newt_host.specs.Moments.{image}
+use Rattle.newt_host.specs.Moments.{bytes_after, image}
 use Rattle.newt_host.specs.Outside.{Outside}
 use Rattle.newt_pagebook.specs.Book.{IsOpenFor}
 use Rattle.newt_reply.specs.declared.reply.Reply.{Reply}

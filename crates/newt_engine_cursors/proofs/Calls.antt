@@ -48,9 +48,9 @@ unread-query (Some j) k e h = ap (λ (x : Cursor). asks_texts x.query.spec) (som
 -- ---- a device that fails
 
 -- the cursors are as they were
-pub all-kept : {was : List (Option Cursor)} (stop : Stop) → AtStop (λ u. was ≡ was) stop
-all-kept Memory = tt
-all-kept (Device u) = refl
+pub all-kept : (was : List (Option Cursor)) (stop : Stop) → AtStop (λ u. was ≡ was) stop
+all-kept was Memory = tt
+all-kept was (Device u) = refl
 
 module _ {C : Type 0} {reads : List ℕ → Option Store} {place : C → ℕ} {stands : Bool → C → Outside → Type 0} {told : Bool} {units : Units C} {was : List (Option Cursor)} {o : Outside} where
   -- ---- a call that turns the world into another
@@ -164,7 +164,7 @@ module _ {C : Type 0} {reads : List ℕ → Option Store} {place : C → ℕ} {s
         desk = d;
         settled = λ t apart. ends _ _;
         cause = cause-since _ _ _ stop a.alone h.cause;
-        failed = failed-since {T = S} a f (Err stop) h.failed;
+        failed = failed-since {T = S} q a f (Err stop) h.failed;
         kept = kept;
         no_fault = tt;
       })

@@ -1,8 +1,7 @@
 -- The cursors that are reached are settled, and no other.
 use Rattle.std.proofs.Common.{arith, ◌≡◌, ◌+◌, ◌*◌, refl, ap, sym, ◌∙◌, ℕ, Bool, true, false, ◌&&◌, ◌==◌, if◌then◌else◌, cond, List, [], ◌∷◌, map, Option, Some, None, option_map, option_and_then, subst, IsTrue}
-use Rattle.std.specs.Prelude.{not, Result, Err, IfErr}
+use Rattle.std.specs.Prelude.{not}
 use Rattle.std.proofs.lemmas.Bool.{and_parts, eqb-true}
-use Rattle.newt_pagebook.specs.declared.book.Stop.{Stop}
 use Rattle.newt_spec_graph.specs.Lists.{Each}
 use Rattle.newt_spec_graph.proofs.Lists.{both-ways, none-some, some-same}
 use Rattle.newt_spec_query.specs.Hits.{Hit, Query}
@@ -10,7 +9,7 @@ use Rattle.newt_spec_query.specs.Cursor.{Cursor, Place, start, finish, on}
 use Rattle.newt_spec_store.specs.Keys.{Key}
 use Rattle.newt_spec_store.specs.Store.{Store}
 use Rattle.newt_spec_store.specs.Valid.{well_formed}
-use Rattle.newt_spec_world.specs.World.{World, mounted_store, mounted_stores, settle_cursor}
+use Rattle.newt_spec_world.specs.World.{World, mounted_stores, settle_cursor}
 use Rattle.newt_spec_world.specs.declared.command.Command.{Command}
 use Rattle.newt_spec_world.specs.declared.command.Command.TheVariants as command
 use Rattle.newt_laws_world.specs.Cursors.{with_cursors}
@@ -19,14 +18,12 @@ use Rattle.newt_tags.specs.Masks.{number}
 use Rattle.newt_cursor.specs.Desk.{is_on, keyed, stands_on}
 use Rattle.newt_laws_reach.specs.Reach.{Reach, entry_reached, is_reached, nowhere, on_entry, on_soup, on_store, reach, reaches, settle_reached, settle_where}
 use Rattle.newt_store_change.specs.Change.{pages_of_entry}
-use Rattle.newt_engine_units.specs.Breaks.{AtStop}
 use Rattle.newt_engine_hits.specs.Present.{Present, entry_in_store, has_sig, identity, keyed_in, present_in}
 use Rattle.newt_engine_cursors.specs.Keyed.{given, key_now, key_where, stands_on as standing}
 use Rattle.newt_query.specs.Filter.{asks_texts}
 use Rattle.newt_engine_cursors.specs.Reached.{asks_on, asks_reached, cursor_reached, in_reach}
 use Rattle.newt_engine_cursors.specs.Unread.{is_unread}
 use Rattle.newt_engine_cursors.proofs.Cursors.{no-key, one-key}
-use Rattle.newt_engine_hits.proofs.Reading.{handed-stop}
 use Rattle.newt_engine_cursors.proofs.Standing.{key-present}
 
 -- what is reached does not depend on cursors
@@ -215,9 +212,3 @@ no-watchers s p u w h = ap {A = List (Option Cursor)} {B = World} (λ cs. record
 pub within-reached : (store soup uid : ℕ) (o : Option Store) → 512 * pages_of_entry (entry_in_store store soup uid o) ≡ 512 * pages_of_entry (entry_reached (on_entry store soup uid) o)
 within-reached store soup uid None = refl
 within-reached store soup uid (Some s) = refl
-
--- whose device it is, where an error is handed on that came in a world that is the same
-pub handed-own : {T : Type 0} (r : Reach) (w v : World) → v ≡ w → (stop : Stop) → AtStop (λ u. in_reach r (mounted_store v u) ≡ true) stop → (result : Result T Stop) → (e : Stop) × (result ≡ Err e) × (e ≡ stop)
-    → IfErr result (AtStop (λ u. in_reach r (mounted_store w u) ≡ true))
-handed-own r w v same stop own result is =
-    handed-stop (λ u. in_reach r (mounted_store w u) ≡ true) stop (subst (λ (x : World). AtStop (λ u. in_reach r (mounted_store x u) ≡ true) stop) same own) result is

@@ -61,9 +61,9 @@ module _ {C : Type 0} {reads : List ℕ → Option Store} {place : C → ℕ} {s
   }
 
   -- a device that has failed behind calls that read is the only one since
-  pub failed-since : {T : Type 0} {units mid : Units C} {o p q : Outside} → AreRead reads place stands told units mid o p → NoFault o p → (result : Result T Stop)
+  pub failed-since : {T : Type 0} {units mid : Units C} {o p : Outside} (q : Outside) → AreRead reads place stands told units mid o p → NoFault o p → (result : Result T Stop)
       → IfErr result (AtStop (FailsAlone p q)) → IfErr result (AtStop (FailsAlone o q))
-  failed-since a f result h = err-stop-map _ _ result (λ u k. fails-after a.alone.cards f k) h
+  failed-since q a f result h = err-stop-map _ _ result (λ u k. fails-after a.alone.cards f k) h
 
 module _ {C : Type 0} {reads : List ℕ → Option Store} {place : C → ℕ} {stands : Bool → C → Outside → Type 0} {asks told : Bool} where
   -- an answer
@@ -75,10 +75,10 @@ module _ {C : Type 0} {reads : List ℕ → Option Store} {place : C → ℕ} {s
   pub read-more : {T : Type 0} {units mid later : Units C} {o p q : Outside} {result : Result T Stop} → AreRead reads place stands told units mid o p → NoFault o p → Unread asks o p
       → IsReading reads place stands asks told mid later p q result → IsReading reads place stands asks told units later o q result
   read-more {result = Ok x} a f n r = record { read = read-then a r.read; cause = tt; failed = tt; no_fault = NoFault-append f r.no_fault; unread = then-unread a r.read n r.unread }
-  read-more {result = Err stop} a f n r = record {
+  read-more {T = T} {q = q} {result = Err stop} a f n r = record {
     read = read-then a r.read;
     cause = cause-since _ _ _ stop a.alone r.cause;
-    failed = failed-since a f (Err stop) r.failed;
+    failed = failed-since {T = T} q a f (Err stop) r.failed;
     no_fault = tt;
     unread = then-unread a r.read n r.unread;
   }
@@ -99,7 +99,7 @@ module _ {C : Type 0} {reads : List ℕ → Option Store} {place : C → ℕ} {s
       (record {
         read = read-then a h.read;
         cause = cause-since _ _ _ stop a.alone h.cause;
-        failed = failed-since {T = S} a f (Err stop) h.failed;
+        failed = failed-since {T = S} q a f (Err stop) h.failed;
         no_fault = tt;
         unread = then-unread a h.read n h.unread;
       })

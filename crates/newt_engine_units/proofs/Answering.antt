@@ -1,5 +1,5 @@
 -- A command is answered by what a card does; the command `format`.
-use Rattle.std.proofs.Common.{◌≡◌, refl, ap, sym, ◌∙◌, subst, ℕ, List, Bool, true, ◌&&◌, Option, Some, None, replicate, option_map, option_and_then, false}
+use Rattle.std.proofs.Common.{◌≡◌, refl, ap, sym, ◌∙◌, subst, ℕ, List, true, ◌&&◌, Option, Some, None, replicate, option_map, option_and_then, false}
 use Rattle.std.specs.Prelude.{Result, Ok, Err, OnOk, IfErr, is_none, is_some}
 use Rattle.std.proofs.lemmas.Bool.{eq-eqb}
 use Rattle.newt_base.specs.Refusals.{Checks, first_of}

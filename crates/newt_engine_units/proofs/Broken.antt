@@ -1,9 +1,8 @@
 -- What stands where the device of a unit has failed in a call.
-use Rattle.std.proofs.Common.{◌≡◌, ◌≢◌, refl, ap, sym, ◌∙◌, subst, ℕ, zero, suc, List, [], ◌∷◌, ◌⊎◌, inl, inr, Bool, true, false, IsTrue, Option, Some, None, option_map, if◌then◌else◌}
-use Rattle.std.specs.Prelude.{Result, Ok, Err, IfErr, IsSome, is_some}
+use Rattle.std.proofs.Common.{◌≡◌, refl, ap, sym, ◌∙◌, subst, ℕ, zero, suc, List, [], ◌∷◌, false, Option, Some, None, option_map, if◌then◌else◌}
+use Rattle.std.specs.Prelude.{Result, Ok, Err, IfErr, IsSome}
 use Rattle.newt_host.specs.Moments.{changes, image}
 use Rattle.newt_host.specs.Outside.{Outside, SameCards, Touches, NoFault}
-use Rattle.newt_pagebook.specs.Book.{IsSameFor}
 use Rattle.newt_pagebook.specs.Stops.{StopsAt}
 use Rattle.newt_pagebook.specs.declared.book.Stop.{Stop as End}
 use Rattle.newt_pagebook.specs.declared.book.Stop.TheVariants.{Memory, Device as OfDevice}
@@ -12,7 +11,7 @@ use Rattle.newt_spec_world.specs.Changed.{default_without}
 use Rattle.newt_spec_world.specs.First.{media_of}
 use Rattle.newt_spec_world.specs.Step.{thrown_out}
 use Rattle.newt_spec_world.specs.World.{World, Device, lost, change_at, change_device}
-use Rattle.newt_laws_answers.proofs.Worlds.{card_device, device-here, world-changed}
+use Rattle.newt_laws_answers.proofs.Worlds.{device-here, world-changed}
 use Rattle.newt_store_change.specs.declared.fault.StoreFault.{StoreFault}
 use Rattle.newt_store_change.specs.declared.fault.StoreFault.TheVariants.{Refused, Stop}
 use Rattle.newt_store_change.specs.Faults.{FaultsAt, NoDevice}

@@ -7,7 +7,7 @@ use Rattle.newt_host.specs.Outside.{Outside, SameCards}
 use Rattle.newt_spec_graph.proofs.Lists.{some-same, none-some, both-ways}
 use Rattle.newt_laws_world.proofs.Units.{same-or-not}
 use Rattle.newt_spec_store.specs.Store.{Store}
-use Rattle.newt_spec_world.specs.World.{World, Device, change_device}
+use Rattle.newt_spec_world.specs.World.{Device, change_device}
 use Rattle.newt_laws_answers.proofs.Worlds.{card_device, device-here, world-changed}
 use Rattle.newt_engine_units.specs.declared.units.Slot.{Slot}
 use Rattle.newt_engine_units.specs.declared.units.Units.{Units}

@@ -161,16 +161,16 @@ position-passes test g k (suc n) u h = go (test (g k)) refl h (position-passes t
     go true e h more = ap (λ j. test (g j)) (sym (some-same k u h)) ∙ e
     go false e h more = more h
 
-above : (u k : ℕ) → k ≤ u → (u ≡ k → ⊥) → k + 1 ≤ u
-above u k low other = elim (low-or-high k u) [ inl lt ↦ omega (arith, lt) | inr le ↦ absurd (other (omega (arith, le, low))) ]
-
 -- and where none passes, each fails
 pub position-fails : {X : Type 0} (test : X → Bool) (g : ℕ → X) (k n : ℕ) → position_from test k (map g (from k n)) ≡ None → (u : ℕ) → k ≤ u → u < k + n → test (g u) ≡ false
 position-fails test g k zero h u low high = absurd (omega (arith, low, high))
-position-fails test g k (suc n) h u low high = go (test (g k)) refl h (same-or-not u k) (λ rest other. position-fails test g (k + 1) n rest u (above u k low other) (omega (arith, high)))
+position-fails test g k (suc n) h u low high = go (test (g k)) refl h (same-or-not u k) (λ rest above. position-fails test g (k + 1) n rest u above (omega (arith, high)))
   where
+    above : (u k : ℕ) → k ≤ u → (u ≡ k → ⊥) → k + 1 ≤ u
+    above u k low other = elim (low-or-high k u) [ inl lt ↦ omega (arith, lt) | inr le ↦ absurd (other (omega (arith, le, low))) ]
+
     go : (b : Bool) → test (g k) ≡ b → cond b (Some k) (position_from test (k + 1) (map g (from (k + 1) n))) ≡ None → (u ≡ k) ⊎ (u ≡ k → ⊥)
-        → (position_from test (k + 1) (map g (from (k + 1) n)) ≡ None → (u ≡ k → ⊥) → test (g u) ≡ false) → test (g u) ≡ false
-    go true e h is more = absurd (none-some k (sym h))
-    go false e h (inl is) more = ap (λ j. test (g j)) is ∙ e
-    go false e h (inr other) more = more h other
+        → (position_from test (k + 1) (map g (from (k + 1) n)) ≡ None → k + 1 ≤ u → test (g u) ≡ false) → test (g u) ≡ false
+    go true e h is later = absurd (none-some k (sym h))
+    go false e h (inl is) later = ap (λ j. test (g j)) is ∙ e
+    go false e h (inr other) later = later h (above u k low other)

@@ -2,46 +2,44 @@
 use Rattle.std.proofs.Common.{◌≡◌, ◌≢◌, refl, ap, sym, ◌∙◌, subst, ℕ, ◌≤◌, List, [], ◌∷◌, ◌++◌, ◌⊎◌, inl, inr, Bool, true, false, ◌&&◌, IsTrue, Option, Some, None, option_and_then, if◌then◌else◌}
 use Rattle.std.specs.Prelude.{Result, Ok, Err, IfErr, IsSome, is_some, slice_get}
 use Rattle.newt_host.specs.Moments.{Moment, MayLeave, IsDurable, Always, Anything, AtMoment, LeftBy, On, Synced, bytes_after, changes, image, output, taken, here, later}
-use Rattle.newt_host.specs.Outside.{Outside, NoFault, Syncs}
+use Rattle.newt_host.specs.Outside.{Outside}
 use Rattle.newt_host.proofs.Moments.{Always-append, Always-map, changes-other, changes-same, durable-sync}
-use Rattle.newt_spec_graph.proofs.Lists.{some-same, none-some, both-ways}
+use Rattle.newt_spec_graph.proofs.Lists.{both-ways}
 use Rattle.newt_spec_graph.specs.Lists.{Among}
 use Rattle.newt_laws_world.proofs.Units.{same-or-not, device-other}
-use Rattle.newt_pagebook.specs.declared.book.Stop.TheVariants.{Device as Broken}
 use Rattle.newt_spec_store.specs.Store.{Store}
 use Rattle.newt_spec_world.specs.declared.command.Command.{Command}
 use Rattle.newt_spec_world.specs.declared.command.Command.TheVariants as command
 use Rattle.newt_spec_world.specs.Answer.{answer}
 use Rattle.newt_spec_world.specs.Reply.{Reply}
 use Rattle.newt_spec_world.specs.First.{media_of}
-use Rattle.newt_spec_world.specs.Step.{formats, is_accepted, is_format_of, looks_anew, looks_at, thrown_out, unsure_look, with_media, writes}
-use Rattle.newt_spec_world.specs.World.{World, Device, Media, blank, lost, device, stores_of, stores_on, IsBlankOn, change_device}
+use Rattle.newt_spec_world.specs.Step.{formats, is_accepted, is_format_of, looks_at, thrown_out, unsure_look, with_media, writes}
+use Rattle.newt_spec_world.specs.World.{World, Device, Media, blank, lost, device, stores_of, stores_on, IsBlankOn}
 use Rattle.newt_laws_steps.specs.Answering.{ReadsOneOf, StaysBlank}
 use Rattle.newt_laws_steps.specs.StandsFor.{seen, seen_on}
 use Rattle.newt_laws_answers.specs.Bounds.{most_programmed}
 use Rattle.newt_laws_answers.specs.Fetched.{most_fetched}
-use Rattle.newt_laws_answers.proofs.Worlds.{card_device, device-stays, world-alike}
+use Rattle.newt_laws_answers.proofs.Worlds.{device-stays, world-alike}
 use Rattle.newt_engine_card.specs.Bounds.{LeftAlone}
 use Rattle.newt_store_change.specs.Faults.{GoesOn, IsEnd}
 use Rattle.newt_store_change.specs.declared.fault.StoreFault.{StoreFault}
-use Rattle.newt_store_change.specs.declared.fault.StoreFault.TheVariants.{Stop}
 use Rattle.newt_engine_units.specs.declared.units.Slot.{Slot}
 use Rattle.newt_engine_units.specs.declared.units.Units.{Units}
 use Rattle.newt_engine_units.specs.Answers.{Answers}
 use Rattle.newt_engine_units.specs.Breaks.{AtDevice, FailsAlone, HasStoreToFormat, IsLeftAs, Meanwhile}
 use Rattle.newt_engine_units.specs.Calls.{AreRead, Breaks, BreaksIn, Ended, MakesSure, Obeys}
-use Rattle.newt_engine_units.specs.Looks.{IsFree, attached_in, has_device}
-use Rattle.newt_engine_units.specs.Stands.{card_of, card_at, due_of, due_in, is_due, mounted_in, world_of, Stands, Eight}
+use Rattle.newt_engine_units.specs.Looks.{IsFree, has_device}
+use Rattle.newt_engine_units.specs.Stands.{card_of, due_in, is_due, mounted_in, world_of, Stands, Eight}
 use Rattle.newt_engine_units.proofs.Broken.{fails-after, thrown-changed}
 use Rattle.newt_engine_units.proofs.Few.{count-same}
 use Rattle.newt_engine_units.proofs.Left.{left-after, left-same}
 use Rattle.newt_engine_units.proofs.Known.{at-card, at-none, look-known}
-use Rattle.newt_engine_units.proofs.Marked.{attached-slot, due-here, due-other, mark-here, mark-other, slot-other, slot-here, stands-marked, world-slot}
+use Rattle.newt_engine_units.proofs.Marked.{attached-slot, due-here, due-other, mark-here, mark-other, slot-here, stands-marked, world-slot}
 use Rattle.newt_engine_units.proofs.Costs.{synced-costs}
 use Rattle.newt_engine_units.proofs.Obeying.{ends-after, still-breaks}
 use Rattle.newt_engine_units.proofs.Settings.{Setting, stand-told, still}
 use Rattle.newt_engine_units.proofs.Slots.{but-beside, but-of, durable-same, stands-still}
-use Rattle.newt_engine_units.proofs.Turns.{blank-none, formats-looks, on-unit, store-reads, unchanged-moment, world-still}
+use Rattle.newt_engine_units.proofs.Turns.{formats-looks, on-unit, store-reads, unchanged-moment, world-still}
 
 -- ---- what has happened
 

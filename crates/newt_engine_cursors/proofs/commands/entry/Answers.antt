@@ -25,7 +25,7 @@ pub returns-in_err-show : goal.returns-in_err-show
 returns-in_err-show g c =
     let w = world_with g.C.Card.reads c.args.units.now c.args.desk.now (g.H.Host.outside c.args.host.now) in
     walks-of (turns-end (λ (r : Result Shown StoreFault) (w v : World). Answers w v (command.Entry c.args.cursor) shown_reply r) c.in_err-show.ensures.reading
-    c.requires.desk (all-kept _) c.from_residual.result (err_from_is_err_and c.from_residual.result c.from_residual.ensures.1) (λ w v. tt))
+    c.requires.desk (all-kept _ _) c.from_residual.result (err_from_is_err_and c.from_residual.result c.from_residual.ensures.1) (λ w v. tt))
     (λ t apart settled d. d)
     (λ t apart settled un. (λ u. let e = ap (λ (k : ℕ). 512 * k) (entry-pages w c.args.cursor (ap is_none (sym c.in-Some.ensures)) settled u) in
     let is = ap (λ (r : Reply). 512 * pages_shown r u) (ap (or_nil (current w)) c.in-Some.ensures) in

@@ -18,7 +18,7 @@ use Rattle.newt_engine_cursors.proofs.opening.open.Goals as goal
 
 pub returns-in_err-first-clause-turns : goal.returns-in_err-first-clause-turns
 returns-in_err-first-clause-turns g c =
-    turns-end (λ (r : Result ℕ StoreFault) (w v : World). Opens w v (query_of c.args.query) r) c.in_err-first.ensures.reading c.requires.desk (all-kept _)
+    turns-end (λ (r : Result ℕ StoreFault) (w v : World). Opens w v (query_of c.args.query) r) c.in_err-first.ensures.reading c.requires.desk (all-kept _ _)
     c.from_residual.result (err_from_is_err_and c.from_residual.result c.from_residual.ensures.1) (λ w v. tt)
 
 pub returns-in-Ok-clause-turns : goal.returns-in-Ok-clause-turns

@@ -1,9 +1,7 @@
 -- The key of the place is read, those behind it take theirs, and then it does.
-use Rattle.std.proofs.Common.{arith, ◌≡◌, ◌∙◌, ap, refl, sym, subst, ◌+◌, ◌≤◌, ℕ, length, List, Option, Some}
-use Rattle.std.specs.Prelude.{OnOk, Result, option_and_then, slice_get}
-use Rattle.std.proofs.lemmas.Result.{err_from_is_err_and}
+use Rattle.std.proofs.Common.{arith, ◌≡◌, ◌∙◌, ap, sym, subst, ◌+◌, ◌≤◌, ℕ, length, List, Option, Some}
+use Rattle.std.specs.Prelude.{option_and_then, slice_get}
 use Rattle.newt_host.proofs.Outside.{NoFault-append, NoFault-refl}
-use Rattle.newt_pagebook.specs.declared.book.Stop.{Stop}
 use Rattle.newt_spec_query.specs.Cursor.{Cursor}
 use Rattle.newt_spec_world.specs.World.{World, change_at, flat}
 use Rattle.newt_laws_reach.specs.Reach.{settle_where}
@@ -12,20 +10,19 @@ use Rattle.newt_laws_world.specs.Settled.{MountedApart}
 use Rattle.newt_engine_units.specs.Stands.{world_of}
 use Rattle.newt_engine_hits.proofs.Reading.{not-read, read-then}
 use Rattle.newt_engine_cursors.specs.Fits.{DeskFits}
-use Rattle.newt_engine_cursors.specs.Keyed.{change_from, given, key_where, settled_from}
+use Rattle.newt_engine_cursors.specs.Keyed.{change_from, given, key_where}
 use Rattle.newt_engine_cursors.specs.Reached.{seen_reach}
-use Rattle.newt_engine_cursors.proofs.Calls.{all-kept, settles-end, settles-reads}
 use Rattle.newt_engine_cursors.proofs.Cursors.{before-change, change-one, from-behind, from-next, given-fits}
-use Rattle.newt_engine_cursors.proofs.Reaches.{given-where, handed-own}
+use Rattle.newt_engine_cursors.proofs.Reaches.{given-where}
 use Rattle.newt_engine_cursors.proofs.settling.+settle_from.Goals as goal
 
-pub settle_from-returns-then-from_ge_PLACES-clause-settles : goal.settle_from-returns-then-from_ge_PLACES-clause-settles
-settle_from-returns-then-from_ge_PLACES-clause-settles g t c = record {
+pub returns-then-from-ge-PLACES-clause-settles : goal.returns-then-from-ge-PLACES-clause-settles
+returns-then-from-ge-PLACES-clause-settles g t c = record {
   read = not-read c.requires.stands;
   desk = c.requires.desk;
   settled = λ told apart.
       let base = world_of g.C.Card.reads c.args.units.now (g.H.Host.outside c.args.host.now) in
-      let test = c.if-from_ge_PLACES.true in
+      let test = c.if-from-ge-PLACES.true in
       let places = c.requires.desk.places in
       let none : length c.args.desk.now ≤ c.args.from = omega (arith, test, places) in
       sym (ap (λ (ks : List (Option Cursor)). with_cursors ks base) (from-behind c.args.from (settle_where (seen_reach c.args.reach.now) base) c.args.desk.now none));
@@ -35,41 +32,8 @@ settle_from-returns-then-from_ge_PLACES-clause-settles g t c = record {
   no_fault = NoFault-refl _;
 }
 
-pub settle_from-returns-then-from_ge_PLACES-clause-unread : goal.settle_from-returns-then-from_ge_PLACES-clause-unread
-settle_from-returns-then-from_ge_PLACES-clause-unread g t c none u = omega arith
-
-pub settle_from-returns-in_err-key-clause-settles : goal.settle_from-returns-in_err-key-clause-settles
-settle_from-returns-in_err-key-clause-settles g t c =
-    settles-end (λ (r : Result (Unit {0}) Stop) (w v : World). OnOk r (v ≡ settled_from (seen_reach c.args.reach.now) c.args.from w)) (not-read c.requires.stands) (NoFault-refl _) c.in_err-key.ensures.reading c.requires.desk
-    (all-kept _) c.from_residual.result (err_from_is_err_and c.from_residual.result c.from_residual.ensures.1) (λ w v. tt)
-
-pub settle_from-returns-in_err-key-clause-unread : goal.settle_from-returns-in_err-key-clause-unread
-settle_from-returns-in_err-key-clause-unread g t c none = c.in_err-key.ensures.unread (none c.args.from)
-
-pub settle_from-returns-in_err-settle_from-clause-settles : goal.settle_from-returns-in_err-settle_from-clause-settles
-settle_from-returns-in_err-settle_from-clause-settles g t c =
-    let read = c.in_ok-key.ensures.reading in
-    let s = c.in_err-settle_from.ensures.settles in
-    let r = c.from_residual-in_err-settle_from.result in
-    settles-end (λ (r : Result (Unit {0}) Stop) (w v : World). OnOk r (v ≡ settled_from (seen_reach c.args.reach.now) c.args.from w)) read.read read.no_fault (settles-reads s) s.desk s.kept
-    r (err_from_is_err_and r c.from_residual-in_err-settle_from.ensures.1) (λ w v. tt)
-
-pub settle_from-returns-in_err-settle_from-clause-before : goal.settle_from-returns-in_err-settle_from-clause-before
-settle_from-returns-in_err-settle_from-clause-before g t c n less = c.in_err-settle_from.ensures.before n (omega (arith, less))
-
-pub settle_from-returns-in_err-settle_from-clause-unread : goal.settle_from-returns-in_err-settle_from-clause-unread
-settle_from-returns-in_err-settle_from-clause-unread g t c none u =
-    let x = c.in_ok-key.ensures.unread (none c.args.from) u in
-    let y = c.in_err-settle_from.ensures.unread none u in
-    omega (arith, x, y)
-
-pub settle_from-returns-in_err-settle_from-clause-own : goal.settle_from-returns-in_err-settle_from-clause-own
-settle_from-returns-in_err-settle_from-clause-own g t c told =
-    let r = c.from_residual-in_err-settle_from.result in
-    handed-own (seen_reach c.args.reach.now) _ _ (c.in_ok-key.ensures.reading.read.world told) _ (c.in_err-settle_from.ensures.own told) r (err_from_is_err_and r c.from_residual-in_err-settle_from.ensures.1)
-
-pub settle_from-returns-clause-settles : goal.settle_from-returns-clause-settles
-settle_from-returns-clause-settles g t c =
+pub returns-clause-settles : goal.returns-clause-settles
+returns-clause-settles g t c =
     let key = c.in_ok-key in
     let s = c.in_ok-settle_from.ensures.settles in
     let here : flat (slice_get c.settle_from.new.desk c.args.from) ≡ flat (slice_get c.args.desk.now c.args.from) = ap flat (c.in_ok-settle_from.ensures.before c.args.from (omega arith)) in
@@ -96,13 +60,7 @@ settle_from-returns-clause-settles g t c =
       no_fault = NoFault-append key.ensures.reading.no_fault s.no_fault;
     }
 
-pub settle_from-returns-clause-before : goal.settle_from-returns-clause-before
-settle_from-returns-clause-before g t c n less =
+pub returns-clause-before : goal.returns-clause-before
+returns-clause-before g t c n less =
     ap (λ (ks : List (Option Cursor)). slice_get ks n) c.take_key.ensures ∙ before-change (given c.in_ok-key.key) c.settle_from.new.desk c.args.from n less
     ∙ c.in_ok-settle_from.ensures.before n (omega (arith, less))
-
-pub settle_from-returns-clause-unread : goal.settle_from-returns-clause-unread
-settle_from-returns-clause-unread g t c none u =
-    let x = c.in_ok-key.ensures.unread (none c.args.from) u in
-    let y = c.in_ok-settle_from.ensures.unread none u in
-    omega (arith, x, y)

@@ -65,5 +65,5 @@ returns-in_err-hit-clause-own g c t q h stands =
     let w = world_of g.C.Card.reads c.args.units.now (g.H.Host.outside c.args.host.now) in
     let at = spot_hit c.in-Some.spot.now in
     let same = ap (λ (x : Query × Hit). x.1.store) (some-same (query_of c.in-Some.query.now, at) (q, h) (c.in-Some.ensures ∙ sym stands)) in
-    handed-stop (λ u. has_sig h.store (mounted_store w u) ≡ true) _ (subst (λ (n : ℕ). AtStop (λ u. has_sig n (mounted_store w u) ≡ true) c.in_err-hit.stop) same (c.in_err-hit.ensures.own t))
+    handed-stop (λ u. has_sig h.store (mounted_store w u) ≡ true) _ (subst (λ (n : ℕ). AtStop (λ u. has_sig n (mounted_store w u) ≡ true) _) same (c.in_err-hit.ensures.own t))
     c.from_residual.result (err_from_is_err_and c.from_residual.result c.from_residual.ensures.1)

@@ -39,7 +39,7 @@ returns-then-not-is_watched-clause-unread g c none u = omega arith
 
 pub returns-in_err-entry-clause-settles : goal.returns-in_err-entry-clause-settles
 returns-in_err-entry-clause-settles g c =
-    settles-end (λ (r : Result (Unit {0}) Stop) (w v : World). OnOk r (v ≡ settle_reached (on_entry c.args.store c.args.soup c.args.uid) w)) (not-read c.requires.stands) (NoFault-refl _) c.in_err-entry.ensures.reading c.requires.desk (all-kept _)
+    settles-end (λ (r : Result (Unit {0}) Stop) (w v : World). OnOk r (v ≡ settle_reached (on_entry c.args.store c.args.soup c.args.uid) w)) (not-read c.requires.stands) (NoFault-refl _) c.in_err-entry.ensures.reading c.requires.desk (all-kept _ _)
     c.from_residual.result (err_from_is_err_and c.from_residual.result c.from_residual.ensures.1) (λ w v. tt)
 
 pub returns-in_err-give_keys-clause-settles : goal.returns-in_err-give_keys-clause-settles

@@ -47,7 +47,7 @@ returns-in_default-clause-fetches g c t apart among un u = omega arith
 pub returns-in_err-shown-clause-moved : goal.returns-in_err-shown-clause-moved
 returns-in_err-shown-clause-moved g c =
     settles-end (λ (r : Result Shown Stop) (w v : World). (c.args.is_found ≡ true → ComesAmong w c.args.cursor (place_of c.args.place)) → IfOk r (Shows (set_place w c.args.cursor (place_of c.args.place)) v c.args.cursor))
-    (not-read c.requires.stands) (NoFault-refl _) c.in_err-shown.ensures.reading c.requires.desk (all-kept _) c.from_residual.result (err_from_is_err_and c.from_residual.result c.from_residual.ensures.1) (λ w v among. tt)
+    (not-read c.requires.stands) (NoFault-refl _) c.in_err-shown.ensures.reading c.requires.desk (all-kept _ _) c.from_residual.result (err_from_is_err_and c.from_residual.result c.from_residual.ensures.1) (λ w v among. tt)
 
 pub returns-in_err-shown-clause-fetches : goal.returns-in_err-shown-clause-fetches
 returns-in_err-shown-clause-fetches g c t apart among un u =

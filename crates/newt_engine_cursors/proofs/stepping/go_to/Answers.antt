@@ -57,7 +57,7 @@ returns-in_default g c = stays c.requires.stands c.requires.desk tt (λ t apart.
 
 pub returns-in_err-spot : goal.returns-in_err-spot
 returns-in_err-spot g c =
-    walks-of (turns-end (λ (r : Result Shown StoreFault) (w v : World). Answers w v (command.Goto c.args.cursor c.args.unit c.args.uid) shown_reply r) c.in_err-spot.ensures.reading c.requires.desk (all-kept _)
+    walks-of (turns-end (λ (r : Result Shown StoreFault) (w v : World). Answers w v (command.Goto c.args.cursor c.args.unit c.args.uid) shown_reply r) c.in_err-spot.ensures.reading c.requires.desk (all-kept _ _)
     c.from_residual-in_err-spot.result (err_from_is_err_and c.from_residual-in_err-spot.result c.from_residual-in_err-spot.ensures.1) (λ w v. tt))
     (λ t apart settled d. d)
     (λ t apart settled un. (λ u. let z = (c.in_err-spot.ensures.reading.unread (unread-query (flat (slice_get c.args.desk.now c.args.cursor)) (seen_cursor (c.in-Some.query, c.in-Some.field-0-1)) c.in-Some.ensures un)) u in omega (arith, z)))

@@ -28,7 +28,7 @@ returns-in_default-clause-fetches g c t apart un u = omega arith
 
 pub returns-in_err-place-clause-turns : goal.returns-in_err-place-clause-turns
 returns-in_err-place-clause-turns g c =
-    turns-end (λ (r : Result Shown StoreFault) (w v : World). Steers w v c.args.cursor (step_of c.args.motion) r) c.in_err-place.ensures.reading c.requires.desk (all-kept _)
+    turns-end (λ (r : Result Shown StoreFault) (w v : World). Steers w v c.args.cursor (step_of c.args.motion) r) c.in_err-place.ensures.reading c.requires.desk (all-kept _ _)
     c.from_residual.result (err_from_is_err_and c.from_residual.result c.from_residual.ensures.1) (λ w v. tt)
 
 pub returns-in_err-place-clause-fetches : goal.returns-in_err-place-clause-fetches

@@ -1,7 +1,7 @@
 -- The unit is looked at and made sure of, its store is looked for, and it is formatted.
 use Rattle.std.proofs.Common.{◌≡◌, refl, sym, ap, ◌∙◌, subst, ℕ, IsTrue, true, inr, Err}
 use Rattle.std.specs.Prelude.{OnOk, is_some}
-use Rattle.std.proofs.lemmas.Bool.{eq-eqb, ne_eqb}
+use Rattle.std.proofs.lemmas.Bool.{ne_eqb}
 use Rattle.std.proofs.lemmas.Result.{err_from_is_err_and}
 use Rattle.newt_base.specs.declared.Refusal.TheVariants.{Store as HasStore}
 use Rattle.newt_store_change.specs.declared.fault.StoreFault.TheVariants.{Refused}
@@ -9,7 +9,7 @@ use Rattle.newt_host.specs.Moments.{MayLeave, Moment, Always, changes, image}
 use Rattle.newt_host.proofs.Histories.{history-leaves}
 use Rattle.newt_spec_graph.proofs.Lists.{both-ways}
 use Rattle.newt_spec_world.specs.Reply.{Reply}
-use Rattle.newt_spec_world.specs.Step.{formats, is_format_of}
+use Rattle.newt_spec_world.specs.Step.{formats}
 use Rattle.newt_spec_world.specs.World.{World, IsBlankOn}
 use Rattle.newt_spec_world.specs.declared.command.Command.{Command}
 use Rattle.newt_spec_world.specs.declared.command.Command.TheVariants as command

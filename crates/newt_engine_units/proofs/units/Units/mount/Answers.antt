@@ -1,5 +1,5 @@
 -- The unit is looked at and made sure of, its store is opened, may be mounted, and is.
-use Rattle.std.proofs.Common.{◌≡◌, refl, ap, sym, subst, ℕ, List, IsTrue}
+use Rattle.std.proofs.Common.{◌≡◌, ap, sym, subst, ℕ, List, IsTrue}
 use Rattle.std.proofs.lemmas.Result.{err_from_is_err_and}
 use Rattle.newt_host.specs.Moments.{MayLeave, image, changes}
 use Rattle.newt_host.proofs.Histories.{history-leaves}

@@ -1,8 +1,7 @@
 -- The card is gone, a sync is due, and the default is another.
-use Rattle.std.proofs.Common.{◌≡◌, ap, sym, ◌∙◌}
+use Rattle.std.proofs.Common.{ap, ◌∙◌}
 use Rattle.newt_engine_units.specs.Faces.{card_faces, default_after}
 use Rattle.newt_engine_units.proofs.Mounts.{thrown-dues, thrown-marks, thrown-stands, thrown-world}
-use Rattle.newt_engine_units.proofs.units.Units.throw_out.Given.{Over}
 use Rattle.newt_engine_units.proofs.units.Units.throw_out.Goals as goal
 
 pub returns-clause-stands : goal.returns-clause-stands
