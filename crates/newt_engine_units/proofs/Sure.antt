@@ -4,7 +4,7 @@ use Rattle.std.specs.Prelude.{Result, Ok, Err, IfErr, IsSome, is_some, slice_get
 use Rattle.newt_host.specs.Moments.{Moment, MayLeave, IsDurable, Always, Anything, AtMoment, LeftBy, On, Synced, bytes_after, changes, image, output, taken, here, later}
 use Rattle.newt_host.specs.Outside.{Outside}
 use Rattle.newt_host.proofs.Moments.{Always-append, Always-map, changes-other, changes-same, durable-sync}
-use Rattle.newt_spec_graph.proofs.Lists.{both-ways, none-some}
+use Rattle.newt_spec_graph.proofs.Lists.{both-ways, none-some, some-same}
 use Rattle.newt_spec_graph.specs.Lists.{Among}
 use Rattle.newt_laws_world.proofs.Units.{same-or-not, device-other}
 use Rattle.newt_spec_store.specs.Store.{Store}
