@@ -15,6 +15,7 @@ use Rattle.newt_spec_world.specs.Step.{thrown_out}
 use Rattle.newt_spec_world.specs.World as plain_world
 use Rattle.newt_spec_world.specs.World.{lost, settle}
 use Rattle.newt_spec_world.specs.declared.command.Command.{Command}
+use Rattle.newt_store_change.specs.declared.fault.StoreFault.{StoreFault}
 use Rattle.newt_store_change.specs.declared.fault.StoreFault.TheVariants.{Refused, Stop}
 use Rattle.newt_laws_world.specs.Settled.{IsSettled, MountedApart}
 use Rattle.newt_laws_world.proofs.Kept.{all-false}
@@ -174,3 +175,8 @@ module _ {C : Type 0} {reads : List ℕ → Option Store} {place : C → ℕ} {s
 pub broke-stands : {C : Type 0} {reads : List ℕ → Option Store} {place : C → ℕ} {stands : Bool → C → Outside → Type 0} {told : Bool} {c : Command} {old mid : World C} {o p : Outside} (u : ℕ)
     → Served reads place stands told c old mid o p (Err (Stop (stops.Device u))) → StandsBut place stands u told mid.units p × IsSome (o.card u)
 broke-stands u e = elim e.broke [ inl f ↦ (f.stands, f.failed.attached) | inr f ↦ (f.stands, f.failed.attached) ]
+
+-- the same of another fault
+pub served-as : {C : Type 0} {reads : List ℕ → Option Store} {place : C → ℕ} {stands : Bool → C → Outside → Type 0} {told : Bool} {c : Command} {old mid : World C} {o p : Outside} {e f : StoreFault}
+    → e ≡ f → Served reads place stands told c old mid o p (Err e) → Served reads place stands told c old mid o p (Err f)
+served-as {reads = reads} {place} {stands} {told} {c} {old} {mid} {o} {p} is served = subst (λ (x : StoreFault). Served reads place stands told c old mid o p (Err x)) is served

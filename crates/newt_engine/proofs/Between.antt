@@ -3,9 +3,9 @@ use Rattle.std.proofs.Common.{◌≡◌, ◌≢◌, ◌⊎◌, inl, inr, refl, a
 use Rattle.std.proofs.lemmas.Bool.{eq-eqb, ne_eqb}
 use Rattle.std.specs.Bool.{⊤}
 use Rattle.std.specs.Prelude.{Result, Ok, Err}
-use Rattle.newt_base.specs.Refusals.{first_of}
+use Rattle.newt_base.specs.Refusals.{Checks, first_of}
 use Rattle.newt_base.specs.declared.Refusal.{Refusal}
-use Rattle.newt_host.specs.Moments.{Moment, Always, bytes_after, changes}
+use Rattle.newt_host.specs.Moments.{Moment, Always, bytes_after, changes, image}
 use Rattle.newt_host.proofs.Moments.{Always-last}
 use Rattle.newt_spec_graph.proofs.Lists.{both-ways, none-some}
 use Rattle.newt_host.specs.Outside.{Outside}
@@ -282,10 +282,11 @@ module _ {C : Type 0} {reads : List ℕ → Option Store} {place : C → ℕ} {s
     away = subst (λ j. (u == j) && not (to == j) ≡ true) (sym is) (ap (λ x. x && not (to == u)) (eq-eqb u u refl) ∙ ap not (ne_eqb to u apart));
     stands = breaks.stands;
     desk = desk;
-    accepted = λ t. ap is_none (checks-apart start.desk (world_of reads start.units o) (command.Move u name uid to target) (move_no_cursor u name uid to target) ∙ passed (b t) first);
+    accepted = λ t. ap (λ (x : Checks). is_none (first_of x)) (checks-apart start.desk (world_of reads start.units o) (command.Move u name uid to target) (move_no_cursor u name uid to target)) ∙ ap is_none (passed (b t) first);
     world = λ t. subst (λ j. thrown_out (with_cursors ks (world_of reads last s)) j (λ _. lost)
         ≡ settle (thrown_out (changed (with_cursors start.desk (world_of reads start.units o)) (command.Move u name uid to target)) j (λ _. lost))) (sym is) (world t);
-    open_after = λ t j other. inr (ap bytes_after (breaks.others t j other));
+    open_after = λ t j other. subst (λ (bytes : List ℕ). IsOpenFor 0 bytes ⊎ (bytes ≡ image j o.now)) (sym (ap bytes_after (breaks.others t j other ∙ ap (changes j) settles.moment)))
+        ((added-costs (b t) first).open_after tt j);
     failed = failed;
   }
     where
@@ -298,4 +299,4 @@ module _ {C : Type 0} {reads : List ℕ → Option Store} {place : C → ℕ} {s
           ks (world_of reads settled r) (settled_is t) (world_of reads last s)
           (subst (λ j. thrown_out (world_of reads last s) j (λ _. lost) ≡ thrown_out (world_of reads later q) j (λ _. lost)) is
           (breaks.world t ∙ ap (λ (y : World). thrown_out y v (λ _. lost)) (settles.world t)))
-          (sym (done_changed start.desk (world_of reads start.units o) x.0 x.1 x.2 x.3 (command.Move u name uid to target) (move_no_cursor u name uid to target) _ (Reply.number n) (passed c first) (done c first)))
+          (sym (done_changed start.desk (world_of reads start.units o) x.0 x.1 x.2 x.3 (command.Move u name uid to target) (move_no_cursor u name uid to target) start.desk _ (Reply.number n) (passed c first) (done c first)))

@@ -1,5 +1,5 @@
 -- A device that fails while the cursors are settled, behind a command that is done: it is that of the unit that the command has written or mounted.
-use Rattle.std.proofs.Common.{arith, ◌≡◌, ◌≢◌, ◌⊎◌, inl, inr, refl, ap, sym, ◌∙◌, subst, ℕ, ◌+◌, zero, suc, List, [], ◌∷◌, Bool, true, false, not, ◌&&◌, ◌||◌, cond, IsTrue, Option, Some, None, option_map, option_and_then, is_none, ◌==◌}
+use Rattle.std.proofs.Common.{arith, ◌≡◌, ◌≢◌, ◌⊎◌, inl, inr, refl, ap, sym, ◌∙◌, subst, ℕ, ◌+◌, zero, suc, List, [], ◌∷◌, Bool, true, false, not, ◌&&◌, ◌||◌, cond, IsTrue, Option, Some, None, option_map, option_and_then, is_none, replicate, ◌==◌}
 use Rattle.std.proofs.lemmas.Bool.{eq-eqb, eqb-true, ne_eqb}
 use Rattle.std.specs.Prelude.{Result, Ok, Err, IfErr, filter_map, slice_get, unwrap_or}
 use Rattle.std.specs.List.{cons_option, enumerate_from}
@@ -253,7 +253,7 @@ known-off {reads = reads} laws units o e s none n d h = go (o.card n) (sym (at-d
 
 -- ---- the device of that unit fails
 
-module _ {C : Type 0} {reads : List ℕ → Option Store} {place : C → ℕ} {soups : C → Store} {stands : Bool → C → Outside → Type 0} (laws : Laws reads place soups stands) (told : Bool) {old mid new : World C} {o m p : Outside}
+module _ {C : Type 0} {reads : List ℕ → Option Store} {place : C → ℕ} {soups : C → Store} {stands : Bool → C → Outside → Type 0} (laws : Laws reads place soups stands) (told : Bool) {old : World C} {o : Outside}
     (begun : IsStanding reads place stands told old o) (c : Command) (none : uses_cursors c ≡ false) (within : is_between c ≡ false) (moves : moves_keys c ≡ true) where
   abbrev w : plain_world.World
   w = world_of reads old.units o
@@ -261,10 +261,10 @@ module _ {C : Type 0} {reads : List ℕ → Option Store} {place : C → ℕ} {s
   abbrev sees : plain_world.World
   sees = seen reads w o.now c
 
-  pub settling-fails : (v : plain_world.World) → (IsTrue told → Always (Meanwhile reads (due_in old.units.slots.items) w c v o.now) o.now m.now) → (IsTrue told → first_of (checks sees c) ≡ None)
-      → (IsTrue told → world_of reads mid.units m ≡ changed sees c) → (IsTrue told → MountedApart (changed sees c)) → AreRead reads place stands told mid.units new.units m p → new.desk ≡ old.desk
+  pub settling-fails : (mid new : World C) (m p : Outside) (v : plain_world.World) → (IsTrue told → Always (Meanwhile reads (due_in old.units.slots.items) w c v o.now) o.now m.now) → (IsTrue told → first_of (checks sees c) ≡ None)
+      → (IsTrue told → world_of reads mid.units m ≡ with_cursors (replicate 32 None) (changed sees c)) → (IsTrue told → MountedApart (changed sees c)) → AreRead reads place stands told mid.units new.units m p → new.desk ≡ old.desk
       → (u : ℕ) → FailsAlone o p u → (IsTrue told → in_reach (reach sees c) (mounted_store (changed sees c) u) ≡ true) → Fails reads place stands told c old new o p u
-  settling-fails v way passed row apart looks desk u failed reached = record {
+  settling-fails mid new m p v way passed row apart looks desk u failed reached = record {
     stands = but-of place stands told new.units u p looks.stand;
     desk = desk;
     world = λ t. ap (λ ks. thrown_out (with_cursors ks (world_of reads new.units p)) u (λ _. lost)) desk ∙ ap (λ (x : plain_world.World). with_cursors old.desk x) (whole t);
@@ -288,7 +288,8 @@ module _ {C : Type 0} {reads : List ℕ → Option Store} {place : C → ℕ} {s
       off t e = off-seen reads w o.now c (let s = standing-told begun t in known-off laws old.units o s.eight s.stand (sym (default-seen reads w o.now c) ∙ e))
 
       whole : IsTrue told → thrown_out (world_of reads new.units p) u (λ _. lost) ≡ thrown_out w u (λ _. lost)
-      whole t = ap (λ (x : plain_world.World). thrown_out x u (λ _. lost)) (looks.world t ∙ row t) ∙ own-alone sees c u moves within (own t) (off t) ∙ seen-alone reads w o.now c u (only t)
+      whole t = ap (λ (x : plain_world.World). thrown_out x u (λ _. lost)) (looks.world t ∙ row t)
+          ∙ ap (λ (x : plain_world.World). with_cursors (replicate 32 None) x) (own-alone sees c u moves within (own t) (off t) ∙ seen-alone reads w o.now c u (only t))
 
       its : IsTrue told → may_tear (with_cursors old.desk w) c u ≡ false → due_in old.units.slots.items u ≡ false → (writes sees c u ≡ true) ⊎ (looks_at c ≡ Some u) → changes u m.now ≡ changes u o.now
       its t tears sure (inr looked) = (Always-last (way t)).beside u (unwritten w c u u looked) (moves-unformed c u moves) (λ _. sure)

@@ -51,12 +51,13 @@ numbers-same f k zero (Some d ∷ xs) = go d.mounted d.media (filter_map placed 
     go true (one s) rest = refl
     go true (two a b) rest = refl
     go true lost rest = refl
-numbers-same f k (suc t) (o ∷ xs) = go (on_unit o)
+numbers-same f k (suc t) (o ∷ xs) = go (on_unit o) (numbers-same f (k + 1) t xs)
   where
-    go : (s : Option Store) → first_number (cons_option (option_map (λ (s : Store). (k, s)) s) (filter_map placed (enumerate_from (k + 1) (change_at t (λ (d : Device). record d { media = change_media f d.media }) xs))))
+    go : (s : Option Store) → first_number (filter_map placed (enumerate_from (k + 1) (change_at t (λ (d : Device). record d { media = change_media f d.media }) xs))) ≡ first_number (filter_map placed (enumerate_from (k + 1) xs))
+        → first_number (cons_option (option_map (λ (s : Store). (k, s)) s) (filter_map placed (enumerate_from (k + 1) (change_at t (λ (d : Device). record d { media = change_media f d.media }) xs))))
         ≡ first_number (cons_option (option_map (λ (s : Store). (k, s)) s) (filter_map placed (enumerate_from (k + 1) xs)))
-    go None = numbers-same f (k + 1) t xs
-    go (Some s) = refl
+    go None more = more
+    go (Some s) more = refl
 
 at-both : {X : Type 0} (m n : ℕ) (f g : X → X) (xs : List (Option X)) → (n ≡ m → ⊥) → change_at m f (change_at n g xs) ≡ change_at n g (change_at m f xs)
 at-both m n f g [] differ = refl
@@ -89,11 +90,11 @@ each-out P zero (o ∷ xs) h = here o (drop (on_unit o) h)
     here : (o : Option Device) → Each P (filter_map on_unit xs) → Each P (cons_option (on_unit (option_map outcast o)) (filter_map on_unit xs))
     here None k = k
     here (Some d) k = k
-each-out P (suc u) (o ∷ xs) h = keep (on_unit o) h
+each-out P (suc u) (o ∷ xs) h = keep (on_unit o) (each-out P u xs) h
   where
-    keep : (s : Option Store) → Each P (cons_option s (filter_map on_unit xs)) → Each P (cons_option s (filter_map on_unit (change_at u outcast xs)))
-    keep None k = each-out P u xs k
-    keep (Some s) k = (k.0, each-out P u xs k.1)
+    keep : (s : Option Store) → (Each P (filter_map on_unit xs) → Each P (filter_map on_unit (change_at u outcast xs))) → Each P (cons_option s (filter_map on_unit xs)) → Each P (cons_option s (filter_map on_unit (change_at u outcast xs)))
+    keep None more k = more k
+    keep (Some s) more k = (k.0, more k.1)
 
 -- ---- the cursors
 
@@ -158,10 +159,10 @@ module _ (w : World) (u to : ℕ) (name target : List ℕ) (sig into uid : ℕ) 
       ∙ sym settled-out
 
   -- the known world without the source
-  pub halfway-world : (ls : List (Option Cursor)) (x : World) → with_cursors ls x ≡ settle_reached new_entry (with_cursors ks mid) → (after : World) → thrown_out after u (λ _. lost) ≡ out → changed w moves ≡ change_store mid u without
+  pub halfway-world : (ls : List (Option Cursor)) (x : World) → with_cursors ls x ≡ settle_reached new_entry (with_cursors ks mid) → (after : World) → thrown_out after u (λ _. lost) ≡ out → with_cursors ks (changed w moves) ≡ with_cursors ks (change_store mid u without)
       → thrown_out (with_cursors ls after) u (λ _. lost) ≡ settle (thrown_out (changed (with_cursors ks w) moves) u (λ _. lost))
   halfway-world ls x is after eq row = ap (λ (v : World). with_cursors ls v) eq ∙ still ls x is ∙ ap settle (sym back)
     where
       back : thrown_out (changed (with_cursors ks w) moves) u (λ _. lost) ≡ with_cursors ks out
-      back = ap (λ (v : World). thrown_out v u (λ _. lost)) (changed-apart ks w moves (move_no_cursor u name uid to target) ∙ ap (with_cursors ks) row)
+      back = ap (λ (v : World). thrown_out v u (λ _. lost)) (changed-apart ks w moves (move_no_cursor u name uid to target) ∙ row)
           ∙ ap (λ (v : World). with_cursors ks v) (store-alone mid u without)

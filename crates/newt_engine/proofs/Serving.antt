@@ -51,7 +51,7 @@ err-device-both P Q R (Err fault) f h k = at-device-both P Q R fault f h k
 -- ---- with cursors and without
 
 module _ (ks : List (Option Cursor)) (w : plain_world.World) (c : Command) (none : uses_cursors c ≡ false) where
-  tears-with : (u : ℕ) → may_tear (with_cursors ks w) c u ≡ may_tear w c u
+  pub tears-with : (u : ℕ) → may_tear (with_cursors ks w) c u ≡ may_tear w c u
   tears-with u = ap (λ (o : Checks). (is_none (first_of o) && writes (with_cursors ks w) c u) && not (moves_away c u)) (checks-apart ks w c none)
       ∙ ap (λ b. (is_none (first_of (checks w c)) && b) && not (moves_away c u)) (writes_with ks w c u)
 

@@ -112,9 +112,9 @@ module _ (ks : List (Option Cursor)) (w : World) (closed : IsTrue (all_closed w)
   settled_after v later r done is = whole ∙ ap (λ (a : World × plain.Reply). (settle (with_cursors ks a.0), a.1)) done ∙ ap {A = World} (λ x. (x, r)) (sym is)
 
   -- what is done where nothing refuses it
-  pub done_changed : (v : World) (r : plain.Reply) → first_of (checks w c) ≡ None → answer w c ≡ (v, r) → v ≡ changed w c
+  pub done_changed : (ls : List (Option Cursor)) (v : World) (r : plain.Reply) → first_of (checks w c) ≡ None → answer w c ≡ (v, r) → with_cursors ls v ≡ with_cursors ls (changed w c)
   unfolding answer
-  done_changed v r passed done = sym (sym (ap (λ (o : Option Refusal). (answered w c o).0) passed) ∙ ap (λ (a : World × plain.Reply). a.0) done)
+  done_changed ls v r passed done = ap (with_cursors ls) (sym (ap (λ (a : World × plain.Reply). a.0) done) ∙ ap (λ (o : Option Refusal). (answered w c o).0) passed)
 
   -- to settle them is to settle those that the command reaches
   pub row_settled : settle (with_cursors ks (changed w c)) ≡ settle_reached (reach w c) (with_cursors ks (changed w c))

@@ -1,5 +1,5 @@
 -- Entries that are moved.
-use Rattle.std.proofs.Common.{◌≡◌, refl, ap, sym, ◌∙◌, subst, ℕ, List, [], ◌∷◌, ◌++◌, ◌⊎◌, inl, inr, false, Option, Some, None, option_and_then, replicate}
+use Rattle.std.proofs.Common.{◌≡◌, refl, ap, sym, ◌∙◌, subst, ℕ, List, [], ◌∷◌, ◌++◌, ◌⊎◌, inl, inr, Bool, false, Option, Some, None, option_and_then, replicate}
 use Rattle.std.specs.Bool.{⊤}
 use Rattle.std.specs.Prelude.{Result, Ok, Err, is_some}
 use Rattle.newt_base.specs.Refusals.{Checks, first_of}

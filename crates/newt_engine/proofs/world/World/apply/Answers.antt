@@ -1,14 +1,15 @@
 -- A refusal is a reply, and so is a device that failed: its unit is thrown out.
-use Rattle.std.proofs.Common.{◌≡◌, refl, sym, subst, ℕ, IsTrue, Some}
+use Rattle.std.proofs.Common.{◌≡◌, refl, ap, sym, ◌∙◌, subst, ℕ, IsTrue, Some}
 use Rattle.std.specs.Prelude.{IsSome}
 use Rattle.newt_host.specs.Moments.{MayLeave, changes, image}
 use Rattle.newt_host.proofs.Histories.{history-leaves}
 use Rattle.newt_spec_store.specs.Store.{Store}
 use Rattle.newt_spec_store.specs.Valid.{valid}
+use Rattle.newt_store_change.specs.declared.fault.StoreFault.TheVariants.{Stop}
 use Rattle.newt_engine_units.specs.Stands.{Eight}
 use Rattle.newt_engine_units.proofs.Known.{Laws}
 use Rattle.newt_engine.specs.Laws.{laws_of}
-use Rattle.newt_engine.proofs.Applied.{applied-done, applied-memory, applied-refused, applied-thrown, broke-stands}
+use Rattle.newt_engine.proofs.Applied.{applied-done, applied-memory, applied-refused, applied-thrown, broke-stands, served-as}
 use Rattle.newt_engine.proofs.Outcast.{slot-there}
 use Rattle.newt_engine.proofs.world.World.apply.Given.{Over}
 use Rattle.newt_engine.proofs.world.World.apply.Goals as goal
@@ -33,19 +34,22 @@ returns-in-Ok g c = applied-done (laws g) c.requires.stands (may_leave g c.args.
 pub returns-in-Err-Refused : goal.returns-in-Err-Refused
 returns-in-Err-Refused g c =
     let h = c.in-Err-Refused in
-    applied-refused (laws g) c.requires.stands (may_leave g c.args.host.now) (valid_there g c.args.host.now) h.refusal h.ensures
+    applied-refused (laws g) c.requires.stands (may_leave g c.args.host.now) (valid_there g c.args.host.now) h.refusal (served-as h.field-0-is h.ensures)
 
 pub throw_out-requires : goal.throw_out-requires
 throw_out-requires g c =
     let h = c.in-Err-Stop-Device in
-    let k = broke-stands h.unit h.ensures in
+    let k = broke-stands h.unit (served-as (h.field-0-is ∙ ap Stop h.field-0-0-is) h.ensures) in
     slot-there h.unit (units_are g c.serve.new.host) k.0 (subst IsSome (sym (h.ensures.alone.cards.card h.unit)) k.1)
 
 pub returns-in-Err-Stop-Device : goal.returns-in-Err-Stop-Device
 returns-in-Err-Stop-Device g c =
     let h = c.in-Err-Stop-Device in
     let k = c.throw_out.ensures in
-    applied-thrown (laws g) c.requires.stands (may_leave g c.args.host.now) (valid_there g c.args.host.now) (units_are g c.serve.new.host) h.unit h.ensures refl k.stands k.world
+    applied-thrown (laws g) c.requires.stands (may_leave g c.args.host.now) (valid_there g c.args.host.now) (units_are g c.serve.new.host) h.unit (served-as (h.field-0-is ∙ ap Stop h.field-0-0-is) h.ensures) refl
+    k.stands k.world
 
 pub returns-in-Err-Stop-Memory : goal.returns-in-Err-Stop-Memory
-returns-in-Err-Stop-Memory g c = applied-memory (laws g) c.requires.stands (may_leave g c.args.host.now) (valid_there g c.args.host.now) _ c.in-Err-Stop-Memory.ensures
+returns-in-Err-Stop-Memory g c =
+    let h = c.in-Err-Stop-Memory in
+    applied-memory (laws g) c.requires.stands (may_leave g c.args.host.now) (valid_there g c.args.host.now) _ (served-as (h.field-0-is ∙ ap Stop h.field-0-0-is) h.ensures)

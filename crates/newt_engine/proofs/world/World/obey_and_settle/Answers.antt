@@ -1,5 +1,5 @@
 -- The cursors are settled where keys may have changed.
-use Rattle.std.proofs.Common.{◌≡◌, ◌≤◌, ◌⊎◌, inl, ap, refl, sym, ◌∙◌, subst, true, IsTrue, Ok}
+use Rattle.std.proofs.Common.{◌≡◌, ◌≤◌, ◌⊎◌, inl, ap, refl, sym, ◌∙◌, subst, true, IsTrue, None, Ok, replicate}
 use Rattle.newt_engine_units.specs.Answers.{Answers}
 use Rattle.newt_engine_units.specs.Breaks.{FailsAlone, Meanwhile}
 use Rattle.newt_host.specs.Moments.{Moment, Always}
@@ -7,6 +7,7 @@ use Rattle.newt_host.proofs.Outside.{NoFault-append, OnDevices-append}
 use Rattle.newt_reply.specs.Said.{said}
 use Rattle.newt_laws_reach.specs.Reach.{Reach, entry_reached, is_of_one, reach}
 use Rattle.newt_laws_steps.specs.StandsFor.{seen}
+use Rattle.newt_laws_world.specs.Cursors.{with_cursors}
 use Rattle.newt_laws_world.specs.Settled.{IsSettled, MountedApart, moves_keys}
 use Rattle.newt_laws_answers.specs.Fetched.{meant, pages_there}
 use Rattle.newt_spec_world.specs.Answer.{answer}
@@ -54,7 +55,9 @@ returns-then-settles g c =
     subst (λ (a : World × plain.Reply). reached_by c.aim_of-aim.result a.0 a.1 ≡ reach sees command) (done.answered t)
     (c.aim_of-aim.ensures.aims o (record { eight = g.met.H.Host.eight c.args.host.now; none = g.met.H.Host.none c.args.host.now })
     (told_stands told a.units o c.requires.stands.stand t) (done.unrefused t moves)) in
-    let row : IsTrue told → v ≡ changed sees command = λ t. done_changed sees command v (said c.in-Ok.reply) (done.unrefused t moves) (done.answered t) in
+    let row : IsTrue told → v ≡ with_cursors (replicate 32 None) (changed sees command) = λ t.
+    (let k = seen-whole laws told a.units a.desk o c.requires.stands t command in
+    done_changed a.desk sees k.0 k.1 k.2 k.3 command c.requires.no_cursor (replicate 32 None) v (said c.in-Ok.reply) (done.unrefused t moves) (done.answered t)) in
     let apart : IsTrue told → MountedApart v = λ t.
     (let k = seen-whole laws told a.units a.desk o c.requires.stands t command in apart_after a.desk sees k.0 k.1 k.2 k.3 command c.requires.no_cursor v (said c.in-Ok.reply) (done.answered t)) in
     let answers : IsTrue told → Answers (seen reads (stood_for reads a o) o.now command) (stood_for reads c.settled.new.self p) command said c.settled.result = λ t.
@@ -82,7 +85,7 @@ returns-then-settles g c =
       cause = cause-after _ _ e.alone s.ends.cause;
       broke = err-device-both (λ u. FailsAlone m p u × (c.settled.new.self.desk ≡ c.obey.new.self.desk)) (λ u. IsTrue told → in_reach reached (mounted_store v u) ≡ true)
           (λ u. Fails reads g.C.Card.place g.C.Card.stands told command a c.settled.new.self o p u ⊎ FailsHalfway reads g.C.Card.place g.C.Card.stands told command a c.settled.new.self o p u) c.settled.result
-          (λ u f reaches. inl (settling-fails laws told c.requires.stands command c.requires.no_cursor c.requires.within moves (answer sees command).0 e.moments (λ t. done.unrefused t moves) row
+          (λ u f reaches. inl (settling-fails laws told c.requires.stands command c.requires.no_cursor c.requires.within moves c.obey.new.self c.settled.new.self m p (answer sees command).0 e.moments (λ t. done.unrefused t moves) row
           (λ t. subst MountedApart (row t) (apart t)) s.read (f.1 ∙ e.desk) u (fails-after e.alone.cards (done.no_fault tt) f.0)
           (λ t. subst (λ (x : World). in_reach (reach sees command) (mounted_store x u) ≡ true) (row t) (subst (λ (r : Reach). in_reach r (mounted_store v u) ≡ true) (is t) (reaches t)))))
           (err-device-both (FailsAlone m p) (λ u. c.settled.new.self.desk ≡ c.obey.new.self.desk) (λ u. FailsAlone m p u × (c.settled.new.self.desk ≡ c.obey.new.self.desk)) c.settled.result (λ u f same. (f, same)) s.ends.failed s.kept)
