@@ -36,6 +36,7 @@ use Rattle.newt_store_change.specs.Change.{pages_of_entry}
 use Rattle.newt_store_change.specs.Faults.{GoesOn, IsEnd}
 use Rattle.newt_store_change.specs.declared.change.Change.TheVariants as change
 use Rattle.newt_store_change.specs.declared.fault.StoreFault.{StoreFault}
+use Rattle.newt_pagebook.specs.Book.{IsOpenFor}
 use Rattle.newt_engine_card.specs.Bounds.{Costs, FetchesAtMost, of_unit}
 use Rattle.newt_engine_units.specs.Answers.{Answers}
 use Rattle.newt_engine_units.specs.Calls.{AreRead, Breaks, BreaksIn, Changes, CostsOf}

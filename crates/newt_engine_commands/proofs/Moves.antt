@@ -239,14 +239,14 @@ module _ (w : World) (u to : ℕ) (name target : List ℕ) (sig into uid : ℕ) 
       stores : (m : Moment) → Answering reads added between_command between_answer.0 b m → (j : ℕ) (y : Store) (left : List ℕ) → Among (stores_on w j) y → MayLeave j m left → (j ≡ to) ⊎ (j ≡ to → ⊥)
           → ReadsOneOf reads (stores_on w j ++ stores_on between_answer.0 j) left
       stores m at j y left d may (inl i) = subst (λ x. ReadsOneOf reads (stores_on w x ++ stores_on between_answer.0 x) left) (sym i)
-          (target (at.stores to (add k.store) left (subst (λ xs. Among xs (add k.store)) (sym (ap stores-at there-added.device_is)) (inl refl)) (subst (λ x. MayLeave x m left) i may)))
+          (on-target (at.stores to (add k.store) left (subst (λ xs. Among xs (add k.store)) (sym (ap stores-at there-added.device_is)) (inl refl)) (subst (λ x. MayLeave x m left) i may)))
         where
           -- what the target has then is what it has after the move
           later : stores_on between_answer.0 to ≡ add k.store ∷ []
           later = one-there between_answer.0 to (add k.store) (added-makes w refl was.passed)
 
-          target : ReadsOneOf reads (stores_on added to ++ stores_on between_answer.0 to) left → ReadsOneOf reads (stores_on w to ++ stores_on between_answer.0 to) left
-          target r = (add k.store, among-right (stores_on w to) (stores_on between_answer.0 to) (add k.store) (subst (λ xs. Among xs (add k.store)) (sym later) (inl refl)),
+          on-target : ReadsOneOf reads (stores_on added to ++ stores_on between_answer.0 to) left → ReadsOneOf reads (stores_on w to ++ stores_on between_answer.0 to) left
+          on-target r = (add k.store, among-right (stores_on w to) (stores_on between_answer.0 to) (add k.store) (subst (λ xs. Among xs (add k.store)) (sym later) (inl refl)),
               r.2 ∙ ap {B = Option Store} (λ x. Some x) (both r.0 (subst (λ xs. Among (xs ++ stores_on between_answer.0 to) r.0) (ap stores-at there-added.device_is) r.1)))
             where
               both : (x : Store) → (add k.store ≡ x) ⊎ Among (stores_on between_answer.0 to) x → x ≡ add k.store
