@@ -4,7 +4,7 @@ use Rattle.std.specs.Prelude.{Result, Ok, Err, IfErr, IsSome, is_some, slice_get
 use Rattle.newt_host.specs.Moments.{Moment, MayLeave, IsDurable, Always, Anything, AtMoment, LeftBy, On, Synced, bytes_after, changes, image, output, taken, here, later}
 use Rattle.newt_host.specs.Outside.{Outside}
 use Rattle.newt_host.proofs.Moments.{Always-append, Always-map, changes-other, changes-same, durable-sync}
-use Rattle.newt_spec_graph.proofs.Lists.{both-ways, none-some}
+use Rattle.newt_spec_graph.proofs.Lists.{both-ways, none-some, some-same}
 use Rattle.newt_spec_graph.specs.Lists.{Among}
 use Rattle.newt_laws_world.proofs.Units.{same-or-not, device-other}
 use Rattle.newt_spec_store.specs.Store.{Store}
@@ -223,7 +223,7 @@ module _ {C : Type 0} {reads : List ℕ → Option Store} {place : C → ℕ} {s
           let last : Meanwhile reads (due_in units.slots.items) w c after o.now m.now = on-unit at.laws units o at.eight s u Anything c after m.now there
           (λ x left h p. absurd (both-ways (sym (store-reads at.laws units o at.eight s u x h).sure ∙ due)))
           (λ is stays. blank-sure t due is)
-          (λ due formed. left-then t may) (λ unwritten unlooked. unlooked looks) in
+          (λ due formed. left-then t may) (λ unwritten unformed sure. both-ways (sym (sure looks) ∙ due)) in
           subst (λ k. Always (Meanwhile reads (due_in units.slots.items) w c after o.now) o.now k) (sym now)
           (later (On u Synced) o.now (here (unchanged-moment at.laws units o at.eight s c after o.now refl refl (λ j. refl))) (subst (Meanwhile reads (due_in units.slots.items) w c after o.now) now last))
 
@@ -284,6 +284,9 @@ module _ {C : Type 0} {reads : List ℕ → Option Store} {place : C → ℕ} {s
           go (inr other) = left-after (left-same j o.now m.now (others t j other))
               (a.unsure j (due-other units mid u sure-slot made.slots j other ∙ due) (λ is. absurd (both-ways (sym (ap (λ b. b && is_accepted (seen reads v m.now c) c) (only j other)) ∙ is))))
 
+      apart : (j : ℕ) → is_format_of c j ≡ false → j ≢ u
+      apart j unformed e = both-ways (sym (ap (λ b. b && is_accepted (seen reads w o.now c) c) (ap (is_format_of c) (sym e) ∙ unformed)) ∙ formed)
+
       behind : (k : Moment) → Meanwhile reads (due_in mid.slots.items) v c after m.now k → Meanwhile reads (due_in units.slots.items) w c after o.now k
       behind k b = let a = b.answering in record {
         answering = record {
@@ -295,8 +298,9 @@ module _ {C : Type 0} {reads : List ℕ → Option Store} {place : C → ℕ} {s
           others = λ j left is stays may. left-blank j left is (a.others j left (blank-kept j is) (stays-kept j is stays) may);
         };
         unsure = left-unsure k b;
-        beside = λ j unwritten unlooked. b.beside j (looks-write v c j (formats-looks (seen reads w o.now c) c u formed)) unlooked
-            ∙ others t j (λ is. unlooked (formats-looks (seen reads w o.now c) c u formed ∙ ap {B = Option ℕ} (λ n. Some n) (sym is)));
+        beside = λ j unwritten unformed sure.
+            let looks = formats-looks (seen reads w o.now c) c u formed in
+            b.beside j (looks-write v c j looks) unformed (λ is. absurd (apart j unformed (sym (some-same u j (sym looks ∙ is))))) ∙ others t j (apart j unformed);
       }
 
   -- ---- where the device fails behind it

@@ -13,7 +13,7 @@ use Rattle.newt_spec_store.specs.Store.{Store, new_store}
 use Rattle.newt_spec_world.specs.declared.command.Command.{Command}
 use Rattle.newt_spec_world.specs.declared.command.Command.TheVariants as command
 use Rattle.newt_spec_world.specs.First.{media_of}
-use Rattle.newt_spec_world.specs.Step.{formats, is_accepted, looks_at, writes}
+use Rattle.newt_spec_world.specs.Step.{formats, is_accepted, is_format_of, looks_at, writes}
 use Rattle.newt_spec_world.specs.World.{World, Device, Media, blank, one, two, lost, device, store_of, stores_of, store_on_unit, stores_on, IsBlankOn, change_store, change_media}
 use Rattle.newt_laws_steps.specs.Answering.{ReadsOneOf, StaysBlank}
 use Rattle.newt_laws_answers.specs.Tests.{formatted}
@@ -201,7 +201,7 @@ module _ {C : Type 0} {reads : List ℕ → Option Store} {place : C → ℕ} {s
       others = λ j left empty stays may. subst (λ c. LeftBy c left) (same j) may;
     };
     unsure = λ j due formed. left-same j o.now m (same j);
-    beside = λ j unwritten unlooked. same j;
+    beside = λ j unwritten unformed sure. same j;
   }
 
   pub still-moments : (c : Command) (v : World) (now : Moment) → now ≡ o.now → Always (Meanwhile reads (due_in units.slots.items) w c v o.now) o.now now
@@ -211,7 +211,7 @@ module _ {C : Type 0} {reads : List ℕ → Option Store} {place : C → ℕ} {s
   pub on-unit : (u : ℕ) (P : List ℕ → Type 0) (c : Command) (v : World) (m : Moment) → AtMoment u P o.now m
       → ((x : Store) (left : List ℕ) → Among (stores_on w u) x → P left → ReadsOneOf reads (stores_on w u ++ stores_on v u) left)
       → (IsBlankOn w u → StaysBlank w c v u → ⊥) → (due_in units.slots.items u ≡ true → HasStoreToFormat reads w c u o.now → IsLeftAs u o.now m)
-      → (writes w c u ≡ false → looks_at c ≢ Some u → ⊥)
+      → (writes w c u ≡ false → is_format_of c u ≡ false → (looks_at c ≡ Some u → due_in units.slots.items u ≡ false) → ⊥)
       → Meanwhile reads (due_in units.slots.items) w c v o.now m
   on-unit u P c v m at stores none its touched = record {
     answering = record {
@@ -222,7 +222,8 @@ module _ {C : Type 0} {reads : List ℕ → Option Store} {place : C → ℕ} {s
       others = λ j left empty stays may. subst (λ c. LeftBy c left) (at.others j (other j empty stays)) may;
     };
     unsure = λ j due formed. left-of j due formed (same-or-not j u);
-    beside = λ j unwritten unlooked. at.others j (λ is. touched (subst (λ k. writes w c k ≡ false) is unwritten) (subst (λ k. looks_at c ≢ Some k) is unlooked));
+    beside = λ j unwritten unformed sure. at.others j (λ is. touched (subst (λ k. writes w c k ≡ false) is unwritten) (subst (λ k. is_format_of c k ≡ false) is unformed)
+        (subst (λ k. looks_at c ≡ Some k → due_in units.slots.items k ≡ false) is sure));
   }
     where
       left-of : (j : ℕ) → due_in units.slots.items j ≡ true → HasStoreToFormat reads w c j o.now → (j ≡ u) ⊎ (j ≡ u → ⊥) → IsLeftAs j o.now m
@@ -241,7 +242,7 @@ module _ {C : Type 0} {reads : List ℕ → Option Store} {place : C → ℕ} {s
   pub either-moments : (u : ℕ) (a b : Store) (tests : Checks) (c : Command) (v : World) (now : Moment) → store_on_unit w u ≡ Some a → writes w c u ≡ true → (first_of tests ≡ None → store_on_unit v u ≡ Some b)
       → Leaves u (LeavesEither reads tests a b) o.now now → Always (Meanwhile reads (due_in units.slots.items) w c v o.now) o.now now
   either-moments u a b tests c v now has written makes leaves = Always-map (λ m at. on-unit u (LeavesEither reads tests a b) c v m at either (λ empty stays. not-blank w u a has empty)
-      (λ due formed. absurd (both-ways (sym (store-reads u a (one-store w u a has)).sure ∙ due))) (λ unwritten unlooked. both-ways (sym unwritten ∙ written))) leaves
+      (λ due formed. absurd (both-ways (sym (store-reads u a (one-store w u a has)).sure ∙ due))) (λ unwritten unformed sure. both-ways (sym unwritten ∙ written))) leaves
     where
       either : (x : Store) (left : List ℕ) → Among (stores_on w u) x → LeavesEither reads tests a b left → ReadsOneOf reads (stores_on w u ++ stores_on v u) left
       either x left h (inl k) = (a, among-left (stores_on w u) (stores_on v u) a (one-store w u a has), k)
@@ -251,7 +252,7 @@ module _ {C : Type 0} {reads : List ℕ → Option Store} {place : C → ℕ} {s
   pub anything-moments : (u : ℕ) (b : Store) (c : Command) (v : World) (now : Moment) → IsBlankOn w u → formats w c u ≡ true → store_on_unit v u ≡ Some b → due_in units.slots.items u ≡ false → Leaves u Anything o.now now
       → Always (Meanwhile reads (due_in units.slots.items) w c v o.now) o.now now
   anything-moments u b c v now empty formatting makes sure leaves = Always-map (λ m at. on-unit u Anything c v m at (λ x left h p. absurd (blank-none w u x empty h)) (λ _ stays. formed stays)
-      (λ due form. absurd (both-ways (sym sure ∙ due))) (λ unwritten unlooked. unlooked (formats-looks w c u formatting))) leaves
+      (λ due form. absurd (both-ways (sym sure ∙ due))) (λ unwritten unformed looked. both-ways (sym (ap (λ b. b && is_accepted w c) unformed) ∙ formatting))) leaves
     where
       formed : StaysBlank w c v u → ⊥
       formed (inl k) = both-ways (sym k ∙ formatting)

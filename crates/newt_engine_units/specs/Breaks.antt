@@ -7,7 +7,7 @@ use Rattle.newt_laws_steps.specs.StandsFor.{seen}
 use Rattle.newt_pagebook.specs.declared.book.Stop.{Stop}
 use Rattle.newt_pagebook.specs.declared.book.Stop.TheVariants.{Memory, Device}
 use Rattle.newt_spec_store.specs.Store.{Store}
-use Rattle.newt_spec_world.specs.Step.{formats, looks_at, writes}
+use Rattle.newt_spec_world.specs.Step.{formats, is_format_of, looks_at, writes}
 use Rattle.newt_spec_world.specs.World.{World}
 use Rattle.newt_spec_world.specs.declared.command.Command.{Command}
 use Rattle.newt_store_change.specs.declared.fault.StoreFault.{StoreFault}
@@ -37,8 +37,8 @@ abbrev pub HasStoreToFormat : (List ℕ → Option Store) → World → Command 
 HasStoreToFormat reads w c u now = formats (seen reads w now c) c u ≡ true → IsSome (reads (image u now))
 
 -- What holds at each moment while a command turns the world w into v, where of these units a sync is due, and w does not know what they hold: a unit that w knows is
--- left as it has it, or v; one of which a sync is due is left as it was, unless it is formatted; and nothing has happened to a unit that is neither written nor looked at.
+-- left as it has it, or v; one of which a sync is due is left as it was, unless it is formatted; and nothing has happened to a unit that is neither written nor formatted, nor looked at where a sync of it is due.
 pub record Meanwhile (reads : List ℕ → Option Store) (due : ℕ → Bool) (w : World) (c : Command) (v : World) (start now : Moment) : Type 0 where
   pub answering : Answering reads w c v start now
   pub unsure : (u : ℕ) → due u ≡ true → HasStoreToFormat reads w c u start → IsLeftAs u start now
-  pub beside : (u : ℕ) → writes w c u ≡ false → looks_at c ≢ Some u → changes u now ≡ changes u start
+  pub beside : (u : ℕ) → writes w c u ≡ false → is_format_of c u ≡ false → (looks_at c ≡ Some u → due u ≡ false) → changes u now ≡ changes u start
