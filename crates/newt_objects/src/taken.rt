@@ -148,8 +148,8 @@ fn take_rows(flags: &mut Vec<bool>, rows: &BTreeMap<u32, Option<Extent>>) -> boo
     true
 }
 
-// Whether the flag of a place is set.
-fn has_flag(flags: &[bool], place: u32) -> bool
+/// Whether the flag of a place is set.
+pub(crate) fn has_flag(flags: &[bool], place: u32) -> bool
     ensures { IsTrue result → slice_get flags.now place ≡ Some true }
 {
     let place = place as usize;
@@ -185,7 +185,8 @@ fn make_full(taken: &mut Taken, group: u32)
     }
 }
 
-/// Whether all page numbers of a group are had. Where they are, this is known from then on.
+/// Whether all page numbers of a group are had, by their flags. Where they are, this is known from
+/// then on.
 pub(crate) fn is_full(taken: &mut Taken, group: u32) -> bool
     requires inside { group < 2048 }
     requires size { length taken.old.flags.items ≡ 65536 }
@@ -194,7 +195,7 @@ pub(crate) fn is_full(taken: &mut Taken, group: u32) -> bool
     ensures full { AreFull taken.new }
     ensures yes { IsTrue result → IsFull taken.old.flags.items group }
 {
-    let full = has_flag(&taken.full, group) || are_set(&taken.flags, group);
+    let full = are_set(&taken.flags, group);
     if full {
         make_full(taken, group);
     }
@@ -234,6 +235,20 @@ pub(crate) fn taken_by(
         return Ok(Some(taken));
     }
     Ok(None)
+}
+
+/// Raises the bound over the groups that are known to be full.
+pub(crate) fn raise(taken: &mut Taken)
+    requires full { AreFull taken.old }
+    ensures flags { taken.new.flags.items ≡ taken.old.flags.items }
+    ensures full { AreFull taken.new }
+{
+    for group in taken.low..GROUPS {
+        if !has_flag(&taken.full, group) {
+            return;
+        }
+        taken.low = group + 1;
+    }
 }
 
 /// Makes known which page numbers the objects have, unless two of them have one number.
