@@ -34,6 +34,7 @@ returns-in-Quit g c = record {
   answered = λ outside eight stand. let w = world_of g.C.Card.reads c.args.self.now.units outside in subst (λ x. answer w x ≡ (w, plain.done)) (sym c.in-Quit.is) (quit-done w refl);
   desk = refl;
   device = tt;
+  quiet = λ u. refl;
   ends = λ none. tt;
 }
 
