@@ -142,15 +142,15 @@ returns-in_err-reply g c name target both =
     (err_from_is_err_and c.from_residual-in_err-reply.result c.from_residual-in_err-reply.ensures.1)
     (λ t. s.only) (λ goes. s.read.stand) s.desk (λ t. with-moments (b t) first (o c.settled.new.host).now s.read.moment) (λ t. settled-costs (b t) first s.read (few t))
     (ends-after read.ends tt (ends-after (ends-change first) tt s.ends))
-    (err-device-both (λ v. FailsAlone (o c.change.new.host) (o c.settled.new.host) v × (c.settled.new.self.desk ≡ start.desk))
+    (err-device-both {T = Shown} (λ v. FailsAlone (o c.change.new.host) (o c.settled.new.host) v × (c.settled.new.self.desk ≡ start.desk))
     (λ v. IsTrue g.H.Host.told → in_reach (reached_by c.aim_into-aim.result x2 (Reply.number n)) (mounted_store x2 v) ≡ true)
     (λ v. Fails g.C.Card.reads g.C.Card.place g.C.Card.stands g.H.Host.told cmd start c.settled.new.self (o c.args.host.now) (o c.settled.new.host) v
-    ⊎ FailsHalfway g.C.Card.reads g.C.Card.place g.C.Card.stands g.H.Host.told cmd start c.settled.new.self (o c.args.host.now) (o c.settled.new.host) v) (Err {A = Shown} c.in_err-reply.field-0.0)
+    ⊎ FailsHalfway g.C.Card.reads g.C.Card.place g.C.Card.stands g.H.Host.told cmd start c.settled.new.self (o c.args.host.now) (o c.settled.new.host) v) (Err c.in_err-reply.field-0.0)
     (λ v f reaches. inl (target-fails b first s.read f.1 v (fails-after read.looks.alone.cards (read.ends.no_fault tt) (fails-after first.alone.cards (first.no_fault tt) f.0))
     (λ t. subst (λ (r : Reach). in_reach r (mounted_store x2 v) ≡ true) (aimed t) (reaches t))))
-    (err-device-both (FailsAlone (o c.change.new.host) (o c.settled.new.host)) (λ v. c.settled.new.self.desk ≡ start.desk) (λ v. FailsAlone (o c.change.new.host) (o c.settled.new.host) v × (c.settled.new.self.desk ≡ start.desk))
-    (Err {A = Shown} c.in_err-reply.field-0.0) (λ v f same. (f, same)) s.ends.failed s.kept)
-    (told-device (IsTrue g.H.Host.told) (λ v. in_reach (reached_by c.aim_into-aim.result x2 (Reply.number n)) (mounted_store x2 v) ≡ true) (Err {A = Shown} c.in_err-reply.field-0.0) s.own))
+    (err-device-both {T = Shown} (FailsAlone (o c.change.new.host) (o c.settled.new.host)) (λ v. c.settled.new.self.desk ≡ start.desk) (λ v. FailsAlone (o c.change.new.host) (o c.settled.new.host) v × (c.settled.new.self.desk ≡ start.desk))
+    (Err c.in_err-reply.field-0.0) (λ v f same. (f, same)) s.ends.failed s.kept)
+    (told-device {T = Shown} (IsTrue g.H.Host.told) (λ v. in_reach (reached_by c.aim_into-aim.result x2 (Reply.number n)) (mounted_store x2 v) ≡ true) (Err c.in_err-reply.field-0.0) s.own))
 
 pub returns-in_err-change : goal.returns-in_err-change
 returns-in_err-change g c name target both =
