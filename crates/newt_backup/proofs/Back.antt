@@ -1,5 +1,5 @@
 -- A backup is read back as its store, and what is not read is no backup.
-use Rattle.std.proofs.Common.{◌≡◌, refl, sym, ◌∙◌, ap, subst, ℕ, ◌+◌, ◌<◌, Bool, true, false, List, [], ◌∷◌, ◌++◌, map, length, All, Option, Some, None, arith, append_assoc, nat_le}
+use Rattle.std.proofs.Common.{◌≡◌, refl, sym, ◌∙◌, ap, subst, ℕ, ◌+◌, ◌<◌, ◌≤◌, Bool, true, false, List, [], ◌∷◌, ◌++◌, map, length, All, Option, Some, None, arith, append_assoc, nat_le}
 use Rattle.std.specs.Prelude.{option_map, ◌&&◌, IfSome}
 use Rattle.std.specs.List.{list_all, sum_by}
 use Rattle.std.proofs.lemmas.Bool.{and_parts}
@@ -23,7 +23,7 @@ use Rattle.newt_spec_store.specs.Cost.{directory_bytes, entry_pages, soup_pages,
 use Rattle.newt_spec_store.specs.Image.{all_entries}
 use Rattle.newt_spec_store.specs.Laid.{bare}
 use Rattle.newt_spec_store.specs.Lies.{directory_read}
-use Rattle.newt_spec_store.specs.Valid.{valid_soup, well_formed, fits}
+use Rattle.newt_spec_store.specs.Valid.{valid_soup, well_formed, fits, valid}
 use Rattle.newt_laws_images.proofs.Directories.{directory-parts, directory-infos}
 use Rattle.newt_laws_images.proofs.Stores.{is-store, store-is}
 use Rattle.newt_laws_images.proofs.Totals.{total, sum-total}
@@ -34,7 +34,7 @@ use Rattle.newt_backup.specs.Checks.{are_of}
 use Rattle.newt_backup.specs.Contents.{as_entry, told, store_in, IsSound, AreKept}
 use Rattle.newt_backup.proofs.Bounds.{store-total}
 use Rattle.newt_backup.proofs.Contents.{directory-same, entries-same, own-length}
-use Rattle.newt_backup.proofs.Kept.{kept-formed}
+use Rattle.newt_backup.proofs.Kept.{kept-formed, valid-most}
 use Rattle.newt_backup.proofs.One.{fulls-read, directory-kept}
 use Rattle.newt_backup.proofs.Passing.{soups-pass, soups-passed}
 use Rattle.newt_backup.proofs.Texts.{packed-read}
@@ -142,6 +142,20 @@ contents-kept s k = rw (packed-read (directory_bytes s) (fulls s), directory-kep
 pub nothing-read : (g : RawGraph) → contents_read (texts_from [] g.nodes) ≡ None → Unbacked g
 nothing-read g h = λ s k e. none-some (bare s, all_entries s) (sym h ∙ ap (λ g. contents_read (texts_from [] g.nodes)) (sym e) ∙ contents-kept s k)
 
+-- a directory and entries that are those of a store
+pub found-store : (s : Store) (d : Directory) (es : List FullEntry) → IsKept s → bare s ≡ bare_store d → all_entries s ≡ map told es → AreKept d es × (store_in d es ≡ s)
+found-store s d es k b xs =
+    let whole : store_in d es ≡ s = ap (λ b. together b (map told es)) (sym b) ∙ ap (λ xs. together (bare s) xs) (sym xs) ∙ store-together s (kept-formed s k) in
+    (record { kept = subst IsKept (sym whole) k; in_order = ap (λ b. left_over b.soups (map told es)) (sym b) ∙ ap (λ xs. left_over (bare s).soups xs) (sym xs) ∙ none-left s (kept-formed s k) }, whole)
+
+-- a store on a unit, whose entries are these
+pub store-kept : (n : ℕ) (s : Store) (es : List FullEntry) → n ≤ 4099 → valid n s ≡ true → Each (λ (p : Soup). IfSome p.info IsGraph) s.soups → all_entries s ≡ map told es → All IsSound es → IsKept s
+store-kept n s es h v infos e sound = record {
+  valid = valid-most n s h v;
+  infos = infos;
+  graphs = subst (λ xs. Each (λ (x : ℕ × Entry). IsGraph x.1.graph × (x.1.time < 4294967296)) xs) (sym e) (sound-each es sound);
+}
+
 -- the store that has a backup is that of the directory and the entries that are read
 pub the-store : (g : RawGraph) (d : Directory) (es : List FullEntry) (s : Store) → contents_read (texts_from [] g.nodes) ≡ Some (bare_store d, map told es) → IsKept s → backup s ≡ g
     → AreKept d es × (store_in d es ≡ s)
@@ -150,8 +164,7 @@ the-store g d es s h k e =
     (sym (contents-kept s k) ∙ ap (λ g. contents_read (texts_from [] g.nodes)) e ∙ h) in
     let b : bare s ≡ bare_store d = ap {A = Store × List (ℕ × Entry)} {B = Store} (λ x. x.0) same in
     let xs : all_entries s ≡ map told es = ap {A = Store × List (ℕ × Entry)} {B = List (ℕ × Entry)} (λ x. x.1) same in
-    let whole : store_in d es ≡ s = ap (λ b. together b (map told es)) (sym b) ∙ ap (λ xs. together (bare s) xs) (sym xs) ∙ store-together s (kept-formed s k) in
-    (record { kept = subst IsKept (sym whole) k; in_order = ap (λ b. left_over b.soups (map told es)) (sym b) ∙ ap (λ xs. left_over (bare s).soups xs) (sym xs) ∙ none-left s (kept-formed s k) }, whole)
+    found-store s d es k b xs
 
 -- a directory is read from the bytes of a text
 the-directory : (texts : List (List ℕ)) (d : Store) (xs : List (ℕ × Entry)) → contents_read texts ≡ Some (d, xs) → (bytes : List ℕ) × (directory_read stream_graph 2 bytes ≡ Some d)

@@ -18,7 +18,7 @@ use Rattle.newt_soupdir.specs.Bare.{bare_store, bare_soup as row_soup}
 use Rattle.newt_backup.specs.declared.entry.FullEntry.{FullEntry}
 use Rattle.newt_backup.specs.Backup.{full, fulls, packed, backup, CanPack}
 use Rattle.newt_backup.specs.Together.{with_own, others, left_over, together}
-use Rattle.newt_backup.specs.Contents.{told, text_of, store_in, AreKept}
+use Rattle.newt_backup.specs.Contents.{told, text_of, store_in, AreKept, IsSmall}
 use Rattle.newt_backup.proofs.Kept.{kept-formed, kept-packs}
 use Rattle.newt_backup.proofs.One.{Fits as Small, entries-fit}
 use Rattle.newt_backup.proofs.Together.{entries-back}
@@ -70,7 +70,7 @@ pub can-pack : (d : Directory) (es : List FullEntry) → AreKept d es → CanPac
 can-pack d es k = subst (λ b. CanPack b (map text_of es)) (directory-same (bare_store d) (map told es)) (subst (λ ts. CanPack (directory_bytes (store_in d es)) ts) (texts-same d es k) (kept-packs (store_in d es) k.kept))
 
 -- each entry's soup has a short signature, and its text is not too long
-pub entries-small : (d : Directory) (es : List FullEntry) → AreKept d es → All (λ (e : FullEntry). (e.soup < 65536) × (length (text_of e) ≤ 7_989_000)) es
+pub entries-small : (d : Directory) (es : List FullEntry) → AreKept d es → All IsSmall es
 entries-small d es k = small es 0 (subst (λ xs. Each (λ (x : ℕ × Entry). x.0 < 65536) xs) (entries-same d es k.in_order) (sigs (all_entries (store_in d es)) (entries-fit (store_in d es) k.kept)))
     (more (length (directory_bytes (bare_store d))) (sum_by (λ (text : List ℕ). length text) (map text_of es)) (can-pack d es k).short)
   where
@@ -82,7 +82,7 @@ entries-small d es k = small es 0 (subst (λ xs. Each (λ (x : ℕ × Entry). x.
     sigs (x ∷ xs) h = (h.0.0, sigs xs h.1)
 
     small : (es : List FullEntry) (n : ℕ) → Each (λ (x : ℕ × Entry). x.0 < 65536) (map told es) → n + sum_by (λ (text : List ℕ). length text) (map text_of es) ≤ 7_989_000
-        → All (λ (e : FullEntry). (e.soup < 65536) × (length (text_of e) ≤ 7_989_000)) es
-    small [] n h l = All-nil (λ (e : FullEntry). (e.soup < 65536) × (length (text_of e) ≤ 7_989_000))
-    small (e ∷ es) n h l = All-cons (λ (e : FullEntry). (e.soup < 65536) × (length (text_of e) ≤ 7_989_000)) e es (h.0, omega (arith, l, sum_by-cons (λ (text : List ℕ). length text) (text_of e) (map text_of es)))
+        → All IsSmall es
+    small [] n h l = All-nil IsSmall
+    small (e ∷ es) n h l = All-cons IsSmall e es (h.0, omega (arith, l, sum_by-cons (λ (text : List ℕ). length text) (text_of e) (map text_of es)))
         (small es (n + length (text_of e)) h.1 (omega (arith, l, sum_by-cons (λ (text : List ℕ). length text) (text_of e) (map text_of es))))

@@ -323,14 +323,14 @@ rest-payload d es = rw (
 pub nodes-light : (d : List ℕ) (es : List (List ℕ)) → CanPack d es → sum_by payload (packed d es).nodes ≤ 7_989_000
 nodes-light d es h = rw (in-two d es, sum_by-append payload (first-six d es) (rest d es)) (omega (arith, six-payload d es, head-short 500_000 d, rest-payload d es, h.short))
 
+six-plain : (d : List ℕ) (es : List (List ℕ)) → All NotFour (first-six d es)
+unfolding first-six
+six-plain d es = All-from_recursion NotFour (first-six d es) ((λ e. absurd (omega (arith, e))), (tt, (tt, (tt, (tt, (tt, tt))))))
+
 -- its one frame has two slots
 pub packed-plain : (d : List ℕ) (es : List (List ℕ)) → CanPack d es → All NotFour (packed d es).nodes
-packed-plain d es h = rw (in-two d es) (All-append NotFour (first-six d es) (rest d es) (front d es) (others (rest d es) (rest-other d es h)))
+packed-plain d es h = rw (in-two d es) (All-append NotFour (first-six d es) (rest d es) (six-plain d es) (others (rest d es) (rest-other d es h)))
   where
-    front : (d : List ℕ) (es : List (List ℕ)) → All NotFour (first-six d es)
-    unfolding first-six
-    front d es = All-from_recursion NotFour (first-six d es) ((λ e. absurd (omega (arith, e))), (tt, (tt, (tt, (tt, (tt, tt))))))
-
     others : (xs : List Node) → All Other xs → All NotFour xs
     others xs h = λ k d lt. one (get_or xs k d) (h k d lt)
       where

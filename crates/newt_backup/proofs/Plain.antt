@@ -39,7 +39,7 @@ number-new met = has_none_yet [] met (upto met) (are-numbered met)
 
 upto-length : (n : ℕ) → length (upto n) ≡ n
 upto-length zero = refl
-upto-length (suc n) = length-append (upto n) (n ∷ []) ∙ add-one ∙ ap suc (upto-length n)
+upto-length (suc n) = omega (arith, length-append (upto n) (n ∷ []), upto-length n)
 
 in-front : (test : ℕ → Bool) (i q : ℕ) (xs ys : List ℕ) → position_from test i xs ≡ Some q → position_from test i (xs ++ ys) ≡ Some q
 in-front test i q [] ys e = absurd cc

@@ -1,5 +1,5 @@
 -- A directory and entries as a program has them, and the store that they are.
-use Rattle.std.specs.Prelude.{◌≡◌, ◌<◌, ℕ, List, [], map}
+use Rattle.std.specs.Prelude.{◌≡◌, ◌<◌, ◌≤◌, ℕ, List, [], length, map}
 use Rattle.newt_graph.specs.Graph.{IsGraph}
 use Rattle.newt_spec_store.specs.Store.{Entry, Store}
 use Rattle.newt_soupdir.specs.declared.rows.Directory.{Directory}
@@ -27,6 +27,10 @@ store_in d es = together (bare_store d) (map told es)
 -- what the type of an entry says of it: its graph is in normal form, and its minute fits in four bytes
 abbrev pub IsSound : FullEntry → Type 0
 IsSound e = IsGraph e.graph × (e.time < 4294967296)
+
+-- what holds of each entry of a store of some unit: its soup's signature fits in two bytes, and its text is no longer than all texts may be
+abbrev pub IsSmall : FullEntry → Type 0
+IsSmall e = (e.soup < 65536) × (length (text_of e) ≤ 7_989_000)
 
 -- They are a store of some unit, and the entries stand in its order.
 pub record AreKept (d : Directory) (es : List FullEntry) : Type 0 where

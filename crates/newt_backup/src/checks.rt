@@ -1,5 +1,6 @@
 //! Whether a directory and entries are a store.
-ghost use Rattle.std.specs.Prelude.{◌≡◌, ◌≤◌, ◌<◌, ◌+◌, ◌^◌, nat_le, length, map, flat_map, sum, All, option_map};
+ghost use Rattle.std.specs.Prelude.{◌≡◌, ◌≤◌, ◌<◌, ◌+◌, ◌^◌, nat_le, length, map, flat_map, sum};
+ghost use Rattle.std.specs.Prelude.{All, option_map};
 ghost use Rattle.std.specs.List.{sum_by};
 ghost use Rattle.newt_graph.specs.Graph.{IsGraph, payload};
 ghost use Rattle.newt_spec_image.specs.Objects.{pages_for};
@@ -28,7 +29,8 @@ fn is_entry(entry: &FullEntry) -> bool
 
 /// The entries behind those of a soup at the front, where these may be its entries.
 fn behind<'a>(row: &SoupRow, entries: &'a [FullEntry]) -> Option<&'a [FullEntry]>
-    ensures { option_map (λ rest. map told rest.now) result ≡ behind row.now.sig row.now.next_uid 0 (map told entries.now) }
+    ensures { option_map (λ rest. map told rest.now) result
+        ≡ behind row.now.sig row.now.next_uid 0 (map told entries.now) }
 {
     let mut low = 0;
     let mut left = entries;
@@ -142,7 +144,8 @@ fn entry_pages(entry: &FullEntry) -> u64
 /// Whether a directory of so many bytes and entries fit on the largest unit.
 pub(crate) fn fit(size: usize, entries: &[FullEntry]) -> bool
     requires { size < 2 ^ 63 }
-    ensures { result ≡ nat_le (pages_for size + sum_by (λ e. entry_pages (as_entry e)) entries.now) 15978 }
+    ensures { result ≡ nat_le (pages_for size + sum_by (λ e. entry_pages (as_entry e)) entries.now)
+        15978 }
 {
     let mut pages = pages_for(size as u64);
     let mut left = entries;

@@ -53,7 +53,8 @@ pub(crate) fn put_pieces(
 pub(crate) fn put_cut(alloc: Global, nodes: &mut Vec<Node>, bytes: &[u8]) -> Result<(), AllocError>
     requires few { length nodes.old.items + (1 + piece_count bytes.now) ≤ 65535 }
     requires short { length bytes.now ≤ 100000000 }
-    ensures { OnOk result (nodes.new.items ≡ nodes.old.items ++ cut (length nodes.old.items) bytes.now) }
+    ensures { OnOk result (nodes.new.items
+        ≡ nodes.old.items ++ cut (length nodes.old.items) bytes.now) }
 {
     let at = nodes.len() as u32;
     let mut values = Vec::new(alloc);

@@ -27,3 +27,6 @@ pub use fault::BackupFault;
 pub use laws::{backups_are_graphs, backups_are_of_one_store};
 pub use pack::pack_backup;
 pub use read::read_backup;
+
+#[cfg(test)]
+mod tests;

@@ -3,7 +3,7 @@ ghost use Rattle.std.specs.Prelude.{◌≡◌, ◌≤◌, ◌<◌, ◌+◌, ◌+
 ghost use Rattle.std.specs.List.{sum_by};
 ghost use Rattle.newt_spec_nsof.specs.Lengths.{large_len};
 ghost use Rattle.newt_backup.specs.Backup.{cuts, cuts_at, packed, full, piece_count};
-ghost use Rattle.newt_backup.specs.Contents.{text_of};
+ghost use Rattle.newt_backup.specs.Contents.{text_of, IsSmall};
 
 use crate::cutting::{pieces_for, put_cut};
 use crate::entry::FullEntry;
@@ -59,7 +59,8 @@ fn full_len(entry: &FullEntry) -> u64
     requires { length (text_of entry.now) ≤ 7_989_000 }
     ensures { result ≡ length (text_of entry.now) }
 {
-    HEAD as u64 + skeleton_len(&entry.graph) + larges_len(entry.graph.nodes())
+    let nodes = entry.graph.nodes();
+    HEAD as u64 + skeleton_len(&entry.graph) + larges_len(nodes)
 }
 
 /// How many pieces an entry has.
@@ -76,9 +77,11 @@ pub(crate) fn put_cuts(
     nodes: &mut Vec<Node>,
     entries: &[FullEntry],
 ) -> Result<(), AllocError>
-    requires fit { All (λ e. (e.soup < 65536) × (length (text_of e) ≤ 7_989_000)) entries.now }
-    requires few { length nodes.old.items + length (cuts (length nodes.old.items) (map text_of entries.now)) ≤ 65535 }
-    ensures { OnOk result (nodes.new.items ≡ nodes.old.items ++ cuts (length nodes.old.items) (map text_of entries.now)) }
+    requires fit { All IsSmall entries.now }
+    requires few { length nodes.old.items
+        + length (cuts (length nodes.old.items) (map text_of entries.now)) ≤ 65535 }
+    ensures { OnOk result (nodes.new.items
+        ≡ nodes.old.items ++ cuts (length nodes.old.items) (map text_of entries.now)) }
 {
     let mut left = entries;
     while let [entry, rest @ ..] = left {
@@ -91,7 +94,7 @@ pub(crate) fn put_cuts(
 
 /// The numbers of these cuts, of which the first is node `at`.
 pub(crate) fn numbers(alloc: Global, at: u32, entries: &[FullEntry]) -> Result<Vec<Ref>, AllocError>
-    requires fit { All (λ e. (e.soup < 65536) × (length (text_of e) ≤ 7_989_000)) entries.now }
+    requires fit { All IsSmall entries.now }
     requires few { at + length (cuts at (map text_of entries.now)) ≤ 65535 }
     ensures { IfOk result (λ v. v.items ≡ cuts_at at (map text_of entries.now)) }
 {

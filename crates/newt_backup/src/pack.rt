@@ -1,9 +1,9 @@
 //! A store packed as its backup.
-ghost use Rattle.std.specs.Prelude.{◌≡◌, ◌≤◌, ◌<◌, ◌++◌, ◌∷◌, [], codes, length, map, All, OnOk, IfOk};
+ghost use Rattle.std.specs.Prelude.{◌≡◌, ◌≤◌, ◌++◌, ◌∷◌, [], codes, length, map, All, OnOk, IfOk};
 ghost use Rattle.newt_graph.specs.declared.node.Node.TheVariants.{Symbol, Frame};
 ghost use Rattle.newt_graph.specs.declared.node.Ref.TheVariants.{Node as At};
 ghost use Rattle.newt_backup.specs.Backup.{first_cut, packed, backup, CanPack};
-ghost use Rattle.newt_backup.specs.Contents.{text_of, store_in, AreKept};
+ghost use Rattle.newt_backup.specs.Contents.{text_of, store_in, IsSmall, AreKept};
 
 use crate::cutting::{CLASS, PIECE, pieces_for, put_pieces, put_row};
 use crate::entry::FullEntry;
@@ -30,7 +30,9 @@ fn frame(alloc: Global, entries_at: u32) -> Result<Node, AllocError>
 
 /// The frame, and its tags.
 fn put_frame(alloc: Global, nodes: &mut Vec<Node>, entries_at: u32) -> Result<(), AllocError>
-    ensures { OnOk result (nodes.new.items ≡ nodes.old.items ++ (Frame (1 ∷ 2 ∷ []) (At 3 ∷ At entries_at ∷ []) ∷ Symbol (codes "directory") ∷ Symbol (codes "entries") ∷ [])) }
+    ensures { OnOk result (nodes.new.items ≡ nodes.old.items
+        ++ (Frame (1 ∷ 2 ∷ []) (At 3 ∷ At entries_at ∷ []) ∷ Symbol (codes "directory")
+        ∷ Symbol (codes "entries") ∷ [])) }
 {
     nodes.push(frame(alloc, entries_at)?)?;
     nodes.push(symbol(alloc, b"directory")?)?;
@@ -39,7 +41,6 @@ fn put_frame(alloc: Global, nodes: &mut Vec<Node>, entries_at: u32) -> Result<()
 }
 
 /// Puts the bytes that stand first, as node 3, and the class of all pieces.
-
 fn put_first(alloc: Global, nodes: &mut Vec<Node>, bytes: &[u8]) -> Result<(), AllocError>
     requires { length bytes.now ≤ 7_989_000 }
     ensures { OnOk result (nodes.new.items ≡ nodes.old.items ++ first_cut bytes.now) }
@@ -64,7 +65,7 @@ fn pack_nodes(
     entries: &[FullEntry],
 ) -> Result<Vec<Node>, AllocError>
     requires can { CanPack directory.now (map text_of entries.now) }
-    requires fit { All (λ e. (e.soup < 65536) × (length (text_of e) ≤ 7_989_000)) entries.now }
+    requires fit { All IsSmall entries.now }
     ensures { IfOk result (λ v. v.items ≡ (packed directory.now (map text_of entries.now)).nodes) }
 {
     let others = directory.len() - directory.len().min(PIECE);
@@ -79,7 +80,6 @@ fn pack_nodes(
 }
 
 /// The backup of a store: of its directory and all its entries, in its order.
-
 pub fn pack_backup(
     alloc: Global,
     directory: &Directory,

@@ -1,6 +1,7 @@
 //! A store read from its backup.
-ghost use Rattle.std.specs.Prelude.{◌≡◌, ◌≤◌, ◌<◌, ◌++◌, [], true, false, ◌≢◌, IsTrue, length, map, All, Some, None, IfOk, IfSome, IsErrOf, OnOk};
-ghost use Rattle.newt_graph.specs.Graph.{RawGraph, IsGraph};
+ghost use Rattle.std.specs.Prelude.{◌≡◌, [], true, false, IsTrue, map, All, Some, None, IfOk};
+ghost use Rattle.std.specs.Prelude.{IfSome, IsErrOf};
+ghost use Rattle.newt_graph.specs.Graph.{IsGraph};
 ghost use Rattle.newt_nsof_flat.specs.Stream.{stream_graph};
 ghost use Rattle.newt_soupdir.specs.Bare.{bare_store};
 ghost use Rattle.newt_spec_graph.specs.Graph.{every};
@@ -27,7 +28,8 @@ use std::mem;
 /// The version of a directory in a backup.
 const VERSION: u16 = 2;
 
-/// The texts of nodes: the bytes of all binaries between two arrays, joined. The first has what stands before any array.
+/// The texts of nodes: the bytes of all binaries between two arrays, joined. The first has what
+/// stands before any array.
 pub(crate) fn texts(alloc: Global, nodes: &[Node]) -> Result<Vec<Vec<u8>>, AllocError>
     ensures { IfOk result (λ v. map (λ text. text.items) v.items ≡ texts_from [] nodes.now) }
 {
@@ -71,9 +73,11 @@ pub(crate) fn read_full(alloc: Global, text: &[u8]) -> Result<FullEntry, BackupF
 
 /// The entries that texts have whole.
 fn read_fulls(alloc: Global, texts: &[Vec<u8>]) -> Result<Vec<FullEntry>, BackupFault>
-    ensures found { IfOk result (λ v. every (map full_read (map (λ text. text.items) texts.now)) ≡ Some (map told v.items)) }
+    ensures found { IfOk result (λ v. every (map full_read (map (λ text. text.items) texts.now))
+        ≡ Some (map told v.items)) }
     ensures sound { IfOk result (λ v. All IsSound v.items) }
-    ensures bad { IsErrOf result BackupFault.Bad → every (map full_read (map (λ text. text.items) texts.now)) ≡ None }
+    ensures bad { IsErrOf result BackupFault.Bad
+        → every (map full_read (map (λ text. text.items) texts.now)) ≡ None }
 {
     let mut entries = Vec::new(alloc);
     let mut left = texts;
@@ -86,7 +90,8 @@ fn read_fulls(alloc: Global, texts: &[Vec<u8>]) -> Result<Vec<FullEntry>, Backup
 
 /// A directory, by its bytes.
 fn read_first(alloc: Global, bytes: &[u8]) -> Result<Directory, BackupFault>
-    ensures found { IfOk result (λ d. directory_read stream_graph 2 bytes.now ≡ Some (bare_store d)) }
+    ensures found { IfOk result (λ d. directory_read stream_graph 2 bytes.now
+        ≡ Some (bare_store d)) }
     ensures bad { IsErrOf result BackupFault.Bad → directory_read stream_graph 2 bytes.now ≡ None }
 {
     match read_directory(alloc, bytes, VERSION) {
@@ -98,9 +103,11 @@ fn read_first(alloc: Global, bytes: &[u8]) -> Result<Directory, BackupFault>
 
 /// The directory and the entries of texts.
 fn contents(alloc: Global, texts: &[Vec<u8>]) -> Result<(Directory, Vec<FullEntry>), BackupFault>
-    ensures found { IfOk result (λ x. contents_read (map (λ text. text.items) texts.now) ≡ Some (bare_store x.0, map told x.1.items)) }
+    ensures found { IfOk result (λ x. contents_read (map (λ text. text.items) texts.now)
+        ≡ Some (bare_store x.0, map told x.1.items)) }
     ensures sound { IfOk result (λ x. All IsSound x.1.items) }
-    ensures bad { IsErrOf result BackupFault.Bad → contents_read (map (λ text. text.items) texts.now) ≡ None }
+    ensures bad { IsErrOf result BackupFault.Bad
+        → contents_read (map (λ text. text.items) texts.now) ≡ None }
 {
     let [_, directory, _, entries @ ..] = texts else {
         return Err(BackupFault::Bad);
@@ -112,7 +119,8 @@ fn contents(alloc: Global, texts: &[Vec<u8>]) -> Result<(Directory, Vec<FullEntr
 
 /// The directory and the entries that are read of a graph, if it is a backup.
 fn store_of(alloc: Global, graph: &Graph) -> Result<(Directory, Vec<FullEntry>), BackupFault>
-    ensures found { IfOk result (λ x. contents_read (texts_from [] graph.now.nodes) ≡ Some (bare_store x.0, map told x.1.items)) }
+    ensures found { IfOk result (λ x. contents_read (texts_from [] graph.now.nodes)
+        ≡ Some (bare_store x.0, map told x.1.items)) }
     ensures sound { IfOk result (λ x. All IsSound x.1.items) }
     ensures bad { IsErrOf result BackupFault.Bad → Unbacked graph.now }
 {
@@ -147,7 +155,8 @@ fn are_same(alloc: Global, graph: &Graph, other: &Graph) -> Result<bool, AllocEr
     Ok(text.as_slice() == text_again.as_slice())
 }
 
-/// The directory and the entries of the store that has this backup. `Bad` comes exactly where no store of any unit has it.
+/// The directory and the entries of the store that has this backup. `Bad` comes exactly where no
+/// store of any unit has it.
 pub fn read_backup(alloc: Global, graph: &Graph) -> Result<(Directory, Vec<FullEntry>), BackupFault>
     ensures kept { IfOk result (λ x. AreKept x.0 x.1.items) }
     ensures found { IfOk result (λ x. backup (store_in x.0 x.1.items) ≡ graph.now) }

@@ -3,7 +3,7 @@ use Rattle.newt_backup.specs.declared.entry.FullEntry.{FullEntry}
 use Rattle.newt_entries.proofs.Steps.{all-rest}
 use Rattle.newt_graph.specs.declared.node.Ref.{Ref}
 use Rattle.newt_backup.specs.Backup.{cuts, cuts_at}
-use Rattle.newt_backup.specs.Contents.{text_of}
+use Rattle.newt_backup.specs.Contents.{text_of, IsSmall}
 use Rattle.newt_backup.proofs.Steps.{opened, number-step, number-room}
 use Rattle.newt_backup.proofs.nodes.numbers.Goals as goal
 
@@ -23,5 +23,5 @@ loop-left-preserved c =
     record {
       put = number-step c.push.new.self.items none values at c.args.at (at + (1 + c.full_pieces.result)) (text_of x) rest all e (search rules) n;
       few = number-room at (at + (1 + c.full_pieces.result)) (text_of x) rest few n;
-      fit = all-rest (λ (e : FullEntry). (e.soup < 65536) × (length (text_of e) ≤ 7_989_000)) left c.in-len1-up.len_at_least c.loop-left.invariant.fit;
+      fit = all-rest IsSmall left c.in-len1-up.len_at_least c.loop-left.invariant.fit;
     }

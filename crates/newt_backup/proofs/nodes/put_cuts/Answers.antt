@@ -2,7 +2,7 @@ use Rattle.std.proofs.Common.{rules, ◌≡◌, ◌-◌, ◌<◌, ◌≤◌, ◌
 use Rattle.newt_backup.specs.declared.entry.FullEntry.{FullEntry}
 use Rattle.newt_entries.proofs.Steps.{all-rest}
 use Rattle.newt_backup.specs.Backup.{cut, cuts}
-use Rattle.newt_backup.specs.Contents.{text_of}
+use Rattle.newt_backup.specs.Contents.{text_of, IsSmall}
 use Rattle.newt_backup.proofs.Steps.{opened, cut-step, room}
 use Rattle.newt_backup.proofs.nodes.put_cuts.Goals as goal
 
@@ -29,5 +29,5 @@ loop-left-preserved c =
     let put : c.put_cut.new.nodes.items ≡ nodes ++ cut (length nodes) c.deref.result.now = search rules in
     record {
       put = cut-step c.put_cut.new.nodes.items old nodes (text_of x) (map text_of (take (length left - 1) (drop 1 left))) all e (put ∙ ap (λ b. nodes ++ cut (length nodes) b) same);
-      fit = all-rest (λ (e : FullEntry). (e.soup < 65536) × (length (text_of e) ≤ 7_989_000)) left c.in-len1-up.len_at_least c.loop-left.invariant.fit;
+      fit = all-rest IsSmall left c.in-len1-up.len_at_least c.loop-left.invariant.fit;
     }
