@@ -1,5 +1,5 @@
 -- The written text of a graph that has no frame of four slots is its flat text.
-use Rattle.std.proofs.Common.{◌≡◌, refl, sym, ◌∙◌, ap, ℕ, zero, suc, ◌+◌, ◌-◌, ◌<◌, true, false, Bool, cond, inl, inr, List, [], ◌∷◌, ◌++◌, length, Option, Some, None, All, arith, add-one}
+use Rattle.std.proofs.Common.{◌≡◌, refl, sym, ◌∙◌, ap, ℕ, zero, suc, ◌+◌, ◌-◌, ◌<◌, true, false, Bool, cond, inl, inr, List, [], ◌∷◌, ◌++◌, length, Some, None, All, arith, add-one}
 use Rattle.std.specs.Prelude.{slice_get, nat_eq}
 use Rattle.std.specs.List.{position_from}
 use Rattle.std.proofs.lemmas.Bool.{cases_lt, eq-eqb}
@@ -14,7 +14,7 @@ use Rattle.newt_graph.specs.Slice.{At}
 use Rattle.newt_graph.proofs.Elements.{all_at}
 use Rattle.newt_graph.proofs.Slices.{at_first, at_rest, at_inside, at_here}
 use Rattle.newt_spec_nsof.specs.Flat.{Text as FlatText, each_text, flat, label_text as flat_label, frame_text as flat_frame, binary_text as flat_binary, plain_large_text as flat_large, plain_array_text as flat_plain_array, array_text as flat_array, value_text as flat_value}
-use Rattle.newt_spec_nsof.specs.Written.{Text, number_of, label_text, small_frame, frame_text, any_frame_text, binary_text, plain_large_text, plain_array_text, array_text, new_node, value_text, nsof}
+use Rattle.newt_spec_nsof.specs.Written.{Text, number_of, label_text, frame_text, any_frame_text, binary_text, plain_large_text, plain_array_text, array_text, new_node, value_text, nsof}
 use Rattle.newt_spec_nsof.proofs.Numbered.{AreNumbered, none_numbered, number_next, has_none_yet}
 use Rattle.newt_spec_nsof.proofs.Places.{label_met, labels_met, value_met, label_again, label_new, word_as, again_in_short, symbol_in_full, frame_in_full, plain_array_in_full, array_in_full, string_in_full, binary_in_full, large_in_full}
 use Rattle.newt_nsof_write.proofs.Four.{not_four}

@@ -7,7 +7,6 @@ use Rattle.newt_graph.specs.declared.node.Node.TheVariants.{Symbol, Binary, Arra
 use Rattle.newt_graph.specs.declared.node.Ref.{Ref}
 use Rattle.newt_graph.specs.declared.node.Ref.TheVariants.{Node as At}
 use Rattle.newt_spec_nsof.specs.Written.{nsof}
-use Rattle.newt_spec_nsof.specs.Flat.{flat}
 use Rattle.newt_spec_nsof.specs.Lengths.{count_len, ref_len, node_len}
 use Rattle.newt_spec_nsof.proofs.Lengths.{text_len}
 use Rattle.newt_spec_store.specs.Store.{Store}

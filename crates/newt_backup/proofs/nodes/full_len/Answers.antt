@@ -1,4 +1,4 @@
-use Rattle.std.proofs.Common.{arith, ◌≡◌, ◌∙◌, ap, length}
+use Rattle.std.proofs.Common.{arith, ◌∙◌, ap}
 use Rattle.std.specs.List.{sum_by}
 use Rattle.newt_spec_nsof.specs.Lengths.{large_len}
 use Rattle.newt_backup.proofs.Pages.{full-size}

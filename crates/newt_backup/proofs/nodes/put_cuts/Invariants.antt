@@ -1,4 +1,4 @@
-use Rattle.std.proofs.Common.{◌≡◌, ◌++◌, ◌<◌, ◌≤◌, length, map, All}
+use Rattle.std.proofs.Common.{◌≡◌, ◌++◌, length, map, All}
 use Rattle.newt_backup.specs.Backup.{cuts}
 use Rattle.newt_backup.specs.Contents.{text_of, IsSmall}
 use Rattle.newt_backup.proofs.nodes.put_cuts.Given as goal
