@@ -35,7 +35,7 @@ fn restored(alloc: Global, text: &[u8]) -> Result<(Directory, Vec<FullEntry>), F
 #[test]
 fn a_fresh_store_is_restored(rt: HostRuntime) -> Result<(), Fail> {
     let (directory, entries) = restored(rt.alloc(), FRESH)?;
-    assert!(rt; directory.name.list() == b"Internal");
+    assert!(rt; directory.name.list() == b"Internal".as_slice());
     assert!(rt; directory.sig == Sig(7) && directory.next_soup == 0);
     assert!(rt; directory.soups.list().is_empty() && entries.is_empty());
     Ok(())
