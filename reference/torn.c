@@ -3,9 +3,9 @@
  * It is loaded before the program's libraries (LD_PRELOAD). A device is a regular file that is open for reading and
  * writing. The calls on devices are counted from 1. At the call TORN_STOP each range that was written since the last
  * sync of its file that succeeded is left as it was, as written, in part, or with other bytes, as TORN_SEED chooses,
- * and the program ends with the status 77. The call TORN_FAIL leaves the same, and fails. Where the program ends by
- * itself, the number of the calls and the most memory that it had at once, in kilobytes, are written to the file
- * TORN_TOLD.
+ * and the program ends with the status 77. Each call of the list TORN_FAIL, as in 3,8, leaves the same, and fails.
+ * Where TORN_READS is not 0, reads of devices are calls too. Where the program ends by itself, the number of the calls,
+ * the most memory that it had at once, in kilobytes, and how many calls failed are written to the file TORN_TOLD.
  */
 #define _GNU_SOURCE
 #include <errno.h>
@@ -29,7 +29,8 @@ struct range {
 
 static struct range pending[MOST_RANGES];
 static size_t ranges;
-static unsigned long calls, stop, failing;
+static unsigned long calls, stop, reads, failed;
+static const char *failing;
 static uint64_t seed;
 
 static unsigned long given(const char *name) {
@@ -39,7 +40,8 @@ static unsigned long given(const char *name) {
 
 __attribute__((constructor)) static void begin(void) {
     stop = given("TORN_STOP");
-    failing = given("TORN_FAIL");
+    reads = given("TORN_READS");
+    failing = getenv("TORN_FAIL");
     seed = given("TORN_SEED");
 }
 
@@ -57,7 +59,7 @@ __attribute__((destructor)) static void end(void) {
     const char *name = getenv("TORN_TOLD");
     FILE *told = name ? fopen(name, "w") : NULL;
     if (told) {
-        fprintf(told, "%lu %ld\n", calls, most_memory());
+        fprintf(told, "%lu %ld %lu\n", calls, most_memory(), failed);
         fclose(told);
     }
 }
@@ -100,15 +102,27 @@ static void tear(void) {
     ranges = 0;
 }
 
-/* Counts a call, ends the program where it is the one to stop at, and tells whether it is the one to fail. */
+static int is_listed(unsigned long call) {
+    const char *text = failing ? failing : "";
+    while (*text) {
+        char *end;
+        if (strtoul(text, &end, 10) == call)
+            return 1;
+        text = *end ? end + 1 : end;
+    }
+    return 0;
+}
+
+/* Counts a call, ends the program where it is the one to stop at, and tells whether it is one to fail. */
 static int is_failing(void) {
     if (++calls == stop) {
         tear();
         _exit(STOPPED);
     }
-    if (calls != failing)
+    if (!is_listed(calls))
         return 0;
     tear();
+    failed++;
     errno = EIO;
     return 1;
 }
@@ -131,6 +145,22 @@ static void forget(int file) {
         else
             pending[kept++] = pending[at];
     ranges = kept;
+}
+
+ssize_t pread(int file, void *bytes, size_t length, off_t at) {
+    if (reads && is_device(file) && is_failing())
+        return -1;
+    return syscall(SYS_pread64, file, bytes, length, at);
+}
+
+ssize_t pread64(int file, void *bytes, size_t length, off_t at) {
+    return pread(file, bytes, length, at);
+}
+
+ssize_t read(int file, void *bytes, size_t length) {
+    if (reads && is_device(file) && is_failing())
+        return -1;
+    return syscall(SYS_read, file, bytes, length);
 }
 
 ssize_t pwrite(int file, const void *bytes, size_t length, off_t at) {

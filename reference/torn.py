@@ -3,8 +3,7 @@
 usage: python3 reference/torn.py PROGRAM FIRST COUNT STOPS
 
 Random scripts with the seeds from FIRST on, COUNT of them, are played over one to three files, each stopped at STOPS
-random calls by the library torn.c, which leaves any bytes in what no sync has reached; at one in five of them the call
-fails instead, which is to end the run with its status. Then the next run lists each
+random calls by the library torn.c, which leaves any bytes in what no sync has reached. Then the next run lists each
 store, goes on with another random script, and is stopped as well; a third one lists what is left. After each stop each
 file is to read as its store after the commands whose replies had begun or after one more, by the reference's reader of
 images and by what the program lists. A file without a store keeps its bytes. It needs a C compiler, cc, and ends with 1
@@ -12,7 +11,6 @@ at the first difference, whose files stay.
 """
 
 import os
-import re
 import shutil
 import subprocess
 import sys
@@ -32,7 +30,7 @@ from stores import Store
 from world import Unit, World
 
 BLOCKS = (13, 13, 13, 14, 16, 24)
-STOPPED, FAILED = 77, 4
+STOPPED = 77
 MOST_SECONDS = 60
 
 Stores = tuple
@@ -98,10 +96,10 @@ class Bench:
         for file, count in zip(self.files(), self.blocks):
             file.write_bytes(bytes(BLOCK * count))
 
-    def run(self, script: list, stop: int, seed: int, is_failing: bool = False) -> tuple[bool, list[str]]:
-        """Whether it was stopped at the call, or the call failed, and the replies that had begun."""
+    def run(self, script: list, stop: int, seed: int) -> tuple[bool, list[str]]:
+        """Whether it was stopped at the call, and the replies that had begun."""
         told = {"LD_PRELOAD": str(self.library), "TORN_TOLD": str(self.folder / "told")}
-        told |= {"TORN_FAIL" if is_failing else "TORN_STOP": str(stop), "TORN_SEED": str(seed)}
+        told |= {"TORN_STOP": str(stop), "TORN_SEED": str(seed)}
         ran = subprocess.run(
             [self.program, "run", *self.files()],
             input=b"\n".join(script) + b"\n",
@@ -110,8 +108,7 @@ class Bench:
             timeout=MOST_SECONDS,
         )
         self.counts["runs"] += 1
-        is_told = re.fullmatch(rb"newton: device [0-7]\n", ran.stderr) if is_failing else not ran.stderr
-        if ran.returncode not in (0, FAILED if is_failing else STOPPED) or ran.returncode and not is_told:
+        if ran.returncode not in (0, STOPPED) or ran.stderr:
             raise Differs(f"the program ended with {ran.returncode} and {ran.stderr!r}")
         return ran.returncode != 0, ran.stdout.decode().splitlines()
 
@@ -122,13 +119,11 @@ class Bench:
     def stopped(self, wanted: Played, stop: int, random: Random) -> Stores:
         """Plays a script, stopped at a call, and gives the stores that are left."""
         before = self.images()
-        # A unit whose first sync fails is not attached.
-        is_failing = stop > len(self.blocks) and random.random() < 0.2
-        is_stopped, found = self.run(wanted.script, stop, random.randrange(2**32), is_failing)
+        is_stopped, found = self.run(wanted.script, stop, random.randrange(2**32))
         if found != wanted.replies[: len(found)] or not is_stopped and len(found) < len(wanted.replies):
             at = next((at for at, pair in enumerate(zip(found, wanted.replies)) if pair[0] != pair[1]), len(found))
             raise Differs(f"reply {at}: {found[at : at + 1]}, wanted {wanted.replies[at : at + 1]}")
-        self.counts["failing calls" if is_failing else "stops"] += is_stopped
+        self.counts["stops"] += is_stopped
         last = wanted.stores[len(found)]
         after = wanted.stores[len(found) + 1] if is_stopped and len(found) < len(wanted.replies) else last
         return tuple(map(self.left, range(len(self.blocks)), before, self.images(), last, after))

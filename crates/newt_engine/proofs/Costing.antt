@@ -1,7 +1,7 @@
 -- What a command costs, by what a call on the units costs.
 use Rattle.std.proofs.Common.{arith, ◌≡◌, ap, sym, ◌∙◌, subst, ℕ, ◌+◌, ◌*◌, ◌≤◌, List, true, false, Option, inr}
 use Rattle.std.specs.Prelude.{Result}
-use Rattle.newt_host.specs.Moments.{image}
+use Rattle.newt_host.specs.Moments.{bytes_after, image}
 use Rattle.newt_host.specs.Outside.{Outside}
 use Rattle.newt_pagebook.specs.Book.{IsOpenFor}
 use Rattle.newt_reply.specs.declared.reply.Reply.{Reply}
@@ -48,7 +48,7 @@ format_costs same leaves = record {
 -- nothing is programmed, and nothing has happened
 pub still_costs : {T : Type 0} {w : World} {c : Command} {fetches : ℕ → ℕ} {result : Result T StoreFault} {o p : Outside} → ((u : ℕ) → LeftAlone u o p)
     → (means_entries c ≡ true → FetchesWithin (most_programmed w c) fetches o p) → CommandCosts w c fetches result o p
-still_costs alone few = record { bound = λ _ u. alone-bound _ (alone u); fetched = few; open_after = λ _ u. inr (alone u).changes }
+still_costs alone few = record { bound = λ _ u. alone-bound _ (alone u); fetched = few; open_after = λ _ u. inr (ap bytes_after (alone u).changes) }
 
 -- a command that uses a cursor means no entry
 pub means_no_cursor : (c : Command) → uses_cursors c ≡ true → means_entries c ≡ true → ⊥

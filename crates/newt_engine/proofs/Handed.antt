@@ -1,11 +1,10 @@
 -- What a call says of a command.
-use Rattle.std.proofs.Common.{◌≡◌, refl, sym, ◌∙◌, ap, subst, ℕ, List, Bool, true, IsTrue, Option, Some, None}
-use Rattle.std.specs.Prelude.{Result, Ok, Err, IfErr, OnOk}
+use Rattle.std.proofs.Common.{◌≡◌, refl, sym, ◌∙◌, ap, subst, ℕ, List, Bool, true, false, IsTrue, Option, Some, None}
+use Rattle.std.specs.Prelude.{Result, Ok, Err, IfErr, IfOk, OnOk}
 use Rattle.newt_base.specs.Refusals.{first_of}
 use Rattle.newt_base.specs.declared.Refusal.{Refusal}
 use Rattle.newt_host.specs.Moments.{Moment, Always}
 use Rattle.newt_host.specs.Outside.{Outside}
-use Rattle.newt_pagebook.specs.declared.book.Stop.{Stop as End}
 use Rattle.newt_pagebook.specs.declared.book.Stop.TheVariants as stops
 use Rattle.newt_reply.specs.Said.{said}
 use Rattle.newt_reply.specs.declared.reply.Reply.{Reply}
@@ -13,7 +12,13 @@ use Rattle.newt_spec_store.specs.Store.{Store}
 use Rattle.newt_spec_world.specs.declared.command.Command.{Command}
 use Rattle.newt_spec_world.specs.Reply as plain
 use Rattle.newt_spec_world.specs.World.{World}
-use Rattle.newt_laws_world.specs.Answering.{Answering}
+use Rattle.newt_laws_steps.specs.StandsFor.{seen, seen_on}
+use Rattle.newt_spec_graph.proofs.Lists.{both-ways}
+use Rattle.newt_spec_world.specs.Step.{looks_anew}
+use Rattle.newt_spec_world.specs.declared.command.Command.TheVariants as command
+use Rattle.newt_engine.specs.Ends.{uses_device}
+use Rattle.newt_spec_script.specs.Rows.{throws}
+use Rattle.newt_engine_units.specs.Breaks.{Meanwhile}
 use Rattle.newt_spec_world.specs.Answer.{answer, answered}
 use Rattle.newt_spec_world.specs.Refused.{checks}
 use Rattle.newt_store_change.specs.declared.fault.StoreFault.{StoreFault}
@@ -21,9 +26,10 @@ use Rattle.newt_store_change.specs.declared.fault.StoreFault.TheVariants.{Refuse
 use Rattle.newt_engine_units.specs.declared.units.Units.{Units}
 use Rattle.newt_engine_units.specs.Answers.{Answers}
 use Rattle.newt_store_change.specs.Faults.{GoesOn, HasFaultCause, IsRefusal, NoDevice}
-use Rattle.newt_engine_units.specs.Stands.{Eight, Stands, world_of}
+use Rattle.newt_engine_units.specs.Stands.{Eight, Stands, due_in, world_of}
 use Rattle.newt_engine_units.proofs.Known.{Laws}
 use Rattle.newt_engine_units.proofs.Turns.{still-moments}
+use Rattle.newt_engine.specs.Calls.{IsNotThrown}
 use Rattle.newt_engine.specs.Handed.{HandsOn, IsHanded}
 
 module _ {T : Type 0} {made : T → plain.Reply} {found : Result T StoreFault} {result : Result Reply StoreFault} (on : HandsOn made found result) where
@@ -60,6 +66,16 @@ module _ {T : Type 0} {made : T → plain.Reply} {found : Result T StoreFault} {
       go (Ok x) (Err g) s h = tt
       go (Err f) (Ok y) s h = absurd s
 
+  -- the reply says of no unit that its device failed, where no reply made so does
+  pub quiet_on : ((x : T) (u : ℕ) → throws u (made x) ≡ false) → IfOk result (λ it. IsNotThrown it)
+  quiet_on never = go found result on.same
+    where
+      go : (f : Result T StoreFault) (r : Result Reply StoreFault) → IsHanded made f r → IfOk r (λ it. IsNotThrown it)
+      go (Ok x) (Ok y) s = λ u. ap (throws u) s ∙ never x u
+      go (Err f) (Err g) s = tt
+      go (Ok x) (Err g) s = tt
+      go (Err f) (Ok y) s = absurd s
+
   -- what the call answers is what the command answers
   pub answered_on : (w v : World) {c d : Command} → c ≡ d → Answers w v d made found → Answers w v c said result
   answered_on w v {c} {d} is h = go found result on.same (subst (λ x. Answers w v x made found) (sym is) h)
@@ -86,14 +102,25 @@ unrefused_on {T} {made} w v c (Ok x) never h = go (first_of (checks w c)) refl
 unrefused_on w v c (Err fault) never h = tt
 
 -- the moments of a call are those of the command
-pub moments_same : (reads : List ℕ → Option Store) (w : World) (start now : Moment) (c d : Command) → c ≡ d → Always (Answering reads w (answer w d).0 start) start now → Always (Answering reads w (answer w c).0 start) start now
-moments_same reads w start now c d same h = subst (λ x. Always (Answering reads w (answer w x).0 start) start now) (sym same) h
+pub moments_same : (reads : List ℕ → Option Store) (due : ℕ → Bool) (w : World) (start now : Moment) (c d : Command) → c ≡ d → Always (Meanwhile reads due w d (answer (seen reads w start d) d).0 start) start now
+    → Always (Meanwhile reads due w c (answer (seen reads w start c) c).0 start) start now
+moments_same reads due w start now c d same h = subst (λ x. Always (Meanwhile reads due w x (answer (seen reads w start x) x).0 start) start now) (sym same) h
 
 -- ---- where no device is used
 
+-- nothing is looked at anew
+pub seen_in_memory : (reads : List ℕ → Option Store) (w : World) (now : Moment) (c : Command) → uses_device c ≡ false → seen reads w now c ≡ w
+seen_in_memory reads w now c h = ap (seen_on reads w now) (none c h)
+  where
+    none : (c : Command) → uses_device c ≡ false → looks_anew w c ≡ None
+    none (command.Format _ _ _) h = absurd (both-ways (sym h))
+    none (command.Mount _) h = absurd (both-ways (sym h))
+    none c h = refl
+
 pub quiet : {C : Type 0} {reads : List ℕ → Option Store} {place : C → ℕ} {soups : C → Store} {stands : Bool → C → Outside → Type 0} → Laws reads place soups stands
-    → (told : Bool) (units : Units C) (o : Outside) → Eight o → Stands place stands told units o → IsTrue told → (v : World) → Always (Answering reads (world_of reads units o) v o.now) o.now o.now
-quiet {C} {reads} {place} {soups} {stands} laws told units o e s t v = still-moments laws units o e (subst (λ b. Stands place stands b units o) t s) v o.now refl
+    → (told : Bool) (units : Units C) (o : Outside) → Eight o → Stands place stands told units o → IsTrue told → (c : Command) (v : World)
+    → Always (Meanwhile reads (due_in units.slots.items) (world_of reads units o) c v o.now) o.now o.now
+quiet {C} {reads} {place} {soups} {stands} laws told units o e s t c v = still-moments laws units o e (subst (λ b. Stands place stands b units o) t s) c v o.now refl
 
 pub told_stands : {C : Type 0} {place : C → ℕ} {stands : Bool → C → Outside → Type 0} (told : Bool) (units : Units C) (o : Outside) → Stands place stands told units o → IsTrue told → Stands place stands true units o
 told_stands {C} {place} {stands} told units o s t = subst (λ b. Stands place stands b units o) t s
@@ -115,8 +142,3 @@ blameless (Err (Stop stop)) h = absurd h
 -- out of memory that was handed on is the answer
 pub for_memory : (P : Result Reply StoreFault → Type 0) (result : Result Reply StoreFault) → (e : StoreFault) × (result ≡ Err e) × (e ≡ Stop stops.Memory) → P (Err (Stop stops.Memory)) → P result
 for_memory P result e h = subst P (sym (e.1 ∙ ap {B = Result Reply StoreFault} (λ f. Err f) e.2)) h
-
--- where no device is at fault, the run ends when out of memory
-pub only_memory : (stop : End) → NoDevice (Stop stop) → stop ≡ stops.Memory
-only_memory stops.Memory h = refl
-only_memory (stops.Device unit) h = absurd h

@@ -9,3 +9,14 @@ pub mod Settling
 pub mod Starting
 pub mod Obeying
 pub mod Serving
+pub mod Seeing
+pub mod Lifting
+pub mod Thrown
+pub mod Halfway
+pub mod Outcast
+pub mod Applying
+pub mod Looking
+pub mod Applied
+pub mod Alone
+pub mod Failing
+pub mod Halved

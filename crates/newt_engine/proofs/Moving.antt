@@ -48,6 +48,15 @@ pub removal_ends : (a b v : World) (fault : StoreFault) → Does {T = ℕ} [] (�
 removal_ends a b v (Refused r) d = absurd (none-some r d.0)
 removal_ends a b v (Ends stop) d = tt
 
+-- a mounted store is found by its signature
+pub found-one : (v : World) (to : ℕ) (s : Store) → MountedApart v → mounted_store v to ≡ Some s → find (λ t. t.sig == s.sig) (mounted_stores v) ≡ Some s
+found-one v to s apart at = one (mounted_stores v) apart (mounted-among v.units s to at)
+  where
+    one : (ss : List Store) → Pairs (λ a b. a.sig ≡ b.sig → ⊥) ss → Among ss s → find (λ t. t.sig == s.sig) ss ≡ Some s
+    one [] h m = absurd m
+    one (x ∷ ss) h (inl e) = ap (λ (b : Bool). cond b (Some x) (find (λ t. t.sig == s.sig) ss)) (eq-eqb x.sig s.sig (ap (λ (t : Store). t.sig) e)) ∙ ap {A = Store} {B = Option Store} (λ t. Some t) e
+    one (x ∷ ss) h (inr m) = ap (λ (b : Bool). cond b (Some x) (find (λ t. t.sig == s.sig) ss)) (ne_eqb x.sig s.sig (each-at (λ t. x.sig ≡ t.sig → ⊥) ss s h.0 m)) ∙ one ss h.1 m
+
 -- ---- a store whose change is of another unit
 
 module _ (y : World) (u : ℕ) (f : Store → Store) (keeps : (s : Store) → (f s).sig ≡ s.sig) (apart : MountedApart y) where
@@ -82,15 +91,7 @@ module _ (y : World) (u : ℕ) (f : Store → Store) (keeps : (s : Store) → (f
 
     -- and neither is it found by its signature in another place
     pub found-alike : find (λ t. t.sig == s.sig) (mounted_stores y) ≡ find (λ t. t.sig == s.sig) (mounted_stores (change_store y u f))
-    found-alike = found-by y apart there ∙ sym (found-by (change_store y u f) kept-apart there-then)
-      where
-        one : (ss : List Store) → Pairs (λ a b. a.sig ≡ b.sig → ⊥) ss → Among ss s → find (λ t. t.sig == s.sig) ss ≡ Some s
-        one [] h m = absurd m
-        one (x ∷ ss) h (inl e) = ap (λ (b : Bool). cond b (Some x) (find (λ t. t.sig == s.sig) ss)) (eq-eqb x.sig s.sig (ap (λ (t : Store). t.sig) e)) ∙ ap {A = Store} {B = Option Store} (λ t. Some t) e
-        one (x ∷ ss) h (inr m) = ap (λ (b : Bool). cond b (Some x) (find (λ t. t.sig == s.sig) ss)) (ne_eqb x.sig s.sig (each-at (λ t. x.sig ≡ t.sig → ⊥) ss s h.0 m)) ∙ one ss h.1 m
-
-        found-by : (v : World) → MountedApart v → mounted_store v to ≡ Some s → find (λ t. t.sig == s.sig) (mounted_stores v) ≡ Some s
-        found-by v kept at = one (mounted_stores v) kept (mounted-among v.units s to at)
+    found-alike = found-one y to s apart there ∙ sym (found-one (change_store y u f) to s kept-apart there-then)
 
 -- ---- cursors on entries of a store that is the same in two worlds
 
@@ -148,7 +149,7 @@ module _ (w : World) (u to : ℕ) (name target : List ℕ) (sig into uid : ℕ) 
     pub added-reached : on_entry k.store.sig into n ≡ reach w c
     added-reached = ap (on_entry k.store.sig into) was.number ∙ sym reach-is
 
-    added-there : mounted_store now to ≡ Some (add k.store)
+    pub added-there : mounted_store now to ≡ Some (add k.store)
     added-there = ap (λ (v : World). mounted_store v to) was.world ∙ is-mounted (change_store w to add) to k.blocks (add k.store) (on-changed w to k.blocks k.store add k.on)
 
     abbrev later : World

@@ -1,5 +1,5 @@
 -- What a call on the units answers, handed on as the reply to its command.
-use Rattle.std.proofs.Common.{arith, ◌≡◌, ap, sym, ◌∙◌, subst, ℕ, ◌+◌, ◌≤◌, List, Bool, true, false, Option, None}
+use Rattle.std.proofs.Common.{arith, ◌≡◌, refl, ap, sym, ◌∙◌, subst, ℕ, ◌+◌, ◌≤◌, List, Bool, true, false, Option, Some, None}
 use Rattle.std.specs.Prelude.{Result, IfErr, OnOk}
 use Rattle.newt_base.specs.Refusals.{first_of}
 use Rattle.newt_base.specs.declared.Refusal.{Refusal}
@@ -16,9 +16,20 @@ use Rattle.newt_laws_world.specs.Settled.{IsSettled}
 use Rattle.newt_store_change.specs.Faults.{IsRefusal, NoDevice}
 use Rattle.newt_engine_units.specs.Answers.{Answers}
 use Rattle.newt_engine_card.specs.Bounds.{FetchesAtMost}
-use Rattle.newt_engine_units.specs.Calls.{AreRead, Obeys}
+use Rattle.newt_engine_units.specs.Breaks.{AtDevice}
+use Rattle.newt_engine_units.specs.Calls.{AreRead, BreaksIn, Obeys}
+use Rattle.newt_engine_units.proofs.Broken.{none-devices}
+use Rattle.newt_laws_steps.specs.StandsFor.{seen}
+use Rattle.newt_reply.specs.Said.{said}
+use Rattle.newt_spec_script.specs.Rows.{throws}
 use Rattle.newt_engine_units.specs.Stands.{world_of}
 use Rattle.newt_engine_cursors.specs.Calls.{Walks}
+use Rattle.newt_engine_cursors.specs.Replies.{shown_reply, side_reply}
+use Rattle.newt_engine_cursors.specs.declared.show.Shown.{Shown}
+use Rattle.newt_engine_cursors.specs.declared.show.Shown.TheVariants.{Nil, Deleted, Entry}
+use Rattle.newt_engine_cursors.specs.declared.show.Side.{Side}
+use Rattle.newt_engine_cursors.specs.declared.show.Side.TheVariants as at
+use Rattle.newt_spec_world.specs.Answer.{or_nil}
 use Rattle.newt_engine_cursors.specs.Unread.{steps_unread}
 use Rattle.newt_engine_cursors.specs.Fits.{DeskFits}
 use Rattle.newt_engine_cursors.specs.World.{world_with}
@@ -28,41 +39,61 @@ use Rattle.newt_engine.specs.Ends.{takes_memory, uses_device}
 use Rattle.newt_engine.specs.Handed.{HandsOn}
 use Rattle.newt_engine.specs.declared.world.World.{World}
 use Rattle.newt_engine.proofs.Costing.{costs_on}
-use Rattle.newt_engine.proofs.Handed.{answered_on, err_on, goes_back, has_cause, moments_same, ok_on, unrefused_on}
+use Rattle.newt_engine.proofs.Handed.{answered_on, err_on, goes_back, has_cause, moments_same, ok_on, quiet_on, unrefused_on}
 
 -- the command is one that may take memory and use a device
 pub handed_obeyed : {C : Type 0} {reads : List ℕ → Option Store} {place : C → ℕ} {standing : Bool → C → Outside → Type 0} {told : Bool} {T : Type 0} {made : T → plain.Reply} {found : Result T StoreFault}
     {result : Result Reply StoreFault} {c d : Command} {old new : World C} {o p : Outside} → HandsOn made found result → c ≡ d → takes_memory d ≡ true → uses_device d ≡ true
-    → ((x : T) (r : Refusal) → made x ≡ plain.Reply.refused r → ⊥) → Obeys reads place standing told d made old.units new.units o p found → new.desk ≡ old.desk → Obeyed reads place standing told c old new o p result
-handed_obeyed {reads = reads} {result = result} {c = c} {old = old} {o = o} on is memory device never call desk = record {
+    → ((x : T) (r : Refusal) → made x ≡ plain.Reply.refused r → ⊥) → ((x : T) (u : ℕ) → throws u (made x) ≡ false) → Obeys reads place standing told d made old.units new.units o p found → new.desk ≡ old.desk → Obeyed reads place standing told c old new o p result
+handed_obeyed {reads = reads} {place} {standing} {told} {found = found} {result = result} {c = c} {old = old} {new = new} {o = o} {p} on is memory device never quiet call desk = record {
   stands = λ goes. call.stands (goes_back on goes);
-  answered = λ t. answered_on on _ _ is (call.answered t);
-  moments = λ t. moments_same reads _ _ _ c _ is (call.moments t);
+  answered = λ t. subst (λ x. Answers (seen reads (world_of reads old.units o) o.now x) (world_of reads new.units p) x said result) (sym is) (answered_on on _ _ refl (call.answered t));
+  moments = λ t. moments_same reads _ _ _ _ c _ is (call.moments t);
   desk = desk;
-  unrefused = λ t moves. subst (λ x. OnOk result (first_of (checks (world_of reads old.units o) x) ≡ None)) (sym is)
+  unrefused = λ t moves. subst (λ x. OnOk result (first_of (checks (seen reads (world_of reads old.units o) o.now x) x) ≡ None)) (sym is)
       (ok_on on _ (unrefused_on _ _ _ _ never (call.answered t)));
   costs = λ t. costs_on on is (call.costs t);
   alone = call.alone;
   cause = err_on on _ call.cause;
+  broke = subst (λ x. IfErr result (AtDevice (BreaksIn reads place standing told x old.units new.units o p))) (sym is) (err_on on _ call.broke);
   no_fault = λ goes. call.no_fault (goes_back on goes);
   ends = λ none. absurd (both-ways (sym none ∙ ap takes_memory is ∙ memory));
   device = λ none. absurd (both-ways (sym none ∙ ap uses_device is ∙ device));
+  quiet = quiet_on on quiet;
 }
+
+-- what shows or names where a cursor stands says of no unit that its device failed
+pub shown_quiet : (x : Shown) (u : ℕ) → throws u (shown_reply x) ≡ false
+shown_quiet Nil u = refl
+shown_quiet Deleted u = refl
+shown_quiet (Entry unit e) u = refl
+
+pub side_quiet : (x : Side) (u : ℕ) → throws u (side_reply x) ≡ false
+side_quiet at.Begin u = refl
+side_quiet at.End u = refl
+side_quiet at.Nil u = refl
+
+pub nil_quiet : {T : Type 0} (made : T → plain.Reply) (x : Option T) (u : ℕ) → ((y : T) → throws u (made y) ≡ false) → throws u (or_nil made x) ≡ false
+nil_quiet made None u h = refl
+nil_quiet made (Some y) u h = h y
 
 -- a call on cursors that reads, handed on as the reply to its command
 pub handed_walked : {C : Type 0} {reads : List ℕ → Option Store} {place : C → ℕ} {standing : Bool → C → Outside → Type 0} {told : Bool} {T : Type 0} {made : T → plain.Reply} {found : Result T StoreFault}
-    {result : Result Reply StoreFault} {c d : Command} {old new : World C} {o p : Outside} → HandsOn made found result → c ≡ d → takes_memory d ≡ true → uses_device d ≡ true
+    {result : Result Reply StoreFault} {c d : Command} {old new : World C} {o p : Outside} → HandsOn made found result → c ≡ d → takes_memory d ≡ true → uses_device d ≡ true → ((x : T) (u : ℕ) → throws u (made x) ≡ false)
     → Walks reads place standing told d made old.units new.units old.desk new.desk o p found → Walked reads place standing told c old new o p result
-handed_walked {reads = reads} {old = old} {o = o} {p} on is memory device call = record {
+handed_walked {reads = reads} {old = old} {o = o} {p} on is memory device quiet call = record {
   read = call.read;
   desk = call.desk;
   answered = λ t apart settled. answered_on on _ _ is (call.answered t apart settled);
   fetches = λ t apart settled. subst (λ x. steps_unread (world_with reads old.units old.desk o) x ≡ true → FetchesAtMost (most_stepped (world_with reads old.units old.desk o) x) o p) (sym is)
       (call.fetches t apart settled);
   cause = err_on on _ call.cause;
+  failed = err_on on _ call.failed;
+  kept = err_on on _ call.kept;
   no_fault = λ goes. call.no_fault (goes_back on goes);
   ends = λ no. absurd (both-ways (sym no ∙ ap takes_memory is ∙ memory));
   device = λ no. absurd (both-ways (sym no ∙ ap uses_device is ∙ device));
+  quiet = quiet_on on quiet;
 }
 
 -- and one that uses the cursors alone
@@ -70,16 +101,19 @@ pub handed_placed : {C : Type 0} {reads : List ℕ → Option Store} {place : C 
     {result : Result Reply StoreFault} {c d : Command} {old new : World C} {o : Outside} → HandsOn made found result → c ≡ d
     → AreRead reads place standing told old.units new.units o o → DeskFits new.desk
     → (IsSettled (world_with reads old.units old.desk o) → Answers (world_with reads old.units old.desk o) (world_with reads new.units new.desk o) d made found)
-    → IfErr found (λ fault. NoDevice fault) → (takes_memory d ≡ false → IfErr found (λ fault. IsRefusal fault)) → Walked reads place standing told c old new o o result
-handed_placed {reads = reads} {found = found} {c = c} {old = old} {o = o} on is read desk answered none only = record {
+    → IfErr found (λ fault. NoDevice fault) → (takes_memory d ≡ false → IfErr found (λ fault. IsRefusal fault)) → ((x : T) (u : ℕ) → throws u (made x) ≡ false) → Walked reads place standing told c old new o o result
+handed_placed {reads = reads} {found = found} {c = c} {old = old} {o = o} on is read desk answered none only quiet = record {
   read = read;
   desk = desk;
   answered = λ t apart settled. answered_on on _ _ is (answered settled);
   fetches = λ t apart settled unread u. up (o.fetched u) (most_stepped (world_with reads old.units old.desk o) c u);
   cause = err_on on _ (has_cause o o found none);
+  failed = err_on on _ (none-devices _ found none);
+  kept = err_on on _ (none-devices _ found none);
   no_fault = λ goes. NoFault-refl o;
   ends = λ no. err_on on _ (only (sym (ap takes_memory is) ∙ no));
   device = λ no. err_on on _ none;
+  quiet = quiet_on on quiet;
 }
   where
     up : (a b : ℕ) → a ≤ a + b

@@ -1,6 +1,6 @@
 -- The entry that a command reaches is one that it means.
-use Rattle.std.proofs.Common.{arith, ◌≡◌, refl, ap, sym, ◌∙◌, subst, ℕ, ◌≤◌, List, [], ◌∷◌, ◌++◌, Bool, true, false, ◌⊎◌, inl, inr, cond, Option, Some, None, option_and_then, option_map, find, ◌==◌}
-use Rattle.std.proofs.lemmas.Bool.{eqb-true}
+use Rattle.std.proofs.Common.{arith, ◌≡◌, refl, ap, sym, ◌∙◌, subst, ℕ, ◌≤◌, List, [], ◌∷◌, ◌++◌, Bool, true, false, ◌⊎◌, inl, inr, cond, Option, Some, None, option_and_then, option_map, find, ◌==◌, ◌||◌}
+use Rattle.std.proofs.lemmas.Bool.{eq-eqb, eqb-true}
 use Rattle.newt_base.specs.Names.{equal_text}
 use Rattle.newt_spec_graph.proofs.Lists.{both-ways, none-some, some-same}
 use Rattle.newt_spec_store.specs.Store.{Store, Soup, Entry, add_entry, change_entry, change_first, change_soup, entry_at, entry_of, next_uid_of, remove_entry, soup_named, with_graph}
@@ -9,7 +9,10 @@ use Rattle.newt_spec_world.specs.declared.command.Command.{Command}
 use Rattle.newt_spec_world.specs.declared.command.Command.TheVariants as command
 use Rattle.newt_spec_world.specs.Changed.{changed, copy_to, graph_after_set, patched}
 use Rattle.newt_spec_world.specs.World.{World, Device, Media, blank, one, two, lost, change_media, change_soup_in, default_unit, device, entry_in, mounted_store, on_unit, soup_in, store_if_mounted, store_of}
-use Rattle.newt_laws_world.specs.Settled.{MountedApart}
+use Rattle.newt_laws_world.specs.Settled.{MountedApart, moves_keys}
+use Rattle.newt_spec_world.specs.Step.{looks_at, writes}
+use Rattle.newt_engine_hits.specs.Present.{has_sig}
+use Rattle.newt_engine_cursors.specs.Reached.{in_reach}
 use Rattle.newt_laws_world.specs.Worlds.{OnMedia}
 use Rattle.newt_laws_world.proofs.Kept.{Every, Wf}
 use Rattle.newt_laws_world.proofs.Mounted.{units-from-apart}
@@ -17,7 +20,7 @@ use Rattle.newt_laws_world.proofs.Units.{device-other, device-same, has-mounted,
 use Rattle.newt_laws_answers.specs.Fetched.{if_on, meant, means_entries, next_if_on, pages_there}
 use Rattle.newt_laws_answers.proofs.Fetched.{last-pages, named-pages}
 use Rattle.newt_laws_answers.proofs.Sigs.{soup-of-sig}
-use Rattle.newt_laws_reach.specs.Reach.{Reach, entry_reached, in_soup, in_store, is_of_one, on_entry, reach}
+use Rattle.newt_laws_reach.specs.Reach.{Reach, entry_reached, in_soup, in_store, is_of_one, on_entry, on_soup, reach}
 use Rattle.newt_store_change.specs.Change.{pages_of_entry}
 
 -- ---- the soup of a name keeps its signature
@@ -207,3 +210,58 @@ reaches-one w (command.Addu s g) means = in-one (λ p. p.next_uid) s (mounted_st
 reaches-one w (command.Copy t s uid x y) means = in-one (λ p. p.next_uid) y (mounted_store w x)
 reaches-one w (command.Move t s uid x y) means = in-one (λ p. p.next_uid) y (mounted_store w x)
 reaches-one w _ means = absurd (both-ways means)
+
+-- ---- what is reached is on the unit that is written
+
+pub has-same : (sig : ℕ) (o : Option Store) → has_sig sig o ≡ true → (s : Store) × (o ≡ Some s) × (s.sig ≡ sig)
+has-same sig None h = absurd (both-ways h)
+has-same sig (Some s) h = (s, refl, eqb-true s.sig sig h)
+
+-- of a store that another world has too
+own-unit : (v : World) → MountedApart v → (t u : ℕ) (name : List ℕ) (store soup : ℕ) → Follows v t name store soup → has_sig store (mounted_store v u) ≡ true → (t == u) ≡ true
+own-unit v apart t u name store soup f h = go (same-or-not t u)
+  where
+    its : (s : Store) × (mounted_store v u ≡ Some s) × (s.sig ≡ store)
+    its = has-same store (mounted_store v u) h
+
+    go : (t ≡ u) ⊎ (t ≡ u → ⊥) → (t == u) ≡ true
+    go (inl e) = eq-eqb t u e
+    go (inr other) = absurd (units-from-apart v.units apart t u f.has its.0 other f.there its.1 (f.store_is ∙ sym its.2))
+
+own-in : (w v : World) → MountedApart v → (t : ℕ) (name : List ℕ) (made : Store → Soup → Reach) → ((s : Store) (p : Soup) (o : Option Store) → in_reach (made s p) o ≡ true → has_sig s.sig o ≡ true)
+    → ((store soup : ℕ) → Follows w t name store soup → Follows v t name store soup) → (u : ℕ) → in_reach (in_store made name (mounted_store w t)) (mounted_store v u) ≡ true → (t == u) ≡ true
+own-in w v apart t name made its follows u h = go (mounted_store w t) refl h
+  where
+    soup : (s : Store) → mounted_store w t ≡ Some s → (o : Option Soup) → soup_named name s ≡ o → in_reach (in_soup (made s) o) (mounted_store v u) ≡ true → (t == u) ≡ true
+    soup s e None k h = absurd (both-ways h)
+    soup s e (Some p) k h = own-unit v apart t u name s.sig p.sig (follows s.sig p.sig (record { has = s; of = p; there = e; store_is = refl; named = k; soup_is = refl })) (its s p (mounted_store v u) h)
+
+    go : (o : Option Store) → mounted_store w t ≡ o → in_reach (in_store made name o) (mounted_store v u) ≡ true → (t == u) ≡ true
+    go None e h = absurd (both-ways h)
+    go (Some s) e h = soup s e (soup_named name s) refl h
+
+-- a command that moves keys reaches the store that it writes
+pub reach-own : (w : World) (c : Command) → MountedApart (changed w c) → moves_keys c ≡ true → ((t : ℕ) → looks_at c ≡ Some t → ⊥) → (u : ℕ) → in_reach (reach w c) (mounted_store (changed w c) u) ≡ true → writes w c u ≡ true
+unfolding changed reach moves_keys
+reach-own w (command.Mount t) apart moves unlooked u h = absurd (unlooked t refl)
+reach-own w (command.Index t s parts) apart moves unlooked u h = own-in w (changed w (command.Index t s parts)) apart t s (λ x p. on_soup x.sig p.sig) (λ x p o k. k)
+    (λ store soup. follows-change w t t s s store soup _ (λ p. refl) (λ p. refl)) u h
+reach-own w (command.SetTags t s path symbols) apart moves unlooked u h = own-in w (changed w (command.SetTags t s path symbols)) apart t s (λ x p. on_soup x.sig p.sig) (λ x p o k. k)
+    (λ store soup. follows-change w t t s s store soup _ (λ p. refl) (λ p. refl)) u h
+reach-own w (command.Add t s g) apart moves unlooked u h = own-in w (changed w (command.Add t s g)) apart t s (λ x p. on_entry x.sig p.sig p.next_uid) (λ x p o k. k)
+    (λ store soup. follows-change w t t s s store soup (add_entry w.minute g) (λ p. refl) (λ p. refl)) u h
+reach-own w (command.Addx t s g) apart moves unlooked u h = own-in w (changed w (command.Addx t s g)) apart t s (λ x p. on_entry x.sig p.sig p.next_uid) (λ x p o k. k)
+    (λ store soup. follows-change w t t s s store soup (add_entry w.minute g) (λ p. refl) (λ p. refl)) u h
+reach-own w (command.Addu s g) apart moves unlooked u h = own-in w (changed w (command.Addu s g)) apart (default_unit w) s (λ x p. on_entry x.sig p.sig p.next_uid) (λ x p o k. k)
+    (λ store soup. follows-change w (default_unit w) (default_unit w) s s store soup (add_entry w.minute g) (λ p. refl) (λ p. refl)) u h
+reach-own w (command.Set t s uid path g) apart moves unlooked u h = own-in w (changed w (command.Set t s uid path g)) apart t s (λ x p. on_entry x.sig p.sig uid) (λ x p o k. k)
+    (λ store soup. follows-change w t t s s store soup _ (λ p. refl) (λ p. refl)) u h
+reach-own w (command.Change t s uid g) apart moves unlooked u h = own-in w (changed w (command.Change t s uid g)) apart t s (λ x p. on_entry x.sig p.sig uid) (λ x p o k. k)
+    (λ store soup. follows-change w t t s s store soup _ (λ p. refl) (λ p. refl)) u h
+reach-own w (command.Vwrite t s uid path at bytes) apart moves unlooked u h = own-in w (changed w (command.Vwrite t s uid path at bytes)) apart t s (λ x p. on_entry x.sig p.sig uid) (λ x p o k. k)
+    (λ store soup. follows-change w t t s s store soup _ (λ p. refl) (λ p. refl)) u h
+reach-own w (command.Copy t s uid x y) apart moves unlooked u h = own-in w (changed w (command.Copy t s uid x y)) apart x y (λ x p. on_entry x.sig p.sig p.next_uid) (λ x p o k. k)
+    (λ store soup. follows-copy w x x y y store soup (entry_in w t s uid)) u h
+reach-own w (command.Move t s uid x y) apart moves unlooked u h = ap (λ b. b || (t == u)) (own-in w (changed w (command.Move t s uid x y)) apart x y (λ x p. on_entry x.sig p.sig p.next_uid) (λ x p o k. k)
+    (λ store soup f. follows-change (copy_to w x y (entry_in w t s uid)) x t y s store soup (remove_entry uid) (λ p. refl) (λ p. refl) (follows-copy w x x y y store soup (entry_in w t s uid) f)) u h)
+reach-own w c apart moves unlooked u h = absurd (both-ways moves)

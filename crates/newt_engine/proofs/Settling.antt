@@ -1,19 +1,19 @@
 -- Commands of a world without cursors, and the cursors settled after them.
-use Rattle.std.proofs.Common.{◌≡◌, refl, ap, sym, ◌∙◌, subst, ℕ, ◌≤◌, List, Bool, true, false, IsTrue, Option, Some, None}
+use Rattle.std.proofs.Common.{◌≡◌, refl, ap, sym, ◌∙◌, subst, ℕ, ◌≤◌, List, Bool, true, false, IsTrue, Option, Some, None, ◌&&◌, is_none, inl, inr}
 use Rattle.std.specs.Prelude.{Result, Ok, Err, IfErr, IfOk, OnOk}
-use Rattle.newt_base.specs.Refusals.{first_of}
+use Rattle.newt_base.specs.Refusals.{Checks, first_of}
 use Rattle.newt_base.specs.declared.Refusal.{Refusal}
-use Rattle.newt_host.specs.Moments.{Moment, Always, image}
+use Rattle.newt_host.specs.Moments.{Moment, Always, here}
 use Rattle.newt_host.specs.Outside.{Outside}
 use Rattle.newt_host.proofs.Moments.{Always-map}
 use Rattle.newt_reply.specs.Said.{said}
 use Rattle.newt_reply.specs.declared.reply.Reply.{Reply}
-use Rattle.newt_spec_graph.proofs.Lists.{some-same, none-some}
+use Rattle.newt_spec_graph.proofs.Lists.{among-left}
 use Rattle.newt_spec_query.specs.Cursor.{Cursor}
 use Rattle.newt_spec_store.specs.Store.{Store}
 use Rattle.newt_spec_world.specs.declared.command.Command.{Command}
 use Rattle.newt_spec_world.specs.declared.command.Command.TheVariants as command
-use Rattle.newt_spec_world.specs.First.{media_of}
+use Rattle.newt_spec_world.specs.Step.{formats, is_format_of, looks_anew, writes}
 use Rattle.newt_spec_world.specs.Reply as plain
 use Rattle.newt_spec_world.specs.Changed.{changed}
 use Rattle.newt_spec_world.specs.Refused.{checks}
@@ -22,9 +22,13 @@ use Rattle.newt_laws_world.specs.Settled.{IsSettled, MountedApart, moves_keys}
 use Rattle.newt_laws_world.specs.Worlds.{OnMedia, has_form}
 use Rattle.newt_laws_world.proofs.Kept.{Every, Wf, all-false}
 use Rattle.newt_laws_world.proofs.Rows.{wf-row}
-use Rattle.newt_laws_world.proofs.Uncursored.{changed-apart}
-use Rattle.newt_laws_world.specs.Cursors.{with_cursors, uses_cursors}
-use Rattle.newt_laws_world.specs.Answering.{Answering}
+use Rattle.newt_laws_world.proofs.Uncursored.{changed-apart, checks-apart}
+use Rattle.newt_laws_world.specs.Cursors.{all_closed, with_cursors, uses_cursors}
+use Rattle.newt_laws_steps.specs.Answering.{StaysBlank}
+use Rattle.newt_laws_steps.specs.Meant.{MountedSure}
+use Rattle.newt_laws_steps.specs.StandsFor.{known, seen, seen_on}
+use Rattle.newt_laws_steps.proofs.Held.{stands-left, stands-sure}
+use Rattle.newt_laws_steps.proofs.StoodFor.{known-stands}
 use Rattle.newt_spec_world.specs.Answer.{answer, answered}
 use Rattle.newt_laws_world.proofs.Mounted.{answer-apart, row-apart}
 use Rattle.newt_laws_world.proofs.Settled.{answer-settled}
@@ -38,14 +42,19 @@ use Rattle.newt_store_change.specs.declared.fault.StoreFault.TheVariants.{Refuse
 use Rattle.newt_engine_units.specs.declared.units.Units.{Units}
 use Rattle.newt_engine_units.specs.Answers.{Answers}
 use Rattle.newt_store_change.specs.Faults.{GoesOn, IsEnd}
-use Rattle.newt_engine_units.specs.Stands.{Eight, Stands, world_of}
-use Rattle.newt_engine_units.proofs.Known.{Laws, at-card, at-none}
+use Rattle.newt_engine_units.specs.Breaks.{Meanwhile}
+use Rattle.newt_engine_units.specs.Stands.{Eight, Stands, due_in, world_of}
+use Rattle.newt_engine_units.proofs.Known.{Laws}
 use Rattle.newt_engine_cursors.specs.Fits.{DeskFits}
 use Rattle.newt_engine_cursors.specs.World.{world_with}
 use Rattle.newt_engine_cursors.proofs.Reaches.{reach-beside}
+use Rattle.newt_spec_script.specs.Rows.{throws}
+use Rattle.newt_engine.specs.Calls.{IsNotThrown}
 use Rattle.newt_engine.specs.Ends.{takes_memory, uses_device}
-use Rattle.newt_engine.specs.Standing.{Standing}
-use Rattle.newt_engine.proofs.Handed.{quiet}
+use Rattle.newt_engine.specs.Laws.{units_kept}
+use Rattle.newt_engine.specs.Standing.{Standing, marks_with}
+use Rattle.newt_engine.proofs.Applying.{known-formed, standing-told}
+use Rattle.newt_engine.proofs.Looking.{seen-apart, seen-closed, seen-formed, seen-settled, seen-with}
 use Rattle.newt_engine.proofs.Reaching.{reached-meant}
 use Rattle.newt_engine.proofs.Refusing.{refused_stays}
 
@@ -83,50 +92,40 @@ goes_settled w v c made (Err (Ends s)) h a goes = absurd goes
 
 -- ---- commands that use no cursor
 
-module _ {C : Type 0} {reads : List ℕ → Option Store} {place : C → ℕ} {soups : C → Store} {stands : Bool → C → Outside → Type 0} (l : Laws reads place soups stands)
-    (told : Bool) (units : Units C) (ks : List (Option Cursor)) (o : Outside) (s : Standing reads place stands told units ks o) (t : IsTrue told) (c : Command) (none : uses_cursors c ≡ false) where
-  abbrev w : World
-  w = world_of reads units o
-
-  pub formed : Every Wf w
-  formed u k d is = go (o.card u) refl
-    where
-      stand : Stands place stands true units o
-      stand = subst (λ b. Stands place stands b units o) t s.stand
-
-      media : (m : Option Store) → reads (image u o.now) ≡ m → OnMedia Wf (o.blocks u) (media_of m)
-      media None e = tt
-      media (Some x) e = l.formed (image u o.now) x e
-
-      go : (card : Option (List ℕ)) → o.card u ≡ card → OnMedia Wf d.blocks d.media
-      go None e = absurd (none-some d (sym (at-none l units o s.eight stand u e) ∙ is))
-      go (Some name) e = subst (λ (x : Device). OnMedia Wf x.blocks x.media) (some-same _ d (sym (at-card l units o s.eight stand u name e) ∙ is)) (media (reads (image u o.now)) refl)
-
+module _ (ks : List (Option Cursor)) (w : World) (closed : IsTrue (all_closed w)) (formed : Every Wf w) (apart : MountedApart w) (settled : IsSettled (with_cursors ks w)) (c : Command) (none : uses_cursors c ≡ false) where
   pub whole : answer (with_cursors ks w) c ≡ (settle (with_cursors ks (answer w c).0), (answer w c).1)
-  whole = answer-beside ks w c none refl (s.settled t)
+  whole = answer-beside ks w c none closed settled
 
   -- where keys are as before, nothing is left to settle
   pub still : (v : World) (r : plain.Reply) → moves_keys c ≡ false → answer w c ≡ (v, r) → answer (with_cursors ks w) c ≡ (with_cursors ks v, r)
   still v r few done = whole
-      ∙ ap {A = World} (λ x. (x, (answer w c).1)) (answer-still ks w c none few refl formed (s.apart t) (s.settled t))
+      ∙ ap {A = World} (λ x. (x, (answer w c).1)) (answer-still ks w c none few closed formed apart settled)
       ∙ ap (λ (a : World × plain.Reply). (with_cursors ks a.0, a.1)) done
 
   -- a refusal leaves the cursors
   pub refuses : (v : World) (r : Refusal) → answer w c ≡ (v, plain.Reply.refused r) → answer (with_cursors ks w) c ≡ (with_cursors ks v, plain.Reply.refused r)
-  refuses v r refusing = whole ∙ ap {A = World} (λ x. (x, (answer w c).1)) (subst (λ v. IsSettled (with_cursors ks v)) (sym (refused_stays w c r (ap (λ (a : World × plain.Reply). a.1) refusing))) (s.settled t))
+  refuses v r refusing = whole ∙ ap {A = World} (λ x. (x, (answer w c).1)) (subst (λ v. IsSettled (with_cursors ks v)) (sym (refused_stays w c r (ap (λ (a : World × plain.Reply). a.1) refusing))) settled)
       ∙ ap (λ (a : World × plain.Reply). (with_cursors ks a.0, a.1)) refusing
 
   -- and else they are settled
   pub settled_after : (v later : World) (r : plain.Reply) → answer w c ≡ (v, r) → later ≡ settle (with_cursors ks v) → answer (with_cursors ks w) c ≡ (later, r)
   settled_after v later r done is = whole ∙ ap (λ (a : World × plain.Reply). (settle (with_cursors ks a.0), a.1)) done ∙ ap {A = World} (λ x. (x, r)) (sym is)
 
+  -- what is done where nothing refuses it
+  pub done_changed : (ls : List (Option Cursor)) (v : World) (r : plain.Reply) → first_of (checks w c) ≡ None → answer w c ≡ (v, r) → with_cursors ls v ≡ with_cursors ls (changed w c)
+  unfolding answer
+  done_changed ls v r passed done = ap (with_cursors ls) (sym (ap (λ (a : World × plain.Reply). a.0) done) ∙ ap (λ (o : Option Refusal). (answered w c o).0) passed)
+
   -- to settle them is to settle those that the command reaches
+  pub row_settled : settle (with_cursors ks (changed w c)) ≡ settle_reached (reach w c) (with_cursors ks (changed w c))
+  row_settled = subst (λ (r : Reach). settle (with_cursors ks (changed w c)) ≡ settle_reached r (with_cursors ks (changed w c))) (reach-beside ks w c)
+      (subst (λ (x : World). settle x ≡ settle_reached (reach (with_cursors ks w) c) x) (changed-apart ks w c none) (row-reached (with_cursors ks w) c formed apart settled))
+
+  -- by what is answered
   pub reached_after : (v : World) (r : plain.Reply) → first_of (checks w c) ≡ None → answer w c ≡ (v, r) → settle (with_cursors ks v) ≡ settle_reached (reach w c) (with_cursors ks v)
   unfolding answer
   reached_after v r passed done = subst (λ (x : World). settle (with_cursors ks x) ≡ settle_reached (reach w c) (with_cursors ks x))
-      (sym (ap (λ (o : Option Refusal). (answered w c o).0) passed) ∙ ap (λ (a : World × plain.Reply). a.0) done)
-      (subst (λ (r : Reach). settle (with_cursors ks (changed w c)) ≡ settle_reached r (with_cursors ks (changed w c))) (reach-beside ks w c)
-      (subst (λ (x : World). settle x ≡ settle_reached (reach (with_cursors ks w) c) x) (changed-apart ks w c none) (row-reached (with_cursors ks w) c formed (s.apart t) (s.settled t))))
+      (sym (ap (λ (o : Option Refusal). (answered w c o).0) passed) ∙ ap (λ (a : World × plain.Reply). a.0) done) row_settled
 
   -- which the call has done
   pub settled_reached : (v later : World) (r : plain.Reply) (result : Result Reply StoreFault) (ls : List (Option Cursor)) (reached : Reach) → ls ≡ ks → first_of (checks w c) ≡ None → answer w c ≡ (v, r)
@@ -149,7 +148,7 @@ module _ {C : Type 0} {reads : List ℕ → Option Store} {place : C → ℕ} {s
       all-formed = wf-row w c formed form (all-false (checks w c) passed)
 
       all-apart : MountedApart (changed w c)
-      all-apart = row-apart w c (s.apart t) (all-false (checks w c) passed)
+      all-apart = row-apart w c apart (all-false (checks w c) passed)
 
   -- the same of what is answered
   pub done_answers : (v : World) (reply : Reply) → moves_keys c ≡ false → answer w c ≡ (v, said reply) → (ls : List (Option Cursor)) → ls ≡ ks → Answers (with_cursors ks w) (with_cursors ls v) c said (Ok reply)
@@ -167,27 +166,93 @@ module _ {C : Type 0} {reads : List ℕ → Option Store} {place : C → ℕ} {s
   settled_answers v later reply (Err (Ends stop)) done ls desk on same ends = tt
 
   pub apart_after : (v : World) (r : plain.Reply) → answer w c ≡ (v, r) → MountedApart v
-  apart_after v r done = subst MountedApart (ap (λ (a : World × plain.Reply). a.0) done) (answer-apart w c (s.apart t))
+  apart_after v r done = subst MountedApart (ap (λ (a : World × plain.Reply). a.0) done) (answer-apart w c apart)
 
-  pub moments_with : (now : Moment) → Always (Answering reads w (answer w c).0 o.now) o.now now → Always (Answering reads (with_cursors ks w) (answer (with_cursors ks w) c).0 o.now) o.now now
-  moments_with now h = subst (λ (a : World × plain.Reply). Always (Answering reads (with_cursors ks w) a.0 o.now) o.now now) (sym whole)
-      (Always-map (λ m a. record { unread = a.unread; quiet = a.quiet; stores = a.stores; others = a.others }) h)
+-- the reply is handed on
+pub settled_quiet : (reply : Reply) (result : Result Reply StoreFault) → IfOk result (λ same. same ≡ reply) → IsNotThrown reply → IfOk result (λ it. IsNotThrown it)
+settled_quiet reply (Ok x) same quiet = λ u. ap (λ k. throws u (said k)) same ∙ quiet u
+settled_quiet reply (Err fault) same quiet = tt
+
+-- what a command sees of the known world, without its cursors
+module _ {C : Type 0} {reads : List ℕ → Option Store} {place : C → ℕ} {soups : C → Store} {stands : Bool → C → Outside → Type 0} (l : Laws reads place soups stands)
+    (told : Bool) (units : Units C) (ks : List (Option Cursor)) (o : Outside) (s : Standing reads place stands told units ks o) (t : IsTrue told) (c : Command) where
+  pub start-formed : Every Wf (world_of reads units o)
+  start-formed = known-formed l units ks o (standing-told s t)
+
+  start-sure : MountedSure (world_of reads units o)
+  start-sure u d e m = stands-sure reads (marks_with units ks) o (known reads (marks_with units ks) o) (known-stands reads (marks_with units ks) o (units_kept l units ks o (standing-told s t))) u d e m
+
+  pub seen-whole : IsTrue (all_closed (seen reads (world_of reads units o) o.now c)) × Every Wf (seen reads (world_of reads units o) o.now c) × MountedApart (seen reads (world_of reads units o) o.now c)
+      × IsSettled (with_cursors ks (seen reads (world_of reads units o) o.now c))
+  seen-whole = (seen-closed reads (world_of reads units o) o.now c refl, seen-formed reads (world_of reads units o) o.now c l.formed start-formed,
+      seen-apart reads (world_of reads units o) o.now c start-sure (s.apart t), seen-settled reads (world_of reads units o) o.now c start-sure ks (s.settled t))
+
+pub writes_with : (ks : List (Option Cursor)) (w : World) (c : Command) (u : ℕ) → writes (with_cursors ks w) c u ≡ writes w c u
+writes_with ks w (command.Addu s g) u = refl
+writes_with ks w c u = refl
+
+-- the moments of the world with its cursors
+pub moments_with : (reads : List ℕ → Option Store) (due : ℕ → Bool) (w : World) (ks : List (Option Cursor)) (c : Command) (v : World) (start now : Moment) → uses_cursors c ≡ false
+    → Always (Meanwhile reads due w c v start) start now → Always (Meanwhile reads due (with_cursors ks w) c (settle (with_cursors ks v)) start) start now
+moments_with reads due w ks c v start now none way = Always-map (λ m h. record {
+  answering = record {
+    unread = h.answering.unread;
+    quiet = h.answering.quiet;
+    stores = h.answering.stores;
+    images = λ u is stays. h.answering.images u is (stays-with u stays);
+    others = λ u left is stays may. h.answering.others u left is (stays-with u stays) may;
+  };
+  unsure = λ u sync formed. h.unsure u sync (λ fmt. formed (formats-with u fmt));
+  beside = λ u unwritten unformed sure. h.beside u (sym (writes_with ks w c u) ∙ unwritten) unformed sure;
+}) way
+  where
+    same : (x : World) (u : ℕ) → formats (with_cursors ks x) c u ≡ formats x c u
+    same x u = ap (λ (o : Checks). is_format_of c u && is_none (first_of o)) (checks-apart ks x c none)
+
+    stays-with : (u : ℕ) → StaysBlank (with_cursors ks w) c (settle (with_cursors ks v)) u → StaysBlank w c v u
+    stays-with u (inl h) = inl (sym (same w u) ∙ h)
+    stays-with u (inr h) = inr h
+
+    formats-with : (u : ℕ) → formats (seen reads w start c) c u ≡ true → formats (seen reads (with_cursors ks w) start c) c u ≡ true
+    formats-with u fmt = ap (λ (x : World). formats x c u) (seen-with reads w start c ks) ∙ same (seen reads w start c) u ∙ fmt
 
 -- units and cursors stand after a command as they did before
-pub stands_after : {T C : Type 0} {reads : List ℕ → Option Store} {place : C → ℕ} {stands : Bool → C → Outside → Type 0} (told : Bool) (units later : Units C) (ks ls : List (Option Cursor)) (o p : Outside)
-    → Standing reads place stands told units ks o → Stands place stands told later p → Eight p → DeskFits ls → (c : Command) (made : T → plain.Reply) (result : Result T StoreFault)
-    → (IsTrue told → Answers (world_with reads units ks o) (world_with reads later ls p) c made result) → GoesOn result → Standing reads place stands told later ls p
-stands_after {T} {C} {reads} told units later ks ls o p s stand eight desk c made result answers goes = record {
+pub stands_after : {T C : Type 0} {reads : List ℕ → Option Store} {place : C → ℕ} {stands : Bool → C → Outside → Type 0} (told : Bool) (later : Units C) (ls : List (Option Cursor)) (p : Outside)
+    → Stands place stands told later p → Eight p → DeskFits ls → (w : World) (c : Command) (made : T → plain.Reply) (result : Result T StoreFault) → (IsTrue told → MountedApart w × IsSettled w)
+    → (IsTrue told → Answers w (world_with reads later ls p) c made result) → GoesOn result → Standing reads place stands told later ls p
+stands_after {T} {C} {reads} told later ls p stand eight desk w c made result begun answers goes = record {
   stand = stand;
   eight = eight;
   desk = desk;
-  apart = λ t. goes_apart (world_with reads units ks o) (world_with reads later ls p) c made result (s.apart t) (answers t) goes;
-  settled = λ t. goes_settled (world_with reads units ks o) (world_with reads later ls p) c made result (s.settled t) (answers t) goes;
+  apart = λ t. goes_apart w (world_with reads later ls p) c made result (begun t).0 (answers t) goes;
+  settled = λ t. goes_settled w (world_with reads later ls p) c made result (begun t).1 (answers t) goes;
 }
 
 -- where devices are read alone, nothing happens to them
 pub quiet_with : {C : Type 0} {reads : List ℕ → Option Store} {place : C → ℕ} {soups : C → Store} {stands : Bool → C → Outside → Type 0} → Laws reads place soups stands
-    → (told : Bool) (units : Units C) (ks : List (Option Cursor)) (o p : Outside) → Standing reads place stands told units ks o → IsTrue told → p.now ≡ o.now → (v : World)
-    → Always (Answering reads (world_with reads units ks o) v o.now) o.now p.now
-quiet_with {reads} l told units ks o p s t same v = subst (λ m. Always (Answering reads (world_with reads units ks o) v o.now) o.now m) (sym same)
-    (Always-map (λ m a. record { unread = a.unread; quiet = a.quiet; stores = a.stores; others = a.others }) (quiet l told units o s.eight s.stand t v))
+    → (told : Bool) (units : Units C) (ks : List (Option Cursor)) (o p : Outside) → Standing reads place stands told units ks o → IsTrue told → p.now ≡ o.now → (c : Command) (v : World)
+    → Always (Meanwhile reads (due_in units.slots.items) (world_with reads units ks o) c v o.now) o.now p.now
+quiet_with {reads = reads} l told units ks o p s t same c v =
+    subst (λ m. Always (Meanwhile reads (due_in units.slots.items) (world_with reads units ks o) c v o.now) o.now m) (sym same) (here (record {
+      answering = record {
+        unread = refl;
+        quiet = refl;
+        stores = λ u x left k may.
+            let r = stands-left reads (marks_with units ks) o (known reads (marks_with units ks) o) (known-stands reads (marks_with units ks) o (units_kept l units ks o (standing-told s t))) u x left k may in
+            (r.0, among-left _ _ r.0 r.1, r.2);
+        images = λ u is stays. refl;
+        others = λ u left is stays may. may;
+      };
+      unsure = λ u sync formed. record { image = refl; left = λ left may. may };
+      beside = λ u unwritten unformed sure. refl;
+    }))
+
+-- a command that uses a cursor looks at no unit anew
+pub seen_cursors : (reads : List ℕ → Option Store) (w : World) (now : Moment) (c : Command) → uses_cursors c ≡ true → seen reads w now c ≡ w
+unfolding uses_cursors
+seen_cursors reads w now c h = ap (seen_on reads w now) (nothing c h)
+  where
+    nothing : (c : Command) → uses_cursors c ≡ true → looks_anew w c ≡ None
+    nothing (command.Format _ _ _) h = cc
+    nothing (command.Mount _) h = cc
+    nothing c h = refl

@@ -16,7 +16,7 @@ use Rattle.newt_engine_units.specs.Stands.{world_of}
 use Rattle.newt_engine_cursors.specs.Fits.{DeskFits}
 use Rattle.newt_engine_cursors.specs.World.{world_with}
 
-pub first_world_is : {C : Type 0} (reads : List ℕ → Option Store) (units : Units C) (ks : List (Option Cursor)) (o : Outside) → world_of reads units o ≡ world_at reads (λ _. false) None 0 o → ks ≡ replicate 32 None
+pub first_world_is : {C : Type 0} (reads : List ℕ → Option Store) (units : Units C) (ks : List (Option Cursor)) (o : Outside) → world_of reads units o ≡ world_at reads (λ _. false) (λ _. false) None 0 o → ks ≡ replicate 32 None
     → world_with reads units ks o ≡ unmounted reads o
 first_world_is reads units ks o world free = ap (λ xs. with_cursors xs (world_of reads units o)) free ∙ ap (with_cursors (replicate 32 None)) world
 

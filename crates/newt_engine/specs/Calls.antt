@@ -1,21 +1,23 @@
 -- What the world promises of a command. All of it is this project's own.
-use Rattle.std.specs.Prelude.{◌≡◌, ◌*◌, ℕ, Bool, true, false, IsTrue, List, Option, None, Result, Ok, IfErr, IfOk, IsOk, OnOk}
+use Rattle.std.specs.Prelude.{◌≡◌, ◌≢◌, ◌⊎◌, ◌*◌, ℕ, ◌≤◌, Bool, true, false, IsTrue, List, Option, None, Result, Ok, IfErr, IfOk, IsOk, OnOk}
 use Rattle.newt_base.specs.Refusals.{first_of}
 use Rattle.newt_base.specs.declared.Refusal.{Refusal}
-use Rattle.newt_host.specs.Moments.{Always}
+use Rattle.newt_host.specs.Moments.{Always, changes}
 use Rattle.newt_host.specs.Outside.{Outside, NoFault, OnDevices}
-use Rattle.newt_pagebook.specs.Stops.{HasStopCause}
-use Rattle.newt_pagebook.specs.declared.book.Stop.{Stop}
-use Rattle.newt_pagebook.specs.declared.book.Stop.TheVariants.{Memory}
+use Rattle.newt_laws_steps.specs.StandsFor.{Obeys, seen}
+use Rattle.newt_laws_steps.specs.Thrown.{Failed, Threw}
 use Rattle.newt_reply.specs.Said.{said}
 use Rattle.newt_reply.specs.declared.reply.Reply.{Reply}
 use Rattle.newt_reply.specs.declared.reply.Reply.TheVariants as reply
+use Rattle.newt_spec_script.specs.Rows.{throws}
 use Rattle.newt_spec_store.specs.Store.{Store}
 use Rattle.newt_spec_world.specs.Answer.{answer}
+use Rattle.newt_spec_world.specs.Changed.{changed}
 use Rattle.newt_spec_world.specs.Refused.{checks}
-use Rattle.newt_spec_world.specs.World.{mounted_store}
+use Rattle.newt_spec_world.specs.Step.{is_accepted, may_tear, moves_away, thrown_out}
+use Rattle.newt_spec_world.specs.World as plain
+use Rattle.newt_spec_world.specs.World.{lost, mounted_store, settle}
 use Rattle.newt_spec_world.specs.declared.command.Command.{Command}
-use Rattle.newt_laws_world.specs.Answering.{Answering}
 use Rattle.newt_laws_answers.specs.Bounds.{most_programmed}
 use Rattle.newt_laws_answers.specs.Fetched.{means_entries, most_fetched}
 use Rattle.newt_laws_world.specs.Settled.{IsSettled, MountedApart, moves_keys}
@@ -25,31 +27,42 @@ use Rattle.newt_store_change.specs.Faults.{GoesOn, HasFaultCause, IsEnd, IsRefus
 use Rattle.newt_store_change.specs.declared.fault.StoreFault.{StoreFault}
 use Rattle.newt_engine_card.specs.Bounds.{FetchesAtMost, FetchesWithin, IsOpenOrSame, ProgramsAtMost}
 use Rattle.newt_engine_units.specs.Answers.{Answers}
-use Rattle.newt_engine_units.specs.Calls.{AreRead, Ended}
-use Rattle.newt_engine_units.specs.Stands.{Eight, Stands, world_of}
+use Rattle.newt_engine_units.specs.Breaks.{AtDevice, FailsAlone, HasStoreToFormat, Meanwhile}
+use Rattle.newt_engine_units.specs.Calls.{AreRead, BreaksIn, Ended}
+use Rattle.newt_engine_units.specs.Stands.{Eight, Stands, StandsBut, due_in, is_due, world_of}
 use Rattle.newt_engine_cursors.specs.Fits.{DeskFits}
+use Rattle.newt_engine_cursors.specs.Reached.{in_reach}
 use Rattle.newt_engine_cursors.specs.Unread.{steps_unread}
 use Rattle.newt_engine_cursors.specs.World.{world_with}
 use Rattle.newt_engine.specs.Bounds.{CommandCosts, is_format, most_settled, most_stepped}
 use Rattle.newt_engine.specs.Ends.{takes_memory, uses_device}
-use Rattle.newt_engine.specs.Standing.{Standing}
+use Rattle.newt_engine.specs.Standing.{Standing, means, stood_for}
 use Rattle.newt_engine.specs.declared.world.World.{World}
+use Rattle.std.specs.declared.alloc.AllocError.{AllocError}
+
+-- the reply says of no unit that its device failed
+abbrev pub IsNotThrown : Reply → Type 0
+IsNotThrown it = (u : ℕ) → throws u (said it) ≡ false
 
 module _ {C : Type 0} (reads : List ℕ → Option Store) (place : C → ℕ) (standing : Bool → C → Outside → Type 0) where
-  -- A command that uses no cursor, by the world without cursors: the units answer it, the cursors
-  -- stay what they were, and only what may take memory or use a device ends the run so.
+  -- A command that uses no cursor, by the world without cursors, as the command sees it: the units
+  -- answer it, the cursors stay what they were, and only what may take memory or use a device ends
+  -- it so.
   pub record Obeyed (told : Bool) (command : Command) (old new : World C) (before after : Outside) (result : Result Reply StoreFault) : Type 0 where
     pub stands : GoesOn result → Stands place standing told new.units after
-    pub answered : IsTrue told → Answers (world_of reads old.units before) (world_of reads new.units after) command said result
-    pub moments : IsTrue told → let w = world_of reads old.units before in Always (Answering reads w (answer w command).0 before.now) before.now after.now
+    pub answered : IsTrue told → Answers (seen reads (world_of reads old.units before) before.now command) (world_of reads new.units after) command said result
+    pub moments : IsTrue told → let w = world_of reads old.units before in
+        Always (Meanwhile reads (due_in old.units.slots.items) w command (answer (seen reads w before.now command) command).0 before.now) before.now after.now
     pub desk : new.desk ≡ old.desk
-    pub unrefused : IsTrue told → moves_keys command ≡ true → OnOk result (first_of (checks (world_of reads old.units before) command) ≡ None)
+    pub unrefused : IsTrue told → moves_keys command ≡ true → OnOk result (first_of (checks (seen reads (world_of reads old.units before) before.now command) command) ≡ None)
     pub costs : IsTrue told → let w = world_of reads old.units before in CommandCosts w command (most_fetched w command) result before after
     pub alone : OnDevices before after
     pub cause : IfErr result (λ fault. HasFaultCause fault before after)
+    pub broke : IfErr result (AtDevice (BreaksIn reads place standing told command old.units new.units before after))
     pub no_fault : GoesOn result → NoFault before after
     pub ends : takes_memory command ≡ false → IfErr result (λ fault. IsRefusal fault)
     pub device : uses_device command ≡ false → IfErr result (λ fault. NoDevice fault)
+    pub quiet : IfOk result (λ it. IsNotThrown it)
 
   -- A command that uses no device, by the world without cursors, whatever the devices hold: the
   -- units answer it, the cursors stay what they were, and only want of memory ends the run, and that
@@ -60,10 +73,12 @@ module _ {C : Type 0} (reads : List ℕ → Option Store) (place : C → ℕ) (s
         → Answers (world_of reads old.units outside) (world_of reads new.units outside) command said result
     pub desk : new.desk ≡ old.desk
     pub device : IfErr result (λ fault. NoDevice fault)
+    pub quiet : IfOk result (λ it. IsNotThrown it)
     pub ends : takes_memory command ≡ false → IfErr result (λ fault. IsRefusal fault)
 
   -- The cursors that are reached are settled, and a reply is handed on; or the run ends. Devices are
-  -- read alone; and where one entry at most is reached, nothing else is fetched.
+  -- read alone; and where one entry at most is reached, nothing else is fetched. A device that fails
+  -- is that of the store that is reached, and leaves the cursors as they were.
   pub record Settles (told : Bool) (reached : Reach) (reply : Reply) (old new : World C) (before after : Outside) (result : Result Reply StoreFault) : Type 0 where
     pub read : AreRead reads place standing told old.units new.units before after
     pub desk : DeskFits new.desk
@@ -72,6 +87,8 @@ module _ {C : Type 0} (reads : List ℕ → Option Store) (place : C → ℕ) (s
         → FetchesAtMost (λ u. 512 * pages_of_entry (entry_reached reached (mounted_store w u))) before after
     pub same : IfOk result (λ it. it ≡ reply)
     pub ends : Ended result before after
+    pub own : IsTrue told → let w = world_of reads old.units before in IfErr result (AtDevice (λ u. in_reach reached (mounted_store w u) ≡ true))
+    pub kept : IfErr result (AtDevice (λ u. new.desk ≡ old.desk))
     pub only : IfErr result (λ fault. IsEnd fault)
 
   -- A command of cursors, in a world whose cursors are settled: devices are read alone.
@@ -83,22 +100,49 @@ module _ {C : Type 0} (reads : List ℕ → Option Store) (place : C → ℕ) (s
     pub fetches : IsTrue told → let w = world_with reads old.units old.desk before in MountedApart w → IsSettled w → steps_unread w command ≡ true
         → FetchesAtMost (most_stepped w command) before after
     pub cause : IfErr result (λ fault. HasFaultCause fault before after)
+    pub failed : IfErr result (AtDevice (FailsAlone before after))
+    pub kept : IfErr result (AtDevice (λ u. new.desk ≡ old.desk))
     pub no_fault : GoesOn result → NoFault before after
     pub ends : takes_memory command ≡ false → IfErr result (λ fault. IsRefusal fault)
     pub device : uses_device command ≡ false → IfErr result (λ fault. NoDevice fault)
+    pub quiet : IfOk result (λ it. IsNotThrown it)
 
-  -- Any command, by the world with its cursors.
+  -- What stands where the device of a unit has failed in a command: but for that unit all is as it was; and nothing has happened to it where the store of the
+  -- unit was not to be written, no sync of it was due, and it was not to be formatted.
+  pub record Fails (told : Bool) (command : Command) (old new : World C) (before after : Outside) (u : ℕ) : Type 0 where
+    pub stands : StandsBut place standing u told new.units after
+    pub desk : new.desk ≡ old.desk
+    pub world : IsTrue told → thrown_out (stood_for reads new after) u (λ _. lost) ≡ thrown_out (stood_for reads old before) u (λ _. lost)
+    pub others : IsTrue told → (n : ℕ) → n ≢ u → changes n after.now ≡ changes n before.now
+    pub same : IsTrue told → may_tear (stood_for reads old before) command u ≡ false → is_due old.units u ≡ false → HasStoreToFormat reads (stood_for reads old before) command u before.now
+        → changes u after.now ≡ changes u before.now
+    pub failed : FailsAlone before after u
+
+  -- And where it is the source of a move whose target has the entry already: nothing is undone there. But for that unit all is as after the move, with its cursors.
+  pub record FailsHalfway (told : Bool) (command : Command) (old new : World C) (before after : Outside) (u : ℕ) : Type 0 where
+    pub away : moves_away command u ≡ true
+    pub stands : StandsBut place standing u told new.units after
+    pub desk : DeskFits new.desk
+    pub accepted : IsTrue told → is_accepted (stood_for reads old before) command ≡ true
+    pub world : IsTrue told → thrown_out (stood_for reads new after) u (λ _. lost) ≡ settle (thrown_out (changed (stood_for reads old before) command) u (λ _. lost))
+    pub open_after : IsTrue told → (n : ℕ) → n ≢ u → IsOpenOrSame n before.now after.now
+    pub failed : FailsAlone before after u
+
+  -- Any command, by the known world with its cursors, as the command sees it.
   pub record Served (told : Bool) (command : Command) (old new : World C) (before after : Outside) (result : Result Reply StoreFault) : Type 0 where
     pub stands : GoesOn result → Standing reads place standing told new.units new.desk after
-    pub answered : IsTrue told → Answers (world_with reads old.units old.desk before) (world_with reads new.units new.desk after) command said result
-    pub moments : IsTrue told → let w = world_with reads old.units old.desk before in Always (Answering reads w (answer w command).0 before.now) before.now after.now
+    pub answered : IsTrue told → Answers (seen reads (stood_for reads old before) before.now command) (stood_for reads new after) command said result
+    pub moments : IsTrue told → let w = stood_for reads old before in
+        Always (Meanwhile reads (due_in old.units.slots.items) w command (answer (seen reads w before.now command) command).0 before.now) before.now after.now
     pub costs : IsTrue told → let w = world_with reads old.units old.desk before in CommandCosts w command (most_settled w command) result before after
     pub step : IsTrue told → let w = world_with reads old.units old.desk before in steps_unread w command ≡ true → FetchesAtMost (most_stepped w command) before after
     pub alone : OnDevices before after
     pub cause : IfErr result (λ fault. HasFaultCause fault before after)
+    pub broke : IfErr result (AtDevice (λ u. Fails told command old new before after u ⊎ FailsHalfway told command old new before after u))
     pub no_fault : GoesOn result → NoFault before after
     pub ends : takes_memory command ≡ false → IfErr result (λ fault. IsRefusal fault)
     pub device : uses_device command ≡ false → IfErr result (λ fault. NoDevice fault)
+    pub quiet : IfOk result (λ it. IsNotThrown it)
 
 module _ {C : Type 0} (reads : List ℕ → Option Store) where
   -- How a command ends. What is attached, the input and the output are as they were. But for a
@@ -106,27 +150,28 @@ module _ {C : Type 0} (reads : List ℕ → Option Store) where
   -- is synced twice at most; where the command is one of entries, for each page of those that it
   -- means 1024 bytes at most are fetched there; one that opens, shows, moves or counts a cursor whose
   -- query asks for no words or texts fetches 512 for each page of the entry that it answers. After a
-  -- reply each bank is not closed or is as it was. A reply tells that no fault was counted, an end of
-  -- the run has its cause, and only what may take memory or use a device ends the run so.
-  pub record Finished (told : Bool) (command : Command) (old : World C) (before after : Outside) (result : Result Reply Stop) : Type 0 where
+  -- reply each bank is not closed or is as it was, but for a unit that was thrown out. No fault was
+  -- counted but of a unit that the reply says was thrown out, and of that one a fault was; only what
+  -- may take memory ends in want of it, and only what uses a device throws a unit out.
+  pub record Finished (told : Bool) (command : Command) (old : World C) (before after : Outside) (result : Result Reply AllocError) : Type 0 where
     pub alone : OnDevices before after
-    pub bound : IsTrue told → is_format command ≡ false → (u : ℕ) → ProgramsAtMost (most_programmed (world_with reads old.units old.desk before) command u) u before after
-    pub settling : IsTrue told → means_entries command ≡ true → let w = world_with reads old.units old.desk before in FetchesWithin (most_programmed w command) (most_settled w command) before after
-    pub step : IsTrue told → let w = world_with reads old.units old.desk before in steps_unread w command ≡ true → FetchesAtMost (most_stepped w command) before after
-    pub open_after : IsTrue told → OnOk result ((u : ℕ) → IsOpenOrSame u before.now after.now)
-    pub cause : IfErr result (λ stop. HasStopCause stop before after)
-    pub no_fault : OnOk result (NoFault before after)
+    pub bound : IsTrue told → is_format command ≡ false → (u : ℕ) → ProgramsAtMost (most_programmed (stood_for reads old before) command u) u before after
+    pub settling : IsTrue told → means_entries command ≡ true → let w = stood_for reads old before in FetchesWithin (most_programmed w command) (most_settled w command) before after
+    pub step : IsTrue told → let w = stood_for reads old before in steps_unread w command ≡ true → FetchesAtMost (most_stepped w command) before after
+    pub open_after : IsTrue told → IfOk result (λ it. (u : ℕ) → it ≢ reply.Thrown u → IsOpenOrSame u before.now after.now)
+    pub threw : IfOk result (λ it. Threw (said it) before.dev_faults after.dev_faults)
+    pub failed : IfOk result (λ it. Failed (said it) before.dev_faults after.dev_faults)
+    pub later : (u : ℕ) → before.dev_faults u ≤ after.dev_faults u
     pub never_memory : takes_memory command ≡ false → IsOk result
-    pub never_device : uses_device command ≡ false → IfErr result (λ stop. stop ≡ Memory)
+    pub never_thrown : uses_device command ≡ false → IfOk result (λ it. IsNotThrown it)
 
 module _ {C : Type 0} (reads : List ℕ → Option Store) (place : C → ℕ) (standing : Bool → C → Outside → Type 0) where
-  -- What the world promises of any command. It answers what is defined of it, and then stands for the
-  -- world that is then; at each moment a crash leaves each store as it was or as it is after the
-  -- command; and a refusal leaves the world as it was.
-  pub record Applied (told : Bool) (command : Command) (old new : World C) (before after : Outside) (result : Result Reply Stop) : Type 0 where
+  -- What the world promises of any command. From each world that it stood for it has made a step to
+  -- one that it stands for; at each moment a crash leaves each unit as in the one or in the other;
+  -- and a refusal leaves the world as the command saw it.
+  pub record Applied (told : Bool) (command : Command) (old new : World C) (before after : Outside) (result : Result Reply AllocError) : Type 0 where
     pub stands : OnOk result (Standing reads place standing told new.units new.desk after)
-    pub answered : IsTrue told → let w = world_with reads old.units old.desk before in let v = world_with reads new.units new.desk after in
-        IfOk result (λ reply. answer w command ≡ (v, said reply))
-    pub moments : IsTrue told → let w = world_with reads old.units old.desk before in Always (Answering reads w (answer w command).0 before.now) before.now after.now
+    pub obeyed : IsTrue told → (w : plain.World) → means reads old before w → Obeys reads said (means reads new after) w command result before.now after.now
     pub finished : Finished reads told command old before after result
-    pub refused : IsTrue told → (refusal : Refusal) → result ≡ Ok (reply.Refused refusal) → world_with reads new.units new.desk after ≡ world_with reads old.units old.desk before
+    pub refused : IsTrue told → (refusal : Refusal) → result ≡ Ok (reply.Refused refusal) → (w : plain.World) → means reads old before w
+        → means reads new after (seen reads w before.now command)

@@ -9,21 +9,23 @@ use Rattle.newt_spec_query.specs.Cursor.{Cursor}
 use Rattle.newt_spec_store.specs.Laid.{bare}
 use Rattle.newt_spec_store.specs.Store.{Store}
 use Rattle.newt_spec_store.specs.Valid.{well_formed}
-use Rattle.newt_spec_world.specs.declared.command.Command.{Command}
-use Rattle.newt_spec_world.specs.World.{World, store_on_unit}
+use Rattle.newt_spec_graph.specs.Lists.{Among}
+use Rattle.newt_spec_world.specs.World.{World, stores_on}
 use Rattle.newt_laws_world.specs.Settled.{IsSettled, MountedApart}
 use Rattle.newt_laws_world.specs.Cursors.{with_cursors}
-use Rattle.newt_spec_world.specs.Answer.{answer}
-use Rattle.newt_laws_world.proofs.Later.{answer-later}
-use Rattle.newt_spec_world.specs.Reply.{Reply}
+use Rattle.newt_laws_steps.specs.Answering.{ReadsOneOf}
+use Rattle.newt_laws_steps.specs.StandsFor.{IsKept, StandsFor, known}
+use Rattle.newt_laws_steps.proofs.Held.{stands-left, stands-same}
+use Rattle.newt_laws_steps.proofs.StoodFor.{known-stands}
 use Rattle.newt_engine_units.specs.declared.units.Units.{Units}
 use Rattle.newt_pagebook.specs.Book.{IsSameFor}
 use Rattle.newt_engine_units.specs.Stands.{Eight}
-use Rattle.newt_engine_units.proofs.Known.{Laws}
+use Rattle.newt_engine_units.proofs.Known.{Laws, card-known, mounted-known}
+use Rattle.newt_engine_units.proofs.Marked.{not-due}
 use Rattle.newt_engine_units.proofs.Slots.{stands-still}
-use Rattle.newt_engine_units.proofs.Turns.{world-still, left-alone}
+use Rattle.newt_engine_units.proofs.Turns.{world-still}
 use Rattle.newt_engine_cursors.specs.World.{world_with}
-use Rattle.newt_engine.specs.Standing.{Standing}
+use Rattle.newt_engine.specs.Standing.{Standing, marks_with}
 
 -- ---- between commands
 
@@ -58,23 +60,35 @@ still_stands {C} {reads} {place} {stands} kept durable told units cursors old ne
     still : IsTrue told → world_with reads units cursors new ≡ world_with reads units cursors old
     still t = ap (with_cursors cursors) (world-still reads units old new same.cards (same.changes t))
 
+-- ---- the worlds that it stands for
+
+-- what units and cursors keep, so that they stand for some world
+pub units_kept : {C : Type 0} {reads : List ℕ → Option Store} {place : C → ℕ} {soups : C → Store} {stands : Bool → C → Outside → Type 0} → Laws reads place soups stands
+    → (units : Units C) (cursors : List (Option Cursor)) (outside : Outside) → Standing reads place stands true units cursors outside → IsKept reads (marks_with units cursors) outside
+units_kept laws units cursors outside s = record {
+  durable = λ u has due. s.stand.durable refl u has due;
+  sure = λ u mounted. not-due units.slots.items s.stand.sure u mounted;
+  stores = λ u mounted.
+      let k = mounted-known laws units outside s.eight s.stand u mounted in
+      let p = card-known laws units outside s.eight s.stand u k.0 k.1 in
+      (p.store, p.reads_it);
+  eight = s.eight.eight;
+  settled = s.settled refl;
+}
+
+pub has_world : {C : Type 0} {reads : List ℕ → Option Store} {place : C → ℕ} {soups : C → Store} {stands : Bool → C → Outside → Type 0} → Laws reads place soups stands
+    → (units : Units C) (cursors : List (Option Cursor)) (outside : Outside) → Standing reads place stands true units cursors outside
+    → (w : World) × StandsFor reads (marks_with units cursors) outside w
+has_world {reads = reads} laws units cursors outside s =
+    (known reads (marks_with units cursors) outside, known-stands reads (marks_with units cursors) outside (units_kept laws units cursors outside s))
+
 pub same_worlds : {C : Type 0} (reads : List ℕ → Option Store) (units : Units C) (cursors : List (Option Cursor)) (old new : Outside) (w : World) → SameDevices true old new
-    → world_with reads units cursors old ≡ w → world_with reads units cursors new ≡ w
-same_worlds reads units cursors old new w same is = ap (with_cursors cursors) (world-still reads units old new same.cards (same.changes refl)) ∙ is
+    → StandsFor reads (marks_with units cursors) old w → StandsFor reads (marks_with units cursors) new w
+same_worlds reads units cursors old new w same means = stands-same reads (marks_with units cursors) old new w same.cards (same.changes refl) means
 
-pub leaves_store : {C : Type 0} {reads : List ℕ → Option Store} {place : C → ℕ} {soups : C → Store} {stands : Bool → C → Outside → Type 0} → Laws reads place soups stands
-    → (units : Units C) (cursors : List (Option Cursor)) (outside : Outside) (w : World) → Standing reads place stands true units cursors outside → world_with reads units cursors outside ≡ w
-    → (unit : ℕ) (store : Store) (left : List ℕ) → store_on_unit w unit ≡ Some store → MayLeave unit outside.now left → reads left ≡ Some store
-leaves_store laws units cursors outside w s means unit store left is may = left-alone laws units outside s.eight s.stand unit store outside.now left (ap (λ (v : World). store_on_unit v unit) means ∙ is) refl may
-
--- ---- no command takes a unit's store away
-
-pub stays_there : (w next : World) (c : Command) (reply : Reply) (unit : ℕ) → answer w c ≡ (next, reply) → store_on_unit next unit ≡ None → store_on_unit w unit ≡ None
-stays_there w next c reply unit is none = go (store_on_unit w unit) refl
-  where
-    go : (o : Option Store) → store_on_unit w unit ≡ o → store_on_unit w unit ≡ None
-    go None e = e
-    go (Some s) e = let k = answer-later w c unit s e in absurd (none-some k.0 (sym none ∙ ap {A = World × Reply} (λ a. store_on_unit a.0 unit) (sym is) ∙ k.1))
+pub leaves_stores : {C : Type 0} (reads : List ℕ → Option Store) (units : Units C) (cursors : List (Option Cursor)) (outside : Outside) (w : World) → StandsFor reads (marks_with units cursors) outside w
+    → (unit : ℕ) (store : Store) (left : List ℕ) → Among (stores_on w unit) store → MayLeave unit outside.now left → ReadsOneOf reads (stores_on w unit) left
+leaves_stores reads units cursors outside w means unit store left is may = stands-left reads (marks_with units cursors) outside w means unit store left is may
 
 -- ---- at the start
 

@@ -1,16 +1,15 @@
 //! The world over the cards of a host.
-ghost use Rattle.std.specs.Prelude.{◌≡◌, ◌≤◌, ℕ, None, IsTrue, IfOk, length, map, refl};
+ghost use Rattle.std.specs.Prelude.{◌≡◌, ◌≤◌, ℕ, None, IsTrue, IfOk, length, map};
 ghost use Rattle.std.specs.Prelude.{string_bytes};
 ghost use Rattle.newt_host.specs.Meanings.{held};
 ghost use Rattle.newt_host_attach.specs.Named.{AreAttached, AreDistinct};
 ghost use Rattle.newt_laws_world.specs.Worlds.{has_form};
-ghost use Rattle.newt_spec_world.specs.Answer.{answer};
 ghost use Rattle.newt_spec_world.specs.First.{world_of};
-ghost use Rattle.newt_engine_cursors.specs.World.{world_with};
+ghost use Rattle.newt_spec_world.specs.Step.{Step};
 ghost use Rattle.newt_engine.specs.Calls.{Applied};
-ghost use Rattle.newt_engine.specs.Standing.{IsStanding, Standing, stood_for};
-ghost use Rattle.newt_engine.specs.Laws.{laws_of, still_stands, same_worlds, leaves_store};
-ghost use Rattle.newt_engine.specs.Laws.{stays_there};
+ghost use Rattle.newt_engine.specs.Standing.{IsStanding, Standing, means};
+ghost use Rattle.newt_engine.specs.Laws.{has_world, laws_of, leaves_stores, same_worlds};
+ghost use Rattle.newt_engine.specs.Laws.{still_stands};
 
 use newt_cursor::Desk;
 use newt_engine_card::Card;
@@ -25,7 +24,7 @@ use newt_store_change::StoreFault;
 use std::alloc::{AllocError, Global};
 
 /// The eight units with their cards and the 32 places for cursors, which with the devices of a host
-/// stand for one world.
+/// stand for one world, or for several where a device has failed.
 #[derive(Drop)]
 pub struct World<C: Card> {
     pub(crate) units: Units<C>,
@@ -45,9 +44,8 @@ impl<C: Card> World<C> {
         requires free { (unit : ℕ) → (H.outside host.old).card unit ≡ None }
         ensures stands { IfOk result (λ it.
             IsStanding C.reads C.place C.stands H.told it (H.outside host.new)) }
-        ensures world { IsTrue H.told → IfOk result (λ it.
-            stood_for C.reads it (H.outside host.new)
-            ≡ world_of C.reads (held (H.outside host.old)) (map string_bytes names.now)) }
+        ensures world { IsTrue H.told → IfOk result (λ it. means C.reads it (H.outside host.new)
+            (world_of C.reads (held (H.outside host.old)) (map string_bytes names.now))) }
         ensures attached { AreAttached H.told (map string_bytes names.now)
             (H.outside host.old) (H.outside host.new) }
     {
@@ -58,10 +56,10 @@ impl<C: Card> World<C> {
         })
     }
 
-    /// Answers a command. A refusal is a reply, and leaves the world as it was. The errors are
-    /// `Stop::Memory`, where memory was refused, and `Stop::Device`, where the device of a unit
-    /// failed; after one the world is spent, and no further command may be given.
-    pub fn apply<H: Host>(&mut self, host: &mut H, command: Command) -> Result<Reply, Stop>
+    /// Answers a command. A refusal is a reply, and leaves the world as the command saw it. A device
+    /// that fails costs its own command: its unit is thrown out, and the reply says so. The error is
+    /// that memory was refused; after it the world is spent, and no further command may be given.
+    pub fn apply<H: Host>(&mut self, host: &mut H, command: Command) -> Result<Reply, AllocError>
         requires stands { IsStanding C.reads C.place C.stands H.told self.old
             (H.outside host.old) }
         requires form { IsTrue (has_form command) }
@@ -71,7 +69,11 @@ impl<C: Card> World<C> {
         match self.serve(host, command) {
             Ok(reply) => Ok(reply),
             Err(StoreFault::Refused(refusal)) => Ok(Reply::Refused(refusal)),
-            Err(StoreFault::Stop(stop)) => Err(stop),
+            Err(StoreFault::Stop(Stop::Device(unit))) => {
+                self.units.throw_out(unit);
+                Ok(Reply::Thrown(unit))
+            }
+            Err(StoreFault::Stop(Stop::Memory)) => Err(AllocError),
         }
     }
 }
@@ -79,14 +81,16 @@ impl<C: Card> World<C> {
 impl<C: Card> Interpreter for World<C> {
     ghost store_of_image = { C.reads };
 
-    ghost step = { λ w c next reply. answer w c ≡ (next, reply) };
+    ghost step = { Step };
 
     ghost stands = { λ told it outside.
         Standing C.reads C.place C.stands told it.units it.desk outside };
 
-    ghost means = { λ it outside w. world_with C.reads it.units it.desk outside ≡ w };
+    ghost means = { λ it outside w. means C.reads it outside w };
 
-    ghost has_world = { λ it outside stands. (world_with C.reads it.units it.desk outside, refl) };
+    ghost has_world = { λ it outside stands.
+        has_world (laws_of C.formed C.plain C.durable C.banks C.kept)
+        it.units it.desk outside stands };
 
     ghost kept = { λ told it old new same stands.
         still_stands C.kept C.durable told it.units it.desk old new same stands };
@@ -95,16 +99,13 @@ impl<C: Card> Interpreter for World<C> {
         same_worlds C.reads it.units it.desk old new w same means };
 
     ghost leaves = { λ it outside w stands means unit store left is may.
-        leaves_store (laws_of C.formed C.plain C.durable C.banks C.kept)
-        it.units it.desk outside w stands means unit store left is may };
-
-    ghost stays = { stays_there };
+        leaves_stores C.reads it.units it.desk outside w means unit store left is may };
 
     fn new<H: Host>(alloc: Global, host: &mut H, names: &[String]) -> Result<Self, AllocError> {
         World::new(alloc, host, names)
     }
 
-    fn apply<H: Host>(&mut self, host: &mut H, command: Command) -> Result<Reply, Stop> {
+    fn apply<H: Host>(&mut self, host: &mut H, command: Command) -> Result<Reply, AllocError> {
         World::apply(self, host, command)
     }
 }

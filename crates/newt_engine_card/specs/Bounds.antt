@@ -20,9 +20,9 @@ pub record ProgramsAtMost (n unit : ℕ) (old new : Outside) : Type 0 where
   pub programmed : IsOpenFor n (image unit old.now) → new.programmed unit ≤ old.programmed unit + n
   pub wears : IsOpenFor n (image unit old.now) → Wears unit 0 2 old new
 
--- A unit's bank is not closed, or nothing has happened to the unit.
+-- A unit's bank is not closed, or the unit is read as it was.
 abbrev pub IsOpenOrSame : ℕ → Moment → Moment → Type 0
-IsOpenOrSame unit old new = IsOpenFor 0 (image unit new) ⊎ (changes unit new ≡ changes unit old)
+IsOpenOrSame unit old new = IsOpenFor 0 (image unit new) ⊎ (image unit new ≡ image unit old)
 
 -- nothing has happened to a unit, and it was not programmed, erased or synced
 pub record LeftAlone (unit : ℕ) (old new : Outside) : Type 0 where

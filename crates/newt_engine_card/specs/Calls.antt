@@ -1,5 +1,6 @@
 -- What calls on a card promise. All of it is this project's own.
-use Rattle.std.specs.Prelude.{◌≡◌, ◌*◌, ℕ, Bool, IsTrue, List, Option, Some, None, Result, OnOk, IfOk, IfErr, IsErrOf}
+use Rattle.std.specs.Prelude.{◌≡◌, ◌*◌, ℕ, Bool, IsTrue, List, Option, Some, None, IsSome, Result, OnOk, IfOk, IfErr, IsErrOf}
+use Rattle.newt_base.specs.Refusals.{first_of}
 use Rattle.newt_host.specs.Moments.{image, IsDurable, Leaves, Anything}
 use Rattle.newt_host.specs.Outside.{Outside, NoFault, OnlyReads, Rose, Spends, Touches, Wears}
 use Rattle.newt_pagebook.specs.Book.{IsOpenFor}
@@ -62,6 +63,8 @@ module _ {C : Type 0} (reads : List ℕ → Option Store) (place : C → ℕ) (s
         IsOpenFor (most_bytes change (before.blocks (place old)) now s) (image (place old) before.now) → Wears (place old) 0 2 before after
     pub open_after : IsTrue told → OnOk result (IsOpenFor 0 (image (place old) after.now))
     pub nothing_done : IsRefused result → after.now ≡ before.now
+    -- where one of its refusals holds nothing happens, whatever the answer
+    pub idle : IsTrue told → (s : Store) → Shows old before s → IsSome (first_of (refusals change (before.blocks (place old)) now s)) → after.now ≡ before.now
     pub alone : Touches (place old) before after
     pub cause : IfErr result (FaultsAt (place old) before after)
     pub no_fault : GoesOn result → NoFault before after

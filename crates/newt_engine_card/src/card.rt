@@ -1,6 +1,6 @@
 //! What is asked of a store on the card of one unit.
-ghost use Rattle.std.specs.Prelude.{◌≡◌, ℕ, ◌≤◌, List, Bool, IsTrue, Option, Some, is_some};
-ghost use Rattle.std.specs.Prelude.{option_map, option_and_then, slice_get, IfSome, true};
+ghost use Rattle.std.specs.Prelude.{◌≡◌, ℕ, ◌*◌, ◌≤◌, List, Bool, IsTrue, Option, Some, is_some};
+ghost use Rattle.std.specs.Prelude.{length, option_map, option_and_then, slice_get, IfSome, true};
 ghost use Rattle.newt_host.specs.Moments.{image, IsDurable};
 ghost use Rattle.newt_host.specs.Outside.{Outside};
 ghost use Rattle.newt_pagebook.specs.Book.{IsSameFor};
@@ -9,7 +9,7 @@ ghost use Rattle.newt_index_ranges.specs.Range.{range_in};
 ghost use Rattle.newt_spec_store.specs.Laid.{bare};
 ghost use Rattle.newt_spec_store.specs.Store.{Store as Plain, soup_named, soup_of, entry_at};
 ghost use Rattle.newt_spec_store.specs.Store.{count_in};
-ghost use Rattle.newt_spec_store.specs.Valid.{well_formed};
+ghost use Rattle.newt_spec_store.specs.Valid.{valid, well_formed};
 ghost use Rattle.newt_engine_card.specs.Cards.{mask_at};
 ghost use Rattle.newt_engine_card.specs.Calls.{Formats, Opens, Changes, Fetches, FetchesLarge};
 
@@ -157,6 +157,10 @@ pub trait Card: Sized + Drop {
 
     /// Only stores of this form are read.
     ghost formed: { (bytes : List ℕ) (s : Plain) → reads bytes ≡ Some s → IsTrue (well_formed s) };
+
+    /// And of an image of so many blocks only stores that are valid there.
+    ghost fits: { (blocks : ℕ) (bytes : List ℕ) (s : Plain) → length bytes ≡ blocks * 4096
+        → reads bytes ≡ Some s → IsTrue (valid blocks s) };
 
     /// Where bytes are told, its unit is read as a store, whose soups are known.
     ghost plain: { (card : Self) (outside : Outside) → stands true card outside

@@ -1,5 +1,5 @@
 -- Entries that are moved.
-use Rattle.std.proofs.Common.{◌≡◌, refl, ap, sym, ◌∙◌, subst, ℕ, List, [], ◌⊎◌, inl, inr, false, Option, Some, None, option_and_then, replicate}
+use Rattle.std.proofs.Common.{◌≡◌, refl, ap, sym, ◌∙◌, subst, ℕ, List, [], ◌∷◌, ◌++◌, ◌⊎◌, inl, inr, Bool, false, Option, Some, None, option_and_then, replicate}
 use Rattle.std.specs.Bool.{⊤}
 use Rattle.std.specs.Prelude.{Result, Ok, Err, is_some}
 use Rattle.newt_base.specs.Refusals.{Checks, first_of}
@@ -7,14 +7,15 @@ use Rattle.newt_base.specs.declared.Refusal.{Refusal}
 use Rattle.newt_base.specs.declared.Refusal.TheVariants.{Entry as NoEntry}
 use Rattle.newt_host.specs.Moments.{Moment, Always, MayLeave}
 use Rattle.newt_host.proofs.Moments.{Always-append, Always-map, Always-last}
-use Rattle.newt_spec_graph.proofs.Lists.{some-same, none-some, both-ways}
+use Rattle.newt_spec_graph.specs.Lists.{Among}
+use Rattle.newt_spec_graph.proofs.Lists.{among-right, some-same, none-some, both-ways}
 use Rattle.newt_laws_world.proofs.Units.{same-or-not, device-other}
 use Rattle.newt_spec_store.specs.Store.{Store, Entry, soup_named, entry_of, change_soup, add_entry, remove_entry, soup_of, entry_at}
 use Rattle.newt_spec_world.specs.declared.command.Command.{Command}
 use Rattle.newt_spec_world.specs.declared.command.Command.TheVariants as command
 use Rattle.newt_spec_world.specs.Reply.{Reply}
-use Rattle.newt_spec_world.specs.World.{World, Device, store_of, store_on_unit, change_store, change_media}
-use Rattle.newt_laws_world.specs.Answering.{Answering}
+use Rattle.newt_spec_world.specs.World.{World, Device, Media, blank, one, two, lost, device, store_of, store_on_unit, stores_of, stores_on, change_store, change_media, IsBlankOn}
+use Rattle.newt_laws_steps.specs.Answering.{Answering, ReadsOneOf}
 use Rattle.newt_spec_world.specs.Answer.{answer}
 use Rattle.newt_laws_answers.proofs.Tests.{add_tests, room_tests, move_tests, moved_within, with_added}
 use Rattle.newt_laws_answers.specs.There.{OnUnit}
@@ -25,7 +26,9 @@ use Rattle.newt_store_change.specs.declared.fault.StoreFault.TheVariants.{Refuse
 use Rattle.newt_engine_units.specs.Answers.{Answers}
 use Rattle.newt_store_change.specs.Entries.{ReadsEntry}
 use Rattle.newt_store_change.specs.Faults.{Does}
+use Rattle.newt_engine_units.specs.Breaks.{Meanwhile}
 use Rattle.newt_engine_units.specs.Found.{HasSoup, HasEntry}
+use Rattle.newt_engine_units.proofs.Left.{left-after}
 use Rattle.newt_engine_units.proofs.Answering.{does-answers, makes}
 use Rattle.newt_engine_commands.proofs.Commands.{entry-fits}
 
@@ -56,6 +59,20 @@ inside-missing w u name target sig into uid h k gone =
     go : (e : Option Entry) → is_some e ≡ false → e ≡ None
     go None x = refl
     go (Some e) x = absurd (both-ways (sym x))
+
+-- a unit that has a store has that one
+one-there : (w : World) (u : ℕ) (s : Store) → store_on_unit w u ≡ Some s → stores_on w u ≡ s ∷ []
+one-there w u s h = go (device w u) h
+  where
+    media : (m : Media) → store_of m ≡ Some s → stores_of m ≡ s ∷ []
+    media (one x) h = ap {B = List Store} (λ y. y ∷ []) (some-same x s h)
+    media blank h = absurd (none-some s h)
+    media (two a b) h = absurd (none-some s h)
+    media lost h = absurd (none-some s h)
+
+    go : (o : Option Device) → option_and_then (λ (d : Device). store_of d.media) o ≡ Some s → elim o [ None ↦ [] | Some d ↦ stores_of d.media ] ≡ s ∷ []
+    go None h = absurd (none-some s h)
+    go (Some d) h = media d.media h
 
 -- a removal is not refused
 pub never-refused : (w x a b v : World) (c : Command) (fault : StoreFault) → Does {T = ℕ} [] (λ _. ⊤) a b v (Err fault) → Answers {T = ℕ} w x c (λ n. Reply.number n) (Err fault)
@@ -119,8 +136,11 @@ module _ (w : World) (u to : ℕ) (name target : List ℕ) (sig into uid : ℕ) 
   abbrev tests : World → Checks
   tests x = add_tests k.blocks x.minute k.soup.name e.graph k.store k.soup
 
+  abbrev between_command : Command
+  between_command = command.Move u name uid to target
+
   abbrev between_answer : World × Reply
-  between_answer = answer w (command.Move u name uid to target)
+  between_answer = answer w between_command
 
   by-name : answer w (command.Move u h.soup.name uid to k.soup.name) ≡ between_answer
   by-name = ap (answer w) (move-named w u to name target sig into uid h k)
@@ -179,33 +199,61 @@ module _ (w : World) (u to : ℕ) (name target : List ℕ) (sig into uid : ℕ) 
   removed-makes now n a = makes added u h.blocks h.store without between_answer (Reply.number k.soup.next_uid) on-added (between-done a.passed)
 
   -- up to the end of the first change
-  pub first-moments : (reads : List ℕ → Option Store) (x : World) (a b c : Moment) → x ≡ w → b ≡ a → Always (Answering reads x between_answer.0 b) b c → Always (Answering reads w between_answer.0 a) a c
-  first-moments reads x a b c is start way = subst (λ (m : Moment). Always (Answering reads w between_answer.0 m) m c) start (subst (λ (y : World). Always (Answering reads y between_answer.0 b) b c) is way)
+  pub first-moments : (reads : List ℕ → Option Store) (due : ℕ → Bool) (x : World) (a b c : Moment) → x ≡ w → b ≡ a → Always (Meanwhile reads due x between_command between_answer.0 b) b c
+      → Always (Meanwhile reads due w between_command between_answer.0 a) a c
+  first-moments reads due x a b c is start way = subst (λ (m : Moment). Always (Meanwhile reads due w between_command between_answer.0 m) m c) start
+      (subst (λ (y : World). Always (Meanwhile reads due y between_command between_answer.0 b) b c) is way)
 
   -- and of the second
-  pub both-moments : (reads : List ℕ → Option Store) (now : World) (n : ℕ) (a b c : Moment) → WasAdded now n
-      → Always (Answering reads w between_answer.0 a) a b → Always (Answering reads now between_answer.0 b) b c → Always (Answering reads w between_answer.0 a) a c
-  both-moments reads now n a b c was first second = Always-append first (Always-map (λ m at. record {
-    unread = at.unread ∙ last.unread;
-    quiet = at.quiet ∙ last.quiet;
-    stores = λ j y left d may. stores m at j y left d may (same-or-not j to);
-    others = λ j d i. at.others j (none-there j d (same-or-not j to)) i ∙ last.others j d i;
-  }) (subst (λ (y : World). Always (Answering reads y between_answer.0 b) b c) was.world second))
+  pub both-moments : (reads : List ℕ → Option Store) (due : ℕ → Bool) (now : World) (n : ℕ) (a b c : Moment) → WasAdded now n
+      → Always (Meanwhile reads due w between_command between_answer.0 a) a b → Always (Meanwhile reads due now between_command between_answer.0 b) b c → Always (Meanwhile reads due w between_command between_answer.0 a) a c
+  both-moments reads due now n a b c was first second = Always-append first (Always-map (λ m t. let at = t.answering in record {
+    answering = record {
+      unread = at.unread ∙ last.answering.unread;
+      quiet = at.quiet ∙ last.answering.quiet;
+      stores = λ j y left d may. stores m at j y left d may (same-or-not j to);
+      images = λ j empty stays. at.images j (blank-there j empty) (inl refl) ∙ last.answering.images j empty stays;
+      others = λ j left empty stays may. last.answering.others j left empty stays (at.others j left (blank-there j empty) (inl refl) may);
+    };
+    unsure = λ j sync formed. left-after (last.unsure j sync formed) (t.unsure j sync (λ fmt. absurd (both-ways fmt)));
+    beside = λ j unwritten unformed sure. t.beside j unwritten unformed sure ∙ last.beside j unwritten unformed sure;
+  }) (subst (λ (y : World). Always (Meanwhile reads due y between_command between_answer.0 b) b c) was.world second))
     where
-      last : Answering reads w between_answer.0 a b
+      last : Meanwhile reads due w between_command between_answer.0 a b
       last = Always-last first
 
-      elsewhere : (j : ℕ) → (j ≡ to → ⊥) → store_on_unit added j ≡ store_on_unit w j
-      elsewhere j d = ap (option_and_then (λ (d : Device). store_of d.media)) (device-other w to (λ d. record d { media = change_media add d.media }) j d)
+      elsewhere : (j : ℕ) → (j ≡ to → ⊥) → device added j ≡ device w j
+      elsewhere j d = device-other w to (λ d. record d { media = change_media add d.media }) j d
 
-      none-there : (j : ℕ) → store_on_unit w j ≡ None → (j ≡ to) ⊎ (j ≡ to → ⊥) → store_on_unit added j ≡ None
-      none-there j d (inl i) = absurd (none-some k.store (sym d ∙ ap (store_on_unit w) i ∙ is-there w to k.blocks k.store k.on))
-      none-there j d (inr i) = elsewhere j i ∙ d
+      stores-at : Option Device → List Store
+      stores-at o = elim o [ None ↦ [] | Some d ↦ stores_of d.media ]
 
-      stores : (m : Moment) → Answering reads added between_answer.0 b m → (j : ℕ) (y : Store) (left : List ℕ) → store_on_unit w j ≡ Some y → MayLeave j m left → (j ≡ to) ⊎ (j ≡ to → ⊥)
-          → (reads left ≡ Some y) ⊎ (reads left ≡ store_on_unit between_answer.0 j)
-      stores m at j y left d may (inl i) = elim (at.stores j (add k.store) left (ap (store_on_unit added) i ∙ is-there added to k.blocks (add k.store) there-added) may) [
-        | inl r ↦ inr (r ∙ sym (added-makes w refl was.passed) ∙ ap (store_on_unit between_answer.0) (sym i))
-        | inr r ↦ inr r
-      ]
-      stores m at j y left d may (inr i) = at.stores j y left (elsewhere j i ∙ d) may
+      -- the target has a store
+      blank-there : (j : ℕ) → IsBlankOn w j → IsBlankOn added j
+      blank-there j empty = go (same-or-not j to)
+        where
+          go : (j ≡ to) ⊎ (j ≡ to → ⊥) → IsBlankOn added j
+          go (inl i) = absurd (none-some k.store (sym (ap store_of empty.2) ∙ ap (λ (d : Device). store_of d.media) (some-same empty.0 _ (sym empty.1 ∙ ap (device w) i ∙ k.on.device_is))))
+          go (inr other) = (empty.0, elsewhere j other ∙ empty.1, empty.2)
+
+      stores : (m : Moment) → Answering reads added between_command between_answer.0 b m → (j : ℕ) (y : Store) (left : List ℕ) → Among (stores_on w j) y → MayLeave j m left → (j ≡ to) ⊎ (j ≡ to → ⊥)
+          → ReadsOneOf reads (stores_on w j ++ stores_on between_answer.0 j) left
+      stores m at j y left d may (inl i) = subst (λ x. ReadsOneOf reads (stores_on w x ++ stores_on between_answer.0 x) left) (sym i)
+          (on-target (at.stores to (add k.store) left (subst (λ xs. Among xs (add k.store)) (sym (ap stores-at there-added.device_is)) (inl refl)) (subst (λ x. MayLeave x m left) i may)))
+        where
+          -- what the target has then is what it has after the move
+          later : stores_on between_answer.0 to ≡ add k.store ∷ []
+          later = one-there between_answer.0 to (add k.store) (added-makes w refl was.passed)
+
+          on-target : ReadsOneOf reads (stores_on added to ++ stores_on between_answer.0 to) left → ReadsOneOf reads (stores_on w to ++ stores_on between_answer.0 to) left
+          on-target r = (add k.store, among-right (stores_on w to) (stores_on between_answer.0 to) (add k.store) (subst (λ xs. Among xs (add k.store)) (sym later) (inl refl)),
+              r.2 ∙ ap {B = Option Store} (λ x. Some x) (both r.0 (subst (λ xs. Among (xs ++ stores_on between_answer.0 to) r.0) (ap stores-at there-added.device_is) r.1)))
+            where
+              both : (x : Store) → (add k.store ≡ x) ⊎ Among (stores_on between_answer.0 to) x → x ≡ add k.store
+              both x (inl e) = sym e
+              both x (inr h) = one (subst (λ xs. Among xs x) later h)
+                where
+                  one : (add k.store ≡ x) ⊎ ⊥ → x ≡ add k.store
+                  one (inl e) = sym e
+                  one (inr h) = absurd h
+      stores m at j y left d may (inr i) = subst (λ xs. ReadsOneOf reads (xs ++ stores_on between_answer.0 j) left) (ap stores-at (elsewhere j i)) (at.stores j y left (subst (λ xs. Among xs y) (sym (ap stores-at (elsewhere j i))) d) may)

@@ -23,7 +23,7 @@ use Rattle.newt_spec_world.specs.First.{unit_numbers}
 use Rattle.newt_spec_world.specs.World.{mounted_store, mounted_stores, on_unit}
 use Rattle.newt_laws_answers.specs.WorldAt.{device_at}
 use Rattle.newt_engine_units.specs.declared.units.Units.{Units}
-use Rattle.newt_engine_units.specs.Stands.{Stands, Eight, mounted_in, world_of}
+use Rattle.newt_engine_units.specs.Stands.{Stands, Eight, due_in, mounted_in, world_of}
 use Rattle.newt_engine_units.proofs.Known.{Laws, at-device}
 use Rattle.newt_engine_units.proofs.Shown.{drop-step}
 use Rattle.newt_engine_hits.proofs.Searching.{chosen-kept, chosen-twice}
@@ -72,8 +72,8 @@ module _ {C : Type 0} {reads : List ℕ → Option Store} {place : C → ℕ} {s
       → first_of_list (filter_map (unit_index scope name paths (world_of reads units o)) unit_numbers) ≡ index_for (world_of reads units o) scope name paths
   unit-indexes scope name paths = ap first_of_list (
       (λ i. filter_map (λ u. option_and_then (index_in scope name paths) (on_unit (at-device l units o e s u i))) unit_numbers)
-      ∙ sym (ap (filter_map (index_in scope name paths)) (chosen-map on_unit (device_at reads (mounted_in units.slots.items) o) unit_numbers)
-      ∙ chosen-twice (index_in scope name paths) (λ u. on_unit (device_at reads (mounted_in units.slots.items) o u)) unit_numbers)
+      ∙ sym (ap (filter_map (index_in scope name paths)) (chosen-map on_unit (device_at reads (due_in units.slots.items) (mounted_in units.slots.items) o) unit_numbers)
+      ∙ chosen-twice (index_in scope name paths) (λ u. on_unit (device_at reads (due_in units.slots.items) (mounted_in units.slots.items) o u)) unit_numbers)
       ∙ sym (chosen-kept (λ (s : Store). index_in_soup paths (soup_named name s)) (in_scope scope) (mounted_stores (world_of reads units o))))
 
 -- a unit more

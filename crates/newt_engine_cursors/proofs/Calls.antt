@@ -4,6 +4,7 @@ use Rattle.std.specs.Prelude.{Result, Ok, Err, IfErr, not}
 use Rattle.newt_host.specs.Outside.{Outside, NoFault}
 use Rattle.newt_host.proofs.Outside.{NoFault-refl}
 use Rattle.newt_pagebook.specs.declared.book.Stop.{Stop}
+use Rattle.newt_pagebook.specs.declared.book.Stop.TheVariants.{Memory, Device}
 use Rattle.newt_spec_query.specs.Cursor.{Cursor}
 use Rattle.newt_spec_store.specs.Store.{Store}
 use Rattle.newt_spec_world.specs.World.{World}
@@ -15,15 +16,17 @@ use Rattle.newt_laws_world.specs.Settled.{IsSettled, MountedApart}
 use Rattle.newt_engine_card.specs.Bounds.{FetchesAtMost}
 use Rattle.newt_engine_units.specs.Answers.{Answers}
 use Rattle.newt_laws_world.specs.Cursors.{with_cursors}
-use Rattle.newt_store_change.specs.Faults.{HasFaultCause, NoDevice}
+use Rattle.newt_store_change.specs.Faults.{NoDevice}
 use Rattle.newt_store_change.specs.declared.fault.StoreFault.{StoreFault}
 use Rattle.newt_store_change.specs.declared.fault.StoreFault.TheVariants.{Stop as Ends}
+use Rattle.newt_engine_units.specs.Breaks.{AtStop}
 use Rattle.newt_engine_units.specs.Calls.{AreRead}
 use Rattle.newt_engine_units.specs.Stands.{Stands}
 use Rattle.newt_engine_units.specs.declared.units.Units.{Units}
+use Rattle.newt_engine_units.proofs.Broken.{none-devices}
 use Rattle.newt_engine_units.proofs.Obeying.{none-cause}
 use Rattle.newt_engine_hits.specs.Calls.{IsReading}
-use Rattle.newt_engine_hits.proofs.Reading.{asked-read, not-read, read-then, cause-since, read-more}
+use Rattle.newt_engine_hits.proofs.Reading.{asked-read, not-read, read-then, cause-since, failed-since, read-more}
 use Rattle.newt_engine_cursors.specs.Calls.{Settles, Turns, Walks}
 use Rattle.newt_engine_cursors.specs.Unread.{is_unread, steps_unread}
 use Rattle.newt_query.specs.Filter.{asks_texts}
@@ -42,6 +45,13 @@ unread-query (Some j) k e h = ap (λ (x : Cursor). asks_texts x.query.spec) (som
     not-true true h = cc
     not-true false h = refl
 
+-- ---- a device that fails
+
+-- the cursors are as they were
+pub all-kept : (was : List (Option Cursor)) (stop : Stop) → AtStop (λ u. was ≡ was) stop
+all-kept was Memory = tt
+all-kept was (Device u) = refl
+
 module _ {C : Type 0} {reads : List ℕ → Option Store} {place : C → ℕ} {stands : Bool → C → Outside → Type 0} {told : Bool} {units : Units C} {was : List (Option Cursor)} {o : Outside} where
   -- ---- a call that turns the world into another
 
@@ -49,17 +59,27 @@ module _ {C : Type 0} {reads : List ℕ → Option Store} {place : C → ℕ} {s
   pub stays-turn : {T : Type 0} {becomes : World → World → Type 0} {result : Result T StoreFault} → Stands place stands told units o → DeskFits was
       → IfErr result (λ fault. NoDevice fault) → (IsTrue told → let w = world_with reads units was o in MountedApart w → becomes w w)
       → Turns reads place stands told becomes units units was was o o result
-  stays-turn {result = result} s d none turned = record { read = not-read s; desk = d; turned = turned; cause = none-cause result o o none; no_fault = λ goes. NoFault-refl o }
+  stays-turn {result = result} s d none turned = record {
+    read = not-read s;
+    desk = d;
+    turned = turned;
+    cause = none-cause result o o none;
+    failed = none-devices _ result none;
+    kept = none-devices _ result none;
+    no_fault = λ goes. NoFault-refl o;
+  }
 
   -- that reads and changes nothing
   pub turns-read : {T : Type 0} {becomes : World → World → Type 0} {later : Units C} {q : Outside} {result : Result T StoreFault} → AreRead reads place stands told units later o q
-      → NoFault o q → DeskFits was → IfErr result (λ fault. HasFaultCause fault o q) → (IsTrue told → let w = world_with reads units was o in MountedApart w → becomes w w)
+      → NoFault o q → DeskFits was → IfErr result (λ fault. NoDevice fault) → (IsTrue told → let w = world_with reads units was o in MountedApart w → becomes w w)
       → Turns reads place stands told becomes units later was was o q result
-  turns-read {becomes = becomes} a f d cause turned = record {
+  turns-read {becomes = becomes} {q = q} {result} a f d none turned = record {
     read = a;
     desk = d;
     turned = λ t apart. subst (λ (x : World). becomes (world_with reads units was o) (with_cursors was x)) (sym (a.world t)) (turned t apart);
-    cause = cause;
+    cause = none-cause result o q none;
+    failed = none-devices _ result none;
+    kept = none-devices _ result none;
     no_fault = λ goes. f;
   }
 
@@ -68,15 +88,16 @@ module _ {C : Type 0} {reads : List ℕ → Option Store} {place : C → ℕ} {s
       → Settles reads place stands told one units later was is o q (Ok x)
       → (IsTrue told → let w = world_with reads units was o in let v = world_with reads later is q in MountedApart w → one w v → other w v)
       → Turns reads place stands told other units later was is o q (Ok y)
-  turns-settled a same = record { read = a.read; desk = a.desk; turned = λ t apart. same t apart (a.settled t apart); cause = tt; no_fault = λ goes. a.no_fault }
+  turns-settled a same = record { read = a.read; desk = a.desk; turned = λ t apart. same t apart (a.settled t apart); cause = tt; failed = tt; kept = tt; no_fault = λ goes. a.no_fault }
 
   -- that ends the run where it read
   pub turns-end : {S T : Type 0} {asks : Bool} (becomes : Result T StoreFault → World → World → Type 0) {stop : Stop} {later : Units C} {is : List (Option Cursor)} {q : Outside}
-      → IsReading reads place stands {T = S} asks told units later o q (Err stop) → DeskFits is → (r : Result T StoreFault) → (e : StoreFault) × (r ≡ Err e) × (e ≡ Ends stop)
+      → IsReading reads place stands {T = S} asks told units later o q (Err stop) → DeskFits is → AtStop (λ u. is ≡ was) stop → (r : Result T StoreFault)
+      → (e : StoreFault) × (r ≡ Err e) × (e ≡ Ends stop)
       → ((w v : World) → becomes (Err (Ends stop)) w v) → Turns reads place stands told (becomes r) units later was is o q r
-  turns-end {T = T} becomes {stop} {later} {is} {q} a d r e ends =
+  turns-end {T = T} becomes {stop} {later} {is} {q} a d kept r e ends =
       subst (λ (r : Result T StoreFault). Turns reads place stands told (becomes r) units later was is o q r) (sym (e.1 ∙ ap {B = Result T StoreFault} (λ e. Err e) e.2))
-      (record { read = a.read; desk = d; turned = λ t apart. ends _ _; cause = a.cause; no_fault = λ goes. absurd goes })
+      (record { read = a.read; desk = d; turned = λ t apart. ends _ _; cause = a.cause; failed = a.failed; kept = kept; no_fault = λ goes. absurd goes })
 
   -- ---- a command
 
@@ -92,6 +113,8 @@ module _ {C : Type 0} {reads : List ℕ → Option Store} {place : C → ℕ} {s
     answered = λ t apart settled. answers t apart settled (a.turned t apart);
     fetches = fetches;
     cause = a.cause;
+    failed = a.failed;
+    kept = a.kept;
     no_fault = a.no_fault;
   }
 
@@ -106,32 +129,42 @@ module _ {C : Type 0} {reads : List ℕ → Option Store} {place : C → ℕ} {s
 
   pub settles-reads : {T : Type 0} {becomes : World → World → Type 0} {later : Units C} {is : List (Option Cursor)} {q : Outside} {result : Result T Stop}
       → Settles reads place stands told becomes units later was is o q result → IsReading reads place stands true told units later o q result
-  settles-reads a = record { read = a.read; cause = a.cause; no_fault = a.no_fault; unread = asked-read refl }
+  settles-reads a = record { read = a.read; cause = a.cause; failed = a.failed; no_fault = a.no_fault; unread = asked-read refl }
 
   -- that makes of the world what is said otherwise
   pub settles-as : {T : Type 0} {one other : World → World → Type 0} {later : Units C} {is : List (Option Cursor)} {q : Outside} {result : Result T Stop}
       → Settles reads place stands told one units later was is o q result → ((w v : World) → one w v → other w v) → Settles reads place stands told other units later was is o q result
-  settles-as a same = record { read = a.read; desk = a.desk; settled = λ t apart. same _ _ (a.settled t apart); cause = a.cause; no_fault = a.no_fault }
+  settles-as a same = record { read = a.read; desk = a.desk; settled = λ t apart. same _ _ (a.settled t apart); cause = a.cause; failed = a.failed; kept = a.kept; no_fault = a.no_fault }
 
   -- behind a call that reads
   pub settles-after : {T : Type 0} {becomes : World → World → Type 0} {mid later : Units C} {is : List (Option Cursor)} {p q : Outside} {result : Result T Stop}
       → AreRead reads place stands told units mid o p → NoFault o p → Settles reads place stands told becomes mid later was is p q result
       → Settles reads place stands told becomes units later was is o q result
   settles-after {T = T} {becomes = becomes} {mid = mid} {later = later} {is} {p} {q} {result} a f s =
-      let last : IsReading reads place stands {T = T} true told mid later p q result = record { read = s.read; cause = s.cause; no_fault = s.no_fault; unread = asked-read refl } in
+      let last : IsReading reads place stands {T = T} true told mid later p q result = record { read = s.read; cause = s.cause; failed = s.failed; no_fault = s.no_fault; unread = asked-read refl } in
       let all = read-more {asks = true} a f (asked-read refl) last in
       record {
         read = all.read;
         desk = s.desk;
         settled = λ t apart. subst (λ (x : World). MountedApart (with_cursors was x) → becomes (with_cursors was x) (world_with reads later is q)) (a.world t) (s.settled t) apart;
         cause = all.cause;
+        failed = all.failed;
+        kept = s.kept;
         no_fault = all.no_fault;
       }
 
   -- that ends the run where it read
   pub settles-end : {S T : Type 0} {asks : Bool} (becomes : Result T Stop → World → World → Type 0) {stop : Stop} {mid later : Units C} {is : List (Option Cursor)} {p q : Outside}
-      → AreRead reads place stands told units mid o p → IsReading reads place stands {T = S} asks told mid later p q (Err stop) → DeskFits is → (r : Result T Stop)
-      → (e : Stop) × (r ≡ Err e) × (e ≡ stop) → ((w v : World) → becomes (Err stop) w v) → Settles reads place stands told (becomes r) units later was is o q r
-  settles-end {T = T} becomes {stop} {later = later} {is} {q = q} a h d r e ends =
+      → AreRead reads place stands told units mid o p → NoFault o p → IsReading reads place stands {T = S} asks told mid later p q (Err stop) → DeskFits is → AtStop (λ u. is ≡ was) stop
+      → (r : Result T Stop) → (e : Stop) × (r ≡ Err e) × (e ≡ stop) → ((w v : World) → becomes (Err stop) w v) → Settles reads place stands told (becomes r) units later was is o q r
+  settles-end {S = S} {T} becomes {stop} {later = later} {is} {q = q} a f h d kept r e ends =
       subst (λ (r : Result T Stop). Settles reads place stands told (becomes r) units later was is o q r) (sym (e.1 ∙ ap {B = Result T Stop} (λ e. Err e) e.2))
-      (record { read = read-then a h.read; desk = d; settled = λ t apart. ends _ _; cause = cause-since _ _ _ stop a.alone h.cause; no_fault = tt })
+      (record {
+        read = read-then a h.read;
+        desk = d;
+        settled = λ t apart. ends _ _;
+        cause = cause-since _ _ _ stop a.alone h.cause;
+        failed = failed-since {T = S} q a f (Err stop) h.failed;
+        kept = kept;
+        no_fault = tt;
+      })

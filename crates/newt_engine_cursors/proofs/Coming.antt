@@ -1,6 +1,5 @@
 -- A cursor that was moved to a hit stands on one.
-use Rattle.std.proofs.Common.{◌≡◌, refl, ap, sym, ◌∙◌, subst, ℕ, zero, suc, Bool, true, false, ◌&&◌, ◌==◌, cond, ◌⊎◌, inl, inr, List, [], ◌∷◌, find, filter, Option, Some, None, option_map, option_and_then, IsTrue}
-use Rattle.std.specs.Prelude.{slice_get}
+use Rattle.std.proofs.Common.{◌≡◌, refl, ap, sym, ◌∙◌, subst, ℕ, Bool, true, false, ◌&&◌, cond, ◌⊎◌, inl, inr, List, [], ◌∷◌, find, filter, Option, Some, None, option_map, option_and_then, IsTrue}
 use Rattle.std.specs.List.{last_or}
 use Rattle.std.proofs.lemmas.Bool.{eq-eqb}
 use Rattle.newt_spec_graph.specs.Lists.{Among, Each}
@@ -8,18 +7,15 @@ use Rattle.newt_spec_graph.proofs.Lists.{among-filter, both-ways, some-same, non
 use Rattle.newt_spec_store.specs.Keys.{IndexSpec}
 use Rattle.newt_spec_store.specs.Valid.{well_formed}
 use Rattle.newt_spec_query.specs.Hits.{Query, Hit}
-use Rattle.newt_spec_query.specs.Cursor.{Cursor, Place, start, finish, on, on_or, first_place, is_after, is_before, last_place, same_identity}
+use Rattle.newt_spec_query.specs.Cursor.{Cursor, Place, start, finish, on_or, first_place, is_after, is_before, last_place, same_identity}
 use Rattle.newt_spec_world.specs.Alias.{Spot}
 use Rattle.newt_spec_world.specs.Answer.{spot_of}
-use Rattle.newt_spec_world.specs.World.{World, change_at, cursor, flat, hits_of, mounted_stores}
-use Rattle.newt_laws_world.specs.Cursors.{with_cursors}
+use Rattle.newt_spec_world.specs.World.{World, cursor, hits_of, mounted_stores}
 use Rattle.newt_laws_world.specs.Settled.{MountedApart}
 use Rattle.newt_laws_images.proofs.Chosen.{find-passes}
 use Rattle.newt_engine_hits.specs.Present.{Present, identity, present_in}
 use Rattle.newt_engine_hits.specs.declared.ways.Way.TheVariants.{On, Back}
-use Rattle.newt_engine_cursors.specs.Keyed.{stands_on}
-use Rattle.newt_cursor.specs.Desk.{put_on}
-use Rattle.newt_engine_cursors.specs.Motions.{ComesAmong, IsAmong, StandsAmong, leads_to_hits, step_of}
+use Rattle.newt_engine_cursors.specs.Motions.{ComesAmong, IsAmong, leads_to_hits, step_of}
 use Rattle.newt_engine_cursors.specs.declared.stepping.Motion.{Motion}
 use Rattle.newt_engine_cursors.specs.declared.stepping.Motion.TheVariants as motion
 use Rattle.newt_engine_cursors.proofs.Standing.{hit-there}
@@ -81,7 +77,7 @@ motion-among (motion.Key key) e hs index place = first-among hs (filter _ hs) (k
 
 module _ (w : World) (apart : MountedApart w) (formed : Each (λ s. IsTrue (well_formed s)) (mounted_stores w)) where
   -- a hit is there with its entry
-  hit-present : (q : Query) (at : Hit) → Among (hits_of w q) at → (x : Present) × (present_in w q (identity at.store at.soup at.uid) ≡ Some x)
+  pub hit-present : (q : Query) (at : Hit) → Among (hits_of w q) at → (x : Present) × (present_in w q (identity at.store at.soup at.uid) ≡ Some x)
   hit-present q at m = go (found-one (same_identity at) (hits_of w q) at m itself)
     where
       itself : same_identity at at ≡ true
@@ -95,20 +91,6 @@ module _ (w : World) (apart : MountedApart w) (formed : Each (λ s. IsTrue (well
                 ∙ ap (option_map {U = Present} (λ (s : Spot). record { unit = s.unit; key = h.key; entry = s.entry })) s.1,
           )
 
-  -- so is the one on which a cursor stands that was moved there
-  pub standing-present : (o : Option Cursor) (q : Query) (at : Hit) → Some (q, at) ≡ option_and_then stands_on o → ((k : Cursor) → o ≡ Some k → IsAmong (hits_of w k.query) k.place)
-      → (x : Present) × (present_in w q (identity at.store at.soup at.uid) ≡ Some x)
-  standing-present None q at e among = absurd (none-some (q, at) (sym e))
-  standing-present (Some k) q at e among = go k.query k.place e (among k refl)
-    where
-      go : (query : Query) (place : Place) → Some (q, at) ≡ stands_on (record { query = query; place = place }) → IsAmong (hits_of w query) place
-          → (x : Present) × (present_in w q (identity at.store at.soup at.uid) ≡ Some x)
-      go query start e m = absurd (none-some (q, at) (sym e))
-      go query finish e m = absurd (none-some (q, at) (sym e))
-      go query (on h) e m =
-          let same = some-same (q, at) (query, h) e in
-          hit-present q at (subst (λ (x : Query × Hit). Among (hits_of w x.0) x.1) (sym same) m)
-
 -- ---- a cursor that comes there
 
 -- one whose hits a motion was taken among comes to one of them
@@ -117,16 +99,3 @@ pub comes-among : (w : World) (n : ℕ) (by : Motion) (k : Cursor) (next : Place
 comes-among w n by k next there at leads j here =
     subst (λ (x : Cursor). IsAmong (hits_of w x.query) next) (some-same k j (there ∙ here))
     (subst (IsAmong (hits_of w k.query)) (sym at) (motion-among by leads (hits_of w k.query) k.query.spec.index k.place))
-
-put-place : (place : Place) (xs : List (Option Cursor)) (c : ℕ) (k : Cursor) → flat (slice_get (change_at c (put_on place) xs) c) ≡ Some k
-    → (j : Cursor) × (flat (slice_get xs c) ≡ Some j) × (k ≡ put_on place j)
-put-place place [] c k e = absurd (none-some k e)
-put-place place (None ∷ xs) zero k e = absurd (none-some k e)
-put-place place (Some j ∷ xs) zero k e = (j, refl, sym (some-same (put_on place j) k e))
-put-place place (x ∷ xs) (suc c) k e = put-place place xs c k e
-
--- and stands there
-pub stands-among : (base : World) (was is : List (Option Cursor)) (n : ℕ) (place : Place) → is ≡ change_at n (put_on place) was → ComesAmong (with_cursors was base) n place → StandsAmong (with_cursors is base) n
-stands-among base was is n place step comes k here =
-    let r = put-place place was n k (sym (ap (λ (ks : List (Option Cursor)). flat (slice_get ks n)) step) ∙ here) in
-    subst (λ (j : Cursor). IsAmong (hits_of (with_cursors is base) j.query) j.place) (sym r.2) (comes r.0 r.1)

@@ -1,6 +1,6 @@
 -- The places for cursors, where some change.
-use Rattle.std.proofs.Common.{arith, ◌≡◌, refl, ap, sym, ◌∙◌, ◌⊎◌, inl, inr, ℕ, zero, suc, ◌+◌, ◌<◌, ◌≤◌, List, [], ◌∷◌, length, map, find, Option, Some, None, option_map, unwrap_or, add-one}
-use Rattle.std.specs.Prelude.{slice_get, slice_set}
+use Rattle.std.proofs.Common.{arith, ◌≡◌, refl, ap, sym, ◌∙◌, ◌⊎◌, inl, inr, ℕ, zero, suc, ◌+◌, ◌<◌, ◌≤◌, List, [], ◌∷◌, length, map, find, Option, Some, None, option_map, unwrap_or, add-one, subst}
+use Rattle.std.specs.Prelude.{IfSome, slice_get, slice_set}
 use Rattle.newt_spec_graph.specs.Lists.{Each}
 use Rattle.newt_spec_graph.proofs.Lists.{some-same, none-some}
 use Rattle.newt_spec_store.specs.Keys.{Key}
@@ -11,11 +11,10 @@ use Rattle.newt_spec_world.specs.World.{World, change_at, flat, free_cursor, hit
 use Rattle.newt_laws_images.proofs.Chosen.{find-passes}
 use Rattle.newt_laws_world.proofs.Settled.{three-equal}
 use Rattle.newt_cursor.specs.Desk.{keyed, put_on, with_key}
-use Rattle.newt_engine_cursors.specs.Unread.{is_unread}
 use Rattle.newt_keys.specs.KeyForm.{IsKeyOf}
 use Rattle.newt_engine_cursors.specs.Fits.{DeskFits, KeyFits}
 use Rattle.newt_engine_hits.specs.Fits.{PlaceFits}
-use Rattle.newt_engine_cursors.specs.Keyed.{key_now}
+use Rattle.newt_engine_cursors.specs.Keyed.{change_from, given, key_now}
 
 -- ---- one place
 
@@ -162,11 +161,42 @@ none-behind [] n h = refl
 none-behind (x ∷ xs) zero h = absurd (omega (arith, h))
 none-behind (x ∷ xs) (suc n) h = none-behind xs n (omega (arith, h))
 
+-- ---- from a place on
+
+-- one place, and those behind it
+pub from-next : (n : ℕ) (f : Cursor → Cursor) (xs : List (Option Cursor)) → change_at n f (change_from (n + 1) f xs) ≡ change_from n f xs
+from-next n f xs = ap (λ m. change_at n f (change_from m f xs)) (add-one n) ∙ go n xs
+  where
+    go : (n : ℕ) (xs : List (Option Cursor)) → change_at n f (change_from (suc n) f xs) ≡ change_from n f xs
+    go zero [] = refl
+    go zero (x ∷ xs) = refl
+    go (suc n) [] = refl
+    go (suc n) (x ∷ xs) = ap (λ (ys : List (Option Cursor)). x ∷ ys) (go n xs)
+
+-- there is none from behind all on
+pub from-behind : (n : ℕ) (f : Cursor → Cursor) (xs : List (Option Cursor)) → length xs ≤ n → change_from n f xs ≡ xs
+from-behind zero f [] h = refl
+from-behind zero f (x ∷ xs) h = absurd (omega (arith, h))
+from-behind (suc n) f [] h = refl
+from-behind (suc n) f (x ∷ xs) h = ap (λ (ys : List (Option Cursor)). x ∷ ys) (from-behind n f xs (omega (arith, h)))
+
+-- a place before one that is changed
+pub before-change : (f : Cursor → Cursor) (xs : List (Option Cursor)) (n c : ℕ) → c < n → slice_get (change_at n f xs) c ≡ slice_get xs c
+before-change f [] n c h = refl
+before-change f (x ∷ xs) zero c h = absurd (omega (arith, h))
+before-change f (x ∷ xs) (suc n) zero h = refl
+before-change f (x ∷ xs) (suc n) (suc c) h = before-change f xs n c (omega (arith, h))
+
+-- a key that is given
+pub given-fits : (key : Option Key) (xs : List (Option Cursor)) (c : ℕ) → DeskFits xs → ((k : Cursor) → flat (slice_get xs c) ≡ Some k → IfSome key (IsKeyOf k.query.spec.index)) → DeskFits (change_at c (given key) xs)
+given-fits None xs c d h = subst DeskFits (sym (change-none (given None) xs c (λ k e. refl))) d
+given-fits (Some key) xs c d h = change-fits (keyed key) xs c d (λ k e. keyed-fits k key (h k e))
+
 -- ---- another place
 
--- a cursor that is put elsewhere has its query
-pub put-unread : (place : Place) (xs : List (Option Cursor)) (c : ℕ) → is_unread (flat (slice_get (change_at c (put_on place) xs) c)) ≡ is_unread (flat (slice_get xs c))
-put-unread place [] c = refl
-put-unread place (None ∷ xs) zero = refl
-put-unread place (Some k ∷ xs) zero = refl
-put-unread place (x ∷ xs) (suc c) = put-unread place xs c
+-- a cursor that is put elsewhere stands there
+pub put-there : (place : Place) (xs : List (Option Cursor)) (c : ℕ) (k : Cursor) → Some k ≡ flat (slice_get xs c) → flat (slice_get (change_at c (put_on place) xs) c) ≡ Some (put_on place k)
+put-there place [] c k e = absurd (none-some k (sym e))
+put-there place (None ∷ xs) zero k e = absurd (none-some k (sym e))
+put-there place (Some j ∷ xs) zero k e = ap (λ (x : Cursor). Some (put_on place x)) (sym (some-same k j e))
+put-there place (x ∷ xs) (suc c) k e = put-there place xs c k e

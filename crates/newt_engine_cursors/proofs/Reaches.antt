@@ -1,29 +1,29 @@
 -- The cursors that are reached are settled, and no other.
-use Rattle.std.proofs.Common.{arith, ◌≡◌, ◌+◌, ◌*◌, refl, ap, sym, ◌∙◌, ℕ, Bool, true, false, ◌&&◌, ◌==◌, if◌then◌else◌, cond, List, [], ◌∷◌, map, Option, Some, None, option_map, option_and_then, slice_get, IsTrue}
+use Rattle.std.proofs.Common.{arith, ◌≡◌, ◌+◌, ◌*◌, refl, ap, sym, ◌∙◌, ℕ, Bool, true, false, ◌&&◌, ◌==◌, if◌then◌else◌, cond, List, [], ◌∷◌, map, Option, Some, None, option_map, option_and_then, subst, IsTrue}
 use Rattle.std.specs.Prelude.{not}
 use Rattle.std.proofs.lemmas.Bool.{and_parts, eqb-true}
 use Rattle.newt_spec_graph.specs.Lists.{Each}
-use Rattle.newt_spec_graph.proofs.Lists.{none-some, some-same}
+use Rattle.newt_spec_graph.proofs.Lists.{both-ways, none-some, some-same}
 use Rattle.newt_spec_query.specs.Hits.{Hit, Query}
 use Rattle.newt_spec_query.specs.Cursor.{Cursor, Place, start, finish, on}
 use Rattle.newt_spec_store.specs.Keys.{Key}
 use Rattle.newt_spec_store.specs.Store.{Store}
 use Rattle.newt_spec_store.specs.Valid.{well_formed}
-use Rattle.newt_spec_world.specs.World.{World, change_at, flat, mounted_stores, settle_cursor}
+use Rattle.newt_spec_world.specs.World.{World, mounted_stores, settle_cursor}
 use Rattle.newt_spec_world.specs.declared.command.Command.{Command}
 use Rattle.newt_spec_world.specs.declared.command.Command.TheVariants as command
 use Rattle.newt_laws_world.specs.Cursors.{with_cursors}
 use Rattle.newt_laws_world.specs.Settled.{MountedApart}
 use Rattle.newt_tags.specs.Masks.{number}
 use Rattle.newt_cursor.specs.Desk.{is_on, keyed, stands_on}
-use Rattle.newt_laws_reach.specs.Reach.{Reach, entry_reached, is_reached, on_entry, reach, reaches, settle_reached, settle_where}
+use Rattle.newt_laws_reach.specs.Reach.{Reach, entry_reached, is_reached, nowhere, on_entry, on_soup, on_store, reach, reaches, settle_reached, settle_where}
 use Rattle.newt_store_change.specs.Change.{pages_of_entry}
-use Rattle.newt_engine_hits.specs.Present.{Present, entry_in_store, identity, keyed_in, present_in}
-use Rattle.newt_engine_cursors.specs.Keyed.{key_now, key_where, stands_on as standing}
+use Rattle.newt_engine_hits.specs.Present.{Present, entry_in_store, has_sig, identity, keyed_in, present_in}
+use Rattle.newt_engine_cursors.specs.Keyed.{given, key_now, key_where, stands_on as standing}
 use Rattle.newt_query.specs.Filter.{asks_texts}
-use Rattle.newt_engine_cursors.specs.Reached.{asks_on, asks_reached, cursor_reached}
+use Rattle.newt_engine_cursors.specs.Reached.{asks_on, asks_reached, cursor_reached, in_reach}
 use Rattle.newt_engine_cursors.specs.Unread.{is_unread}
-use Rattle.newt_engine_cursors.proofs.Cursors.{change-none, change-one, no-key, one-key}
+use Rattle.newt_engine_cursors.proofs.Cursors.{no-key, one-key}
 use Rattle.newt_engine_cursors.proofs.Standing.{key-present}
 
 -- what is reached does not depend on cursors
@@ -44,11 +44,14 @@ reach-beside ks w _ = refl
 
 -- ---- one cursor
 
-pub reached-one : (r : Reach) (w : World) (xs : List (Option Cursor)) (c : ℕ) → cursor_reached r (flat (slice_get xs c)) ≡ true → change_at c (settle_cursor w) xs ≡ change_at c (settle_where r w) xs
-reached-one r w xs c h = change-one (settle_cursor w) (settle_where r w) xs c (λ k e. ap (λ b. cond b (settle_cursor w k) k) (sym (ap (cursor_reached r) (sym e) ∙ h)))
+-- the key of a cursor that is reached, and of one that is not
+pub reached-key : (r : Reach) (w : World) (o : Option Cursor) → cursor_reached r o ≡ true → option_and_then (key_now w) o ≡ option_and_then (key_where r w) o
+reached-key r w None h = refl
+reached-key r w (Some k) h = ap (λ (b : Bool). cond b (key_now w k) None) (sym h)
 
-pub other-one : (r : Reach) (w : World) (xs : List (Option Cursor)) (c : ℕ) → cursor_reached r (flat (slice_get xs c)) ≡ false → change_at c (settle_where r w) xs ≡ xs
-other-one r w xs c h = change-none (settle_where r w) xs c (λ k e. ap (λ b. cond b (settle_cursor w k) k) (ap (cursor_reached r) (sym e) ∙ h))
+pub other-key : (r : Reach) (w : World) (o : Option Cursor) → cursor_reached r o ≡ false → None ≡ option_and_then (key_where r w) o
+other-key r w None h = refl
+other-key r w (Some k) h = ap (λ (b : Bool). cond b (key_now w k) None) (sym h)
 
 pub reached-place : (r : Reach) (o : Option Cursor) (p : Place) → Some p ≡ option_map (λ k. k.place) o → is_reached r p ≡ cursor_reached r o
 reached-place r None p e = absurd (none-some p (sym e))
@@ -72,6 +75,11 @@ where-none r w k e = go (is_reached r k.place) e
     go : (b : Bool) → cond b (key_now w k) None ≡ None → cond b (settle_cursor w k) k ≡ k
     go true e = no-key w k e
     go false e = refl
+
+-- the key that is given
+pub given-where : (r : Reach) (w : World) (k : Cursor) (key : Option Key) → key ≡ key_where r w k → given key k ≡ settle_where r w k
+given-where r w k None e = sym (where-none r w k (sym e))
+given-where r w k (Some key) e = sym (where-one r w k key (sym e))
 
 -- a cursor on no hit takes none
 pub not-standing : (r : Reach) (w : World) (o : Option Cursor) → None ≡ option_and_then standing o → None ≡ option_and_then (key_where r w) o
@@ -122,6 +130,29 @@ at-same store soup uid h e =
     let a = and_parts ((h.store == store) && (h.soup == soup)) (h.uid == uid) e in
     let b = and_parts (h.store == store) (h.soup == soup) a.0 in
     (eqb-true h.store store b.0, eqb-true h.soup soup b.1, eqb-true h.uid uid a.1)
+
+-- the store of a hit that is reached
+in-reach : (r : Reach) (h : Hit) (s : Option Store) → reaches r h ≡ true → has_sig h.store s ≡ true → in_reach r s ≡ true
+in-reach nowhere h s e is = absurd (both-ways e)
+in-reach (on_store store) h s e is = subst (λ (n : ℕ). has_sig n s ≡ true) (eqb-true h.store store e) is
+in-reach (on_soup store soup) h s e is = subst (λ (n : ℕ). has_sig n s ≡ true) (eqb-true h.store store (and_parts (h.store == store) (h.soup == soup) e).0) is
+in-reach (on_entry store soup uid) h s e is = subst (λ (n : ℕ). has_sig n s ≡ true) (at-same store soup uid h e).0 is
+
+-- the hit on which a cursor stands that is reached
+pub record ReachedHit (r : Reach) (o : Option Cursor) : Type 0 where
+  pub query : Query
+  pub at : Hit
+  pub stands : Some (query, at) ≡ option_and_then standing o
+  pub own : (s : Option Store) → has_sig at.store s ≡ true → in_reach r s ≡ true
+
+pub reached-hit : (r : Reach) (o : Option Cursor) → cursor_reached r o ≡ true → ReachedHit r o
+reached-hit r None h = absurd (both-ways h)
+reached-hit r (Some k) h = go k.query k.place h
+  where
+    go : (query : Query) (place : Place) → is_reached r place ≡ true → ReachedHit r (Some (record { query = query; place = place }))
+    go query start h = absurd (both-ways h)
+    go query finish h = absurd (both-ways h)
+    go query (on at) h = record { query = query; at = at; stands = refl; own = λ s is. in-reach r at s h is }
 
 -- a cursor on it asks for words or texts where its query does
 module _ (store soup uid : ℕ) where

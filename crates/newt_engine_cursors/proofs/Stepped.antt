@@ -1,5 +1,5 @@
 -- Commands that leave a settled world settled, and those that step a cursor.
-use Rattle.std.proofs.Common.{arith, ◌≡◌, refl, ap, sym, ◌∙◌, ◌*◌, subst, ℕ, Bool, true, false, IsTrue, List, Option, Some, None}
+use Rattle.std.proofs.Common.{arith, ◌≡◌, refl, ap, sym, ◌∙◌, ◌*◌, subst, ℕ, Bool, true, false, IsTrue, List, Option, Some, None, if◌then◌else◌}
 use Rattle.std.specs.Prelude.{Result}
 use Rattle.newt_host.specs.Moments.{image}
 use Rattle.newt_host.specs.Outside.{Outside}
@@ -8,7 +8,7 @@ use Rattle.newt_spec_query.specs.Cursor.{Cursor}
 use Rattle.newt_spec_store.specs.Store.{Store}
 use Rattle.newt_spec_world.specs.Changed.{Step, changed, stepped}
 use Rattle.newt_spec_world.specs.First.{media_of}
-use Rattle.newt_spec_world.specs.World.{World, Device, cursor}
+use Rattle.newt_spec_world.specs.World.{World, Device, cursor, lost}
 use Rattle.newt_spec_world.specs.declared.command.Command.{Command}
 use Rattle.newt_laws_answers.specs.Fetched.{pages_shown}
 use Rattle.newt_laws_world.specs.Settled.{IsSettled, MountedApart, moves_keys}
@@ -18,7 +18,7 @@ use Rattle.newt_laws_world.proofs.Kept.{Every, Wf}
 use Rattle.newt_store_change.specs.declared.fault.StoreFault.{StoreFault}
 use Rattle.newt_engine_card.specs.Bounds.{FetchesAtMost}
 use Rattle.newt_engine_units.specs.declared.units.Units.{Units}
-use Rattle.newt_engine_units.specs.Stands.{Eight, Stands, world_of}
+use Rattle.newt_engine_units.specs.Stands.{Eight, Stands, due_in, world_of}
 use Rattle.newt_engine_units.proofs.Known.{Laws, at-card, at-none}
 use Rattle.newt_engine_cursors.specs.Calls.{Turns, Walks}
 use Rattle.newt_engine_cursors.specs.Motions.{Steers}
@@ -41,13 +41,14 @@ module _ {C : Type 0} {reads : List ℕ → Option Store} {place : C → ℕ} {s
       stand : Stands place stands true units o
       stand = subst (λ b. Stands place stands b units o) t s
 
-      media : (m : Option Store) → reads (image u o.now) ≡ m → OnMedia Wf (o.blocks u) (media_of m)
-      media None e = tt
-      media (Some x) e = l.formed (image u o.now) x e
+      media : (due : Bool) (m : Option Store) → reads (image u o.now) ≡ m → OnMedia Wf (o.blocks u) (if due then lost else media_of m)
+      media true m e = tt
+      media false None e = tt
+      media false (Some x) e = l.formed (image u o.now) x e
 
       go : (card : Option (List ℕ)) → o.card u ≡ card → OnMedia Wf d.blocks d.media
       go None e = absurd (none-some d (sym (at-none l units o eight stand u e) ∙ is))
-      go (Some name) e = subst (λ (x : Device). OnMedia Wf x.blocks x.media) (some-same _ d (sym (at-card l units o eight stand u name e) ∙ is)) (media (reads (image u o.now)) refl)
+      go (Some name) e = subst (λ (x : Device). OnMedia Wf x.blocks x.media) (some-same _ d (sym (at-card l units o eight stand u name e) ∙ is)) (media (due_in units.slots.items u) (reads (image u o.now)) refl)
 
   -- where keys are as before, nothing is left to settle
   pub still-settled : (c : Command) → IsTrue told → MountedApart w → IsSettled w → moves_keys c ≡ false → IsSettled (changed w c)

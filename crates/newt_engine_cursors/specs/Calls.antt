@@ -15,6 +15,7 @@ use Rattle.newt_store_change.specs.Faults.{GoesOn, HasFaultCause}
 use Rattle.newt_store_change.specs.declared.fault.StoreFault.{StoreFault}
 use Rattle.newt_engine_card.specs.Bounds.{FetchesAtMost}
 use Rattle.newt_engine_units.specs.Answers.{Answers}
+use Rattle.newt_engine_units.specs.Breaks.{AtDevice, AtStop, FailsAlone}
 use Rattle.newt_engine_units.specs.Calls.{AreRead}
 use Rattle.newt_engine_units.specs.declared.units.Units.{Units}
 use Rattle.newt_engine_cursors.specs.Fits.{DeskFits}
@@ -30,27 +31,33 @@ pub record Shows (w v : World) (n : ℕ) (answer : Shown) : Type 0 where
 
 module _ {C : Type 0} (reads : List ℕ → Option Store) (place : C → ℕ) (standing : Bool → C → Outside → Type 0) where
   -- A call that settles the cursors `was`, which are then `is`. The units are read alone and the places fit; the world with its cursors has become what is
-  -- said of it; an end of the run has its cause; and where there is an answer, no fault was counted.
+  -- said of it; an end of the run has its cause; a device that fails is the only one, and leaves the cursors as they were; and where there is an answer, no
+  -- fault was counted.
   pub record Settles {T : Type 0} (told : Bool) (becomes : World → World → Type 0) (old new : Units C) (was is : List (Option Cursor)) (before after : Outside)
       (result : Result T Stop) : Type 0 where
     pub read : AreRead reads place standing told old new before after
     pub desk : DeskFits is
     pub settled : IsTrue told → let w = world_with reads old was before in MountedApart w → becomes w (world_with reads new is after)
     pub cause : IfErr result (λ stop. HasStopCause stop before after)
+    pub failed : IfErr result (AtStop (FailsAlone before after))
+    pub kept : IfErr result (AtStop (λ u. is ≡ was))
     pub no_fault : OnOk result (NoFault before after)
 
-  -- A call that turns the world with its cursors into another. The units are read alone and the places fit; an end of the run has its cause; and where the
-  -- run goes on, no fault was counted.
+  -- A call that turns the world with its cursors into another. The units are read alone and the places fit; an end of the run has its cause; a device that
+  -- fails is the only one, and leaves the cursors as they were; and where the run goes on, no fault was counted.
   pub record Turns {T : Type 0} (told : Bool) (becomes : World → World → Type 0) (old new : Units C) (was is : List (Option Cursor)) (before after : Outside)
       (result : Result T StoreFault) : Type 0 where
     pub read : AreRead reads place standing told old new before after
     pub desk : DeskFits is
     pub turned : IsTrue told → let w = world_with reads old was before in MountedApart w → becomes w (world_with reads new is after)
     pub cause : IfErr result (λ fault. HasFaultCause fault before after)
+    pub failed : IfErr result (AtDevice (FailsAlone before after))
+    pub kept : IfErr result (AtDevice (λ u. is ≡ was))
     pub no_fault : GoesOn result → NoFault before after
 
   -- A command of cursors, in a world whose cursors are settled. It is answered as that world answers it, and the units are read alone; one that opens, shows,
-  -- moves or counts a cursor whose query asks for no words or texts fetches the entry that is shown and nothing else, whatever its result is.
+  -- moves or counts a cursor whose query asks for no words or texts fetches the entry that is shown and nothing else, whatever its result is; a device that
+  -- fails is the only one, and leaves the cursors as they were.
   pub record Walks {T : Type 0} (told : Bool) (command : Command) (reply : T → Reply) (old new : Units C) (was is : List (Option Cursor)) (before after : Outside)
       (result : Result T StoreFault) : Type 0 where
     pub read : AreRead reads place standing told old new before after
@@ -59,4 +66,6 @@ module _ {C : Type 0} (reads : List ℕ → Option Store) (place : C → ℕ) (s
     pub fetches : IsTrue told → let w = world_with reads old was before in MountedApart w → IsSettled w → steps_unread w command ≡ true
         → FetchesAtMost (λ u. 512 * pages_shown (answer w command).1 u) before after
     pub cause : IfErr result (λ fault. HasFaultCause fault before after)
+    pub failed : IfErr result (AtDevice (FailsAlone before after))
+    pub kept : IfErr result (AtDevice (λ u. is ≡ was))
     pub no_fault : GoesOn result → NoFault before after

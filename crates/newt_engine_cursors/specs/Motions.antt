@@ -1,5 +1,5 @@
 -- How a cursor is moved. All of it is this project's own.
-use Rattle.std.specs.Prelude.{◌≡◌, ℕ, Bool, true, false, List, Option, Some, is_none, Result, Ok, Err}
+use Rattle.std.specs.Prelude.{◌≡◌, ℕ, Bool, true, false, List, Some, is_none, Result, Ok, Err}
 use Rattle.newt_base.specs.declared.Refusal.TheVariants.{Cursor as NoCursor}
 use Rattle.newt_spec_store.specs.Keys.{IndexSpec}
 use Rattle.newt_spec_graph.specs.Lists.{Among}
@@ -38,10 +38,6 @@ leads_to_hits _ = true
 abbrev pub IsAmong : List Hit → Place → Type 0
 IsAmong hs (on h) = Among hs h
 IsAmong hs _ = Unit {0}
-
--- a cursor that is open stands on a hit of its query, or on no entry (this project's own)
-abbrev pub StandsAmong : World → ℕ → Type 0
-StandsAmong w n = (k : Cursor) → cursor w n ≡ Some k → IsAmong (hits_of w k.query) k.place
 
 -- the place is on a hit of the query of a cursor that is open, or on no entry (this project's own)
 abbrev pub ComesAmong : World → ℕ → Place → Type 0

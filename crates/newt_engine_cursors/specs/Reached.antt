@@ -5,12 +5,13 @@ use Rattle.newt_spec_query.specs.Cursor.{Cursor}
 use Rattle.newt_spec_world.specs.Answer.{answer}
 use Rattle.newt_spec_world.specs.Refused.{checks}
 use Rattle.newt_spec_world.specs.Reply.{Reply}
+use Rattle.newt_spec_store.specs.Store.{Store}
 use Rattle.newt_spec_world.specs.World.{World, flat, mounted_store}
 use Rattle.newt_spec_world.specs.declared.command.Command.{Command}
 use Rattle.newt_query.specs.Filter.{asks_texts}
 use Rattle.newt_store_change.specs.Entries.{entry_said}
 use Rattle.newt_store_change.specs.declared.entry.Entry.{Entry}
-use Rattle.newt_engine_hits.specs.Present.{entry_there}
+use Rattle.newt_engine_hits.specs.Present.{entry_there, has_sig}
 use Rattle.newt_laws_reach.specs.Reach as plain
 use Rattle.newt_engine_cursors.specs.declared.reach.Aim.{Aim}
 use Rattle.newt_engine_cursors.specs.declared.reach.Aim.TheVariants as aim
@@ -23,6 +24,13 @@ seen_reach code.Nowhere = plain.nowhere
 seen_reach (code.Store store) = plain.on_store store
 seen_reach (code.Soup store soup) = plain.on_soup store soup
 seen_reach (code.Entry store soup uid) = plain.on_entry store soup uid
+
+-- a store is there, and what is reached is of it (this project's own)
+abbrev pub in_reach : plain.Reach → Option Store → Bool
+in_reach plain.nowhere s = false
+in_reach (plain.on_store store) s = has_sig store s
+in_reach (plain.on_soup store soup) s = has_sig store s
+in_reach (plain.on_entry store soup uid) s = has_sig store s
 
 -- the entry whose id is replied (this project's own)
 abbrev pub reached_new : ℕ → ℕ → Reply → plain.Reach

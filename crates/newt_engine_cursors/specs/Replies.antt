@@ -4,12 +4,17 @@ use Rattle.newt_spec_world.specs.Answer.{current, or_nil}
 use Rattle.newt_spec_world.specs.Reply.{Reply}
 use Rattle.newt_spec_world.specs.World.{World, cursor}
 use Rattle.newt_spec_store.specs.Store.{Entry as PlainEntry}
+use Rattle.newt_spec_query.specs.Hits.{Query}
 use Rattle.newt_spec_query.specs.Cursor.{Place, start, finish, on}
 use Rattle.newt_engine_hits.specs.Present.{Present as Hit}
 use Rattle.newt_engine_cursors.specs.declared.show.Shown.{Shown}
 use Rattle.newt_engine_cursors.specs.declared.show.Shown.TheVariants.{Nil, Deleted, Entry}
 use Rattle.newt_engine_cursors.specs.declared.show.Side.{Side}
 use Rattle.newt_engine_cursors.specs.declared.show.Side.TheVariants as at
+
+-- the reply that shows a cursor of a query at a place (a word of these definitions)
+abbrev pub shown_place : World → Query → Place → Reply
+shown_place w q place = current w (record { query = q; place = place })
 
 -- the reply that shows a cursor of a world, nil where it is not open (a word of these definitions)
 abbrev pub shown_at : World → ℕ → Reply

@@ -14,6 +14,7 @@ ghost use Rattle.newt_engine_units.specs.Answers.{Answers};
 ghost use Rattle.newt_engine_cursors.specs.Replies.{shown_reply, side_at, side_reply};
 ghost use Rattle.newt_engine_cursors.specs.Calls.{Walks};
 
+use crate::desks::open_cursor;
 use crate::show::{Shown, Side, show};
 use newt_base::Refusal;
 use newt_cursor::{Desk, DeskFault, Place};
@@ -36,10 +37,10 @@ pub fn entry<C: Card, H: Host>(
     ensures { Walks C.reads C.place C.stands H.told (Command.Entry cursor) shown_reply
         units.old units.new desk.old desk.new (H.outside host.old) (H.outside host.new) result }
 {
-    if desk.place(cursor).is_none() {
+    let Some((query, place)) = open_cursor(desk, cursor) else {
         return Err(StoreFault::Refused(Refusal::Cursor));
-    }
-    Ok(show(units, desk, host, cursor)?)
+    };
+    Ok(show(units, host, query, place, false)?)
 }
 
 /// The number of the hits of a cursor's query.

@@ -8,7 +8,7 @@
 //!
 //! Each call answers `StoreFault::Refused` with the refusal that its command is answered with, and
 //! then neither the stores nor the cursors have changed; or `StoreFault::Stop` where memory was
-//! refused or a device failed.
+//! refused or a device failed. A device that fails leaves the cursors as they were.
 #![tactic(auto)]
 
 mod asking;

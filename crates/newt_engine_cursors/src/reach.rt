@@ -6,6 +6,7 @@ ghost use Rattle.newt_reply.specs.Said.{said};
 ghost use Rattle.newt_spec_world.specs.Answer.{new_uid};
 ghost use Rattle.newt_spec_world.specs.Reply.{Reply as Plain};
 ghost use Rattle.newt_spec_world.specs.World.{World, default_unit, mounted_store};
+ghost use Rattle.newt_laws_steps.specs.StandsFor.{seen};
 ghost use Rattle.newt_laws_reach.specs.Reach.{entry_reach, next_reach, reaches, soup_reach};
 ghost use Rattle.newt_laws_reach.specs.Reach.{store_reach};
 ghost use Rattle.newt_laws_world.specs.Settled.{moves_keys};
@@ -72,7 +73,8 @@ impl Reach {
 pub fn aim_of<C: Card>(units: &Units<C>, command: &Command) -> Aim
     ensures aims { (outside : Outside) → Eight outside
         → Stands C.place C.stands true units.now outside
-        → Aims (world_of C.reads units.now outside) command.now result }
+        → Aims (seen C.reads (world_of C.reads units.now outside) outside.now command.now)
+        command.now result }
     ensures none { moves_keys command.now ≡ false → result ≡ of_aim.Nowhere }
 {
     match command {

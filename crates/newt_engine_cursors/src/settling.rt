@@ -1,6 +1,6 @@
 //! The cursors take the present keys of their entries.
-ghost use Rattle.std.specs.Prelude.{◌≡◌, ◌*◌, ◌&&◌, ℕ, false, true, IsTrue, Some, IfOk};
-ghost use Rattle.std.specs.Prelude.{IfSome, OnOk};
+ghost use Rattle.std.specs.Prelude.{◌≡◌, ◌*◌, ◌<◌, ◌&&◌, ℕ, false, true, IsTrue, Some, IfOk};
+ghost use Rattle.std.specs.Prelude.{IfErr, IfSome, OnOk};
 ghost use Rattle.std.specs.Prelude.{map, option_and_then, option_map, slice_get};
 ghost use Rattle.newt_host.specs.Outside.{Outside};
 ghost use Rattle.newt_index.specs.Spots.{spot_hit};
@@ -9,20 +9,23 @@ ghost use Rattle.newt_cursor.specs.Desk.{stands_on};
 ghost use Rattle.newt_cursor.specs.Seen.{place_of};
 ghost use Rattle.newt_tags.specs.Masks.{number};
 ghost use Rattle.newt_spec_query.specs.Cursor.{Cursor};
-ghost use Rattle.newt_spec_world.specs.World.{change_at, flat, mounted_store, settle_cursor};
+ghost use Rattle.newt_spec_query.specs.Hits.{Hit, Query as Asked};
+ghost use Rattle.newt_spec_world.specs.World.{change_at, flat, mounted_store};
 ghost use Rattle.newt_laws_reach.specs.Reach.{entry_reached, is_of_one, is_reached, on_entry};
 ghost use Rattle.newt_laws_reach.specs.Reach.{reaches, settle_reached, settle_where};
 ghost use Rattle.newt_laws_world.specs.Settled.{MountedApart};
 ghost use Rattle.newt_store_change.specs.Change.{pages_of_entry};
 ghost use Rattle.newt_engine_card.specs.Bounds.{FetchesAtMost};
+ghost use Rattle.newt_engine_units.specs.Breaks.{AtStop};
 ghost use Rattle.newt_engine_units.specs.Stands.{Eight, Stands, world_of};
 ghost use Rattle.newt_engine_hits.specs.Calls.{IsReading};
-ghost use Rattle.newt_engine_hits.specs.Present.{entry_in_store};
+ghost use Rattle.newt_engine_hits.specs.Present.{entry_in_store, has_sig};
 ghost use Rattle.newt_engine_cursors.specs.Calls.{Settles};
 ghost use Rattle.newt_engine_cursors.specs.Fits.{DeskFits};
-ghost use Rattle.newt_engine_cursors.specs.Keyed.{key_now, key_where};
+ghost use Rattle.newt_engine_cursors.specs.Keyed.{given, key_now, key_where, settled_from};
+ghost use Rattle.newt_engine_cursors.specs.Keyed.{stands_on as on_hit};
 ghost use Rattle.newt_engine_cursors.specs.Reached.{IsAtHand, NoneAsks, asks_on, asks_reached};
-ghost use Rattle.newt_engine_cursors.specs.Reached.{cursor_reached, seen_reach};
+ghost use Rattle.newt_engine_cursors.specs.Reached.{cursor_reached, in_reach, seen_reach};
 ghost use Rattle.newt_engine_cursors.specs.Unread.{is_unread};
 
 use crate::desks::standing;
@@ -44,7 +47,8 @@ const PLACES: u8 = 32;
 
 /// Each cursor that is on an entry that is reached takes the present key of that entry, where it is
 /// a hit. Where one entry is reached, it is read once at most; and nothing is read unless the query
-/// of such a cursor asks for words or texts.
+/// of such a cursor asks for words or texts. Only the device of the store that is reached can fail,
+/// and the cursors are then as they were.
 pub fn settle_reached<C: Card, H: Host>(
     units: &mut Units<C>,
     desk: &mut Desk,
@@ -63,6 +67,8 @@ pub fn settle_reached<C: Card, H: Host>(
     ensures unread { IsTrue H.told → let w = world_of C.reads units.old (H.outside host.old) in
         MountedApart w → NoneAsks (seen_reach reach.now) desk.old
         → FetchesAtMost (λ u. 0) (H.outside host.old) (H.outside host.new) }
+    ensures own { IsTrue H.told → let w = world_of C.reads units.old (H.outside host.old) in
+        IfErr result (AtStop (λ u. in_reach (seen_reach reach.now) (mounted_store w u) ≡ true)) }
 {
     match reach {
         Reach::Nowhere => Ok(()),
@@ -93,6 +99,8 @@ fn settle_entry<C: Card, H: Host>(
         (H.outside host.old) (H.outside host.new) }
     ensures unread { NoneAsks (on_entry store soup uid) desk.old
         → FetchesAtMost (λ u. 0) (H.outside host.old) (H.outside host.new) }
+    ensures own { IsTrue H.told → let w = world_of C.reads units.old (H.outside host.old) in
+        IfErr result (AtStop (λ u. has_sig store (mounted_store w u) ≡ true)) }
 {
     if !is_watched(desk, store, soup, uid) {
         return Ok(());
@@ -132,6 +140,8 @@ fn entry_if_asked<C: Card, H: Host>(
         (H.outside host.old) (H.outside host.new) }
     ensures unread { NoneAsks (on_entry store soup uid) desk.now
         → FetchesAtMost (λ u. 0) (H.outside host.old) (H.outside host.new) }
+    ensures own { IsTrue H.told → let w = world_of C.reads units.old (H.outside host.old) in
+        IfErr result (AtStop (λ u. has_sig store (mounted_store w u) ≡ true)) }
 {
     if asks_any(desk, store, soup, uid) {
         read_entry(units, host, store, soup, uid)
@@ -275,36 +285,75 @@ fn settle_all<C: Card, H: Host>(
     ensures unread { IsTrue H.told → let w = world_of C.reads units.old (H.outside host.old) in
         MountedApart w → NoneAsks (seen_reach reach.now) desk.old
         → FetchesAtMost (λ u. 0) (H.outside host.old) (H.outside host.new) }
+    ensures own { IsTrue H.told → let w = world_of C.reads units.old (H.outside host.old) in
+        IfErr result (AtStop (λ u. in_reach (seen_reach reach.now) (mounted_store w u) ≡ true)) }
 {
-    for cursor in 0..PLACES {
-        settle_if(units, desk, host, cursor, reach)?;
-    }
-    Ok(())
+    settle_from(units, desk, host, 0, reach)
 }
 
-/// A cursor that is reached and is on a hit takes that hit's present key.
-fn settle_if<C: Card, H: Host>(
+/// The same of the cursors from a number on. All their keys are read before the first of them is
+/// taken, so that the cursors are as they were where a device fails.
+fn settle_from<C: Card, H: Host>(
     units: &mut Units<C>,
     desk: &mut Desk,
     host: &mut H,
-    cursor: u8,
+    from: u8,
     reach: &Reach,
 ) -> Result<(), Stop>
     requires stands { Stands C.place C.stands H.told units.old (H.outside host.old) }
     requires desk { DeskFits desk.old }
+    ensures settles { Settles C.reads C.place C.stands H.told
+        (λ w v. OnOk result (v ≡ settled_from (seen_reach reach.now) from w)) units.old units.new
+        desk.old desk.new (H.outside host.old) (H.outside host.new) result }
+    ensures before { (c : ℕ) → c < from → slice_get desk.new c ≡ slice_get desk.old c }
+    ensures unread { NoneAsks (seen_reach reach.now) desk.old
+        → FetchesAtMost (λ u. 0) (H.outside host.old) (H.outside host.new) }
+    ensures own { IsTrue H.told → let w = world_of C.reads units.old (H.outside host.old) in
+        IfErr result (AtStop (λ u. in_reach (seen_reach reach.now) (mounted_store w u) ≡ true)) }
+{
+    if from >= PLACES {
+        return Ok(());
+    }
+    let key = key_if_reached(units, desk, host, from, reach)?;
+    settle_from(units, desk, host, from + 1, reach)?;
+    take_key(desk, from, key);
+    Ok(())
+}
+
+/// A cursor takes a key, if there is one.
+fn take_key(desk: &mut Desk, cursor: u8, key: Option<Key>)
+    ensures { desk.new ≡ change_at cursor (given key) desk.old }
+{
+    if let Some(key) = key {
+        desk.changed(cursor, key);
+    }
+}
+
+/// The present key of the entry on which a cursor stands, where that is reached and is a hit.
+fn key_if_reached<C: Card, H: Host>(
+    units: &mut Units<C>,
+    desk: &Desk,
+    host: &mut H,
+    cursor: u8,
+    reach: &Reach,
+) -> Result<Option<Key>, Stop>
+    requires { Stands C.place C.stands H.told units.old (H.outside host.old) }
     ensures reading { IsReading C.reads C.place C.stands true H.told units.old units.new
         (H.outside host.old) (H.outside host.new) result }
-    ensures desk { DeskFits desk.new }
-    ensures settled { IsTrue H.told → let w = world_of C.reads units.old (H.outside host.old) in
-        MountedApart w → OnOk result
-        (desk.new ≡ change_at cursor (settle_where (seen_reach reach.now) w) desk.old) }
-    ensures unread { asks_reached (seen_reach reach.now) (flat (slice_get desk.old cursor)) ≡ false
+    ensures key { (k : Cursor) → flat (slice_get desk.now cursor) ≡ Some k
+        → IfOk result (λ found. IfSome found (IsKeyOf k.query.spec.index)) }
+    ensures found { IsTrue H.told → let w = world_of C.reads units.old (H.outside host.old) in
+        MountedApart w → IfOk result (λ found. found ≡ option_and_then
+        (key_where (seen_reach reach.now) w) (flat (slice_get desk.now cursor))) }
+    ensures unread { asks_reached (seen_reach reach.now) (flat (slice_get desk.now cursor)) ≡ false
         → FetchesAtMost (λ u. 0) (H.outside host.old) (H.outside host.new) }
+    ensures own { IsTrue H.told → let w = world_of C.reads units.old (H.outside host.old) in
+        IfErr result (AtStop (λ u. in_reach (seen_reach reach.now) (mounted_store w u) ≡ true)) }
 {
     if is_reached(desk, cursor, reach) {
-        settle_one(units, desk, host, cursor)
+        present_key(units, desk, host, cursor)
     } else {
-        Ok(())
+        Ok(None)
     }
 }
 
@@ -328,29 +377,6 @@ fn is_place_reached(place: &Place, reach: &Reach) -> bool
     }
 }
 
-/// A cursor that is on a hit takes that hit's present key.
-fn settle_one<C: Card, H: Host>(
-    units: &mut Units<C>,
-    desk: &mut Desk,
-    host: &mut H,
-    cursor: u8,
-) -> Result<(), Stop>
-    requires stands { Stands C.place C.stands H.told units.old (H.outside host.old) }
-    requires desk { DeskFits desk.old }
-    ensures reading { IsReading C.reads C.place C.stands true H.told units.old units.new
-        (H.outside host.old) (H.outside host.new) result }
-    ensures desk { DeskFits desk.new }
-    ensures settled { IsTrue H.told → let w = world_of C.reads units.old (H.outside host.old) in
-        MountedApart w → OnOk result (desk.new ≡ change_at cursor (settle_cursor w) desk.old) }
-    ensures unread { is_unread (flat (slice_get desk.old cursor)) ≡ true
-        → FetchesAtMost (λ u. 0) (H.outside host.old) (H.outside host.new) }
-{
-    if let Some(key) = present_key(units, desk, host, cursor)? {
-        desk.changed(cursor, key);
-    }
-    Ok(())
-}
-
 /// The key that the entry on which a cursor stands has now. None where the cursor is not open, is
 /// on no entry, or its entry is no hit.
 fn present_key<C: Card, H: Host>(
@@ -369,6 +395,10 @@ fn present_key<C: Card, H: Host>(
         ≡ option_and_then (key_now w) (flat (slice_get desk.now cursor))) }
     ensures unread { is_unread (flat (slice_get desk.now cursor)) ≡ true
         → FetchesAtMost (λ u. 0) (H.outside host.old) (H.outside host.new) }
+    ensures own { IsTrue H.told → let w = world_of C.reads units.old (H.outside host.old) in
+        (q : Asked) (h : Hit)
+        → Some (q, h) ≡ option_and_then on_hit (flat (slice_get desk.now cursor))
+        → IfErr result (AtStop (λ u. has_sig h.store (mounted_store w u) ≡ true)) }
 {
     let Some((query, spot)) = standing(desk, cursor) else {
         return Ok(None);

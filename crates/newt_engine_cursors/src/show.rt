@@ -1,7 +1,12 @@
 //! What a cursor shows.
-ghost use Rattle.std.specs.Prelude.{◌≡◌, ◌*◌, true, IsTrue, IfOk, Some, slice_get};
+ghost use Rattle.std.specs.Prelude.{◌≡◌, ◌*◌, false, true, IsTrue, IfOk, Some};
+ghost use Rattle.newt_cursor.specs.Seen.{place_of, query_of};
+ghost use Rattle.newt_index.specs.Spots.{spot_hit};
+ghost use Rattle.newt_query.specs.Filter.{asks_texts};
 ghost use Rattle.newt_spec_store.specs.Store.{Entry as Plain};
-ghost use Rattle.newt_spec_world.specs.World.{flat};
+ghost use Rattle.newt_spec_query.specs.Cursor.{on};
+ghost use Rattle.newt_spec_query.specs.Hits.{Query as Asked};
+ghost use Rattle.newt_spec_world.specs.World.{hits_of};
 ghost use Rattle.newt_laws_answers.specs.Fetched.{pages_shown};
 ghost use Rattle.newt_laws_world.specs.Settled.{MountedApart};
 ghost use Rattle.newt_engine_card.specs.Bounds.{FetchesAtMost};
@@ -9,13 +14,11 @@ ghost use Rattle.newt_engine_units.specs.Stands.{Stands, world_of};
 ghost use Rattle.newt_engine_hits.specs.Calls.{IsReading};
 ghost use Rattle.newt_engine_hits.specs.Present.{IsPresent, entry_there, fetched_there};
 ghost use Rattle.newt_engine_hits.specs.Present.{Present as Hit};
-ghost use Rattle.newt_engine_cursors.specs.Motions.{StandsAmong};
-ghost use Rattle.newt_engine_cursors.specs.Replies.{entry_reply, hit_reply, shown_at, shown_reply};
-ghost use Rattle.newt_engine_cursors.specs.Unread.{is_unread};
-ghost use Rattle.newt_engine_cursors.specs.World.{world_with};
+ghost use Rattle.newt_engine_cursors.specs.Motions.{IsAmong};
+ghost use Rattle.newt_engine_cursors.specs.Replies.{entry_reply, hit_reply, shown_place};
+ghost use Rattle.newt_engine_cursors.specs.Replies.{shown_reply};
 
-use crate::desks::standing;
-use newt_cursor::Desk;
+use newt_cursor::{Place, Query};
 use newt_engine_card::Card;
 use newt_engine_hits::{Present, find_hit, read_entry};
 use newt_engine_units::Units;
@@ -46,88 +49,85 @@ pub enum Side {
     Nil,
 }
 
-/// What a cursor shows; nothing where it is not open. The entry on which it stands is read once,
-/// where it is a hit.
+/// What a cursor of a query shows at a place, where the entry is read once. Where that place is
+/// known to be a hit of the query, or a side, the hit is not searched.
 pub(crate) fn show<C: Card, H: Host>(
     units: &mut Units<C>,
-    desk: &Desk,
     host: &mut H,
-    cursor: u8,
+    query: &Query,
+    place: &Place,
+    is_found: bool,
 ) -> Result<Shown, Stop>
     requires { Stands C.place C.stands H.told units.old (H.outside host.old) }
     ensures reading { IsReading C.reads C.place C.stands true H.told units.old units.new
         (H.outside host.old) (H.outside host.new) result }
-    ensures shown { IsTrue H.told
-        → let w = world_with C.reads units.old desk.now (H.outside host.old) in MountedApart w
-        → IfOk result (λ shown. shown_reply shown ≡ shown_at w cursor) }
-    ensures fetches { IsTrue H.told
-        → let w = world_with C.reads units.old desk.now (H.outside host.old) in MountedApart w
-        → is_unread (flat (slice_get desk.now cursor)) ≡ true → FetchesAtMost
-        (λ u. 512 * pages_shown (shown_at w cursor) u) (H.outside host.old) (H.outside host.new) }
+    ensures shown { IsTrue H.told → let w = world_of C.reads units.old (H.outside host.old) in
+        let q = query_of query.now in MountedApart w
+        → (is_found ≡ true → IsAmong (hits_of w q) (place_of place.now))
+        → IfOk result (λ shown. shown_reply shown ≡ shown_place w q (place_of place.now)) }
+    ensures fetches { IsTrue H.told → let w = world_of C.reads units.old (H.outside host.old) in
+        let q = query_of query.now in MountedApart w
+        → (is_found ≡ true → IsAmong (hits_of w q) (place_of place.now))
+        → asks_texts query.now.spec ≡ false → FetchesAtMost
+        (λ u. 512 * pages_shown (shown_place w q (place_of place.now)) u)
+        (H.outside host.old) (H.outside host.new) }
 {
-    let Some((query, spot)) = standing(desk, cursor) else {
-        return Ok(Shown::Nil);
-    };
+    match place {
+        Place::On(spot) => {
+            if is_found {
+                show_found(units, host, spot)
+            } else {
+                show_searched(units, host, query, spot)
+            }
+        }
+        Place::Start | Place::Finish => Ok(Shown::Nil),
+    }
+}
+
+/// What a cursor of a query shows on an entry, which may be no hit any more.
+fn show_searched<C: Card, H: Host>(
+    units: &mut Units<C>,
+    host: &mut H,
+    query: &Query,
+    spot: &Spot,
+) -> Result<Shown, Stop>
+    requires { Stands C.place C.stands H.told units.old (H.outside host.old) }
+    ensures reading { IsReading C.reads C.place C.stands true H.told units.old units.new
+        (H.outside host.old) (H.outside host.new) result }
+    ensures shown { IsTrue H.told → let w = world_of C.reads units.old (H.outside host.old) in
+        let reply = shown_place w (query_of query.now) (on (spot_hit spot.now)) in
+        MountedApart w → IfOk result (λ shown. shown_reply shown ≡ reply) }
+    ensures fetches { IsTrue H.told → let w = world_of C.reads units.old (H.outside host.old) in
+        let reply = shown_place w (query_of query.now) (on (spot_hit spot.now)) in
+        MountedApart w → asks_texts query.now.spec ≡ false → FetchesAtMost
+        (λ u. 512 * pages_shown reply u) (H.outside host.old) (H.outside host.new) }
+{
     match find_hit(units, host, query, spot.store, spot.soup, spot.uid)? {
         Some(hit) => show_hit(units, host, hit, spot),
         None => Ok(Shown::Deleted),
     }
 }
 
-/// What a cursor shows that was moved to a hit of its query, if it is on an entry at all: it is not
-/// searched once more.
+/// What a cursor shows on an entry that is a hit of its query. It is not searched once more.
 fn show_found<C: Card, H: Host>(
     units: &mut Units<C>,
-    desk: &Desk,
     host: &mut H,
-    cursor: u8,
+    spot: &Spot,
 ) -> Result<Shown, Stop>
     requires { Stands C.place C.stands H.told units.old (H.outside host.old) }
     ensures reading { IsReading C.reads C.place C.stands true H.told units.old units.new
         (H.outside host.old) (H.outside host.new) result }
-    ensures shown { IsTrue H.told
-        → let w = world_with C.reads units.old desk.now (H.outside host.old) in MountedApart w
-        → StandsAmong w cursor → IfOk result (λ shown. shown_reply shown ≡ shown_at w cursor) }
-    ensures fetches { IsTrue H.told
-        → let w = world_with C.reads units.old desk.now (H.outside host.old) in MountedApart w
-        → StandsAmong w cursor → FetchesAtMost
-        (λ u. 512 * pages_shown (shown_at w cursor) u) (H.outside host.old) (H.outside host.new) }
+    ensures shown { IsTrue H.told → let w = world_of C.reads units.old (H.outside host.old) in
+        let at = on (spot_hit spot.now) in MountedApart w → (q : Asked) → IsAmong (hits_of w q) at
+        → IfOk result (λ shown. shown_reply shown ≡ shown_place w q at) }
+    ensures fetches { IsTrue H.told → let w = world_of C.reads units.old (H.outside host.old) in
+        let at = on (spot_hit spot.now) in MountedApart w → (q : Asked) → IsAmong (hits_of w q) at
+        → FetchesAtMost (λ u. 512 * pages_shown (shown_place w q at) u)
+        (H.outside host.old) (H.outside host.new) }
 {
-    let Some((_, spot)) = standing(desk, cursor) else {
-        return Ok(Shown::Nil);
-    };
     match units.unit_of(spot.store) {
         Some(unit) => read_and_show(units, host, unit, spot),
         None => Ok(Shown::Deleted),
-    }
-}
-
-/// What a cursor shows. Where it is known to stand on a hit, if on an entry at all, that is not
-/// searched.
-pub(crate) fn show_moved<C: Card, H: Host>(
-    units: &mut Units<C>,
-    desk: &Desk,
-    host: &mut H,
-    cursor: u8,
-    is_found: bool,
-) -> Result<Shown, Stop>
-    requires { Stands C.place C.stands H.told units.old (H.outside host.old) }
-    ensures reading { IsReading C.reads C.place C.stands true H.told units.old units.new
-        (H.outside host.old) (H.outside host.new) result }
-    ensures shown { IsTrue H.told
-        → let w = world_with C.reads units.old desk.now (H.outside host.old) in MountedApart w
-        → (is_found ≡ true → StandsAmong w cursor)
-        → IfOk result (λ shown. shown_reply shown ≡ shown_at w cursor) }
-    ensures fetches { IsTrue H.told
-        → let w = world_with C.reads units.old desk.now (H.outside host.old) in MountedApart w
-        → (is_found ≡ true → StandsAmong w cursor)
-        → is_unread (flat (slice_get desk.now cursor)) ≡ true → FetchesAtMost
-        (λ u. 512 * pages_shown (shown_at w cursor) u) (H.outside host.old) (H.outside host.new) }
-{
-    if is_found {
-        show_found(units, desk, host, cursor)
-    } else {
-        show(units, desk, host, cursor)
     }
 }
 

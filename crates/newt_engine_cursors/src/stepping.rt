@@ -27,7 +27,7 @@ ghost use Rattle.newt_engine_hits.specs.Calls.{IsReading};
 ghost use Rattle.newt_engine_cursors.specs.Calls.{Settles, Shows, Turns, Walks};
 
 use crate::desks::open_cursor;
-use crate::show::{Shown, show_moved};
+use crate::show::{Shown, show};
 use newt_base::{Name, Refusal, Sig, Uid};
 use newt_cursor::{Desk, Place, Query};
 use newt_engine_card::Card;
@@ -270,8 +270,8 @@ fn move_to<C: Card, H: Host>(
     come_to(units, desk, host, cursor, place, false)
 }
 
-/// Puts a cursor at a place, and shows it. Where that is known to be a hit of its query, or a side,
-/// the hit is not searched.
+/// Shows a cursor at a place, and puts it there. Where that is known to be a hit of its query, or a
+/// side, the hit is not searched. Where it could not be shown it stays where it is.
 fn come_to<C: Card, H: Host>(
     units: &mut Units<C>,
     desk: &mut Desk,
@@ -294,8 +294,12 @@ fn come_to<C: Card, H: Host>(
         (λ u. 512 * pages_shown (shown_at (set_place w cursor (place_of place)) cursor) u)
         (H.outside host.old) (H.outside host.new) }
 {
+    let Some((query, _)) = open_cursor(desk, cursor) else {
+        return Ok(Shown::Nil);
+    };
+    let shown = show(units, host, query, &place, is_found)?;
     desk.step(cursor, place);
-    show_moved(units, desk, host, cursor, is_found)
+    Ok(shown)
 }
 
 /// The key that a literal writes down, if it is one of the query's index.

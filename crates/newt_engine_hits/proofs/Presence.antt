@@ -26,7 +26,7 @@ use Rattle.newt_store_change.specs.Change.{pages_of_entry}
 use Rattle.newt_store_change.specs.Entries.{entry_said, plain_entry}
 use Rattle.newt_store_change.specs.declared.entry.Entry as code
 use Rattle.newt_engine_card.specs.Bounds.{FetchesAtMost, of_unit}
-use Rattle.newt_engine_hits.specs.Present.{IsCarried, IsPresent, Present, entry_in_store, entry_there, fetched_there, identity, key_in_store, keyed_in, present_in, with_entry}
+use Rattle.newt_engine_hits.specs.Present.{IsCarried, IsPresent, Present, entry_in_store, entry_there, fetched_there, has_sig, identity, key_in_store, keyed_in, present_in, with_entry}
 use Rattle.newt_engine_hits.proofs.Stores.{find-store}
 
 module _ (w : World) (q : Query) (store soup uid : ℕ) (apart : MountedApart w) (formed : Each (λ s. IsTrue (well_formed s)) (mounted_stores w)) where
@@ -222,3 +222,9 @@ module _ (w : World) (store soup uid u : ℕ) (s : Store) (o p : Outside) where
           → p.fetched n ≤ o.fetched n + 512 * pages_of_entry (entry_in_store store soup uid (mounted_store w n))
       go true e k = subst (λ (x : Option Entry). p.fetched n ≤ o.fetched n + 512 * pages_of_entry x) (sym (here (eqb-true u n e))) k
       go false e k = omega (arith, k)
+
+-- ---- whose device it is
+
+-- a store that is mounted has its signature
+pub shown-sig : (w : World) (store u : ℕ) (s : Store) → mounted_store w u ≡ Some s → s.sig ≡ store → has_sig store (mounted_store w u) ≡ true
+shown-sig w store u s there sig = ap (has_sig store) there ∙ eq-eqb s.sig store sig

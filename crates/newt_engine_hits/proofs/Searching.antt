@@ -30,7 +30,7 @@ use Rattle.newt_laws_answers.specs.WorldAt.{device_at}
 use Rattle.newt_laws_hits.specs.Taking.{declared, member_of, members_of}
 use Rattle.newt_laws_hits.proofs.Cuts.{first-among, last-among}
 use Rattle.newt_engine_units.specs.declared.units.Units.{Units}
-use Rattle.newt_engine_units.specs.Stands.{Stands, Eight, mounted_in, world_of}
+use Rattle.newt_engine_units.specs.Stands.{Stands, Eight, due_in, mounted_in, world_of}
 use Rattle.newt_engine_units.proofs.Known.{Laws, at-device}
 use Rattle.newt_engine_units.proofs.Shown.{drop-step}
 use Rattle.newt_index.specs.Spots.{spot_hit}
@@ -251,8 +251,8 @@ module _ {C : Type 0} {reads : List ℕ → Option Store} {place : C → ℕ} {s
   pub unit-members : (q : Query) → filter_map (unit_member q (world_of reads units o)) unit_numbers ≡ members_of (mounted_stores (world_of reads units o)) q
   unit-members q =
       (λ i. filter_map (λ u. option_and_then (member_in q) (on_unit (at-device l units o e s u i))) unit_numbers)
-      ∙ sym (ap (filter_map (member_in q)) (chosen-map on_unit (device_at reads (mounted_in units.slots.items) o) unit_numbers)
-      ∙ chosen-twice (member_in q) (λ u. on_unit (device_at reads (mounted_in units.slots.items) o u)) unit_numbers)
+      ∙ sym (ap (filter_map (member_in q)) (chosen-map on_unit (device_at reads (due_in units.slots.items) (mounted_in units.slots.items) o) unit_numbers)
+      ∙ chosen-twice (member_in q) (λ u. on_unit (device_at reads (due_in units.slots.items) (mounted_in units.slots.items) o u)) unit_numbers)
       ∙ sym (chosen-kept (λ (s : Store). option_and_then (member_of q s) (soup_named q.name s)) (in_scope q.scope) (mounted_stores (world_of reads units o)))
 
 -- a unit more

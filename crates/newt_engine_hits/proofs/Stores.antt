@@ -1,5 +1,5 @@
 -- The stores that are mounted, as the units know them.
-use Rattle.std.proofs.Common.{◌≡◌, refl, ap, sym, ◌∙◌, subst, ℕ, ◌+◌, ◌≤◌, List, [], ◌∷◌, Bool, true, false, cond, map, find, length, Option, Some, None, option_map, IsTrue, ◌==◌}
+use Rattle.std.proofs.Common.{◌≡◌, refl, ap, sym, ◌∙◌, subst, ℕ, ◌+◌, ◌≤◌, List, [], ◌∷◌, Bool, true, false, cond, map, find, length, Option, Some, None, option_map, IsTrue, ◌==◌, if◌then◌else◌}
 use Rattle.std.specs.Prelude.{filter_map}
 use Rattle.std.specs.List.{enumerate_from, cons_option}
 use Rattle.std.proofs.lemmas.Bool.{eqb-true}
@@ -10,7 +10,7 @@ use Rattle.newt_spec_graph.proofs.Lists.{some-same, none-some}
 use Rattle.newt_spec_store.specs.Store.{Store}
 use Rattle.newt_spec_store.specs.Valid.{well_formed}
 use Rattle.newt_spec_world.specs.First.{media_of, unit_numbers}
-use Rattle.newt_spec_world.specs.World.{World, Device, on_unit, mounted, mounted_stores, store_of}
+use Rattle.newt_spec_world.specs.World.{World, Device, lost, on_unit, mounted, mounted_stores, store_of}
 use Rattle.newt_laws_images.proofs.Chosen.{find-passes}
 use Rattle.newt_laws_answers.specs.Faces.{first_showing}
 use Rattle.newt_laws_answers.specs.There.{OnUnit}
@@ -20,7 +20,7 @@ use Rattle.newt_laws_answers.proofs.Units.{is-mounted}
 use Rattle.newt_laws_hits.proofs.Numbers.{chosen-length}
 use Rattle.newt_engine_units.specs.declared.units.Units.{Units}
 use Rattle.newt_engine_units.specs.Faces.{card_faces}
-use Rattle.newt_engine_units.specs.Stands.{Stands, Eight, mounted_in, world_of}
+use Rattle.newt_engine_units.specs.Stands.{Stands, Eight, due_in, mounted_in, world_of}
 use Rattle.newt_engine_units.proofs.Known.{Laws, card-known}
 use Rattle.newt_engine_units.proofs.Resolving.{showing-card}
 use Rattle.newt_engine_units.proofs.Shown.{faces-known}
@@ -66,20 +66,21 @@ module _ {C : Type 0} {reads : List ℕ → Option Store} {place : C → ℕ} {s
   w = world_of reads units o
 
   abbrev device : ℕ → Option Device
-  device u = device_at reads (mounted_in units.slots.items) o u
+  device u = device_at reads (due_in units.slots.items) (mounted_in units.slots.items) o u
 
   formed : (u : ℕ) (t : Store) → on_unit (device u) ≡ Some t → IsTrue (well_formed t)
   formed u t h = go (o.card u) h
     where
-      by : (b : Bool) (r : Option Store) → reads (image u o.now) ≡ r → cond b (store_of (media_of r)) None ≡ Some t → IsTrue (well_formed t)
-      by false r k h = absurd (none-some t h)
-      by true None k h = absurd (none-some t h)
-      by true (Some x) k h = subst (λ x. IsTrue (well_formed x)) (some-same x t h) (l.formed (image u o.now) x k)
+      by : (b due : Bool) (r : Option Store) → reads (image u o.now) ≡ r → cond b (store_of (if due then lost else media_of r)) None ≡ Some t → IsTrue (well_formed t)
+      by false due r k h = absurd (none-some t h)
+      by true true r k h = absurd (none-some t h)
+      by true false None k h = absurd (none-some t h)
+      by true false (Some x) k h = subst (λ x. IsTrue (well_formed x)) (some-same x t h) (l.formed (image u o.now) x k)
 
-      go : (c : Option (List ℕ)) → on_unit (option_map (λ name. record { blocks = o.blocks u; media = media_of (reads (image u o.now)); mounted = mounted_in units.slots.items u }) c) ≡ Some t
+      go : (c : Option (List ℕ)) → on_unit (option_map (λ name. record { blocks = o.blocks u; media = if due_in units.slots.items u then lost else media_of (reads (image u o.now)); mounted = mounted_in units.slots.items u }) c) ≡ Some t
           → IsTrue (well_formed t)
       go None h = absurd (none-some t h)
-      go (Some name) h = by (mounted_in units.slots.items u) (reads (image u o.now)) refl h
+      go (Some name) h = by (mounted_in units.slots.items u) (due_in units.slots.items u) (reads (image u o.now)) refl h
 
   pub stores-formed : Each (λ t. IsTrue (well_formed t)) (mounted_stores w)
   stores-formed =

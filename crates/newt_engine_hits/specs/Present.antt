@@ -1,5 +1,5 @@
 -- An entry as a query has it now.
-use Rattle.std.specs.Prelude.{◌≡◌, ◌*◌, ℕ, true, [], find, Option, Some, None, IfSome, option_map, option_and_then, ◌==◌, if◌then◌else◌}
+use Rattle.std.specs.Prelude.{◌≡◌, ◌*◌, ℕ, Bool, true, false, [], find, Option, Some, None, IfSome, option_map, option_and_then, ◌==◌, if◌then◌else◌}
 use Rattle.newt_spec_store.specs.Keys.{Key, key}
 use Rattle.newt_spec_store.specs.Store.{Entry, Soup, Store, entry_at, soup_of}
 use Rattle.newt_spec_query.specs.Hits.{Query, Hit, carries}
@@ -34,6 +34,11 @@ present_in w q at = option_and_then (with_entry w) (find (same_identity at) (hit
 -- the entry of these signatures and this id, where it is in a mounted store (this project's own)
 abbrev pub entry_there : World → ℕ → ℕ → ℕ → Option Entry
 entry_there w store soup uid = option_and_then (entry_at soup uid) (find (λ s. s.sig == store) (mounted_stores w))
+
+-- a store is there, and is the one of this signature (a word of these definitions)
+abbrev pub has_sig : ℕ → Option Store → Bool
+has_sig store None = false
+has_sig store (Some s) = s.sig == store
 
 -- the entry of this soup and id, where a store is the one of this signature (a word of these definitions)
 abbrev pub entry_in_store : ℕ → ℕ → ℕ → Option Store → Option Entry

@@ -1,6 +1,6 @@
 //! Entries that are hits of a query, by their identity.
 ghost use Rattle.std.specs.Prelude.{◌≡◌, ◌&&◌, ◌*◌, ℕ, true, false, IsTrue, None, Some};
-ghost use Rattle.std.specs.Prelude.{option_map, option_and_then, IfOk, IfSome};
+ghost use Rattle.std.specs.Prelude.{option_map, option_and_then, IfErr, IfOk, IfSome};
 ghost use Rattle.newt_base.specs.Names.{equal_text};
 ghost use Rattle.newt_host.specs.Moments.{image};
 ghost use Rattle.newt_host.specs.Outside.{Outside};
@@ -15,11 +15,12 @@ ghost use Rattle.newt_laws_hits.specs.Located.{takes_part};
 ghost use Rattle.newt_laws_hits.specs.Taking.{declared};
 ghost use Rattle.newt_spec_world.specs.World.{mounted_store};
 ghost use Rattle.newt_engine_card.specs.Bounds.{FetchesAtMost};
+ghost use Rattle.newt_engine_units.specs.Breaks.{AtStop};
 ghost use Rattle.newt_engine_units.specs.Stands.{Eight, Stands, world_of};
 ghost use Rattle.newt_store_change.specs.Change.{pages_of_entry};
 ghost use Rattle.newt_store_change.specs.Entries.{entry_said};
 ghost use Rattle.newt_engine_hits.specs.Present.{IsCarried, IsPresent, entry_in_store};
-ghost use Rattle.newt_engine_hits.specs.Present.{entry_there, fetched_there, identity};
+ghost use Rattle.newt_engine_hits.specs.Present.{entry_there, fetched_there, has_sig, identity};
 ghost use Rattle.newt_engine_hits.specs.Present.{key_in_store, key_of_entry, keyed_in, present_in};
 ghost use Rattle.newt_engine_hits.specs.Calls.{IsReading};
 
@@ -45,7 +46,7 @@ pub struct Present {
 }
 
 /// The hit of a query that has this identity. None where the entry is no hit. The entry is read
-/// only where words or texts are asked for.
+/// only where words or texts are asked for; no device but its store's can fail.
 pub fn find_hit<C: Card, H: Host>(
     units: &mut Units<C>,
     host: &mut H,
@@ -61,6 +62,8 @@ pub fn find_hit<C: Card, H: Host>(
         MountedApart w → IfOk result (λ found. IsPresent found
         (present_in w (query_of query.now) (identity store soup uid))) }
     ensures key { IfOk result (λ found. IfSome found (λ p. IsKeyOf query.now.spec.index p.key)) }
+    ensures own { IsTrue H.told → let w = world_of C.reads units.old (H.outside host.old) in
+        IfErr result (AtStop (λ u. has_sig store (mounted_store w u) ≡ true)) }
 {
     let entry = entry_if_asked(units, host, query, store, soup, uid)?;
     match hit_key(units, query, store, soup, uid, &entry)? {
@@ -90,6 +93,8 @@ fn entry_if_asked<C: Card, H: Host>(
         entry_said found
         ≡ entry_there (world_of C.reads units.old (H.outside host.old)) store soup uid) }
     ensures none { asks_texts query.now.spec ≡ false → IfOk result (λ found. found ≡ None) }
+    ensures own { IsTrue H.told → let w = world_of C.reads units.old (H.outside host.old) in
+        IfErr result (AtStop (λ u. has_sig store (mounted_store w u) ≡ true)) }
 {
     if query.spec.needs_graph() {
         read_entry(units, host, store, soup, uid)
@@ -98,7 +103,8 @@ fn entry_if_asked<C: Card, H: Host>(
     }
 }
 
-/// Reads the entry of these signatures and this id. None where it is in no mounted store.
+/// Reads the entry of these signatures and this id. None where it is in no mounted store. No device
+/// but that store's can fail.
 pub fn read_entry<C: Card, H: Host>(
     units: &mut Units<C>,
     host: &mut H,
@@ -118,6 +124,8 @@ pub fn read_entry<C: Card, H: Host>(
         FetchesAtMost (λ u. 512 * pages_of_entry
         (entry_in_store store soup uid (mounted_store w u)))
         (H.outside host.old) (H.outside host.new) }
+    ensures own { IsTrue H.told → let w = world_of C.reads units.old (H.outside host.old) in
+        IfErr result (AtStop (λ u. has_sig store (mounted_store w u) ≡ true)) }
 {
     match units.unit_of(store) {
         Some(unit) => units.entry_on(host, unit, soup, uid),

@@ -1,13 +1,15 @@
 -- A command is answered by what a card does; the command `format`.
-use Rattle.std.proofs.Common.{◌≡◌, refl, ap, sym, ◌∙◌, subst, ℕ, List, true, Option, Some, None, replicate, option_map, option_and_then, false}
-use Rattle.std.specs.Prelude.{Result, Ok, Err, OnOk, IfErr, is_some}
+use Rattle.std.proofs.Common.{◌≡◌, refl, ap, sym, ◌∙◌, subst, ℕ, List, true, ◌&&◌, Option, Some, None, replicate, option_map, option_and_then, false}
+use Rattle.std.specs.Prelude.{Result, Ok, Err, OnOk, IfErr, is_none, is_some}
+use Rattle.std.proofs.lemmas.Bool.{eq-eqb}
 use Rattle.newt_base.specs.Refusals.{Checks, first_of}
 use Rattle.newt_base.specs.declared.Refusal.{Refusal}
 use Rattle.newt_spec_store.specs.Store.{Store, new_store}
 use Rattle.newt_spec_world.specs.declared.command.Command.{Command}
 use Rattle.newt_spec_world.specs.declared.command.Command.TheVariants as command
 use Rattle.newt_spec_world.specs.Reply.{Reply}
-use Rattle.newt_spec_world.specs.World.{World, Device, one, store_of, store_on_unit, change_store}
+use Rattle.newt_spec_world.specs.Step.{formats, is_accepted}
+use Rattle.newt_spec_world.specs.World.{World, Device, IsBlankOn, blank, one, store_of, store_on_unit, change_store}
 use Rattle.newt_spec_world.specs.Answer.{answer}
 use Rattle.newt_laws_answers.specs.Tests.{formatted}
 use Rattle.newt_laws_answers.specs.There.{OnUnit, IsReady}
@@ -15,7 +17,7 @@ use Rattle.newt_laws_answers.proofs.Units.{on-changed, is-there}
 use Rattle.newt_spec_graph.proofs.Lists.{both-ways}
 use Rattle.newt_spec_world.specs.First.{media_of}
 use Rattle.newt_laws_world.proofs.Units.{device-same}
-use Rattle.newt_laws_answers.proofs.Stores.{format-has-store, format-done}
+use Rattle.newt_laws_answers.proofs.Stores.{format-has-store, format-done, format-passes}
 use Rattle.newt_store_change.specs.declared.fault.StoreFault.{StoreFault}
 use Rattle.newt_store_change.specs.declared.fault.StoreFault.TheVariants.{Refused, Stop}
 use Rattle.newt_base.specs.declared.Refusal.TheVariants.{Store as HasStore}
@@ -67,9 +69,18 @@ module _ (w v : World) (u blocks : ℕ) (found : Option Store) (name : List ℕ)
   format-makes k = ap {A = World × Reply} (λ x. store_on_unit x.0 u) (format-is k)
       ∙ ap (option_and_then (λ (d : Device). store_of d.media)) (device-same w u (λ d. record d { media = one (new_store name sig); mounted = false }) ∙ ap (option_map (λ (d : Device). record d { media = one (new_store name sig); mounted = false })) h.device_is)
 
-  pub format-blank : is_some found ≡ false → store_on_unit w u ≡ None
-  format-blank k = ap (option_and_then (λ (d : Device). store_of d.media)) h.device_is ∙ go found k
+  pub format-blank : is_some found ≡ false → IsBlankOn w u
+  format-blank k = (_, h.device_is, go found k)
     where
-      go : (o : Option Store) → is_some o ≡ false → store_of (media_of o) ≡ None
+      go : (o : Option Store) → is_some o ≡ false → media_of o ≡ blank
       go None x = refl
       go (Some s) x = absurd (both-ways (sym x))
+
+  -- no test refuses it
+  pub format-formats : is_some found ≡ false → formats w (command.Format u name sig) u ≡ true
+  format-formats k = ap (λ b. b && is_accepted w (command.Format u name sig)) (eq-eqb u u refl)
+      ∙ ap is_none (format-passes w u blocks name sig (subst (IsReady w u blocks) (no-store found k) h))
+    where
+      no-store : (o : Option Store) → is_some o ≡ false → media_of o ≡ blank
+      no-store None x = refl
+      no-store (Some s) x = absurd (both-ways (sym x))

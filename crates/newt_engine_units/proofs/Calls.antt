@@ -1,6 +1,6 @@
 -- A call on the card of one unit.
-use Rattle.std.proofs.Common.{arith, ◌≡◌, ◌≢◌, refl, ap, sym, ◌∙◌, subst, ℕ, ◌+◌, ◌<◌, ◌≤◌, List, ◌⊎◌, inl, inr, Bool, true, cond, IsTrue, Option, Some, None, length, get_or}
-use Rattle.std.specs.Prelude.{Result, Ok, Err, OnOk, IfErr, slice_get, is_some}
+use Rattle.std.proofs.Common.{arith, ◌≡◌, ◌≢◌, refl, ap, sym, ◌∙◌, subst, ℕ, ◌+◌, ◌<◌, ◌≤◌, List, ◌⊎◌, inl, inr, Bool, true, false, cond, IsTrue, Option, Some, None, length, get_or}
+use Rattle.std.specs.Prelude.{Result, Ok, Err, OnOk, IfErr, IsSome, slice_get, is_some}
 use Rattle.std.specs.Vec.{with_item}
 use Rattle.std.proofs.lemmas.Bool.{eq-eqb}
 use Rattle.std.proofs.lemmas.Option.{slice_get_read, slice_get_within}
@@ -16,8 +16,9 @@ use Rattle.newt_pagebook.specs.declared.book.Stop.TheVariants as stops
 use Rattle.newt_spec_graph.proofs.Lists.{both-ways}
 use Rattle.newt_laws_world.proofs.Units.{same-or-not}
 use Rattle.newt_spec_store.specs.Store.{Store}
+use Rattle.newt_spec_world.specs.Step.{writes}
 use Rattle.newt_spec_world.specs.World.{World, store_on_unit, change_store}
-use Rattle.newt_laws_world.specs.Answering.{Answering}
+use Rattle.newt_spec_world.specs.declared.command.Command.{Command}
 use Rattle.newt_laws_answers.specs.There.{OnUnit}
 use Rattle.newt_laws_answers.proofs.Worlds.{world-alike, device-stays}
 use Rattle.newt_laws_answers.proofs.Units.{is-there}
@@ -28,16 +29,19 @@ use Rattle.newt_engine_card.specs.Cards.{LeavesEither, OthersSame}
 use Rattle.newt_store_change.specs.Faults.{Does, FaultsAt, GoesOn, HasFaultCause, IsRefused}
 use Rattle.newt_engine_units.specs.declared.units.Slot.{Slot}
 use Rattle.newt_engine_units.specs.declared.units.Units.{Units}
-use Rattle.newt_engine_units.specs.Calls.{AreRead, Ended}
-use Rattle.newt_engine_units.specs.Stands.{card_of, mounted_in, world_of, Stands}
-use Rattle.newt_engine_units.proofs.Slots.{Replaced, stands-replaced, stands-still, card-was, marks}
+use Rattle.newt_engine_units.specs.Breaks.{FailsAlone, Meanwhile}
+use Rattle.newt_engine_units.specs.Calls.{AreRead, Breaks, Ended}
+use Rattle.newt_engine_units.specs.Stands.{card_of, due_in, mounted_in, world_of, Stands}
+use Rattle.newt_engine_units.proofs.Broken.{fails-alone, its-devices, world-without}
+use Rattle.newt_engine_units.proofs.Marked.{not-due}
+use Rattle.newt_engine_units.proofs.Slots.{Replaced, but-replaced, stands-replaced, stands-still, card-was, dues, marks}
 use Rattle.newt_engine_units.specs.Stands.{Eight}
 use Rattle.newt_engine_units.proofs.Known.{Laws, on-known}
 use Rattle.newt_engine_units.proofs.Turns.{does-world, either-moments, world-still}
 
 -- the units with another card in the place n, where a slot was
 abbrev pub later : {C : Type 0} → Units C → ℕ → Slot C → C → Units C
-later units n slot next = record units { slots = with_item units.slots n (record { attached = slot.attached; card = Some next }) }
+later units n slot next = record units { slots = with_item units.slots n (record { attached = slot.attached; due = slot.due; card = Some next }) }
 
 -- A call on the card of unit u, which stands in the place n, from o to p. It left another card.
 pub record Called {C : Type 0} (place : C → ℕ) (told : Bool) (units : Units C) (u n : ℕ) (slot : Slot C) (card next : C) (o p : Outside) : Type 0 where
@@ -136,28 +140,66 @@ pub is-opening : (T : Type 0) (fault : BookFault) → fault ≡ NotStore → IsO
 is-opening T fault is = subst (λ (e : BookFault). IsOpening {T = T} (Err e)) (sym is) tt
 
 -- how a call on one unit ends
-pub ends-of : {T : Type 0} {u : ℕ} {o p : Outside} (result : Result T StoreFault) → Touches u o p → IfErr result (FaultsAt u o p) → (GoesOn result → NoFault o p) → Ended result o p
-ends-of {u = u} {o} {p} result t cause none = record { alone = on-devices t; cause = cause-of u o p result cause; no_fault = none }
+pub ends-of : {T : Type 0} {u : ℕ} {o p : Outside} (result : Result T StoreFault) → IsSome (o.card u) → Touches u o p → IfErr result (FaultsAt u o p) → (GoesOn result → NoFault o p) → Ended result o p
+ends-of {u = u} {o} {p} result there t cause none = record {
+  alone = on-devices t;
+  cause = cause-of u o p result cause;
+  failed = its-devices (FailsAlone o p) u o p result (fails-alone there t) cause;
+  no_fault = none;
+}
 
 -- a change leaves a bank that is not closed, and a refusal leaves the unit
 pub open-or-same : {T : Type 0} (u : ℕ) (o p : Outside) (result : Result T StoreFault) → OnOk result (IsOpenFor 0 (image u p.now)) → (IsRefused result → p.now ≡ o.now)
     → GoesOn result → IsOpenOrSame u o.now p.now
 open-or-same u o p (Ok x) changed refused goes = inl changed
-open-or-same u o p (Err (Refused refusal)) changed refused goes = inr (ap (changes u) (refused tt))
+open-or-same u o p (Err (Refused refusal)) changed refused goes = inr (ap (image u) (refused tt))
 open-or-same u o p (Err (Stop stop)) changed refused goes = absurd goes
 
 -- a call after which nothing has happened leaves the world
 pub call-still : {C : Type 0} {place : C → ℕ} (reads : List ℕ → Option Store) {told : Bool} {units : Units C} {u n : ℕ} {slot : Slot C} {card next : C} {o p : Outside}
     → Called place told units u n slot card next o p → p.now ≡ o.now → world_of reads (later units n slot next) p ≡ world_of reads units o
 call-still reads {told} {units} {u} {n} {slot} {card} {next} {o} {p} c same =
-    world-alike reads (mounted_in units.slots.items) (mounted_in (later units n slot next).slots.items) units.default units.default units.minute units.minute o p
-    (λ j. device-stays reads (mounted_in units.slots.items) (mounted_in (later units n slot next).slots.items) o p j c.touches.cards (marks units (later units n slot next) u card next (replaced c) j) (ap (changes j) same)) refl refl
+    world-alike reads (due_in units.slots.items) (due_in (later units n slot next).slots.items) (mounted_in units.slots.items) (mounted_in (later units n slot next).slots.items) units.default units.default units.minute units.minute o p
+    (λ j. device-stays reads (due_in units.slots.items) (due_in (later units n slot next).slots.items) (mounted_in units.slots.items) (mounted_in (later units n slot next).slots.items) o p j c.touches.cards
+    (dues units (later units n slot next) u card next (replaced c) j) (marks units (later units n slot next) u card next (replaced c) j) (ap (changes j) same)) refl refl
 
 module _ {C : Type 0} {reads : List ℕ → Option Store} {place : C → ℕ} {soups : C → Store} {stands : Bool → C → Outside → Type 0} (l : Laws reads place soups stands)
     {units : Units C} {u n : ℕ} {slot : Slot C} {card next : C} {o p : Outside} where
   -- the card stands on the unit
-  place-is : {told : Bool} → Called place told units u n slot card next o p → Stands place stands told units o → place card ≡ u
+  pub place-is : {told : Bool} → Called place told units u n slot card next o p → Stands place stands told units o → place card ≡ u
   place-is {told} c s = (s.cards u card (card-was units (later units n slot next) u card next (replaced c))).1
+
+  -- the unit has a device
+  pub call-there : {told : Bool} → Eight o → Called place told units u n slot card next o p → Stands place stands told units o → IsSome (o.card u)
+  call-there {told} e c s = go (o.card u) refl
+    where
+      on : 13 ≤ o.blocks u
+      on = subst (λ k. 13 ≤ o.blocks k) (place-is c s) (l.banks told card o (s.cards u card (card-was units (later units n slot next) u card next (replaced c))).0)
+
+      go : (k : Option (List ℕ)) → o.card u ≡ k → IsSome (o.card u)
+      go None h = absurd (let z = e.none u h in omega (arith, on, z))
+      go (Some name) h = subst IsSome (sym h) refl
+
+  -- and no sync of it is due
+  call-sure : {told : Bool} → Called place told units u n slot card next o p → Stands place stands told units o → due_in units.slots.items u ≡ false
+  call-sure c s = not-due units.slots.items s.sure u (ap is_some (card-was units (later units n slot next) u card next (replaced c)))
+
+  -- its device alone has failed
+  pub call-fails : {told : Bool} → Eight o → Called place told units u n slot card next o p → Stands place stands told units o → FailsAlone o p u
+  call-fails {told} e c s = fails-alone (call-there e c s) (subst (λ k. Touches k o p) (place-is c s) c.touches)
+
+  -- what stands where it has
+  pub call-breaks : {told : Bool} → Eight o → Called place told units u n slot card next o p → Stands place stands told units o → (IsTrue told → OthersSame (place card) o.now p.now)
+      → Breaks reads place stands told units (later units n slot next) o p u
+  call-breaks {told} e c s others = record {
+    stands = but-replaced place stands l.kept l.durable told units (later units n slot next) u card next o p (replaced c) c.touches.cards same s;
+    world = λ t. world-without reads units (later units n slot next) u card next o p (replaced c) c.touches.cards (same t);
+    others = same;
+    failed = call-fails e c s;
+  }
+    where
+      same : IsTrue told → (j : ℕ) → (j ≡ u → ⊥) → changes j p.now ≡ changes j o.now
+      same t j h = others t j (λ i. h (i ∙ place-is c s))
 
   pub call-stands : {told : Bool} → Called place told units u n slot card next o p → Stands place stands told units o
       → (IsTrue told → OthersSame (place card) o.now p.now) → stands told next p → Stands place stands told (later units n slot next) p
@@ -176,20 +218,29 @@ module _ {C : Type 0} {reads : List ℕ → Option Store} {place : C → ℕ} {s
       let at = place-is c s in
       let k = on-known l units o e (subst (λ x. Stands place stands x units o) t s) u blocks a on in
       subst (λ m. Does (tests m) good (world_of reads units o) (change_store (world_of reads units o) u f) (world_of reads (later units n slot next) p) result) (sym k.2)
-      (does-world reads units (later units n slot next) u card next o p a (replaced c) c.touches.cards (λ j h. others j (λ i. h (i ∙ at))) k.3 (tests (o.blocks u)) good b f result is
+      (does-world reads units (later units n slot next) u card next o p a (replaced c) c.touches.cards (λ j h. others j (λ i. h (i ∙ at))) (call-sure c s) k.3 (tests (o.blocks u)) good b f result is
       (subst (λ m. Does (tests (o.blocks m)) good (Some a) (Some b) (reads (image m p.now)) result) at (does (ap (λ m. reads (image m o.now)) at ∙ k.3))))
 
   pub call-moments : {told : Bool} → IsTrue told → Eight o → Called place told units u n slot card next o p → Stands place stands told units o
       → (blocks : ℕ) (a b : Store) (tests : ℕ → Checks)
       → (reads (image (place card) o.now) ≡ Some a → Leaves (place card) (LeavesEither reads (tests (o.blocks (place card))) a b) o.now p.now)
-      → OnUnit (world_of reads units o) u blocks a → (v : World) → (first_of (tests blocks) ≡ None → store_on_unit v u ≡ Some b)
-      → Always (Answering reads (world_of reads units o) v o.now) o.now p.now
-  call-moments {told} t e c s blocks a b tests leaves on v makes =
+      → OnUnit (world_of reads units o) u blocks a → (command : Command) (v : World) → writes (world_of reads units o) command u ≡ true → (first_of (tests blocks) ≡ None → store_on_unit v u ≡ Some b)
+      → Always (Meanwhile reads (due_in units.slots.items) (world_of reads units o) command v o.now) o.now p.now
+  call-moments {told} t e c s blocks a b tests leaves on command v written makes =
       let st : Stands place stands true units o = subst (λ x. Stands place stands x units o) t s in
       let at = place-is c s in
       let k = on-known l units o e st u blocks a on in
-      either-moments l units o e st u a b (tests (o.blocks u)) v p.now (is-there (world_of reads units o) u blocks a on) (λ h. makes (ap (λ m. first_of (tests m)) k.2 ∙ h))
+      either-moments l units o e st u a b (tests (o.blocks u)) command v p.now (is-there (world_of reads units o) u blocks a on) written (λ h. makes (ap (λ m. first_of (tests m)) k.2 ∙ h))
       (subst (λ m. Leaves m (LeavesEither reads (tests (o.blocks m)) a b) o.now p.now) at (leaves (ap (λ m. reads (image m o.now)) at ∙ k.3)))
+
+  -- where it is refused nothing happens
+  pub call-idle : {told : Bool} → IsTrue told → Eight o → Called place told units u n slot card next o p → Stands place stands told units o
+      → (blocks : ℕ) (a : Store) (tests : ℕ → Checks) → (reads (image (place card) o.now) ≡ Some a → IsSome (first_of (tests (o.blocks (place card)))) → p.now ≡ o.now)
+      → OnUnit (world_of reads units o) u blocks a → IsSome (first_of (tests blocks)) → p.now ≡ o.now
+  call-idle {told} t e c s blocks a tests idle on refused =
+      let at = place-is c s in
+      let k = on-known l units o e (subst (λ x. Stands place stands x units o) t s) u blocks a on in
+      idle (ap (λ m. reads (image m o.now)) at ∙ k.3) (subst (λ m. IsSome (first_of (tests (o.blocks m)))) (sym at) (subst (λ m. IsSome (first_of (tests m))) k.2 refused))
 
   -- what the card programs, and what it leaves open
   pub call-costs : {told : Bool} → IsTrue told → Eight o → Called place told units u n slot card next o p → Stands place stands told units o
@@ -227,6 +278,7 @@ module _ {C : Type 0} {reads : List ℕ → Option Store} {place : C → ℕ} {s
     stand = call-stands c s (λ t j h. ap (changes j) looks.moment) there;
     world = λ t. call-still reads c looks.moment;
     marks = λ j. marks units (later units n slot next) u card next (replaced c) j;
+    dues = λ j. dues units (later units n slot next) u card next (replaced c) j;
     moment = looks.moment;
     untouched = all-alone looks;
     alone = on-devices looks.alone;
@@ -258,6 +310,7 @@ read-still reads {place} {stands} kept durable {told} {units} {u} {o} {p} looks 
   stand = stands-still place stands kept durable told units o p looks.alone.cards (λ t j. ap (changes j) looks.moment) s;
   world = λ t. world-still reads units o p looks.alone.cards (λ j. ap (changes j) looks.moment);
   marks = λ j. refl;
+  dues = λ j. refl;
   moment = looks.moment;
   untouched = all-alone looks;
   alone = on-devices looks.alone;

@@ -3,10 +3,11 @@ use Rattle.std.proofs.Common.{arith, ◌≡◌, ◌≢◌, refl, ap, sym, ◌∙
 use Rattle.std.specs.Prelude.{Result}
 use Rattle.std.proofs.lemmas.Bool.{eq-eqb, ne_eqb}
 use Rattle.newt_host.specs.Moments.{Moment, bytes_after, changes, image}
-use Rattle.newt_host.specs.Outside.{Outside}
+use Rattle.newt_host.specs.Outside.{Outside, Touches, Wears}
 use Rattle.newt_host.proofs.Outside.{Wears-append, Wears-refl, Wears-widen}
 use Rattle.newt_pagebook.specs.Book.{IsOpenFor}
 use Rattle.newt_laws_world.proofs.Units.{same-or-not}
+use Rattle.newt_spec_graph.proofs.Lists.{both-ways}
 use Rattle.newt_store_change.specs.declared.fault.StoreFault.{StoreFault}
 use Rattle.newt_engine_card.specs.Bounds.{Costs, CostsOn, FetchesAtMost, FetchesOn, FetchesWithin, IsOpenOrSame, LeftAlone, ProgramsAtMost, of_unit}
 use Rattle.newt_store_change.specs.Faults.{GoesOn}
@@ -21,9 +22,9 @@ still-open u n a b same h = subst (λ c. IsOpenFor n (bytes_after c)) (sym same)
 
 same-still : (u : ℕ) (a b c : Moment) → changes u c ≡ changes u b → IsOpenOrSame u a b → IsOpenOrSame u a c
 same-still u a b c same (inl h) = inl (still-open u 0 c b same h)
-same-still u a b c same (inr before) = inr (same ∙ before)
+same-still u a b c same (inr before) = inr (ap bytes_after same ∙ before)
 
-pub same-before : (u : ℕ) (a b c : Moment) → changes u b ≡ changes u a → IsOpenOrSame u b c → IsOpenOrSame u a c
+pub same-before : (u : ℕ) (a b c : Moment) → image u b ≡ image u a → IsOpenOrSame u b c → IsOpenOrSame u a c
 same-before u a b c same (inl h) = inl h
 same-before u a b c same (inr later) = inr (later ∙ same)
 
@@ -33,7 +34,7 @@ opened-alone u a b h others j = go (same-or-not j u)
   where
     go : (j ≡ u) ⊎ (j ≡ u → ⊥) → IsOpenOrSame j a b
     go (inl is) = inl (subst (λ k. IsOpenFor 0 (image k b)) (sym is) h)
-    go (inr not) = inr (others j not)
+    go (inr not) = inr (ap bytes_after (others j not))
 
 -- ---- one call
 
@@ -178,8 +179,28 @@ pub read-costs : {T : Type 0} (most : ℕ → ℕ) (said : Bool) (fetches : ℕ 
 read-costs most said fetches result {o} {p} alone few = record {
   bound = λ u. alone-bound (most u) (alone u);
   fetched = λ is u room. few is u;
-  open_after = λ goes u. inr (alone u).changes;
+  open_after = λ goes u. inr (ap bytes_after (alone u).changes);
 }
+
+-- a sync of one unit, and a call that reads
+pub synced-costs : {T : Type 0} (most : ℕ → ℕ) (fetches : ℕ → ℕ) (result : Result T StoreFault) (u : ℕ) {o m p : Outside} → Touches u o m → (m.programmed u ≤ o.programmed u) × Wears u 0 1 o m
+    → ((j : ℕ) → image j m.now ≡ image j o.now) → ((j : ℕ) → LeftAlone j m p) → Costs most false fetches result o p
+synced-costs most fetches result u {o} {m} {p} touches costs same alone = record {
+  bound = λ j. bound j (same-or-not j u);
+  fetched = λ is. absurd (both-ways is);
+  open_after = λ goes j. inr (ap bytes_after (alone j).changes ∙ same j);
+}
+  where
+    bound : (j : ℕ) → (j ≡ u) ⊎ (j ≡ u → ⊥) → ProgramsAtMost (most j) j o p
+    bound j (inl is) = subst (λ k. ProgramsAtMost (most k) k o p) (sym is) (record {
+      programmed = λ room. let a = costs.0 in let b = (alone u).programmed in omega (arith, a, b);
+      wears = λ room. Wears-widen 0 1 0 2 (omega arith) (omega arith) (Wears-append 0 1 0 0 costs.1 (alone u).wears);
+    })
+    bound j (inr other) = let work = touches.others j other in record {
+      programmed = λ room. let a = work.programmed in let b = (alone j).programmed in omega (arith, a, b);
+      wears = λ room. let a = work.erased in let b = work.synced in
+          Wears-widen 0 0 0 2 (omega arith) (omega arith) (Wears-append 0 0 0 0 (record { erased = omega (arith, a); synced = omega (arith, b) }) (alone j).wears);
+    }
 
 -- a call on one unit is a call
 pub on-costs : {T : Type 0} {most : ℕ → ℕ} {said : Bool} {fetches : ℕ → ℕ} {u n : ℕ} {result : Result T StoreFault} {o p : Outside} → CostsOn u n result o p → n ≤ most u
@@ -196,7 +217,7 @@ on-costs {most = most} {u = u} {n} {result} {o} {p} c less few = record {
 
     opened : GoesOn result → (j : ℕ) → (j ≡ u) ⊎ (j ≡ u → ⊥) → IsOpenOrSame j o.now p.now
     opened goes j (inl is) = subst (λ k. IsOpenOrSame k o.now p.now) (sym is) (c.open_after goes)
-    opened goes j (inr not) = inr (c.others j not).changes
+    opened goes j (inr not) = inr (ap bytes_after (c.others j not).changes)
 
 -- another result of the same call
 pub costs-of : {T S : Type 0} {most : ℕ → ℕ} {said : Bool} {fetches : ℕ → ℕ} {first : Result T StoreFault} {second : Result S StoreFault} {o p : Outside} → Costs most said fetches first o p
@@ -209,7 +230,7 @@ costs-of c goes = record { bound = c.bound; fetched = c.fetched; open_after = λ
 pub after-read : {T : Type 0} {u n : ℕ} {result : Result T StoreFault} {o p q : Outside} → ((j : ℕ) → LeftAlone j o p) → CostsOn u n result p q → CostsOn u n result o q
 after-read {u = u} {n} {result} {o} {p} {q} alone c = record {
   bound = bound-after (alone u) c.bound;
-  open_after = λ goes. same-before u o.now p.now q.now (alone u).changes (c.open_after goes);
+  open_after = λ goes. same-before u o.now p.now q.now (ap bytes_after (alone u).changes) (c.open_after goes);
   others = λ j not. alone-append (alone j) (c.others j not);
 }
 
@@ -229,5 +250,5 @@ both-costs {most = most} {v = v} {u} {n} {m} {first} {second} {o} {p} {q} a b ap
 
     opened : GoesOn second → (j : ℕ) → (j ≡ v) ⊎ (j ≡ v → ⊥) → (j ≡ u) ⊎ (j ≡ u → ⊥) → IsOpenOrSame j o.now q.now
     opened goes j (inl is) x = subst (λ k. IsOpenOrSame k o.now q.now) (sym is) (same-still v o.now p.now q.now (b.others v apart).changes (a.open_after goes_a))
-    opened goes j (inr not) (inl is) = subst (λ k. IsOpenOrSame k o.now q.now) (sym is) (same-before u o.now p.now q.now (a.others u (λ e. apart (sym e))).changes (b.open_after goes))
-    opened goes j (inr not) (inr other) = inr ((b.others j other).changes ∙ (a.others j not).changes)
+    opened goes j (inr not) (inl is) = subst (λ k. IsOpenOrSame k o.now q.now) (sym is) (same-before u o.now p.now q.now (ap bytes_after (a.others u (λ e. apart (sym e))).changes) (b.open_after goes))
+    opened goes j (inr not) (inr other) = inr (ap bytes_after ((b.others j other).changes ∙ (a.others j not).changes))

@@ -8,7 +8,7 @@ use Rattle.newt_spec_graph.proofs.Lists.{none-some, both-ways}
 use Rattle.newt_spec_store.specs.Store.{Store}
 use Rattle.newt_laws_answers.specs.Faces.{shown_count, first_showing}
 use Rattle.newt_engine_units.specs.declared.units.Slot.{Slot}
-use Rattle.newt_engine_units.specs.Faces.{beside_checks, card_face, card_faces, with_card}
+use Rattle.newt_engine_units.specs.Faces.{beside_checks, card_face, card_faces, with_card, with_slot}
 use Rattle.newt_engine_units.specs.Stands.{card_count, mounted_in, unmounted}
 use Rattle.newt_engine_units.proofs.Shown.{face-some}
 
@@ -21,14 +21,14 @@ next n = omega arith
 
 module _ {C : Type 0} where
   -- one card is another
-  pub count-replaced : (slots : List (Slot C)) (u : ℕ) (slot : Slot C) (card next : C) (attached : Bool) → slice_get slots u ≡ Some slot → slot.card ≡ Some card
-      → card_count (slice_set slots u (record { attached = attached; card = Some next })) ≡ card_count slots
-  count-replaced [] u slot card next attached h was = refl
-  count-replaced (x ∷ slots) zero slot card next attached h was = sym (ap (λ b. cond b (1 + card_count slots) (card_count slots)) (ap is_some (here x slot h ∙ was)))
+  pub count-replaced : (slots : List (Slot C)) (u : ℕ) (slot : Slot C) (card next : C) (attached due : Bool) → slice_get slots u ≡ Some slot → slot.card ≡ Some card
+      → card_count (slice_set slots u (record { attached = attached; due = due; card = Some next })) ≡ card_count slots
+  count-replaced [] u slot card next attached due h was = refl
+  count-replaced (x ∷ slots) zero slot card next attached due h was = sym (ap (λ b. cond b (1 + card_count slots) (card_count slots)) (ap is_some (here x slot h ∙ was)))
     where
       here : (x slot : Slot C) → Some x ≡ Some slot → x.card ≡ slot.card
       here x slot h = cc
-  count-replaced (x ∷ slots) (suc u) slot card next attached h was = ap (λ n. cond (is_some x.card) (1 + n) n) (count-replaced slots u slot card next attached h was)
+  count-replaced (x ∷ slots) (suc u) slot card next attached due h was = ap (λ n. cond (is_some x.card) (1 + n) n) (count-replaced slots u slot card next attached due h was)
 
   -- a card more
   pub count-put : (slots : List (Slot C)) (u : ℕ) (card : C) → card_count (with_card u (Some card) slots) ≤ 1 + card_count slots
@@ -46,19 +46,25 @@ module _ {C : Type 0} where
       go false h = h
 
   -- a card less
-  pub count-taken : (slots : List (Slot C)) (u : ℕ) → card_count (with_card u None slots) ≤ card_count slots
-  count-taken [] u = omega arith
-  count-taken (x ∷ slots) zero = go (is_some x.card)
+  pub count-less : (change : Slot C → Slot C) → ((slot : Slot C) → (change slot).card ≡ None) → (slots : List (Slot C)) (u : ℕ) → card_count (with_slot u change slots) ≤ card_count slots
+  count-less change none [] u = omega arith
+  count-less change none (x ∷ slots) zero = subst (λ c. cond (is_some c) (1 + card_count slots) (card_count slots) ≤ card_count (x ∷ slots)) (sym (none x)) (go (is_some x.card))
     where
       go : (b : Bool) → card_count slots ≤ cond b (1 + card_count slots) (card_count slots)
       go true = omega arith
       go false = omega arith
-  count-taken (x ∷ slots) (suc u) = go (is_some x.card) (count-taken slots u)
+  count-less change none (x ∷ slots) (suc u) = go (is_some x.card) (count-less change none slots u)
     where
-      go : (b : Bool) → card_count (with_card u None slots) ≤ card_count slots
-          → cond b (1 + card_count (with_card u None slots)) (card_count (with_card u None slots)) ≤ cond b (1 + card_count slots) (card_count slots)
+      go : (b : Bool) → card_count (with_slot u change slots) ≤ card_count slots
+          → cond b (1 + card_count (with_slot u change slots)) (card_count (with_slot u change slots)) ≤ cond b (1 + card_count slots) (card_count slots)
       go true h = omega (arith, h)
       go false h = h
+
+  -- as many cards
+  pub count-same : (change : Slot C → Slot C) → ((slot : Slot C) → (change slot).card ≡ slot.card) → (slots : List (Slot C)) (u : ℕ) → card_count (with_slot u change slots) ≡ card_count slots
+  count-same change same [] u = refl
+  count-same change same (x ∷ slots) zero = ap (λ c. cond (is_some c) (1 + card_count slots) (card_count slots)) (same x)
+  count-same change same (x ∷ slots) (suc u) = ap (λ n. cond (is_some x.card) (1 + n) n) (count-same change same slots u)
 
   -- ---- the units from a number on
 

@@ -1,5 +1,5 @@
 -- What the units know is what the world has.
-use Rattle.std.proofs.Common.{arith, ◌≡◌, refl, ap, sym, ◌∙◌, subst, ℕ, zero, suc, ◌≤◌, List, [], ◌∷◌, Bool, true, false, not, ◌||◌, IsTrue, Option, Some, None, option_map, option_and_then, length, map, find, cond, nat_lt}
+use Rattle.std.proofs.Common.{arith, ◌≡◌, refl, ap, sym, ◌∙◌, subst, ℕ, zero, suc, ◌≤◌, List, [], ◌∷◌, Bool, true, false, not, ◌&&◌, ◌||◌, IsTrue, Option, Some, None, option_map, option_and_then, length, map, find, cond, nat_lt, if◌then◌else◌}
 use Rattle.std.proofs.lemmas.Bool.{le-ltb}
 use Rattle.newt_spec_world.specs.Refused.{bad_blocks}
 use Rattle.std.specs.Prelude.{slice_get, is_some, is_none}
@@ -12,18 +12,22 @@ use Rattle.newt_spec_graph.proofs.Lists.{some-same, none-some, both-ways}
 use Rattle.newt_spec_store.specs.Laid.{bare, bare_soup}
 use Rattle.newt_spec_store.specs.Store.{Store, Soup, soup_named, soup_of}
 use Rattle.newt_spec_store.specs.Valid.{well_formed}
+use Rattle.newt_base.specs.declared.Refusal.{Refusal}
 use Rattle.newt_spec_world.specs.First.{media_of}
-use Rattle.newt_spec_world.specs.World.{World, Device, one, device, store_of, store_if_mounted, mounted_store, soup_in}
+use Rattle.newt_spec_world.specs.Step.{unsure_look}
+use Rattle.newt_spec_world.specs.World.{World, Device, one, lost, is_unsure, unsure_on, device, store_of, store_if_mounted, mounted_store, soup_in}
 use Rattle.newt_laws_answers.specs.There.{OnUnit, IsReady}
 use Rattle.newt_laws_answers.specs.Tests.{soup_checks, unit_checks, both_checks, ready_checks}
 use Rattle.newt_laws_answers.specs.WorldAt.{device_at}
 use Rattle.newt_laws_answers.proofs.Worlds.{device-of, card_device}
 use Rattle.newt_laws_answers.proofs.Units.{is-mounted, soup-named}
+use Rattle.newt_laws_answers.proofs.Stores.{ready-passes}
 use Rattle.newt_laws_answers.proofs.Sigs.{soup-of-sig, named-name}
 use Rattle.newt_pagebook.specs.Book.{IsSameFor}
 use Rattle.newt_engine_units.specs.declared.units.Slot.{Slot}
 use Rattle.newt_engine_units.specs.declared.units.Units.{Units}
-use Rattle.newt_engine_units.specs.Stands.{card_at, mounted_in, world_of, Stands, Eight}
+use Rattle.newt_engine_units.specs.Stands.{card_at, due_in, mounted_in, world_of, Stands, Eight}
+use Rattle.newt_engine_units.proofs.Marked.{not-due}
 use Rattle.newt_engine_units.specs.Looks.{attached_in, has_device, known_unit, known_soup, known_checks, known_both, known_ready, IsFree}
 
 -- the laws of cards
@@ -68,15 +72,15 @@ module _ {C : Type 0} {reads : List ℕ → Option Store} {place : C → ℕ} {s
   abbrev slots : List (Slot C)
   slots = units.slots.items
 
-  pub at-device : (u : ℕ) → device w u ≡ device_at reads (mounted_in slots) o u
-  at-device u = device-of reads (mounted_in slots) units.default units.minute o e.eight u
+  pub at-device : (u : ℕ) → device w u ≡ device_at reads (due_in slots) (mounted_in slots) o u
+  at-device u = device-of reads (due_in slots) (mounted_in slots) units.default units.minute o e.eight u
 
   -- the device of a unit that has a card
-  pub at-card : (u : ℕ) (name : List ℕ) → o.card u ≡ Some name → device w u ≡ Some (card_device reads (o.blocks u) (image u o.now) (mounted_in slots u))
-  at-card u name h = at-device u ∙ ap (option_map (λ name. card_device reads (o.blocks u) (image u o.now) (mounted_in slots u))) h
+  pub at-card : (u : ℕ) (name : List ℕ) → o.card u ≡ Some name → device w u ≡ Some (card_device reads (due_in slots u) (o.blocks u) (image u o.now) (mounted_in slots u))
+  at-card u name h = at-device u ∙ ap (option_map (λ name. card_device reads (due_in slots u) (o.blocks u) (image u o.now) (mounted_in slots u))) h
 
   pub at-none : (u : ℕ) → o.card u ≡ None → device w u ≡ None
-  at-none u h = at-device u ∙ ap (option_map (λ name. card_device reads (o.blocks u) (image u o.now) (mounted_in slots u))) h
+  at-none u h = at-device u ∙ ap (option_map (λ name. card_device reads (due_in slots u) (o.blocks u) (image u o.now) (mounted_in slots u))) h
 
   pub attached-is : (u : ℕ) → is_none (device w u) ≡ not (attached_in slots u)
   attached-is u = slot (slice_get slots u) refl
@@ -112,7 +116,8 @@ module _ {C : Type 0} {reads : List ℕ → Option Store} {place : C → ℕ} {s
   card-known u card h = record {
     store = p.0;
     on = record {
-      device_is = at-card u there.0 there.1 ∙ ap (λ m. Some (record { blocks = o.blocks u; media = media_of m; mounted = mounted_in slots u })) its
+      device_is = at-card u there.0 there.1 ∙ ap (λ b. Some (card_device reads b (o.blocks u) (image u o.now) (mounted_in slots u))) (not-due slots s.sure u (ap is_some h))
+          ∙ ap (λ m. Some (record { blocks = o.blocks u; media = media_of m; mounted = mounted_in slots u })) its
           ∙ ap (λ c. Some (record { blocks = o.blocks u; media = one p.0; mounted = is_some c })) h;
     };
     reads_it = its;
@@ -137,7 +142,7 @@ module _ {C : Type 0} {reads : List ℕ → Option Store} {place : C → ℕ} {s
     where
       go : (c : Option (List ℕ)) → o.card u ≡ c → mounted_store w u ≡ None
       go None k = ap (option_and_then store_if_mounted) (at-none u k)
-      go (Some name) k = ap (option_and_then store_if_mounted) (at-card u name k) ∙ ap (λ c. cond (is_some c) (store_of (media_of (reads (image u o.now)))) None) h
+      go (Some name) k = ap (option_and_then store_if_mounted) (at-card u name k) ∙ ap (λ c. cond (is_some c) (store_of (if due_in slots u then lost else media_of (reads (image u o.now)))) None) h
 
   pub mounted-is : (u : ℕ) → is_none (mounted_store w u) ≡ not (mounted_in slots u)
   mounted-is u = go (card_at slots u) refl
@@ -198,14 +203,33 @@ module _ {C : Type 0} {reads : List ℕ → Option Store} {place : C → ℕ} {s
       ∙ ap {A = Bool} {B = Checks} (λ b. (NoUnit, is_none (device w u)) ∷ (Blocks, b) ∷ (Mounted, mounted_in slots u) ∷ []) (blocks-known u)
       ∙ ap {A = Bool} {B = Checks} (λ b. (NoUnit, is_none (device w u)) ∷ bad_blocks w u ∷ (Mounted, b) ∷ []) (sym (mounted-some u))
 
-  pub ready-known : (u : ℕ) → IsFree units (o.blocks u) u → IsReady w u (o.blocks u) (media_of (reads (image u o.now)))
-  ready-known u f = record {
-    device_is = let c = attached-card u f.attached in at-card u c.0 c.1 ∙ ap (λ b. Some (card_device reads (o.blocks u) (image u o.now) b)) f.free;
+  -- what it holds: what its image is read as, and where a sync is due, it is not known what
+  pub free-known : (u : ℕ) → IsFree units (o.blocks u) u → IsReady w u (o.blocks u) (if due_in slots u then lost else media_of (reads (image u o.now)))
+  free-known u f = record {
+    device_is = let c = attached-card u f.attached in at-card u c.0 c.1 ∙ ap (λ b. Some (card_device reads (due_in slots u) (o.blocks u) (image u o.now) b)) f.free;
     enough = or-false (le-ltb (o.blocks u) 13 f.enough) (le-ltb 4099 (o.blocks u) f.not_too_many);
   }
     where
       or-false : {a b : Bool} → a ≡ false → b ≡ false → (a || b) ≡ false
       or-false {a} {b} x y = ap (λ c. c || b) x ∙ y
+
+  pub ready-known : (u : ℕ) → IsFree units (o.blocks u) u → due_in slots u ≡ false → IsReady w u (o.blocks u) (media_of (reads (image u o.now)))
+  ready-known u f sure = subst (λ b. IsReady w u (o.blocks u) (if b then lost else media_of (reads (image u o.now)))) sure (free-known u f)
+
+  -- a command looks at it anew where a sync is due
+  pub look-known : (u : ℕ) → IsFree units (o.blocks u) u → unsure_look w u ≡ (if due_in slots u then Some u else None)
+  look-known u f =
+      ap (λ (c : Option Refusal). if is_none c && unsure_on w u then Some u else None) (ready-passes w u (o.blocks u) _ (free-known u f) [])
+      ∙ ap (λ (d : Option Device). if unsure d then Some u else None) (free-known u f).device_is
+      ∙ ap (λ b. if b then Some u else None) (unsure-is (due_in slots u) (reads (image u o.now)))
+    where
+      unsure : Option Device → Bool
+      unsure d = elim d [ None ↦ false | Some d ↦ is_unsure d.media ]
+
+      unsure-is : (b : Bool) (m : Option Store) → is_unsure (if b then lost else media_of m) ≡ b
+      unsure-is true m = refl
+      unsure-is false None = refl
+      unsure-is false (Some t) = refl
 
   -- a unit with a card
   pub mounted-known : (u : ℕ) → mounted_in slots u ≡ true → (card : C) × (card_at slots u ≡ Some card)

@@ -1,6 +1,9 @@
 pub mod Slots
+pub mod Marked
 pub mod Known
+pub mod Left
 pub mod Turns
+pub mod Broken
 pub mod Calls
 pub mod Answering
 pub mod Settings
@@ -11,3 +14,4 @@ pub mod Rows
 pub mod Resolving
 pub mod Costs
 pub mod Obeying
+pub mod Sure

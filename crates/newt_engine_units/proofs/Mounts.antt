@@ -1,14 +1,14 @@
--- Stores that are mounted and unmounted.
-use Rattle.std.proofs.Common.{arith, ◌≤◌, ◌≡◌, refl, ap, sym, ◌∙◌, subst, ℕ, zero, suc, ◌<◌, List, [], ◌∷◌, ◌⊎◌, inl, inr, Bool, true, false, IsTrue, Option, Some, None, option_map, cond, unwrap_or, length, replicate, nat_le, get_or, ◌==◌}
-use Rattle.std.specs.Prelude.{slice_get, slice_set, is_some, Ok, Err}
+-- Stores that are mounted and unmounted, and units that are thrown out.
+use Rattle.std.proofs.Common.{arith, ◌≤◌, ◌<◌, ◌≡◌, refl, ap, sym, ◌∙◌, subst, ℕ, List, [], ◌∷◌, ◌⊎◌, inl, inr, Bool, true, false, not, ◌&&◌, ◌||◌, IsTrue, Option, Some, None, cond, unwrap_or, length, replicate, nat_le, option_map, ◌==◌}
+use Rattle.std.specs.Prelude.{slice_get, is_some, IsSome, Ok, Err}
 use Rattle.std.specs.List.{list_any}
-use Rattle.std.proofs.lemmas.Bool.{eq-eqb}
-use Rattle.std.proofs.lemmas.Option.{slice_get_read, slice_get_within}
+use Rattle.std.proofs.lemmas.Bool.{eq-eqb, ne_eqb}
 use Rattle.newt_base.specs.Refusals.{first_of}
 use Rattle.newt_base.specs.declared.Refusal.{Refusal}
 use Rattle.newt_base.specs.declared.Refusal.TheVariants.{Stores as ManyStores, Signature}
-use Rattle.newt_host.specs.Moments.{changes, image}
+use Rattle.newt_host.specs.Moments.{changes, image, IsDurable}
 use Rattle.newt_host.specs.Outside.{Outside, SameCards}
+use Rattle.newt_host.proofs.Outside.{SameCards-refl}
 use Rattle.newt_spec_graph.proofs.Lists.{some-same, none-some, both-ways}
 use Rattle.newt_laws_world.proofs.Units.{same-or-not}
 use Rattle.newt_spec_store.specs.Laid.{bare}
@@ -17,13 +17,13 @@ use Rattle.newt_spec_world.specs.declared.command.Command.TheVariants as command
 use Rattle.newt_spec_world.specs.Changed.{mark, default_without, first_of_list}
 use Rattle.newt_spec_world.specs.First.{media_of}
 use Rattle.newt_spec_world.specs.Reply.{Reply}
-use Rattle.newt_spec_world.specs.World.{World, Device, one, mounted, mounted_stores}
+use Rattle.newt_spec_world.specs.Step.{thrown_out}
+use Rattle.newt_spec_world.specs.World.{World, one, lost, mounted, mounted_stores, change_device}
 use Rattle.newt_laws_answers.specs.Faces.{Face, faces, shown_count, shows, first_shown, first_showing}
 use Rattle.newt_spec_world.specs.Answer.{answer}
 use Rattle.newt_laws_answers.specs.There.{OnUnit, IsReady}
 use Rattle.newt_laws_answers.proofs.Faces.{count-is, any-is, first-is}
 use Rattle.newt_laws_answers.proofs.Stores.{mount-no-store, mount-four, mount-same, mount-done, unmount-done}
-use Rattle.newt_laws_answers.proofs.Worlds.{device-here, world-changed}
 use Rattle.newt_store_change.specs.declared.fault.StoreFault.{StoreFault}
 use Rattle.newt_store_change.specs.declared.fault.StoreFault.TheVariants.{Refused, Stop}
 use Rattle.newt_engine_units.specs.declared.units.Slot.{Slot}
@@ -31,115 +31,26 @@ use Rattle.newt_engine_units.specs.declared.units.Units.{Units}
 use Rattle.newt_engine_units.specs.Answers.{Answers}
 use Rattle.newt_pagebook.specs.declared.book.Stop.{Stop as End}
 use Rattle.newt_store_change.specs.Faults.{NoDevice}
-use Rattle.newt_engine_units.specs.Faces.{Admits, Opens, beside_checks, card_face, card_faces, default_after, with_card}
-use Rattle.newt_engine_units.specs.Looks.{has_device, attached_in, IsFree}
-use Rattle.newt_engine_units.specs.Stands.{card_of, card_at, card_count, mounted_in, world_of, Stands, Eight}
-use Rattle.newt_engine_units.proofs.Few.{count-put, count-taken, few-admitted}
+use Rattle.newt_engine_units.specs.Faces.{Admits, Opens, beside_checks, card_face, card_faces, default_after, with_card, with_slot, without}
+use Rattle.newt_engine_units.specs.Looks.{attached_in, IsFree}
+use Rattle.newt_engine_units.specs.Stands.{card_at, card_of, due_of, due_in, mounted_in, world_of, Stands, StandsBut, Eight}
+use Rattle.newt_engine_units.proofs.Few.{count-put, count-less, few-admitted}
 use Rattle.newt_engine_units.proofs.Known.{Laws, ready-known}
-use Rattle.newt_engine_units.proofs.Shown.{any-first, face-some, faces-known, position-passes}
+use Rattle.newt_engine_units.proofs.Marked.{attached-slot, mounted-slot, due-here, due-other, mark-here, mark-other, same-length, stands-marked, world-slot}
+use Rattle.newt_engine_units.proofs.Shown.{any-first, face-some, faces-known, low-or-high, past-end, position-fails, position-passes}
+use Rattle.newt_engine_units.proofs.Slots.{but-of}
 use Rattle.newt_engine_units.proofs.Turns.{world-still}
 
 -- ---- a card that is put on a unit, or taken from it
 
-abbrev pub with : {C : Type 0} → Option C → Slot C → Slot C
-with card slot = record { attached = slot.attached; card = card }
-
-pub with-set : {C : Type 0} (slots : List (Slot C)) (u : ℕ) (slot : Slot C) (card : Option C) → slice_get slots u ≡ Some slot → slice_set slots u (with card slot) ≡ with_card u card slots
-with-set [] u slot card h = absurd (none-some slot h)
-with-set (x ∷ slots) zero slot card h = ap {A = Slot _} {B = List (Slot _)} (λ y. with card y ∷ slots) (sym (some-same x slot h))
-with-set (x ∷ slots) (suc u) slot card h = ap {A = List (Slot _)} (λ ys. x ∷ ys) (with-set slots u slot card h)
-
--- a unit with a device is one of the units
-pub attached-bound : {C : Type 0} (slots : List (Slot C)) (u n : ℕ) → u ≡ n → attached_in slots u ≡ true → n < length slots
-attached-bound slots u n is h = subst (λ k. k < length slots) is (go (slice_get slots u) refl)
-  where
-    go : (x : Option (Slot _)) → slice_get slots u ≡ x → u < length slots
-    go None e = absurd (both-ways (sym (ap has_device e) ∙ h))
-    go (Some slot) e = slice_get_within slots u slot e
-
-pub attached-slot : {C : Type 0} (slots : List (Slot C)) (u : ℕ) → attached_in slots u ≡ true → (slot : Slot C) × (slice_get slots u ≡ Some slot)
-attached-slot slots u h = go (slice_get slots u) refl
-  where
-    go : (x : Option (Slot _)) → slice_get slots u ≡ x → (slot : Slot _) × (slice_get slots u ≡ Some slot)
-    go None e = absurd (both-ways (sym (ap has_device e) ∙ h))
-    go (Some slot) e = (slot, e)
-
-mounted-slot : {C : Type 0} (slots : List (Slot C)) (u : ℕ) → mounted_in slots u ≡ true → (slot : Slot C) × (slice_get slots u ≡ Some slot)
-mounted-slot slots u h = go (slice_get slots u) refl
-  where
-    go : (x : Option (Slot _)) → slice_get slots u ≡ x → (slot : Slot _) × (slice_get slots u ≡ Some slot)
-    go None e = absurd (both-ways (sym (ap (λ x. is_some (card_of x)) e) ∙ h))
-    go (Some slot) e = (slot, e)
-
--- the slot of a unit, which stands in the place n, with another card
-pub slot-set : {C : Type 0} (slots : List (Slot C)) (u n : ℕ) (slot : Slot C) (card : Option C) → u ≡ n → n < length slots → slot ≡ get_or slots n slot → slice_set slots n (with card slot) ≡ with_card u card slots
-slot-set slots u n slot card is bound value = with-set slots n slot card (slice_get_read slots (length slots) n slot refl bound value) ∙ ap (λ k. with_card k card slots) (sym is)
-
-get-same : {C : Type 0} (slots : List (Slot C)) (u : ℕ) (card : Option C) → slice_get (with_card u card slots) u ≡ option_map (with card) (slice_get slots u)
-get-same [] u card = refl
-get-same (x ∷ slots) zero card = refl
-get-same (x ∷ slots) (suc u) card = get-same slots u card
-
-get-other : {C : Type 0} (slots : List (Slot C)) (u j : ℕ) (card : Option C) → (j ≡ u → ⊥) → slice_get (with_card u card slots) j ≡ slice_get slots j
-get-other [] u j card h = refl
-get-other (x ∷ slots) zero zero card h = absurd (h refl)
-get-other (x ∷ slots) zero (suc j) card h = refl
-get-other (x ∷ slots) (suc u) zero card h = refl
-get-other (x ∷ slots) (suc u) (suc j) card h = get-other slots u j card (λ e. h (ap suc e))
-
-same-length : {C : Type 0} (slots : List (Slot C)) (u : ℕ) (card : Option C) → length (with_card u card slots) ≡ length slots
-same-length [] u card = refl
-same-length (x ∷ slots) zero card = refl
-same-length (x ∷ slots) (suc u) card = ap suc (same-length slots u card)
-
 module _ {C : Type 0} (units later : Units C) (u : ℕ) (card : Option C) (is : later.slots.items ≡ with_card u card units.slots.items) where
-  pub mark-other : (j : ℕ) → (j ≡ u → ⊥) → mounted_in later.slots.items j ≡ mounted_in units.slots.items j
-  mark-other j h = ap (λ slots. mounted_in slots j) is ∙ ap (λ x. is_some (card_of x)) (get-other units.slots.items u j card h)
-
-  pub mark-here : (slot : Slot C) → slice_get units.slots.items u ≡ Some slot → mounted_in later.slots.items u ≡ is_some card
-  mark-here slot at = ap (λ slots. mounted_in slots u) is ∙ ap (λ x. is_some (card_of x)) (get-same units.slots.items u card ∙ ap (option_map (with card)) at)
-
-  module _ (place : C → ℕ) (stands : Bool → C → Outside → Type 0) (told : Bool) (o : Outside) (there : (c : C) → card ≡ Some c → stands told c o × (place c ≡ u))
-      (default : (v : ℕ) → later.default ≡ Some v → mounted_in later.slots.items v ≡ true) (few : card_count (with_card u card units.slots.items) ≤ 4) (s : Stands place stands told units o) where
-    pub stands-with : Stands place stands told later o
-    stands-with = record {
-      eight = ap length is ∙ same-length units.slots.items u card ∙ s.eight;
-      few = subst (λ slots. card_count slots ≤ 4) (sym is) few;
-      attached = λ j slot h. attached j slot h (same-or-not j u);
-      cards = λ j c h. cards j c h (same-or-not j u);
-      default = default;
-      durable = s.durable;
-    }
-      where
-        attached : (j : ℕ) (slot : Slot C) → slice_get later.slots.items j ≡ Some slot → (j ≡ u) ⊎ (j ≡ u → ⊥) → slot.attached ≡ is_some (o.card j)
-        attached j slot h (inl e) = go (slice_get units.slots.items u) refl (sym (get-same units.slots.items u card) ∙ ap (λ slots. slice_get slots u) (sym is) ∙ ap (slice_get later.slots.items) (sym e) ∙ h)
-          where
-            go : (x : Option (Slot C)) → slice_get units.slots.items u ≡ x → option_map (with card) x ≡ Some slot → slot.attached ≡ is_some (o.card j)
-            go None k y = absurd (none-some slot y)
-            go (Some x) k y = ap (λ (x : Slot C). x.attached) (sym (some-same (with card x) slot y)) ∙ s.attached u x k ∙ ap (λ n. is_some (o.card n)) (sym e)
-        attached j slot h (inr e) = s.attached j slot (sym (get-other units.slots.items u j card e) ∙ ap (λ slots. slice_get slots j) (sym is) ∙ h)
-
-        cards : (j : ℕ) (c : C) → card_at later.slots.items j ≡ Some c → (j ≡ u) ⊎ (j ≡ u → ⊥) → stands told c o × (place c ≡ j)
-        cards j c h (inl e) = go (slice_get units.slots.items u) (ap card_of (sym (get-same units.slots.items u card)) ∙ ap (λ slots. card_at slots u) (sym is) ∙ ap (card_at later.slots.items) (sym e) ∙ h)
-          where
-            go : (x : Option (Slot C)) → card_of (option_map (with card) x) ≡ Some c → stands told c o × (place c ≡ j)
-            go None y = absurd (none-some c y)
-            go (Some x) y = let k = there c y in (k.0, k.1 ∙ sym e)
-        cards j c h (inr e) = s.cards j c (ap card_of (sym (get-other units.slots.items u j card e)) ∙ ap (λ slots. card_at slots j) (sym is) ∙ h)
-
   -- the world with this mark on the unit
   pub world-marked : (reads : List ℕ → Option Store) (o : Outside) (slot : Slot C) → slice_get units.slots.items u ≡ Some slot → later.minute ≡ units.minute → (default : Option ℕ) → later.default ≡ default
       → world_of reads later o ≡ record (mark (world_of reads units o) u (is_some card)) { default = default }
   world-marked reads o slot at minute default d =
-      world-changed reads (mounted_in units.slots.items) (mounted_in later.slots.items) units.default later.default units.minute later.minute o o u (λ d. record d { mounted = is_some card })
-      cards mark-other (λ j h. refl)
-      (device-here reads (mounted_in units.slots.items) (mounted_in later.slots.items) o o u (λ d. record d { mounted = is_some card }) cards
-      (λ name h. ap {A = Bool} {B = Device} (λ b. record { blocks = o.blocks u; media = media_of (reads (image u o.now)); mounted = b }) (mark-here slot at)))
+      world-slot units later u (λ slot. record slot { card = card }) is slot at reads o o (SameCards-refl o) (λ j h. refl) (λ d. record d { mounted = is_some card }) refl
       ∙ ap {A = Option ℕ} {B = World} (λ d. record (mark (world_of reads units o) u (is_some card)) { default = d; minute = later.minute }) d
       ∙ ap {A = ℕ} {B = World} (λ m. record (mark (world_of reads units o) u (is_some card)) { default = default; minute = m }) minute
-    where
-      cards : SameCards o o
-      cards = record { devices = λ n. refl; card = λ u. refl; blocks = λ u. refl }
 
 -- ---- mount
 
@@ -171,17 +82,23 @@ module _ (w : World) (u blocks : ℕ) (s : Store) (ready : IsReady w u blocks (o
 module _ {C : Type 0} {reads : List ℕ → Option Store} {place : C → ℕ} {soups : C → Store} {stands : Bool → C → Outside → Type 0} (l : Laws reads place soups stands) (units : Units C) (u : ℕ) (card : C) where
   -- the units with the card that was opened
   pub mounted-stands : (told : Bool) (p : Outside) (later : Units C) → later.slots.items ≡ with_card u (Some card) units.slots.items → later.default ≡ Some (unwrap_or units.default u) → attached_in units.slots.items u ≡ true
-      → (sig : ℕ) → first_of (beside_checks (card_faces soups units.slots.items) sig) ≡ None → stands told card p → place card ≡ u → Stands place stands told units p → Stands place stands told later p
-  mounted-stands told p later is default attached sig admitted there at s = stands-with units later u (Some card) is place stands told p
-      (λ c h. subst (λ x. stands told x p × (place x ≡ u)) (same-card card c h) (there, at))
+      → due_in units.slots.items u ≡ false → (sig : ℕ) → first_of (beside_checks (card_faces soups units.slots.items) sig) ≡ None → stands told card p → place card ≡ u → Stands place stands told units p → Stands place stands told later p
+  mounted-stands told p later is default attached sure sig admitted there at s = stands-marked units later u with is slot.0 slot.1 place stands told p refl
+      (λ c h. subst (λ x. stands told x p × (place x ≡ u)) (some-same card c h) (there, at))
+      (λ due. absurd (both-ways (sym sure ∙ ap due_of slot.1 ∙ due)))
+      (λ due t has. s.durable t u has sure)
       (λ v h. marked v (same-or-not v u) (go units.default refl v (sym default ∙ h)))
-      (let a = few-admitted soups units.slots.items s.eight sig admitted in let b = count-put units.slots.items u card in omega (arith, a, b)) s
+      (λ h. absurd (none-some _ (sym h ∙ default)))
+      (let a = few-admitted soups units.slots.items s.eight sig admitted in let b = count-put units.slots.items u card in omega (arith, a, b)) (but-of place stands told units u p s)
     where
-      same-card : (a b : C) → Some a ≡ Some b → a ≡ b
-      same-card a b h = some-same a b h
+      with : Slot C → Slot C
+      with slot = record slot { card = Some card }
+
+      slot : (slot : Slot C) × (slice_get units.slots.items u ≡ Some slot)
+      slot = attached-slot units.slots.items u attached
 
       here : mounted_in later.slots.items u ≡ true
-      here = let k = attached-slot units.slots.items u attached in mark-here units later u (Some card) is k.0 k.1
+      here = mark-here units later u with is slot.0 slot.1
 
       go : (d : Option ℕ) → units.default ≡ d → (v : ℕ) → Some (unwrap_or d u) ≡ Some v → (v ≡ u) ⊎ (mounted_in units.slots.items v ≡ true)
       go None e v h = inl (sym (some-same u v h))
@@ -190,9 +107,9 @@ module _ {C : Type 0} {reads : List ℕ → Option Store} {place : C → ℕ} {s
       marked : (v : ℕ) → (v ≡ u) ⊎ (v ≡ u → ⊥) → (v ≡ u) ⊎ (mounted_in units.slots.items v ≡ true) → mounted_in later.slots.items v ≡ true
       marked v (inl e) k = ap (mounted_in later.slots.items) e ∙ here
       marked v (inr e) (inl k) = absurd (e k)
-      marked v (inr e) (inr k) = mark-other units later u (Some card) is v e ∙ k
+      marked v (inr e) (inr k) = mark-other units later u with is v e ∙ k
 
-  module _ (o p : Outside) (e : Eight o) (s : Stands place stands true units o) (free : IsFree units (o.blocks u) u) (moment : p.now ≡ o.now) (cards : SameCards o p) (there : stands true card p) (at : place card ≡ u) where
+  module _ (o p : Outside) (e : Eight o) (s : Stands place stands true units o) (free : IsFree units (o.blocks u) u) (sure : due_in units.slots.items u ≡ false) (moment : p.now ≡ o.now) (cards : SameCards o p) (there : stands true card p) (at : place card ≡ u) where
     abbrev w : World
     w = world_of reads units o
 
@@ -210,7 +127,7 @@ module _ {C : Type 0} {reads : List ℕ → Option Store} {place : C → ℕ} {s
     name-is = ap (λ (t : Store). t.name) (sym held.2)
 
     ready : IsReady w u (o.blocks u) (one held.0)
-    ready = subst (λ m. IsReady w u (o.blocks u) (media_of m)) held.1 (ready-known l units o e s u free)
+    ready = subst (λ m. IsReady w u (o.blocks u) (media_of m)) held.1 (ready-known l units o e s u free sure)
 
     still : world_of reads units p ≡ w
     still = world-still reads units o p cards (λ j. ap (changes j) moment)
@@ -233,13 +150,13 @@ module _ {C : Type 0} {reads : List ℕ → Option Store} {place : C → ℕ} {s
 
 -- there is no store
 pub mount-unopened : {C : Type 0} {reads : List ℕ → Option Store} {place : C → ℕ} {soups : C → Store} {stands : Bool → C → Outside → Type 0} → Laws reads place soups stands → (units : Units C) (u : ℕ) (o p : Outside)
-    → Eight o → Stands place stands true units o → IsFree units (o.blocks u) u → p.now ≡ o.now → SameCards o p → (told : Bool) → IsTrue told → (good : C → Type 0) (fault : StoreFault) → Opens good (IsTrue told → reads (image u o.now) ≡ None) (Err fault)
+    → Eight o → Stands place stands true units o → IsFree units (o.blocks u) u → due_in units.slots.items u ≡ false → p.now ≡ o.now → SameCards o p → (told : Bool) → IsTrue told → (good : C → Type 0) (fault : StoreFault) → Opens good (IsTrue told → reads (image u o.now) ≡ None) (Err fault)
     → Answers {T = ℕ × List ℕ} (world_of reads units o) (world_of reads units p) (command.Mount u) (λ x. Reply.store x.0 x.1) (Err fault)
-mount-unopened {reads = reads} l units u o p e s free moment cards told t good (Refused r) h =
-    mount-no-store (world_of reads units o) u (o.blocks u) (subst (λ m. IsReady (world_of reads units o) u (o.blocks u) (media_of m)) (h.0 t) (ready-known l units o e s u free))
+mount-unopened {reads = reads} l units u o p e s free sure moment cards told t good (Refused r) h =
+    mount-no-store (world_of reads units o) u (o.blocks u) (subst (λ m. IsReady (world_of reads units o) u (o.blocks u) (media_of m)) (h.0 t) (ready-known l units o e s u free sure))
     ∙ ap {B = World × Reply} (λ q. (world_of reads units o, Reply.refused q)) (sym h.1)
     ∙ ap {A = World} {B = World × Reply} (λ x. (x, Reply.refused r)) (sym (world-still reads units o p cards (λ j. ap (changes j) moment)))
-mount-unopened l units u o p e s free moment cards told t good (Stop stop) h = tt
+mount-unopened l units u o p e s free sure moment cards told t good (Stop stop) h = tt
 
 -- ---- unmount
 
@@ -252,7 +169,9 @@ default-is w u fs d default known = go d default
     go (Some v) e = ap (λ (x : Option ℕ). elim x [ None ↦ None | Some v ↦ cond (u == v) (option_map (λ m. m.0) (first_of_list (mounted w))) (Some v) ]) e
         ∙ ap (λ x. cond (u == v) x (Some v)) (first-is w ∙ ap first_shown known)
 
-module _ {C : Type 0} (soups : C → Store) (units later : Units C) (u : ℕ) (is : later.slots.items ≡ with_card u None units.slots.items) (default : later.default ≡ default_after (card_faces soups later.slots.items) units.default u) where
+-- the slot of a unit, without a card
+module _ {C : Type 0} (soups : C → Store) (units later : Units C) (u : ℕ) (f : Slot C → Slot C) (none : (slot : Slot C) → (f slot).card ≡ None) (is : later.slots.items ≡ with_slot u f units.slots.items)
+    (default : later.default ≡ default_after (card_faces soups later.slots.items) units.default u) where
   -- the default is mounted
   default-mounted : ((v : ℕ) → units.default ≡ Some v → mounted_in units.slots.items v ≡ true) → (v : ℕ) → later.default ≡ Some v → mounted_in later.slots.items v ≡ true
   default-mounted was v h = go units.default refl (sym default ∙ h)
@@ -264,21 +183,66 @@ module _ {C : Type 0} (soups : C → Store) (units later : Units C) (u : ℕ) (i
       test x e true t k = sym (face-some soups (card_at later.slots.items v)) ∙ position-passes is_some (λ j. card_face soups (card_at later.slots.items j)) 0 8 v k
       test x e false t k =
           let same = some-same x v k in
-          mark-other units later u None is v (λ i. both-ways (sym t ∙ eq-eqb u x (sym i ∙ sym same))) ∙ was v (e ∙ k)
+          mark-other units later u f is v (λ i. both-ways (sym t ∙ eq-eqb u x (sym i ∙ sym same))) ∙ was v (e ∙ k)
 
       go : (d : Option ℕ) → units.default ≡ d → default_after fs d u ≡ Some v → mounted_in later.slots.items v ≡ true
       go None e k = absurd (none-some v k)
       go (Some x) e k = test x e (u == x) refl k
 
+  -- where there is none, nothing is mounted
+  none-mounted : (slot : Slot C) → slice_get units.slots.items u ≡ Some slot → (units.default ≡ None → (v : ℕ) → mounted_in units.slots.items v ≡ false) → length units.slots.items ≡ 8
+      → later.default ≡ None → (v : ℕ) → mounted_in later.slots.items v ≡ false
+  none-mounted slot at was eight h v = go units.default refl (sym default ∙ h)
+    where
+      fs : List Face
+      fs = card_faces soups later.slots.items
+
+      size : length later.slots.items ≡ 8
+      size = ap length is ∙ same-length f units.slots.items u ∙ eight
+
+      beside : units.default ≡ None → (v ≡ u) ⊎ (v ≡ u → ⊥) → mounted_in later.slots.items v ≡ false
+      beside e (inl i) = ap (mounted_in later.slots.items) i ∙ mark-here units later u f is slot at ∙ ap is_some (none slot)
+      beside e (inr other) = mark-other units later u f is v other ∙ was e v
+
+      shown : first_shown fs ≡ None → (v < 8) ⊎ (8 ≤ v) → mounted_in later.slots.items v ≡ false
+      shown e (inl low) = sym (face-some soups (card_at later.slots.items v)) ∙ position-fails is_some (λ j. card_face soups (card_at later.slots.items j)) 0 8 e v (omega arith) (omega (arith, low))
+      shown e (inr high) = ap (λ x. is_some (card_of x)) (past-end later.slots.items v (subst (λ n. n ≤ v) (sym size) high))
+
+      go : (d : Option ℕ) → units.default ≡ d → default_after fs d u ≡ None → mounted_in later.slots.items v ≡ false
+      go None e k = beside e (same-or-not v u)
+      go (Some x) e k = test (u == x) k
+        where
+          test : (b : Bool) → cond b (first_shown fs) (Some x) ≡ None → mounted_in later.slots.items v ≡ false
+          test true k = shown k (low-or-high v 8)
+          test false k = absurd (none-some x (sym k))
+
+  pub gone-stands : (slot : Slot C) → slice_get units.slots.items u ≡ Some slot → (f slot).attached ≡ slot.attached → (place : C → ℕ) (stands : Bool → C → Outside → Type 0) (told : Bool) (o : Outside)
+      → ((f slot).due ≡ false → IsTrue told → IsSome (o.card u) → IsDurable u o.now) → StandsBut place stands u told units o → Stands place stands told later o
+  gone-stands slot at keeps place stands told o still s = stands-marked units later u f is slot at place stands told o keeps
+      (λ c h. absurd (none-some c (sym (none slot) ∙ h))) (λ due. ap is_some (none slot)) still (default-mounted s.default) (none-mounted slot at s.none s.eight)
+      (let a = count-less f none units.slots.items u in let b = s.few in omega (arith, a, b)) s
+
+  -- the default of the world after it
+  after-default : {reads : List ℕ → Option Store} {place : C → ℕ} {stands : Bool → C → Outside → Type 0} → Laws reads place soups stands → (o : Outside) → Eight o → Stands place stands true later o
+      → (v : World) → v.default ≡ units.default → faces v ≡ faces (world_of reads later o) → default_without v u ≡ later.default
+  after-default l o e s v was shown = default-is v u (card_faces soups later.slots.items) units.default was (shown ∙ faces-known l later o e s) ∙ sym default
+
+module _ {C : Type 0} (soups : C → Store) (units later : Units C) (u : ℕ) (is : later.slots.items ≡ with_card u None units.slots.items) (default : later.default ≡ default_after (card_faces soups later.slots.items) units.default u)
+    (mounted : mounted_in units.slots.items u ≡ true) where
+  abbrev emptied : Slot C → Slot C
+  emptied slot = record slot { card = None }
+
   pub unmounted-stands : (place : C → ℕ) (stands : Bool → C → Outside → Type 0) (told : Bool) (o : Outside) → Stands place stands told units o → Stands place stands told later o
-  unmounted-stands place stands told o s = stands-with units later u None is place stands told o (λ c h. absurd (none-some c h)) (default-mounted s.default)
-      (let a = count-taken units.slots.items u in let b = s.few in omega (arith, a, b)) s
+  unmounted-stands place stands told o s =
+      let k = mounted-slot units.slots.items u mounted in
+      gone-stands soups units later u emptied (λ slot. refl) is default k.0 k.1 refl place stands told o
+      (λ due t has. s.durable t u has (ap due_of k.1 ∙ due)) (but-of place stands told units u o s)
 
   pub unmount-answers : {reads : List ℕ → Option Store} {place : C → ℕ} {stands : Bool → C → Outside → Type 0} → Laws reads place soups stands → (o : Outside) → Eight o → Stands place stands true units o
-      → (blocks : ℕ) (s : Store) → OnUnit (world_of reads units o) u blocks s → mounted_in units.slots.items u ≡ true → later.minute ≡ units.minute
+      → (blocks : ℕ) (s : Store) → OnUnit (world_of reads units o) u blocks s → later.minute ≡ units.minute
       → answer (world_of reads units o) (command.Unmount u) ≡ (world_of reads later o, Reply.done)
-  unmount-answers {reads} {place} {stands} l o e st blocks s on mounted minute =
-      unmount-done w u blocks s on refl ∙ ap {A = World} {B = World × Reply} (λ v. (v, Reply.done)) (sym (marked (default_without (mark w u false) u) (default ∙ sym after)))
+  unmount-answers {reads} {place} {stands} l o e st blocks s on minute =
+      unmount-done w u blocks s on refl ∙ ap {A = World} {B = World × Reply} (λ v. (v, Reply.done)) (sym (marked (default_without (mark w u false) u) (sym after)))
     where
       w : World
       w = world_of reads units o
@@ -286,9 +250,72 @@ module _ {C : Type 0} (soups : C → Store) (units later : Units C) (u : ℕ) (i
       marked : (d : Option ℕ) → later.default ≡ d → world_of reads later o ≡ record (mark w u false) { default = d }
       marked d h = let k = mounted-slot units.slots.items u mounted in world-marked units later u None is reads o k.0 k.1 minute d h
 
-      after : default_without (mark w u false) u ≡ default_after (card_faces soups later.slots.items) units.default u
-      after = default-is (mark w u false) u (card_faces soups later.slots.items) units.default refl
-          (ap faces (sym (marked later.default refl)) ∙ faces-known l later o e (unmounted-stands place stands true o st))
+      after : default_without (mark w u false) u ≡ later.default
+      after = after-default soups units later u emptied (λ slot. refl) is default l o e (unmounted-stands place stands true o st) (mark w u false) refl (ap faces (sym (marked later.default refl)))
+
+-- ---- a unit that is thrown out
+
+module _ {C : Type 0} (soups : C → Store) (units later : Units C) (u : ℕ) (is : later.slots.items ≡ without u units.slots.items) (default : later.default ≡ default_after (card_faces soups later.slots.items) units.default u)
+    (attached : attached_in units.slots.items u ≡ true) where
+  abbrev outcast : Slot C → Slot C
+  outcast slot = record slot { due = true; card = None }
+
+  pub thrown-stands : (place : C → ℕ) (stands : Bool → C → Outside → Type 0) (told : Bool) (o : Outside) → StandsBut place stands u told units o → Stands place stands told later o
+  thrown-stands place stands told o s =
+      let k = attached-slot units.slots.items u attached in
+      gone-stands soups units later u outcast (λ slot. refl) is default k.0 k.1 refl place stands told o (λ due. absurd (both-ways (sym due))) s
+
+  pub thrown-world : {reads : List ℕ → Option Store} {place : C → ℕ} {stands : Bool → C → Outside → Type 0} → Laws reads place soups stands → (o : Outside) → Eight o → StandsBut place stands u true units o
+      → later.minute ≡ units.minute → world_of reads later o ≡ thrown_out (world_of reads units o) u (λ _. lost)
+  thrown-world {reads} {place} {stands} l o e st minute = marked (default_without v u) (sym after)
+    where
+      v : World
+      v = change_device (world_of reads units o) u (λ d. record d { media = lost; mounted = false })
+
+      marked : (d : Option ℕ) → later.default ≡ d → world_of reads later o ≡ record v { default = d }
+      marked d h =
+          let k = attached-slot units.slots.items u attached in
+          world-slot units later u outcast is k.0 k.1 reads o o (SameCards-refl o) (λ j h. refl) (λ d. record d { media = lost; mounted = false }) refl
+          ∙ ap {A = Option ℕ} {B = World} (λ d. record v { default = d; minute = later.minute }) h
+          ∙ ap {A = ℕ} {B = World} (λ m. record v { default = d; minute = m }) minute
+
+      after : default_without v u ≡ later.default
+      after = after-default soups units later u outcast (λ slot. refl) is default l o e (thrown-stands place stands true o st) v refl (ap faces (sym (marked later.default refl)))
+
+  -- which units are mounted then, and of which a sync is due
+  pub thrown-marks : (j : ℕ) → mounted_in later.slots.items j ≡ (mounted_in units.slots.items j && not (j == u))
+  thrown-marks j = go (same-or-not j u)
+    where
+      and-not : (a : Bool) → (a && not false) ≡ a
+      and-not true = refl
+      and-not false = refl
+
+      and-no : (a : Bool) → (a && not true) ≡ false
+      and-no true = refl
+      and-no false = refl
+
+      go : (j ≡ u) ⊎ (j ≡ u → ⊥) → mounted_in later.slots.items j ≡ (mounted_in units.slots.items j && not (j == u))
+      go (inl e) = let k = attached-slot units.slots.items u attached in
+          ap (mounted_in later.slots.items) e ∙ mark-here units later u outcast is k.0 k.1
+          ∙ sym (and-no (mounted_in units.slots.items j)) ∙ ap (λ b. mounted_in units.slots.items j && not b) (sym (eq-eqb j u e))
+      go (inr e) = mark-other units later u outcast is j e ∙ sym (and-not (mounted_in units.slots.items j)) ∙ ap (λ b. mounted_in units.slots.items j && not b) (sym (ne_eqb j u e))
+
+  pub thrown-dues : (j : ℕ) → due_in later.slots.items j ≡ (due_in units.slots.items j || (j == u))
+  thrown-dues j = go (same-or-not j u)
+    where
+      or-yes : (a : Bool) → (a || true) ≡ true
+      or-yes true = refl
+      or-yes false = refl
+
+      or-no : (a : Bool) → (a || false) ≡ a
+      or-no true = refl
+      or-no false = refl
+
+      go : (j ≡ u) ⊎ (j ≡ u → ⊥) → due_in later.slots.items j ≡ (due_in units.slots.items j || (j == u))
+      go (inl e) = let k = attached-slot units.slots.items u attached in
+          ap (due_in later.slots.items) e ∙ due-here units later u outcast is k.0 k.1
+          ∙ sym (or-yes (due_in units.slots.items j)) ∙ ap (λ b. due_in units.slots.items j || b) (sym (eq-eqb j u e))
+      go (inr e) = due-other units later u outcast is j e ∙ sym (or-no (due_in units.slots.items j)) ∙ ap (λ b. due_in units.slots.items j || b) (sym (ne_eqb j u e))
 
 -- no device is at fault where a store may not be mounted
 pub admits-none : (faces : List Face) (s : Store) (fault : StoreFault) → Admits faces s (Err fault) → NoDevice fault

@@ -1,8 +1,9 @@
 -- What a command promises where nothing has changed, and behind a call that read.
-use Rattle.std.proofs.Common.{◌≡◌, refl, sym, subst, ℕ, ◌≤◌, List, Bool, true, IsTrue, Option, arith}
+use Rattle.std.proofs.Common.{◌≡◌, refl, ap, sym, ◌∙◌, subst, ℕ, ◌≤◌, List, Bool, true, IsTrue, Option, arith}
 use Rattle.std.specs.Prelude.{Result, Ok, Err, IfErr}
 use Rattle.newt_base.specs.Refusals.{Checks}
-use Rattle.newt_host.specs.Outside.{Outside, OnDevices, Rose}
+use Rattle.newt_host.specs.Moments.{changes}
+use Rattle.newt_host.specs.Outside.{Outside, NoFault, OnDevices, Rose}
 use Rattle.newt_host.proofs.Outside.{NoFault-append, NoFault-refl, OnDevices-append, OnDevices-refl}
 use Rattle.newt_path.specs.declared.fault.SetFault.{SetFault}
 use Rattle.newt_path.specs.declared.fault.SetFault.TheVariants as put
@@ -10,7 +11,9 @@ use Rattle.newt_pagebook.specs.declared.book.Stop.TheVariants.{Memory, Device}
 use Rattle.newt_spec_store.specs.Store.{Store}
 use Rattle.newt_spec_world.specs.declared.command.Command.{Command}
 use Rattle.newt_spec_world.specs.Reply.{Reply}
-use Rattle.newt_spec_world.specs.World.{World}
+use Rattle.newt_spec_world.specs.Step.{thrown_out}
+use Rattle.newt_spec_world.specs.World.{World, lost}
+use Rattle.newt_laws_steps.specs.StandsFor.{seen}
 use Rattle.newt_laws_answers.specs.Fetched.{means_entries, most_fetched}
 use Rattle.newt_store_change.specs.declared.change.Change.{Change}
 use Rattle.newt_store_change.specs.Faults.{GoesOn, HasFaultCause, IsEnd, IsRefusal, NoDevice, RefusesBy, set_fault}
@@ -18,11 +21,14 @@ use Rattle.newt_store_change.specs.declared.fault.StoreFault.{StoreFault}
 use Rattle.newt_store_change.specs.declared.fault.StoreFault.TheVariants.{Refused, Stop}
 use Rattle.newt_engine_card.specs.Bounds.{FetchesAtMost}
 use Rattle.newt_engine_units.specs.Answers.{Answers}
-use Rattle.newt_engine_units.specs.Calls.{AreRead, Changes, Ended, Obeys}
-use Rattle.newt_engine_units.specs.Stands.{world_of}
+use Rattle.newt_engine_units.specs.Breaks.{FailsAlone}
+use Rattle.newt_engine_units.specs.Calls.{AreRead, Breaks, BreaksIn, Changes, Ended, Obeys}
+use Rattle.newt_engine_units.specs.Stands.{Stands, world_of}
 use Rattle.newt_engine_units.specs.declared.units.Units.{Units}
+use Rattle.newt_engine_units.proofs.Broken.{err-device-map, fails-after, none-devices}
 use Rattle.newt_engine_units.proofs.Costs.{costs-of, idle-costs, read-costs}
 use Rattle.newt_engine_units.proofs.Settings.{Setting, is-err, still}
+use Rattle.newt_engine_units.proofs.Slots.{but-of}
 
 -- ---- no device is at fault
 
@@ -78,65 +84,98 @@ cause-after (Err (Stop (Device unit))) {o} {m} p before h = let low = before.dev
 
 -- a call that did nothing
 pub none-ends : {T : Type 0} {o : Outside} (result : Result T StoreFault) → IfErr result (λ fault. NoDevice fault) → Ended result o o
-none-ends {o = o} result none = record { alone = OnDevices-refl o; cause = none-cause result o o none; no_fault = λ goes. NoFault-refl o }
+none-ends {o = o} result none = record { alone = OnDevices-refl o; cause = none-cause result o o none; failed = none-devices _ result none; no_fault = λ goes. NoFault-refl o }
 
 -- a fault of a call that is handed on ends it as it ended that call
 pub handed-ends : {S T : Type 0} {o p : Outside} {fault : StoreFault} (result : Result T StoreFault) → (e : StoreFault) × (result ≡ Err e) × (e ≡ fault) → Ended {T = S} (Err fault) o p → Ended result o p
 handed-ends {S} {T} {o} {p} {fault} result h e = subst (λ (r : Result T StoreFault). Ended r o p) (sym (is-err result fault h)) (again fault e)
   where
     again : (fault : StoreFault) → Ended {T = S} (Err fault) o p → Ended {T = T} (Err fault) o p
-    again (Refused refusal) e = record { alone = e.alone; cause = tt; no_fault = λ goes. e.no_fault tt }
-    again (Stop stop) e = record { alone = e.alone; cause = e.cause; no_fault = λ goes. absurd goes }
+    again (Refused refusal) e = record { alone = e.alone; cause = tt; failed = tt; no_fault = λ goes. e.no_fault tt }
+    again (Stop stop) e = record { alone = e.alone; cause = e.cause; failed = e.failed; no_fault = λ goes. absurd goes }
 
 -- how a change of a store ends
 pub ends-change : {C : Type 0} {reads : List ℕ → Option Store} {place : C → ℕ} {standing : Bool → C → Outside → Type 0} {told : Bool} {unit : ℕ} {change : Change} {units later : Units C} {o p : Outside}
     {result : Result ℕ StoreFault} → Changes reads place standing told unit change units later o p result → Ended result o p
-ends-change e = record { alone = e.alone; cause = e.cause; no_fault = e.no_fault }
+ends-change {result = result} e = record { alone = e.alone; cause = e.cause; failed = err-device-map _ _ result (λ u b. b.1.failed) e.broke; no_fault = e.no_fault }
 
 -- another answer of a call that is done
 pub ends-ok : {S T : Type 0} {x : S} {y : T} {o p : Outside} → Ended {T = S} (Ok x) o p → Ended {T = T} (Ok y) o p
-ends-ok e = record { alone = e.alone; cause = tt; no_fault = λ goes. e.no_fault tt }
+ends-ok e = record { alone = e.alone; cause = tt; failed = tt; no_fault = λ goes. e.no_fault tt }
 
 -- one call after another
 pub ends-after : {S T : Type 0} {first : Result S StoreFault} {result : Result T StoreFault} {o m p : Outside} → Ended first o m → GoesOn first → Ended result m p → Ended result o p
 ends-after {result = result} {o} {m} {p} a goes b = record {
   alone = OnDevices-append a.alone b.alone;
   cause = cause-after result p a.alone b.cause;
+  failed = err-device-map _ _ result (λ u f. fails-after a.alone.cards (a.no_fault goes) f) b.failed;
   no_fault = λ on. NoFault-append (a.no_fault goes) (b.no_fault on);
 }
+
+-- ---- where a device has failed
+
+module _ {C : Type 0} {reads : List ℕ → Option Store} {place : C → ℕ} {stands : Bool → C → Outside → Type 0} {told : Bool} where
+  -- nothing has happened but that
+  pub still-breaks : (c : Command) {units later : Units C} {o p : Outside} {u : ℕ} → Stands place stands told later p → (IsTrue told → world_of reads later p ≡ world_of reads units o) → (IsTrue told → p.now ≡ o.now)
+      → FailsAlone o p u → BreaksIn reads place stands told c units later o p u
+  still-breaks c {units} {later} {o} {p} {u} stand world same failed = record {
+    breaks = record {
+      stands = but-of place stands told later u p stand;
+      world = λ t. ap (λ (w : World). thrown_out w u (λ _. lost)) (world t);
+      others = λ t n other. ap (changes n) (same t);
+      failed = failed;
+    };
+    same = λ t untorn sure unformed. same t;
+  }
+
+  -- in a call that reads
+  pub read-breaks : (c : Command) {units later : Units C} {o p : Outside} {u : ℕ} → AreRead reads place stands told units later o p → FailsAlone o p u → BreaksIn reads place stands told c units later o p u
+  read-breaks c looks failed = still-breaks c looks.stand looks.world (λ t. looks.moment) failed
+
+  -- behind one that read
+  pub breaks-behind : {units mid later : Units C} {o m p : Outside} {u : ℕ} → AreRead reads place stands told units mid o m → NoFault o m → Breaks reads place stands told mid later m p u
+      → Breaks reads place stands told units later o p u
+  breaks-behind {u = u} looks none b = record {
+    stands = b.stands;
+    world = λ t. b.world t ∙ ap (λ (w : World). thrown_out w u (λ _. lost)) (looks.world t);
+    others = λ t n other. b.others t n other ∙ ap (changes n) looks.moment;
+    failed = fails-after looks.alone.cards none b.failed;
+  }
 
 -- ---- exits
 
 module _ {C : Type 0} {reads : List ℕ → Option Store} {place : C → ℕ} {soups : C → Store} {stands : Bool → C → Outside → Type 0} {told : Bool} {units : Units C} {o : Outside}
     (at : Setting reads place soups stands told units o) {T : Type 0} (c : Command) (reply : T → Reply) where
   -- nothing was done
-  pub still-obeys : (result : Result T StoreFault) → IfErr result (λ fault. NoDevice fault) → (IsTrue told → Answers (world_of reads units o) (world_of reads units o) c reply result)
+  pub still-obeys : (result : Result T StoreFault) → IfErr result (λ fault. NoDevice fault) → (IsTrue told → Answers (seen reads (world_of reads units o) o.now c) (world_of reads units o) c reply result)
       → Obeys reads place stands told c reply units units o o result
   still-obeys result none answered = record {
     stands = λ goes. at.stand;
     answered = answered;
-    moments = λ t. still at t _ _ refl;
+    moments = λ t. still at t _ _ _ refl;
     costs = λ t. idle-costs _ _ _ _ _;
     alone = OnDevices-refl o;
     cause = none-cause result o o none;
+    broke = none-devices _ result none;
     no_fault = λ goes. NoFault-refl o;
   }
 
   -- the same with a fault that is handed on
   pub refused-obeys : (fault : StoreFault) → NoDevice fault → (result : Result T StoreFault) → (e : StoreFault) × (result ≡ Err e) × (e ≡ fault)
-      → (IsTrue told → Answers (world_of reads units o) (world_of reads units o) c reply result) → Obeys reads place stands told c reply units units o o result
+      → (IsTrue told → Answers (seen reads (world_of reads units o) o.now c) (world_of reads units o) c reply result) → Obeys reads place stands told c reply units units o o result
   refused-obeys fault none result p = still-obeys result (handed (λ f. NoDevice f) result fault p none)
 
   -- an entry was read, and nothing done
   pub read-obeys : {later : Units C} {p : Outside} → AreRead reads place stands told units later o p → (IsTrue told → means_entries c ≡ true → FetchesAtMost (most_fetched (world_of reads units o) c) o p)
-      → (result : Result T StoreFault) → Ended result o p → (IsTrue told → Answers (world_of reads units o) (world_of reads later p) c reply result) → Obeys reads place stands told c reply units later o p result
+      → (result : Result T StoreFault) → Ended result o p → (IsTrue told → Answers (seen reads (world_of reads units o) o.now c) (world_of reads later p) c reply result) → Obeys reads place stands told c reply units later o p result
   read-obeys looks few result ends answered = record {
     stands = λ goes. looks.stand;
     answered = answered;
-    moments = λ t. still at t _ _ looks.moment;
+    moments = λ t. still at t _ _ _ looks.moment;
     costs = λ t. read-costs _ _ _ _ looks.untouched (few t);
     alone = looks.alone;
     cause = ends.cause;
+    broke = err-device-map _ _ result (λ u f. read-breaks c looks f) ends.failed;
     no_fault = ends.no_fault;
   }
 
@@ -150,6 +189,7 @@ fault-obeys (Refused refusal) e = record {
   costs = λ t. costs-of (e.costs t) (λ goes. tt);
   alone = e.alone;
   cause = e.cause;
+  broke = tt;
   no_fault = λ goes. e.no_fault tt;
 }
 fault-obeys (Stop stop) e = record {
@@ -159,5 +199,6 @@ fault-obeys (Stop stop) e = record {
   costs = λ t. costs-of (e.costs t) (λ goes. absurd goes);
   alone = e.alone;
   cause = e.cause;
+  broke = e.broke;
   no_fault = λ goes. absurd goes;
 }

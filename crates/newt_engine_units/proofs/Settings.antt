@@ -1,6 +1,6 @@
 -- Where a command begins.
-use Rattle.std.proofs.Common.{◌≡◌, refl, ap, sym, ◌∙◌, subst, ℕ, List, Bool, true, false, IsTrue, Option, Some, None, option_map, option_and_then}
-use Rattle.std.specs.Prelude.{Result, Err, is_some}
+use Rattle.std.proofs.Common.{◌≡◌, refl, ap, sym, ◌∙◌, subst, ℕ, List, Bool, true, false, ◌&&◌, IsTrue, Option, Some, None, option_map, option_and_then, if◌then◌else◌}
+use Rattle.std.specs.Prelude.{Result, Err, is_none, is_some}
 use Rattle.newt_spec_graph.proofs.Lists.{none-some, some-same, both-ways}
 use Rattle.newt_base.specs.Refusals.{first_of}
 use Rattle.newt_base.specs.declared.Refusal.{Refusal}
@@ -9,9 +9,9 @@ use Rattle.newt_host.specs.Outside.{Outside}
 use Rattle.newt_spec_store.specs.Store.{Store, Entry, entry_of, entry_at}
 use Rattle.newt_spec_world.specs.declared.command.Command.{Command}
 use Rattle.newt_spec_world.specs.Reply.{Reply}
-use Rattle.newt_spec_world.specs.World.{World, Device, store_of}
+use Rattle.newt_spec_world.specs.Step.{unsure_look}
+use Rattle.newt_spec_world.specs.World.{World, Device, store_of, unsure_on}
 use Rattle.newt_spec_world.specs.First.{media_of}
-use Rattle.newt_laws_world.specs.Answering.{Answering}
 use Rattle.newt_spec_world.specs.Answer.{answer}
 use Rattle.newt_laws_answers.specs.Tests.{unit_checks, soup_checks, entry_checks, both_checks, ready_checks}
 use Rattle.newt_laws_answers.specs.There.{OnUnit, IsReady}
@@ -23,8 +23,9 @@ use Rattle.newt_store_change.specs.Faults.{RefusesBy, IsEnd}
 use Rattle.newt_engine_units.specs.Found.{HasSoup, HasEntry, FindsEntry}
 use Rattle.newt_engine_units.specs.declared.units.Units.{Units}
 use Rattle.newt_engine_units.specs.Answers.{Answers}
+use Rattle.newt_engine_units.specs.Breaks.{Meanwhile}
 use Rattle.newt_engine_units.specs.Looks.{known_unit, known_soup, known_checks, known_both, known_ready, IsFree}
-use Rattle.newt_engine_units.specs.Stands.{card_at, mounted_in, world_of, Stands, Eight}
+use Rattle.newt_engine_units.specs.Stands.{card_at, due_in, mounted_in, world_of, Stands, Eight}
 use Rattle.newt_engine_units.proofs.Known.{Laws, Plain, Found, on-known, card-known, mounted-known, unit-checks-are, checks-are, both-checks-are, ready-checks-are, ready-known, soup-found}
 use Rattle.newt_engine_units.proofs.Turns.{still-moments}
 use Rattle.newt_engine_units.proofs.Answering.{refuses}
@@ -53,7 +54,7 @@ module _ {C : Type 0} {reads : List ℕ → Option Store} {place : C → ℕ} {s
   stand-told = subst (λ b. Stands place stands b units o) t at.stand
 
   -- nothing has happened
-  pub still : (v : World) (now : Moment) → now ≡ o.now → Always (Answering reads (world_of reads units o) v o.now) o.now now
+  pub still : (c : Command) (v : World) (now : Moment) → now ≡ o.now → Always (Meanwhile reads (due_in units.slots.items) (world_of reads units o) c v o.now) o.now now
   still = still-moments at.laws units o at.eight stand-told
 
   -- a store is mounted
@@ -86,7 +87,13 @@ module _ {C : Type 0} {reads : List ℕ → Option Store} {place : C → ℕ} {s
   ready-refused u c reply refused fault h result p = subst (λ r. Answers (world_of reads units o) (world_of reads units o) c reply r) (sym (is-err result fault p))
       (refuses (world_of reads units o) c reply (ready_checks (world_of reads units o) u) (known_ready units.slots.items (o.blocks u) u) (ready-checks-are at.laws units o at.eight stand-told u) refused fault h)
 
-  pub ready-there : (u : ℕ) → IsFree units (o.blocks u) u → IsReady (world_of reads units o) u (o.blocks u) (media_of (reads (image u o.now)))
+  -- so nothing is looked at anew
+  pub not-looked : (u : ℕ) (fault : StoreFault) → RefusesBy (known_ready units.slots.items (o.blocks u) u) fault → unsure_look (world_of reads units o) u ≡ None
+  not-looked u (Refused r) h = ap (λ (c : Option Refusal). if is_none c && unsure_on (world_of reads units o) u then Some u else None)
+      (sym (ap first_of (ready-checks-are at.laws units o at.eight stand-told u)) ∙ h)
+  not-looked u (Stop stop) h = absurd h
+
+  pub ready-there : (u : ℕ) → IsFree units (o.blocks u) u → due_in units.slots.items u ≡ false → IsReady (world_of reads units o) u (o.blocks u) (media_of (reads (image u o.now)))
   ready-there = ready-known at.laws units o at.eight stand-told
 
   -- one of two soups is not there

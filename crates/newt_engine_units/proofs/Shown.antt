@@ -1,6 +1,6 @@
 -- What all the stores that are mounted show.
-use Rattle.std.proofs.Common.{arith, ◌≡◌, refl, ap, sym, ◌∙◌, ℕ, zero, suc, ◌+◌, ◌<◌, List, [], ◌∷◌, ◌++◌, Bool, true, false, ◌||◌, cond, drop, map, append_assoc, Option, Some, None, option_map}
-use Rattle.std.specs.Prelude.{is_some, Result, Ok, Err, IfOk}
+use Rattle.std.proofs.Common.{arith, ◌≡◌, refl, ap, sym, ◌∙◌, ℕ, zero, suc, ◌+◌, ◌<◌, ◌≤◌, ◌⊎◌, inl, inr, length, List, [], ◌∷◌, ◌++◌, Bool, true, false, ◌||◌, cond, drop, map, append_assoc, Option, Some, None, option_map}
+use Rattle.std.specs.Prelude.{is_some, slice_get, Result, Ok, Err, IfOk}
 use Rattle.std.specs.declared.alloc.AllocError.{AllocError}
 use Rattle.std.proofs.lemmas.List.{map-append}
 use Rattle.std.specs.List.{list_any, position_from, cons_option}
@@ -8,6 +8,7 @@ use Rattle.newt_host.specs.Outside.{Outside}
 use Rattle.newt_reply.specs.Said.{store_row}
 use Rattle.newt_reply.specs.declared.rows.StoreLine.{StoreLine}
 use Rattle.newt_spec_graph.proofs.Lists.{some-same, none-some}
+use Rattle.newt_laws_world.proofs.Units.{same-or-not}
 use Rattle.newt_spec_store.specs.Store.{Store}
 use Rattle.newt_spec_world.specs.First.{unit_numbers}
 use Rattle.newt_spec_world.specs.declared.command.Command.TheVariants as command
@@ -22,7 +23,7 @@ use Rattle.newt_laws_answers.proofs.Units.{is-mounted}
 use Rattle.newt_engine_units.specs.declared.units.Slot.{Slot}
 use Rattle.newt_engine_units.specs.declared.units.Units.{Units}
 use Rattle.newt_engine_units.specs.Faces.{card_face, card_faces}
-use Rattle.newt_engine_units.specs.Stands.{card_at, mounted_in, world_of, Stands, Eight}
+use Rattle.newt_engine_units.specs.Stands.{card_at, due_in, mounted_in, world_of, Stands, Eight}
 use Rattle.newt_engine_units.proofs.Known.{Laws, at-device, card-known, none-mounted}
 
 -- ---- the faces of the world are those of the cards
@@ -37,7 +38,7 @@ map-twice f g (x ∷ xs) = ap {A = List _} (λ ys. f (g x) ∷ ys) (map-twice f 
 
 module _ {C : Type 0} {reads : List ℕ → Option Store} {place : C → ℕ} {soups : C → Store} {stands : Bool → C → Outside → Type 0} (l : Laws reads place soups stands)
     (units : Units C) (o : Outside) (e : Eight o) (s : Stands place stands true units o) where
-  face-known : (u : ℕ) → face_of (device_at reads (mounted_in units.slots.items) o u) ≡ card_face soups (card_at units.slots.items u)
+  face-known : (u : ℕ) → face_of (device_at reads (due_in units.slots.items) (mounted_in units.slots.items) o u) ≡ card_face soups (card_at units.slots.items u)
   face-known u = ap face_of (sym (at-device l units o e s u)) ∙ go (card_at units.slots.items u) refl
     where
       shown : Option Store → Face
@@ -50,7 +51,7 @@ module _ {C : Type 0} {reads : List ℕ → Option Store} {place : C → ℕ} {s
           ap shown (is-mounted (world_of reads units o) u (o.blocks u) k.store k.on) ∙ ap {A = Store} {B = Face} (λ t. Some (t.sig, t.name)) k.known
 
   pub faces-known : faces (world_of reads units o) ≡ card_faces soups units.slots.items
-  faces-known = map-twice face_of (device_at reads (mounted_in units.slots.items) o) unit_numbers ∙ map-alike _ _ face-known unit_numbers
+  faces-known = map-twice face_of (device_at reads (due_in units.slots.items) (mounted_in units.slots.items) o) unit_numbers ∙ map-alike _ _ face-known unit_numbers
 
 -- ---- the list of stores
 
@@ -68,6 +69,16 @@ stores-if-ok l units o e s (Ok rows) h = stores-answers l units o e s (map store
 stores-if-ok l units o e s (Err error) h = h
 
 -- ---- one unit after another
+
+pub low-or-high : (u n : ℕ) → (u < n) ⊎ (n ≤ u)
+low-or-high u zero = inr (omega arith)
+low-or-high zero (suc n) = inl (omega arith)
+low-or-high (suc u) (suc n) = elim (low-or-high u n) [ inl h ↦ inl (omega (arith, h)) | inr h ↦ inr (omega (arith, h)) ]
+
+pub past-end : {X : Type 0} (xs : List X) (u : ℕ) → length xs ≤ u → slice_get xs u ≡ None
+past-end [] u h = refl
+past-end (x ∷ xs) zero h = absurd (omega (arith, h))
+past-end (x ∷ xs) (suc u) h = past-end xs u (omega (arith, h))
 
 -- the next of the eight
 pub drop-step : {X : Type 0} (g : ℕ → X) (n : ℕ) → n < 8 → drop n (map g unit_numbers) ≡ g n ∷ drop (n + 1) (map g unit_numbers)
@@ -149,3 +160,17 @@ position-passes test g k (suc n) u h = go (test (g k)) refl h (position-passes t
     go : (b : Bool) → test (g k) ≡ b → cond b (Some k) (position_from test (k + 1) (map g (from (k + 1) n))) ≡ Some u → (position_from test (k + 1) (map g (from (k + 1) n)) ≡ Some u → test (g u) ≡ true) → test (g u) ≡ true
     go true e h more = ap (λ j. test (g j)) (sym (some-same k u h)) ∙ e
     go false e h more = more h
+
+-- and where none passes, each fails
+pub position-fails : {X : Type 0} (test : X → Bool) (g : ℕ → X) (k n : ℕ) → position_from test k (map g (from k n)) ≡ None → (u : ℕ) → k ≤ u → u < k + n → test (g u) ≡ false
+position-fails test g k zero h u low high = absurd (omega (arith, low, high))
+position-fails test g k (suc n) h u low high = go (test (g k)) refl h (same-or-not u k) (λ rest above. position-fails test g (k + 1) n rest u above (omega (arith, high)))
+  where
+    above : (u k : ℕ) → k ≤ u → (u ≡ k → ⊥) → k + 1 ≤ u
+    above u k low other = elim (low-or-high k u) [ inl lt ↦ omega (arith, lt) | inr le ↦ absurd (other (omega (arith, le, low))) ]
+
+    go : (b : Bool) → test (g k) ≡ b → cond b (Some k) (position_from test (k + 1) (map g (from (k + 1) n))) ≡ None → (u ≡ k) ⊎ (u ≡ k → ⊥)
+        → (position_from test (k + 1) (map g (from (k + 1) n)) ≡ None → k + 1 ≤ u → test (g u) ≡ false) → test (g u) ≡ false
+    go true e h is later = absurd (none-some k (sym h))
+    go false e h (inl is) later = ap (λ j. test (g j)) is ∙ e
+    go false e h (inr other) later = later h (above u k low other)

@@ -1,5 +1,5 @@
 -- What is known of the mounted stores from their cards. All of it is this project's own.
-use Rattle.std.specs.Prelude.{◌≡◌, ℕ, zero, suc, nat_le, cond, ◌==◌, Bool, IsTrue, List, [], ◌∷◌, map, Option, Some, None, is_some, option_map, MatchOption, Result, Ok, Err}
+use Rattle.std.specs.Prelude.{◌≡◌, ℕ, zero, suc, nat_le, cond, ◌==◌, Bool, true, IsTrue, List, [], ◌∷◌, map, Option, Some, None, is_some, option_map, MatchOption, Result, Ok, Err}
 use Rattle.newt_base.specs.Refusals.{Checks, first_of}
 use Rattle.newt_base.specs.declared.Refusal.TheVariants.{Nostore, Stores as ManyStores, Signature}
 use Rattle.newt_pagebook.specs.declared.book.Stop.TheVariants as stops
@@ -41,11 +41,21 @@ Admits faces s (Ok x) = (first_of (beside_checks faces s.sig) ≡ None) × (x.0 
 Admits faces s (Err (Refused refusal)) = first_of (beside_checks faces s.sig) ≡ Some refusal
 Admits faces s (Err (Ends stop)) = stop ≡ stops.Memory
 
--- the slots with this card, or none, on a unit
+-- the slots with that of a unit changed
+abbrev pub with_slot : {C : Type 0} → ℕ → (Slot C → Slot C) → List (Slot C) → List (Slot C)
+with_slot u change [] = []
+with_slot zero change (slot ∷ slots) = change slot ∷ slots
+with_slot (suc u) change (slot ∷ slots) = slot ∷ with_slot u change slots
+
+-- with this card, or none; with a sync that is due, or none; and thrown out: without a card, and a sync is due
 abbrev pub with_card : {C : Type 0} → ℕ → Option C → List (Slot C) → List (Slot C)
-with_card u card [] = []
-with_card zero card (slot ∷ slots) = record slot { card = card } ∷ slots
-with_card (suc u) card (slot ∷ slots) = slot ∷ with_card u card slots
+with_card u card slots = with_slot u (λ slot. record slot { card = card }) slots
+
+abbrev pub with_due : {C : Type 0} → ℕ → Bool → List (Slot C) → List (Slot C)
+with_due u due slots = with_slot u (λ slot. record slot { due = due }) slots
+
+abbrev pub without : {C : Type 0} → ℕ → List (Slot C) → List (Slot C)
+without u slots = with_slot u (λ slot. record slot { due = true; card = None }) slots
 
 -- a store is opened that is good, or none is there
 abbrev pub Opens : {C : Type 0} → (C → Type 0) → Type 0 → Result C StoreFault → Type 0

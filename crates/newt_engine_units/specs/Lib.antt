@@ -1,4 +1,5 @@
 pub mod Stands
+pub mod Breaks
 pub mod Calls
 pub mod Answers
 pub mod Looks

@@ -5,6 +5,7 @@ ghost use Rattle.newt_laws_answers.specs.There.{OnUnit};
 ghost use Rattle.newt_host.specs.Outside.{Outside};
 ghost use Rattle.newt_store_change.specs.Faults.{IsRefusal};
 ghost use Rattle.newt_engine_units.specs.Stands.{Stands, Eight, world_of, is_mounted, card_on};
+ghost use Rattle.newt_engine_units.specs.Stands.{is_due};
 ghost use Rattle.newt_engine_units.specs.Found.{FindsEntry};
 ghost use Rattle.newt_engine_units.specs.Looks.{FindsUnit, LooksUp, is_attached, soup_on};
 ghost use Rattle.newt_engine_units.specs.Looks.{LooksUpBoth};
@@ -22,6 +23,16 @@ impl<C: Card> Units<C> {
     {
         match self.slots.get(unit.0 as usize) {
             Some(slot) => slot.attached,
+            None => false,
+        }
+    }
+
+    /// Whether a sync of the unit is due.
+    pub(crate) fn is_due(&self, unit: Unit) -> bool
+        ensures { result ≡ is_due self.now unit }
+    {
+        match self.slots.get(unit.0 as usize) {
+            Some(slot) => slot.due,
             None => false,
         }
     }

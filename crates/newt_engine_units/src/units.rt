@@ -10,10 +10,12 @@ use newt_engine_card::Card;
 use newt_host::Unit;
 use std::alloc::{AllocError, Global};
 
-/// One unit: whether it has a device, and the card that is mounted there.
+/// One unit: whether it has a device, whether a sync of it is due, since its device has failed, and
+/// the card that is mounted there.
 #[derive(Drop)]
 pub(crate) struct Slot<C: Card> {
     pub(crate) attached: bool,
+    pub(crate) due: bool,
     pub(crate) card: Option<C>,
 }
 
@@ -36,12 +38,13 @@ impl<C: Card> Units<C> {
             (IsTrue told → (u : ℕ) → IsSome (outside.card u) → IsDurable u outside.now)
             → Stands C.place C.stands told units outside) }
         ensures world { IfOk result (λ units. (outside : Outside) → world_of C.reads units outside ≡
-            world_at C.reads (λ _. false) None 0 outside) }
+            world_at C.reads (λ _. false) (λ _. false) None 0 outside) }
     {
         let mut slots = Vec::new(alloc);
         for has in attached {
             slots.push(Slot {
                 attached: has,
+                due: false,
                 card: None,
             })?;
         }

@@ -22,7 +22,7 @@ use Rattle.newt_laws_answers.proofs.Answers.{done, refused, unit-passes}
 -- ---- a unit that may be formatted or mounted
 
 module _ (w : World) (u blocks : ℕ) (m : Media) (h : IsReady w u blocks m) where
-  ready-passes : (rest : Checks) → first_of (no_unit w u ∷ bad_blocks w u ∷ is_mounted w u ∷ rest) ≡ first_of rest
+  pub ready-passes : (rest : Checks) → first_of (no_unit w u ∷ bad_blocks w u ∷ is_mounted w u ∷ rest) ≡ first_of rest
   ready-passes rest =
       first-false NoUnit _ (bad_blocks w u ∷ is_mounted w u ∷ rest) (ap is_none h.device_is)
       ∙ first-false Blocks _ (is_mounted w u ∷ rest) (ap (λ (o : Option Device). elim o [ None ↦ true | Some d ↦ nat_lt d.blocks 13 || nat_lt 4099 d.blocks ]) h.device_is ∙ h.enough)
@@ -42,11 +42,14 @@ mount-not-ready w u r h = refused w (command.Mount u) r (first-found (ready_chec
 
 -- ---- format
 
+pub format-passes : (w : World) (u blocks : ℕ) (name : List ℕ) (sig : ℕ) → IsReady w u blocks blank → first_of (checks w (command.Format u name sig)) ≡ None
+unfolding checks
+format-passes w u blocks name sig h = ready-passes w u blocks blank h (has_store w u ∷ []) ∙ first-false HasStore _ [] (ap is_some (held w u blocks blank h))
+
 pub format-done : (w : World) (u blocks : ℕ) (name : List ℕ) (sig : ℕ) → IsReady w u blocks blank → w.cursors ≡ replicate 32 None
     → answer w (command.Format u name sig) ≡ (formatted w u name sig, Reply.done)
-unfolding checks changed fields
-format-done w u blocks name sig h none = done w (command.Format u name sig)
-    (ready-passes w u blocks blank h (has_store w u ∷ []) ∙ first-false HasStore _ [] (ap is_some (held w u blocks blank h))) none
+unfolding changed fields
+format-done w u blocks name sig h none = done w (command.Format u name sig) (format-passes w u blocks name sig h) none
 
 pub format-has-store : (w : World) (u blocks : ℕ) (s : Store) (name : List ℕ) (sig : ℕ) → IsReady w u blocks (one s) → answer w (command.Format u name sig) ≡ (w, Reply.refused HasStore)
 unfolding checks

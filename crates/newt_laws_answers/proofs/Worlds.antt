@@ -1,10 +1,10 @@
 -- How the world that devices stand for changes with them.
-use Rattle.std.proofs.Common.{arith, ◌≡◌, refl, ap, sym, ◌∙◌, ℕ, zero, suc, ◌+◌, ◌<◌, ◌≤◌, List, [], ◌∷◌, Bool, inl, inr, ◌⊎◌, map, replicate, Option, Some, None, option_map}
+use Rattle.std.proofs.Common.{arith, ◌≡◌, refl, ap, sym, ◌∙◌, ℕ, zero, suc, ◌+◌, ◌<◌, ◌≤◌, List, [], ◌∷◌, Bool, inl, inr, ◌⊎◌, map, replicate, Option, Some, None, option_map, if◌then◌else◌}
 use Rattle.std.specs.Prelude.{slice_get}
 use Rattle.newt_host.specs.Moments.{changes, image, bytes_after}
 use Rattle.newt_host.specs.Outside.{Outside, SameCards}
 use Rattle.newt_spec_store.specs.Store.{Store}
-use Rattle.newt_spec_world.specs.World.{World, Device, device, flat, change_at, change_device, settle, settle_cursor}
+use Rattle.newt_spec_world.specs.World.{World, Device, lost, device, flat, change_at, change_device, settle, settle_cursor}
 use Rattle.newt_spec_world.specs.First.{media_of, unit_numbers}
 use Rattle.newt_laws_answers.specs.WorldAt.{device_at, world_at}
 
@@ -60,79 +60,69 @@ numbers-change f g h u other here =
 -- ---- devices
 
 module _ (read : List ℕ → Option Store) where
-  pub device-of : (mounted : ℕ → Bool) (default : Option ℕ) (minute : ℕ) (outside : Outside) → ((u : ℕ) → 8 ≤ u → outside.card u ≡ None)
-      → (u : ℕ) → device (world_at read mounted default minute outside) u ≡ device_at read mounted outside u
-  device-of mounted default minute outside eight u = go (below u 8)
+  pub device-of : (due mounted : ℕ → Bool) (default : Option ℕ) (minute : ℕ) (outside : Outside) → ((u : ℕ) → 8 ≤ u → outside.card u ≡ None)
+      → (u : ℕ) → device (world_at read due mounted default minute outside) u ≡ device_at read due mounted outside u
+  device-of due mounted default minute outside eight u = go (below u 8)
     where
       below : (u n : ℕ) → (u < n) ⊎ (n ≤ u)
       below u zero = inr (omega arith)
       below zero (suc n) = inl (omega arith)
       below (suc u) (suc n) = elim (below u n) [ inl l ↦ inl (omega arith) | inr l ↦ inr (omega arith) ]
 
-      go : (u < 8) ⊎ (8 ≤ u) → device (world_at read mounted default minute outside) u ≡ device_at read mounted outside u
-      go (inl l) = numbers-at (device_at read mounted outside) u l
-      go (inr l) = from-none (device_at read mounted outside) 0 8 u l ∙ ap (option_map _) (sym (eight u l))
+      go : (u < 8) ⊎ (8 ≤ u) → device (world_at read due mounted default minute outside) u ≡ device_at read due mounted outside u
+      go (inl l) = numbers-at (device_at read due mounted outside) u l
+      go (inr l) = from-none (device_at read due mounted outside) 0 8 u l ∙ ap (option_map _) (sym (eight u l))
 
-  -- the device that a card with an image and a mark is
-  abbrev pub card_device : ℕ → List ℕ → Bool → Device
-  card_device blocks image on_it = record { blocks = blocks; media = media_of (read image); mounted = on_it }
+  -- the device that a card with an image and two marks is
+  abbrev pub card_device : (due : Bool) → ℕ → List ℕ → (mounted : Bool) → Device
+  card_device due blocks image mounted = record { blocks = blocks; media = if due then lost else media_of (read image); mounted = mounted }
 
   -- a device stays where nothing of it changes
-  pub device-stays : (m n : ℕ → Bool) (o p : Outside) (u : ℕ) → SameCards o p → n u ≡ m u → changes u p.now ≡ changes u o.now → device_at read n p u ≡ device_at read m o u
-  device-stays m n o p u cards mark same =
-      ap (option_map (λ name. card_device (p.blocks u) (image u p.now) (n u))) (cards.card u)
-      ∙ ap (λ b. option_map (λ name. card_device b (image u p.now) (n u)) (o.card u)) (cards.blocks u)
-      ∙ ap (λ c. option_map (λ name. card_device (o.blocks u) (bytes_after c) (n u)) (o.card u)) same
-      ∙ ap (λ b. option_map (λ name. card_device (o.blocks u) (image u o.now) b) (o.card u)) mark
+  pub device-stays : (a b m n : ℕ → Bool) (o p : Outside) (u : ℕ) → SameCards o p → b u ≡ a u → n u ≡ m u → changes u p.now ≡ changes u o.now
+      → device_at read b n p u ≡ device_at read a m o u
+  device-stays a b m n o p u cards sync mark same =
+      ap (option_map (λ name. card_device (b u) (p.blocks u) (image u p.now) (n u))) (cards.card u)
+      ∙ ap (λ k. option_map (λ name. card_device (b u) k (image u p.now) (n u)) (o.card u)) (cards.blocks u)
+      ∙ ap (λ c. option_map (λ name. card_device (b u) (o.blocks u) (bytes_after c) (n u)) (o.card u)) same
+      ∙ ap (λ k. option_map (λ name. card_device (b u) (o.blocks u) (image u o.now) k) (o.card u)) mark
+      ∙ ap (λ k. option_map (λ name. card_device k (o.blocks u) (image u o.now) (m u)) (o.card u)) sync
 
   -- a device that is changed
-  pub device-here : (m n : ℕ → Bool) (o p : Outside) (u : ℕ) (f : Device → Device) → SameCards o p
-      → ((name : List ℕ) → o.card u ≡ Some name → card_device (o.blocks u) (image u p.now) (n u) ≡ f (card_device (o.blocks u) (image u o.now) (m u)))
-      → device_at read n p u ≡ option_map f (device_at read m o u)
-  device-here m n o p u f cards is =
-      ap (option_map (λ name. card_device (p.blocks u) (image u p.now) (n u))) (cards.card u)
-      ∙ ap (λ b. option_map (λ name. card_device b (image u p.now) (n u)) (o.card u)) (cards.blocks u)
+  pub device-here : (a b m n : ℕ → Bool) (o p : Outside) (u : ℕ) (f : Device → Device) → SameCards o p
+      → ((name : List ℕ) → o.card u ≡ Some name → card_device (b u) (o.blocks u) (image u p.now) (n u) ≡ f (card_device (a u) (o.blocks u) (image u o.now) (m u)))
+      → device_at read b n p u ≡ option_map f (device_at read a m o u)
+  device-here a b m n o p u f cards is =
+      ap (option_map (λ name. card_device (b u) (p.blocks u) (image u p.now) (n u))) (cards.card u)
+      ∙ ap (λ k. option_map (λ name. card_device (b u) k (image u p.now) (n u)) (o.card u)) (cards.blocks u)
       ∙ go (o.card u) refl
     where
-      go : (c : Option (List ℕ)) → o.card u ≡ c → option_map (λ name. card_device (o.blocks u) (image u p.now) (n u)) c
-          ≡ option_map f (option_map (λ name. card_device (o.blocks u) (image u o.now) (m u)) c)
+      go : (c : Option (List ℕ)) → o.card u ≡ c → option_map (λ name. card_device (b u) (o.blocks u) (image u p.now) (n u)) c
+          ≡ option_map f (option_map (λ name. card_device (a u) (o.blocks u) (image u o.now) (m u)) c)
       go None e = refl
       go (Some name) e = ap Some (is name e)
 
   -- ---- worlds
 
   -- one unit is changed, and the default and the minute are set
-  pub world-changed : (m n : ℕ → Bool) (d e : Option ℕ) (t s : ℕ) (o p : Outside) (u : ℕ) (f : Device → Device) → SameCards o p
-      → ((j : ℕ) → (j ≡ u → ⊥) → n j ≡ m j) → ((j : ℕ) → (j ≡ u → ⊥) → changes j p.now ≡ changes j o.now)
-      → device_at read n p u ≡ option_map f (device_at read m o u)
-      → world_at read n e s p ≡ record (change_device (world_at read m d t o) u f) { default = e; minute = s }
-  world-changed m n d e t s o p u f cards marks same here =
+  pub world-changed : (a b m n : ℕ → Bool) (d e : Option ℕ) (t s : ℕ) (o p : Outside) (u : ℕ) (f : Device → Device) → SameCards o p
+      → ((j : ℕ) → (j ≡ u → ⊥) → b j ≡ a j) → ((j : ℕ) → (j ≡ u → ⊥) → n j ≡ m j) → ((j : ℕ) → (j ≡ u → ⊥) → changes j p.now ≡ changes j o.now)
+      → device_at read b n p u ≡ option_map f (device_at read a m o u)
+      → world_at read b n e s p ≡ record (change_device (world_at read a m d t o) u f) { default = e; minute = s }
+  world-changed a b m n d e t s o p u f cards syncs marks same here =
       ap {A = List (Option Device)} {B = World} (λ us. record { units = us; default = e; minute = s; cursors = replicate 32 None })
-      (numbers-change f (device_at read m o) (device_at read n p) u (λ j l. device-stays m n o p j cards (marks j l) (same j l)) here)
-
-  -- no unit is changed, and the default and the minute are set
-  pub world-stays : (m n : ℕ → Bool) (d e : Option ℕ) (t s : ℕ) (o p : Outside) → SameCards o p
-      → ((j : ℕ) → n j ≡ m j) → ((j : ℕ) → changes j p.now ≡ changes j o.now)
-      → world_at read n e s p ≡ record (world_at read m d t o) { default = e; minute = s }
-  world-stays m n d e t s o p cards marks same =
-      ap {A = List (Option Device)} {B = World} (λ us. record { units = us; default = e; minute = s; cursors = replicate 32 None })
-      (all-same (λ j. device-stays m n o p j cards (marks j) (same j)) unit_numbers)
-    where
-      all-same : ((j : ℕ) → device_at read n p j ≡ device_at read m o j) → (us : List ℕ) → map (device_at read n p) us ≡ map (device_at read m o) us
-      all-same h [] = refl
-      all-same h (k ∷ us) = ap {A = Option Device} (λ x. x ∷ map (device_at read n p) us) (h k) ∙ ap {A = List (Option Device)} (λ xs. device_at read m o k ∷ xs) (all-same h us)
+      (numbers-change f (device_at read a m o) (device_at read b n p) u (λ j l. device-stays a b m n o p j cards (syncs j l) (marks j l) (same j l)) here)
 
   -- worlds of the same devices
-  pub world-alike : (m n : ℕ → Bool) (d e : Option ℕ) (t s : ℕ) (o p : Outside) → ((j : ℕ) → device_at read n p j ≡ device_at read m o j) → e ≡ d → s ≡ t
-      → world_at read n e s p ≡ world_at read m d t o
-  world-alike m n d e t s o p same default minute =
+  pub world-alike : (a b m n : ℕ → Bool) (d e : Option ℕ) (t s : ℕ) (o p : Outside) → ((j : ℕ) → device_at read b n p j ≡ device_at read a m o j) → e ≡ d → s ≡ t
+      → world_at read b n e s p ≡ world_at read a m d t o
+  world-alike a b m n d e t s o p same default minute =
       ap {A = List (Option Device)} {B = World} (λ us. record { units = us; default = e; minute = s; cursors = replicate 32 None }) (each unit_numbers)
-      ∙ ap {A = Option ℕ} {B = World} (λ x. record { units = map (device_at read m o) unit_numbers; default = x; minute = s; cursors = replicate 32 None }) default
-      ∙ ap {A = ℕ} {B = World} (λ x. record { units = map (device_at read m o) unit_numbers; default = d; minute = x; cursors = replicate 32 None }) minute
+      ∙ ap {A = Option ℕ} {B = World} (λ x. record { units = map (device_at read a m o) unit_numbers; default = x; minute = s; cursors = replicate 32 None }) default
+      ∙ ap {A = ℕ} {B = World} (λ x. record { units = map (device_at read a m o) unit_numbers; default = d; minute = x; cursors = replicate 32 None }) minute
     where
-      each : (us : List ℕ) → map (device_at read n p) us ≡ map (device_at read m o) us
+      each : (us : List ℕ) → map (device_at read b n p) us ≡ map (device_at read a m o) us
       each [] = refl
-      each (k ∷ us) = ap {A = Option Device} (λ x. x ∷ map (device_at read n p) us) (same k) ∙ ap {A = List (Option Device)} (λ xs. device_at read m o k ∷ xs) (each us)
+      each (k ∷ us) = ap {A = Option Device} (λ x. x ∷ map (device_at read b n p) us) (same k) ∙ ap {A = List (Option Device)} (λ xs. device_at read a m o k ∷ xs) (each us)
 
 -- ---- cursors
 

@@ -3,6 +3,7 @@
 -- project's own, or, for a mere word on lists, nodes or readers that states no rule, a word of
 -- these definitions.
 pub mod Steps
+pub mod Thrown
 pub mod Answering
 pub mod Meant
 pub mod StandsFor

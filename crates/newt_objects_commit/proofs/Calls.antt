@@ -114,4 +114,8 @@ module _ {B : Type 0} (place : B → ℕ) (numbers : B → Numbers) (standing : 
               let count = planned-count told objects batch (numbers old) now was will tells c.sound p in
               let same : cap (blocks_of now) ≡ cap blocks = ap cap (blocks-are now blocks (size tells)) in
               (c.idle (omega (arith, count, same, more))).2;
+          idle = λ tells was will p more.
+              let count = planned-count told objects batch (numbers old) now was will tells c.sound p in
+              let same : cap (blocks_of now) ≡ cap blocks = ap cap (blocks-are now blocks (size tells)) in
+              (c.idle (omega (arith, count, same, more))).0;
         }

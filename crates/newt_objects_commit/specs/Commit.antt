@@ -65,3 +65,6 @@ pub record MakesPlanned (told : Bool) (unit : ℕ) (batch : Change) (numbers : N
       cap (blocks_of (image unit before.now)) < total_pages will → Spends unit 0 0 before after)
   pub too_many_wears : ForPlanned told objects batch numbers (image unit before.now) (λ was will.
       cap (blocks_of (image unit before.now)) < total_pages will → Wears unit 0 0 before after)
+  -- and nothing happens
+  pub idle : ForPlanned told objects batch numbers (image unit before.now) (λ was will.
+      cap (blocks_of (image unit before.now)) < total_pages will → after.now ≡ before.now)

@@ -1,6 +1,6 @@
 -- A run over the devices of names.
 use Rattle.std.proofs.Common.{◌≡◌, inl, inr, ℕ, zero, suc, ◌⊎◌, ◌+◌, ◌*◌, ◌/◌, ◌<◌, Bool, true, false, IsTrue, IsSome, List, [], ◌∷◌, ◌++◌, length, map, Option, Some, None, MatchOption, Result, OnOk, IfErr, refl, sym, ◌∙◌, ap, subst, arith}
-use Rattle.std.specs.Prelude.{slice_get, option_map, option_and_then}
+use Rattle.std.specs.Prelude.{slice_get, option_map, option_and_then, drop}
 use Rattle.std.proofs.Math.Nat.{mul-div_cancel}
 use Rattle.std.proofs.lemmas.Bool.{cases_lt, false≢true}
 use Rattle.std.proofs.lemmas.Option.{slice_get-map}
@@ -9,30 +9,35 @@ use Rattle.newt_host_attach.proofs.Since.{since_attached}
 use Rattle.std.proofs.lemmas.Result.{on_ok_weaker}
 use Rattle.newt_host.specs.Meanings.{left_since, out_of, since}
 use Rattle.newt_host.specs.Moments.{Attached, Change, IsDurable, IsHistory, LeftBy, MayLeave, Moment, Always, here, later, bytes_after, changes, image, moment_at, output as printed}
-use Rattle.newt_host.specs.Outside.{Outside, NoFault}
+use Rattle.newt_host.specs.Outside.{Outside}
 use Rattle.newt_host.proofs.Extending.{extends-always}
 use Rattle.newt_host.proofs.Histories.{untouched-attached}
 use Rattle.newt_host.proofs.Moments.{Always-last}
 use Rattle.newt_host.proofs.Since.{Always-at}
+use Rattle.newt_laws_steps.specs.Answering.{ReadsOneOf}
+use Rattle.newt_spec_graph.specs.Lists.{Among}
 use Rattle.newt_spec_script.specs.Script.{Item}
 use Rattle.newt_spec_store.specs.OfImage.{blocks_of}
 use Rattle.newt_spec_store.specs.Store.{Store}
 use Rattle.newt_spec_world.specs.First.{media_of, unit_numbers, unit_of, world_of}
-use Rattle.newt_spec_world.specs.World.{World, Device, flat, first_world as world_with, store_of, store_on_unit}
+use Rattle.newt_spec_world.specs.World.{World, Device, flat, first_world as world_with, stores_of, stores_on}
 use Rattle.newt_script_session.specs.Answered.{Given}
+use Rattle.newt_script_session.specs.Causes.{NoStreamFault}
 use Rattle.newt_script_session.specs.Counted.{Counted, CountedAt, HasLeftCounted}
 use Rattle.newt_script_session.specs.Counts.{summary_of}
 use Rattle.newt_script_session.specs.First.{device_now, unmounted}
-use Rattle.newt_script_session.specs.Moments.{CrashAt, HasLeft, replies_begun}
+use Rattle.newt_script_session.specs.Moments.{Between, BlankThrough, CrashAt, HasLeft, replies_begun}
 use Rattle.newt_script_session.specs.Named.{CountedNamed, RanNamed, first_world, held_by}
 use Rattle.newt_script_session.specs.Reading.{ReadsInTime}
 use Rattle.newt_spec_script.specs.Rows.{output_of, Row, Stepping, world_at}
 use Rattle.newt_script_session.specs.Run.{Halted, IsReadThrough, SummaryHalted}
 use Rattle.newt_script_session.specs.Script.{script_items}
 use Rattle.newt_script_session.specs.Session.{Session}
+use Rattle.newt_laws_steps.specs.Thrown.{RowsFailed, RowsThrew}
 use Rattle.newt_script_session.specs.declared.halt.Halt.{Halt}
 use Rattle.newt_script_session.proofs.Crashing.{AtRest, at_rest, left_same}
 use Rattle.newt_script_session.proofs.Reading.{takes_append, takes_map, takes_none}
+use Rattle.newt_script_session.proofs.Throwing.{failed_from, threw_from}
 
 -- ---- the first world
 
@@ -90,8 +95,8 @@ attached_durable unit bytes now only left may =
     is ∙ sym (ap bytes_after only)
 
 -- no fault was counted while the names were attached
-pub attached_faultless : (told : Bool) (names : List (List ℕ)) (old new : Outside) → AreAttached told names old new → NoFault old new
-attached_faultless told names old new a = record { in_faults = a.in_faults; out_faults = a.out_faults; dev_faults = a.counts.dev_faults }
+pub attached_faultless : (told : Bool) (names : List (List ℕ)) (old new : Outside) → AreAttached told names old new → NoStreamFault old new
+attached_faultless told names old new a = record { in_faults = a.in_faults; out_faults = a.out_faults; dev_faults = λ unit. omega (arith, a.counts.dev_faults unit) }
 
 -- ---- what a crash leaves
 
@@ -153,13 +158,14 @@ module _ (names : List (List ℕ)) (old mid new : Outside) (a : AreAttached true
           (history unit (subst (λ (o : Option (List ℕ)). IsSome o) (sym e) refl)) at might
 
   -- what may be left between two worlds, where the unit was attached with these bytes
-  between : (reads : List ℕ → Option Store) (o : Option Store) (N Q : Type 0) (unit : ℕ) (bytes left : List ℕ) (held : Option (List ℕ)) → held ≡ Some bytes → changes unit mid.now ≡ Attached bytes ∷ []
-      → MatchOption o (N → MayLeave unit mid.now left) (λ store. (reads left ≡ Some store) ⊎ Q)
-      → MatchOption o (N → held ≡ Some left) (λ store. (reads left ≡ Some store) ⊎ Q)
-  between reads None N Q unit bytes left held is only b = λ n.
-      let same : LeftBy (Attached bytes ∷ []) left = subst (λ (done : List Change). LeftBy done left) only (b n) in
-      is ∙ ap Some (sym same)
-  between reads (Some store) N Q unit bytes left held is only b = b
+  between : (reads : List ℕ → Option Store) (F : Type 0) (world : World) (items : List Item) (next : World) (unit : ℕ) (bytes left : List ℕ) (held : Option (List ℕ)) → held ≡ Some bytes → changes unit mid.now ≡ Attached bytes ∷ []
+      → Between reads (MayLeave unit mid.now) F world items next unit left → Between reads (λ bytes. held ≡ Some bytes) F world items next unit left
+  between reads F world items next unit bytes left held is only b = record {
+    stores = b.stores;
+    blank = λ f none stays.
+        let same : LeftBy (Attached bytes ∷ []) left = subst (λ (done : List Change). LeftBy done left) only (b.blank f none stays) in
+        is ∙ ap Some (sym same);
+  }
 
   has_left_counted : (reads : List ℕ → Option Store) (world : World) (items : List Item) (rows : List Row) (unit : ℕ) (left shown : List ℕ)
       → Seen (CountedAt reads mid.now world items rows (printed mid.now)) unit left shown
@@ -167,22 +173,23 @@ module _ (names : List (List ℕ)) (old mid new : Outside) (a : AreAttached true
   has_left_counted reads world items rows unit left shown s = record {
     shown = s.holds.shown;
     grown = sym s.out_is ∙ (s.holds.out ∙ ap (λ o. o ++ s.holds.shown) (a.quiet refl));
-    leaves = λ more.
-        let l = s.holds.leaves more in
-        let next : Option Store = store_on_unit (world_at world (rows ++ more) (l.0 + 1)) unit in
-        (l.0, l.1, between reads (store_on_unit (world_at world (rows ++ more) l.0) unit) (next ≡ None) (reads left ≡ next) unit s.bytes left (held_by names old unit) s.held_is s.only (l.2 unit left s.may));
+    leaves = λ later more.
+        let l = s.holds.leaves later more in
+        let all = rows ++ more in
+        (l.0, l.1, between reads (BlankThrough world all l.0 unit) (world_at world all l.0) (drop l.0 (items ++ later)) (world_at world all (l.0 + 1)) unit s.bytes left (held_by names old unit) s.held_is s.only (l.2 unit left s.may));
   }
 
-  has_left : (reads : List ℕ → Option Store) (world : World) (rows : List Row) (unit : ℕ) (left shown : List ℕ)
-      → Seen (CrashAt reads mid.now world rows (printed mid.now)) unit left shown
-      → HasLeft reads world rows (held_by names old unit) (printed old.now) shown unit left
-  has_left reads world rows unit left shown s = record {
+  has_left : (reads : List ℕ → Option Store) (world : World) (items : List Item) (rows : List Row) (unit : ℕ) (left shown : List ℕ)
+      → Seen (CrashAt reads mid.now world items rows (printed mid.now)) unit left shown
+      → HasLeft reads world items rows (held_by names old unit) (printed old.now) shown unit left
+  has_left reads world items rows unit left shown s = record {
     shown = s.holds.shown;
     grown = sym s.out_is ∙ (s.holds.out ∙ ap (λ o. o ++ s.holds.shown) (a.quiet refl));
-    leaves = λ more.
-        let m = replies_begun (rows ++ more) (length s.holds.shown) in
-        let next : Option Store = store_on_unit (world_at world (rows ++ more) (m + 1)) unit in
-        between reads (store_on_unit (world_at world (rows ++ more) m) unit) (next ≡ None) (reads left ≡ next) unit s.bytes left (held_by names old unit) s.held_is s.only (s.holds.leaves more unit left s.may);
+    leaves = λ later more.
+        let all = rows ++ more in
+        let m = replies_begun all (length s.holds.shown) in
+        between reads (BlankThrough world all m unit) (world_at world all m) (drop m (items ++ later)) (world_at world all (m + 1)) unit s.bytes left (held_by names old unit) s.held_is s.only
+        (s.holds.leaves later more unit left s.may);
   }
 
   module _ (step : Stepping) (reads : List ℕ → Option Store) (cards : (unit : ℕ) → new.card unit ≡ mid.card unit) (fresh : (unit : ℕ) → changes unit old.now ≡ [])
@@ -194,8 +201,9 @@ module _ (names : List (List ℕ)) (old mid new : Outside) (a : AreAttached true
         let w = first_world reads names old in
         let G : List ℕ → Type 0 = λ i. (given : Given step w (script_items i)) × OnOk result ((given.rest ≡ []) × (out_of new ≡ out_of mid ++ output_of given.rows))
         × OnOk result (IsReadThrough limit i new.input) × IfErr result (λ halt. Halted limit halt given.first given.rows i new.input (out_of mid) (out_of new))
-        × ReadsInTime step w given.rows mid.now new.now × Always (CrashAt reads mid.now w given.rows (out_of mid)) mid.now new.now in
-        let t = subst G a.input (s.played.given, s.played.out, s.played.read, s.played.halted, s.played.in_time, s.crash) in
+        × ReadsInTime step w given.rows mid.now new.now × Always (CrashAt reads mid.now w given.first given.rows (out_of mid)) mid.now new.now
+        × RowsThrew given.rows mid.dev_faults new.dev_faults × OnOk result (RowsFailed given.rows mid.dev_faults new.dev_faults) in
+        let t = subst G a.input (s.played.given, s.played.out, s.played.read, s.played.halted, s.played.in_time, s.crash, s.played.threw, s.played.failed) in
         let R : List ℕ → Type 0 = λ o. IfErr result (λ halt. Halted limit halt t.0.first t.0.rows old.input new.input o (out_of new)) in
         record {
           played = record {
@@ -213,9 +221,11 @@ module _ (names : List (List ℕ)) (old mid new : Outside) (a : AreAttached true
               out = answered.out ∙ ap (λ o. o ++ output_of answered.first) (a.quiet refl);
               no_quit = answered.no_quit;
             }) t.4);
+            threw = threw_from t.0.rows old.dev_faults mid.dev_faults new.dev_faults a.counts.dev_faults t.6;
+            failed = on_ok_weaker result (λ f. failed_from t.0.rows old.dev_faults mid.dev_faults new.dev_faults a.counts.dev_faults f) t.7;
           };
           crash = λ unit at left shown since_is might.
-              has_left reads w t.0.rows unit left shown (seen_named (CrashAt reads mid.now w t.0.rows (printed mid.now)) t.5 cards fresh unknown history unit at left shown since_is might);
+              has_left reads w t.0.first t.0.rows unit left shown (seen_named (CrashAt reads mid.now w t.0.first t.0.rows (printed mid.now)) t.5 cards fresh unknown history unit at left shown since_is might);
         }
 
     pub named_counted : {T : Type 0} (script : List ℕ) (result : Result T Halt) → Counted step reads script result (first_world reads names old) mid new
@@ -227,6 +237,8 @@ module _ (names : List (List ℕ)) (old mid new : Outside) (a : AreAttached true
           given = s.given;
           out = on_ok_weaker result (λ put. (put.0, put.1 ∙ ap (λ o. o ++ summary_of s.given.rows) (a.quiet refl))) s.out;
           halted = subst R (a.quiet refl) s.halted;
+          threw = threw_from s.given.rows old.dev_faults mid.dev_faults new.dev_faults a.counts.dev_faults s.threw;
+          failed = on_ok_weaker result (λ f. failed_from s.given.rows old.dev_faults mid.dev_faults new.dev_faults a.counts.dev_faults f) s.failed;
           crash = λ unit at left shown since_is might.
               has_left_counted reads w (script_items script) s.given.rows unit left shown
               (seen_named (CountedAt reads mid.now w (script_items script) s.given.rows (printed mid.now)) s.crash cards fresh unknown history unit at left shown since_is might);
@@ -245,39 +257,33 @@ numbers_at (suc (suc (suc (suc (suc (suc zero)))))) = inl refl
 numbers_at (suc (suc (suc (suc (suc (suc (suc zero))))))) = inl refl
 numbers_at (suc (suc (suc (suc (suc (suc (suc (suc unit)))))))) = inr refl
 
-abbrev on : Option (Option Device) → Option Store
-on o = option_and_then (λ (d : Device). store_of d.media) (flat o)
+abbrev stores_at : Option Device → List Store
+stores_at o = elim o [ None ↦ [] | Some d ↦ stores_of d.media ]
 
-nothing : {A : Type 0} (x : A) → ◌≡◌ {A = Option A} None (Some x) → ⊥
-nothing x e = absurd (cc)
-
-media_store : (o : Option Store) (store : Store) → store_of (media_of o) ≡ Some store → o ≡ Some store
-media_store None store is = is
-media_store (Some s) store is = is
-
--- the store of a unit is that of its image
-pub unmounted_store : (reads : List ℕ → Option Store) (outside : Outside) (unit : ℕ) (store : Store) → store_on_unit (unmounted reads outside) unit ≡ Some store
-    → IsSome (outside.card unit) × (reads (image unit outside.now) ≡ Some store)
-unmounted_store reads outside unit store is = elim (numbers_at unit) [
-  | inl there ↦ go (outside.card unit) refl (sym (ap on (slice_get-map (device_now reads outside) unit_numbers unit ∙ ap (option_map (device_now reads outside)) there)) ∙ is)
-  | inr none ↦ absurd (nothing store (sym (ap on (slice_get-map (device_now reads outside) unit_numbers unit ∙ ap (option_map (device_now reads outside)) none)) ∙ is))
+-- A crash leaves a unit as the store of its image, where nothing is pending.
+pub unmounted_leaves : (reads : List ℕ → Option Store) (outside : Outside) → ((unit : ℕ) → IsSome (outside.card unit) → IsDurable unit outside.now)
+    → (unit : ℕ) (store : Store) (left : List ℕ) → Among (stores_on (unmounted reads outside) unit) store → MayLeave unit outside.now left → ReadsOneOf reads (stores_on (unmounted reads outside) unit) left
+unmounted_leaves reads outside durable unit store left among may = elim (numbers_at unit) [
+  | inl there ↦
+      subst Leaves (sym (ap flat (slice_get-map (device_now reads outside) unit_numbers unit ∙ ap (option_map (device_now reads outside)) there))) (card (outside.card unit) refl) among
+  | inr none ↦ subst Leaves (sym (ap flat (slice_get-map (device_now reads outside) unit_numbers unit ∙ ap (option_map (device_now reads outside)) none))) (λ k. absurd k) among
 ]
   where
-    go : (o : Option (List ℕ)) → outside.card unit ≡ o
-        → option_and_then (λ (d : Device). store_of d.media) (option_map (λ (name : List ℕ). record { blocks = outside.blocks unit; media = media_of (reads (image unit outside.now)); mounted = false }) (outside.card unit)) ≡ Some store
-        → IsSome (outside.card unit) × (reads (image unit outside.now) ≡ Some store)
-    go None e k = absurd (nothing store (sym (ap (λ (c : Option (List ℕ)). option_and_then (λ (d : Device). store_of d.media) (option_map (λ (name : List ℕ). record { blocks = outside.blocks unit; media = media_of (reads (image unit outside.now)); mounted = false }) c)) e) ∙ k))
-    go (Some name) e k =
-        let there : store_of (media_of (reads (image unit outside.now))) ≡ Some store =
-        sym (ap (λ (c : Option (List ℕ)). option_and_then (λ (d : Device). store_of d.media) (option_map (λ (name : List ℕ). record { blocks = outside.blocks unit; media = media_of (reads (image unit outside.now)); mounted = false }) c)) e) ∙ k in
-        (subst (λ (o : Option (List ℕ)). IsSome o) (sym e) refl, media_store (reads (image unit outside.now)) store there)
+    Leaves : Option Device → Type 0
+    Leaves o = Among (stores_at o) store → ReadsOneOf reads (stores_at o) left
 
--- So a crash leaves it, where nothing is pending.
-pub unmounted_leaves : (reads : List ℕ → Option Store) (outside : Outside) → ((unit : ℕ) → IsSome (outside.card unit) → IsDurable unit outside.now)
-    → (unit : ℕ) (store : Store) (left : List ℕ) → store_on_unit (unmounted reads outside) unit ≡ Some store → MayLeave unit outside.now left → reads left ≡ Some store
-unmounted_leaves reads outside durable unit store left is may =
-    let there = unmounted_store reads outside unit store is in
-    ap reads (durable unit there.0 left may) ∙ there.1
+    attached : (o : Option Store) → Option Device
+    attached o = Some (record { blocks = outside.blocks unit; media = media_of o; mounted = false })
+
+    held : IsSome (outside.card unit) → (o : Option Store) → reads (image unit outside.now) ≡ o → Leaves (attached o)
+    held some None e = λ k. absurd k
+    held some (Some s) e = λ k. (s, inl refl, ap reads (durable unit some left may) ∙ e)
+
+    card : (o : Option (List ℕ)) → outside.card unit ≡ o → Leaves (device_now reads outside unit)
+    card None e = subst (λ (c : Option (List ℕ)). Leaves (option_map (λ (name : List ℕ). record { blocks = outside.blocks unit; media = media_of (reads (image unit outside.now)); mounted = false }) c)) (sym e) (λ k. absurd k)
+    card (Some name) e =
+        subst (λ (c : Option (List ℕ)). Leaves (option_map (λ (name : List ℕ). record { blocks = outside.blocks unit; media = media_of (reads (image unit outside.now)); mounted = false }) c)) (sym e)
+        (held (subst (λ (o : Option (List ℕ)). IsSome o) (sym e) refl) (reads (image unit outside.now)) refl)
 
 -- nothing is pending on the units that were attached
 pub attached_at_rest : (told : Bool) (names : List (List ℕ)) (old new : Outside) → AreAttached told names old new → IsTrue told → (unit : ℕ) → IsSome (new.card unit) → IsDurable unit new.now

@@ -18,8 +18,9 @@ use Rattle.newt_spec_script.specs.Rows.{IsRun, output_of, Row, Stepping, world_b
 use Rattle.newt_script_session.specs.Run.{AnsweredTaken, Halted, HaltedIn, IsReadThrough, IsTooLong}
 use Rattle.newt_script_session.specs.Script.{has_quit, commands_of, ended_items, quits, script_items}
 use Rattle.newt_script_session.specs.Session.{Session}
+use Rattle.newt_laws_steps.specs.Thrown.{RowsThrew}
 use Rattle.newt_script_session.specs.declared.halt.Halt.{Halt}
-use Rattle.newt_script_session.specs.declared.halt.Halt.TheVariants.{Memory, Device, Source, Sink, TooLong}
+use Rattle.newt_script_session.specs.declared.halt.Halt.TheVariants.{Memory, Source, Sink, TooLong}
 use Rattle.newt_script_session.proofs.Crashing.{AtRest, crash_always, safe_here}
 use Rattle.newt_script_session.proofs.Cutting.{cut_append, left_append}
 use Rattle.newt_script_session.proofs.Feeding.{lines_from}
@@ -27,6 +28,7 @@ use Rattle.newt_script_session.proofs.Progress.{Progress, answered_none, progres
 use Rattle.newt_script_session.proofs.Reading.{takes_append, takes_map, takes_more, takes_none}
 use Rattle.newt_script_session.proofs.Replying.{commands_go, commands_none, commands_some, commands_stop, quit_go, quit_none, quit_stop}
 use Rattle.newt_script_session.proofs.Spelling.{script_items_are}
+use Rattle.newt_script_session.proofs.Throwing.{failed_same, threw_none, threw_same}
 
 lines_append : (begun p r : List ℕ) → lines_from begun (p ++ r) ≡ ended_lines begun p ++ lines_from (unended begun p) r
 lines_append begun p r =
@@ -81,64 +83,69 @@ in_time_more step world rows part old now r = takes_map (λ m s. record {
 }) r
 
 -- So far these bytes were taken, all lines that ended in them were answered, and none quits.
-pub record Going (step : Stepping) (reads : List ℕ → Option Store) (world : World) (script taken left : List ℕ) (Later : World → Type 0) (line : List ℕ) (had has : List (List ℕ) → Type 0) (old now : Moment) : Type 0 where
+pub record Going (step : Stepping) (reads : List ℕ → Option Store) (world : World) (script taken left : List ℕ) (Later : World → Type 0) (line : List ℕ) (had has : List (List ℕ) → Type 0) (old now : Moment) (was is : ℕ → ℕ) : Type 0 where
   pub whole : script ≡ taken ++ left
   pub line_is : line ≡ unended [] taken
   pub go : quits taken ≡ false
   pub rows : List Row
   pub run : IsRun step world (ended_items taken) rows
-  pub answered : Answered true world Later rows had has old now
+  pub answered : Answered true world Later rows had has old now was is
+  pub threw : RowsThrew rows was is
   pub in_time : ReadsInTime step world rows old now
-  pub moments : (start : Moment) → Untouched start world old → Always (SafeAt true reads start world rows (printed old)) old now
+  pub moments : (start : Moment) (before : List World) → Untouched start before world old → Always (SafeAt true reads start before world (ended_items taken) rows (printed old)) old now
 
 module _ (step : Stepping) (reads : List ℕ → Option Store) where
   -- nothing was taken yet
-  pub going_start : (world : World) (Now : World → Type 0) (script line : List ℕ) (has : List (List ℕ) → Type 0) (now : Moment) → Now world → AtRest reads world now → line ≡ [] → Going step reads world script [] script Now line has has now now
+  pub going_start : (world : World) (Now : World → Type 0) (script line : List ℕ) (has : List (List ℕ) → Type 0) (now : Moment) (was : ℕ → ℕ) → Now world → AtRest reads world now → line ≡ [] → Going step reads world script [] script Now line has has now now was was
   unfolding ended_lines unended
-  going_start world Now script line has now means its empty = record {
+  going_start world Now script line has now was means its empty = record {
     whole = refl;
     line_is = empty;
     go = quit_none;
     rows = [];
     run = subst (λ (is : List Item). IsRun step world is []) (sym commands_none) tt;
-    answered = answered_none true world Now has now means;
+    answered = answered_none true world Now has now was means;
+    threw = threw_none was was (λ unit. refl);
     in_time = takes_start;
-    moments = λ start u. here (safe_here true reads start world [] now (its start u));
+    moments = λ start before u. subst (λ (i : List Item). Always (SafeAt true reads start before world i [] (printed now)) now now) (sym commands_none) (here (safe_here true reads start before world now (its start before u)));
   }
 
   -- the same moment, where the same worlds are stood for
-  pub going_moved : (world : World) (script taken left : List ℕ) (Later Same : World → Type 0) (line : List ℕ) (had has : List (List ℕ) → Type 0) (old then now : Moment) → now ≡ then
-      → ((v : World) → Later v → Same v) → Going step reads world script taken left Later line had has old then → Going step reads world script taken left Same line had has old now
-  going_moved world script taken left Later Same line had has old then now e f g =
+  pub going_moved : (world : World) (script taken left : List ℕ) (Later Same : World → Type 0) (line : List ℕ) (had has : List (List ℕ) → Type 0) (old then now : Moment) (was mid is : ℕ → ℕ) → now ≡ then
+      → ((v : World) → Later v → Same v) → ((unit : ℕ) → is unit ≡ mid unit) → Going step reads world script taken left Later line had has old then was mid
+      → Going step reads world script taken left Same line had has old now was is
+  going_moved world script taken left Later Same line had has old then now was mid is e f counts g =
       let a = g.answered in
-      subst (λ (m : Moment). Going step reads world script taken left Same line had has old m) (sym e) (record {
+      subst (λ (m : Moment). Going step reads world script taken left Same line had has old m was is) (sym e) (record {
         whole = g.whole;
         line_is = g.line_is;
         go = g.go;
         rows = g.rows;
         run = g.run;
-        answered = record { stands_for = f (world_behind world g.rows) a.stands_for; put = a.put; took = a.took; untouched = a.untouched };
+        answered = record { stands_for = f (world_behind world g.rows) a.stands_for; put = a.put; took = a.took; untouched = a.untouched; failed = failed_same g.rows was mid is counts a.failed };
+        threw = threw_same g.rows was mid is counts g.threw;
         in_time = g.in_time;
         moments = g.moments;
       })
 
-  safe_took : (start : Moment) (world : World) (rows : List Row) (old : List ℕ) (bytes : List ℕ) (then : Moment) → SafeAt true reads start world rows old then
-      → SafeAt true reads start world rows old (Took bytes ∷ then)
-  safe_took start world rows old bytes then s = record { shown = s.shown; out = s.out; safe = s.safe }
+  safe_took : (start : Moment) (before : List World) (world : World) (items : List Item) (rows : List Row) (old : List ℕ) (bytes : List ℕ) (then : Moment) → SafeAt true reads start before world items rows old then
+      → SafeAt true reads start before world items rows old (Took bytes ∷ then)
+  safe_took start before world items rows old bytes then s = record { shown = s.shown; out = s.out; safe = s.safe }
 
   -- bytes were read
-  pub going_took : (world : World) (script taken left : List ℕ) (Next Same : World → Type 0) (line : List ℕ) (had has : List (List ℕ) → Type 0) (old then : Moment) (bytes : List ℕ) (now : Moment)
-      → now ≡ Took bytes ∷ then → ((v : World) → Next v → Same v) → taken_by then ≡ taken_by old ++ taken
-      → Going step reads world script taken left Next line had has old then → Going step reads world script taken left Same line had has old now
-  going_took world script taken left Next Same line had has old then bytes now e f since g =
+  pub going_took : (world : World) (script taken left : List ℕ) (Next Same : World → Type 0) (line : List ℕ) (had has : List (List ℕ) → Type 0) (old then : Moment) (bytes : List ℕ) (now : Moment) (was mid is : ℕ → ℕ)
+      → now ≡ Took bytes ∷ then → ((v : World) → Next v → Same v) → ((unit : ℕ) → is unit ≡ mid unit) → taken_by then ≡ taken_by old ++ taken
+      → Going step reads world script taken left Next line had has old then was mid → Going step reads world script taken left Same line had has old now was is
+  going_took world script taken left Next Same line had has old then bytes now was mid is e f counts since g =
       let a = g.answered in
-      subst (λ (m : Moment). Going step reads world script taken left Same line had has old m) (sym e) (record {
+      subst (λ (m : Moment). Going step reads world script taken left Same line had has old m was is) (sym e) (record {
         whole = g.whole;
         line_is = g.line_is;
         go = g.go;
         rows = g.rows;
         run = g.run;
-        answered = record { stands_for = f (world_behind world g.rows) a.stands_for; put = a.put; took = a.took; untouched = a.untouched };
+        answered = record { stands_for = f (world_behind world g.rows) a.stands_for; put = a.put; took = a.took; untouched = a.untouched; failed = failed_same g.rows was mid is counts a.failed };
+        threw = threw_same g.rows was mid is counts g.threw;
         in_time = takes_more bytes g.in_time (record {
           bytes = taken;
           since = since;
@@ -149,12 +156,12 @@ module _ (step : Stepping) (reads : List ℕ → Option Store) where
           out = a.put;
           no_quit = g.go;
         });
-        moments = λ start u. let so_far = g.moments start u in
-            later_moment (Took bytes) then so_far (safe_took start world g.rows (printed old) bytes then (Always-last so_far));
+        moments = λ start before u. let so_far = g.moments start before u in
+            later_moment (Took bytes) then so_far (safe_took start before world (ended_items taken) g.rows (printed old) bytes then (Always-last so_far));
       })
 
-  module _ (world : World) (script taken left : List ℕ) (Later : World → Type 0) (line : List ℕ) (had has : List (List ℕ) → Type 0) (old then : Moment)
-      (g : Going step reads world script taken left Later line had has old then) where
+  module _ (world : World) (script taken left : List ℕ) (Later : World → Type 0) (line : List ℕ) (had has : List (List ℕ) → Type 0) (old then : Moment) (was mid : ℕ → ℕ)
+      (g : Going step reads world script taken left Later line had has old then was mid) where
     -- the world that is stood for then
     abbrev pub then_world : World
     then_world = world_behind world g.rows
@@ -167,23 +174,23 @@ module _ (step : Stepping) (reads : List ℕ → Option Store) where
         ∙ commands_go (ended_lines [] taken) (lines_from line left) g.go)
 
     -- which are still to be answered
-    abbrev pub going_progress : Progress step true reads world (script_items script) Later (commands_of (lines_from line left)) had has old then
-    going_progress = record { done = ended_items taken; split = items_left; rows = g.rows; run = g.run; answered = g.answered; moments = g.moments }
+    abbrev pub going_progress : Progress step true reads world (script_items script) Later (commands_of (lines_from line left)) had has old then was mid
+    going_progress = record { done = ended_items taken; split = items_left; rows = g.rows; run = g.run; answered = g.answered; threw = g.threw; moments = g.moments }
 
     -- so far no more has been given
     abbrev pub going_given : Given step world (script_items script)
     going_given = record { first = ended_items taken; rest = commands_of (lines_from line left); split = items_left; rows = g.rows; run = g.run }
 
     -- a piece more was answered
-    pub going_more : {T : Type 0} {x : T} (piece rest : List ℕ) (Next : World → Type 0) (begun : List ℕ) (more : List (List ℕ) → Type 0) (now : Moment) → Always (λ m. taken_by m ≡ taken_by then) then now
-        → left ≡ piece ++ rest → has_quit (ended_lines line piece) ≡ false → begun ≡ unended line piece → Ran step true reads {T = T} (Ok x) then_world Next (commands_of (ended_lines line piece)) has more then now
-        → Going step reads world script (taken ++ piece) rest Next begun had more old now
+    pub going_more : {T : Type 0} {x : T} (piece rest : List ℕ) (Next : World → Type 0) (begun : List ℕ) (more : List (List ℕ) → Type 0) (now : Moment) (is : ℕ → ℕ) → Always (λ m. taken_by m ≡ taken_by then) then now
+        → left ≡ piece ++ rest → has_quit (ended_lines line piece) ≡ false → begun ≡ unended line piece → Ran step true reads {T = T} (Ok x) then_world Next (commands_of (ended_lines line piece)) has more then now mid is
+        → Going step reads world script (taken ++ piece) rest Next begun had more old now was is
     unfolding progress_more
-    going_more piece rest Next begun more now unread split go begun_is r =
-        let p : Progress step true reads world (ended_items taken ++ commands_of (ended_lines line piece)) Later (commands_of (ended_lines line piece)) had has old then =
-        record { done = ended_items taken; split = refl; rows = g.rows; run = g.run; answered = g.answered; moments = g.moments } in
-        let q = progress_more step true reads world (ended_items taken ++ commands_of (ended_lines line piece)) Later (commands_of (ended_lines line piece)) had has old then p
-        (commands_of (ended_lines line piece)) [] (sym (append-nil (commands_of (ended_lines line piece)))) Next more now r in
+    going_more piece rest Next begun more now is unread split go begun_is r =
+        let p : Progress step true reads world (ended_items taken ++ commands_of (ended_lines line piece)) Later (commands_of (ended_lines line piece)) had has old then was mid =
+        record { done = ended_items taken; split = refl; rows = g.rows; run = g.run; answered = g.answered; threw = g.threw; moments = g.moments } in
+        let q = progress_more step true reads world (ended_items taken ++ commands_of (ended_lines line piece)) Later (commands_of (ended_lines line piece)) had has old then was mid p
+        (commands_of (ended_lines line piece)) [] (sym (append-nil (commands_of (ended_lines line piece)))) Next more now is r in
         let items_are : q.done ≡ ended_items (taken ++ piece) =
         sym (append-nil q.done) ∙ (sym q.split ∙ sym (ap commands_of (taken_lines taken piece line g.line_is) ∙ commands_go (ended_lines [] taken) (ended_lines line piece) g.go)) in
         record {
@@ -191,10 +198,11 @@ module _ (step : Stepping) (reads : List ℕ → Option Store) where
           line_is = begun_is ∙ (ap (λ l. unended l piece) g.line_is ∙ sym (left_append [] taken piece));
           go = ap has_quit (taken_lines taken piece line g.line_is) ∙ (quit_go (ended_lines [] taken) (ended_lines line piece) g.go ∙ go);
           rows = q.rows;
-          run = subst (λ (is : List Item). IsRun step world is q.rows) items_are q.run;
+          run = subst (λ (i : List Item). IsRun step world i q.rows) items_are q.run;
           answered = q.answered;
+          threw = q.threw;
           in_time = takes_append (in_time_more step world g.rows r.given.rows old then g.in_time) (takes_none unread);
-          moments = q.moments;
+          moments = λ start before u. subst (λ (i : List Item). Always (SafeAt true reads start before world i q.rows (printed old)) old now) items_are (q.moments start before u);
         }
 
     -- more bytes come than are read
@@ -243,14 +251,13 @@ module _ (step : Stepping) (reads : List ℕ → Option Store) where
 
 halted_ran : (limit : ℕ) (halt : Halt) (items : List Item) (rows : List Row) (script left old now : List ℕ) → HaltedIn halt rows old now → Halted limit halt items rows script left old now
 halted_ran limit Memory items rows script left old now some = some
-halted_ran limit (Device unit) items rows script left old now some = some
 halted_ran limit Sink items rows script left old now some = some
 halted_ran limit Source items rows script left old now some = absurd some
 halted_ran limit TooLong items rows script left old now some = absurd some
 
 module _ {T : Type 0} (step : Stepping) (reads : List ℕ → Option Store) (limit : ℕ) (result : Result T Halt) (world : World) (old new : Outside) where
   -- all of the script was answered, or the run was halted in it
-  pub session_ran : (Next : World → Type 0) (had has : List (List ℕ) → Type 0) → (r : Ran step true reads result world Next (script_items old.input) had has old.now new.now)
+  pub session_ran : (Next : World → Type 0) (had has : List (List ℕ) → Type 0) → (r : Ran step true reads result world Next (script_items old.input) had has old.now new.now old.dev_faults new.dev_faults)
       → OnOk result (IsReadThrough limit old.input new.input) → ReadsInTime step world r.given.rows old.now new.now → Session step reads limit result world old new
   session_ran Next had has r read in_time = record {
     played = record {
@@ -259,8 +266,10 @@ module _ {T : Type 0} (step : Stepping) (reads : List ℕ → Option Store) (lim
       read = read;
       halted = lines result (r.halted refl);
       in_time = in_time;
+      threw = r.threw;
+      failed = on_ok_weaker result (λ d. d.1.failed) r.done;
     };
-    crash = crash_always reads old.now world r.given.rows old.now new.now (r.moments old.now (λ unit none. refl));
+    crash = crash_always reads old.now world r.given.first r.given.rows old.now new.now (r.moments old.now [] (λ unit left f blank may. may));
   }
     where
       lines : (v : Result T Halt) → IfErr v (λ halt. HaltedIn halt r.given.rows (printed old.now) (printed new.now))
@@ -269,50 +278,52 @@ module _ {T : Type 0} (step : Stepping) (reads : List ℕ → Option Store) (lim
       lines (Err halt) some = halted_ran limit halt r.given.first r.given.rows old.input new.input (out_of old) (out_of new) some
 
   -- the run was halted between two lines
-  pub session_halted : (taken left : List ℕ) (Later : World → Type 0) (line : List ℕ) (had has : List (List ℕ) → Type 0) (g : Going step reads world old.input taken left Later line had has old.now new.now) (halt : Halt)
+  pub session_halted : (taken left : List ℕ) (Later : World → Type 0) (line : List ℕ) (had has : List (List ℕ) → Type 0) (g : Going step reads world old.input taken left Later line had has old.now new.now old.dev_faults new.dev_faults) (halt : Halt)
       → result ≡ Err halt → Halted limit halt (ended_items taken) g.rows old.input new.input (out_of old) (out_of new) → Session step reads limit result world old new
   session_halted taken left Later line had has g halt is some =
       subst (λ (v : Result T Halt). Session step reads limit v world old new) (sym is) (record {
         played = record {
-          given = going_given step reads world old.input taken left Later line had has old.now new.now g;
+          given = going_given step reads world old.input taken left Later line had has old.now new.now old.dev_faults new.dev_faults g;
           out = tt;
           read = tt;
           halted = some;
           in_time = g.in_time;
+          threw = g.threw;
+          failed = tt;
         };
-        crash = crash_always reads old.now world g.rows old.now new.now (g.moments old.now (λ unit none. refl));
+        crash = crash_always reads old.now world (ended_items taken) g.rows old.now new.now (g.moments old.now [] (λ unit left f blank may. may));
       })
 
 module _ (step : Stepping) (reads : List ℕ → Option Store) (limit : ℕ) (world : World) (old new : Outside) (taken left : List ℕ) (Later : World → Type 0) (line : List ℕ) (had half : List (List ℕ) → Type 0)
-    (then : Moment) (g : Going step reads world old.input taken left Later line had half old.now then) (part more : List Item) (e : commands_of (lines_from line left) ≡ part ++ more)
+    (then : Moment) (mid : ℕ → ℕ) (g : Going step reads world old.input taken left Later line had half old.now then old.dev_faults mid) (part more : List Item) (e : commands_of (lines_from line left) ≡ part ++ more)
     (Next : World → Type 0) (has : List (List ℕ) → Type 0) (unread : Always (λ m. taken_by m ≡ taken_by then) then new.now) where
-  abbrev so_far : Progress step true reads world (script_items old.input) Later (commands_of (lines_from line left)) had half old.now then
-  so_far = going_progress step reads world old.input taken left Later line had half old.now then g
+  abbrev so_far : Progress step true reads world (script_items old.input) Later (commands_of (lines_from line left)) had half old.now then old.dev_faults mid
+  so_far = going_progress step reads world old.input taken left Later line had half old.now then old.dev_faults mid g
 
   in_time : (rows : List Row) → ReadsInTime step world (g.rows ++ rows) old.now new.now
   in_time rows = takes_append (in_time_more step world g.rows rows old.now then g.in_time) (takes_none unread)
 
   -- the run was halted in the items that came next
-  pub session_part : {T U : Type 0} (result : Result T Halt) (halt : Halt) → result ≡ Err halt → Ran step true reads {T = U} (Err halt) (world_behind world g.rows) Next part half has then new.now
+  pub session_part : {T U : Type 0} (result : Result T Halt) (halt : Halt) → result ≡ Err halt → Ran step true reads {T = U} (Err halt) (world_behind world g.rows) Next part half has then new.now mid new.dev_faults
       → Session step reads limit result world old new
   unfolding ran_halted
   session_part {T} {U} result halt is r =
       subst (λ (v : Result T Halt). Session step reads limit v world old new) (sym is)
       (session_ran {T = T} step reads limit (Err halt) world old new Next had has
-      (ran_halted step true reads world (script_items old.input) Later (commands_of (lines_from line left)) had half old.now then so_far part more e {T = T} {U = U} halt Next Next has has new.now r)
+      (ran_halted step true reads world (script_items old.input) Later (commands_of (lines_from line left)) had half old.now then old.dev_faults mid so_far part more e {T = T} {U = U} halt Next Next has has new.now new.dev_faults r)
       tt (in_time r.given.rows))
 
   -- they were answered, and they were the last
-  pub session_whole : {T U : Type 0} {x : T} {y : U} → more ≡ [] → Ran step true reads {T = U} (Ok y) (world_behind world g.rows) Next part half has then new.now → IsReadThrough limit old.input new.input
+  pub session_whole : {T U : Type 0} {x : T} {y : U} → more ≡ [] → Ran step true reads {T = U} (Ok y) (world_behind world g.rows) Next part half has then new.now mid new.dev_faults → IsReadThrough limit old.input new.input
       → Session {T = T} step reads limit (Ok x) world old new
   unfolding progress_more ran_all
   session_whole {T} {U} {x} none r read =
       session_ran {T = T} step reads limit (Ok x) world old new Next had has
-      (ran_all step true reads world (script_items old.input) Next more had has old.now new.now
-      (progress_more step true reads world (script_items old.input) Later (commands_of (lines_from line left)) had half old.now then so_far part more e Next has new.now r) x none)
+      (ran_all step true reads world (script_items old.input) Next more had has old.now new.now old.dev_faults new.dev_faults
+      (progress_more step true reads world (script_items old.input) Later (commands_of (lines_from line left)) had half old.now then old.dev_faults mid so_far part more e Next has new.now new.dev_faults r) x none)
       read (in_time r.given.rows)
 
-  pub session_last : {T : Type 0} (result : Result T Halt) → more ≡ [] → Ran step true reads result (world_behind world g.rows) Next part half has then new.now → OnOk result (IsReadThrough limit old.input new.input)
+  pub session_last : {T : Type 0} (result : Result T Halt) → more ≡ [] → Ran step true reads result (world_behind world g.rows) Next part half has then new.now mid new.dev_faults → OnOk result (IsReadThrough limit old.input new.input)
       → Session step reads limit result world old new
   session_last (Ok x) none r read = session_whole none r read
   session_last (Err halt) none r read = session_part (Err halt) halt refl r

@@ -2,25 +2,23 @@
 use Rattle.std.proofs.Common.{◌≡◌, inl, inr, ℕ, List, [], ◌++◌, take, Result, Ok, Err, OnErr, IfErr, sym, ◌∙◌, ap}
 use Rattle.newt_host.specs.Outside.{Outside}
 use Rattle.newt_spec_script.specs.Script.{Item}
-use Rattle.newt_script_session.specs.Causes.{HasSinkCause, HasWriteCause}
+use Rattle.newt_script_session.specs.Causes.{HasSinkCause}
 use Rattle.newt_script_session.specs.Run.{SummaryHalted}
 use Rattle.newt_script_session.specs.Stream.{WroteSome}
 use Rattle.newt_script_session.specs.declared.halt.Halt.{Halt}
-use Rattle.newt_script_session.specs.declared.halt.Halt.TheVariants.{Memory, Device, Source, Sink, TooLong}
+use Rattle.newt_script_session.specs.declared.halt.Halt.TheVariants.{Memory, Source, Sink, TooLong}
 
 -- ---- what was written of the summary
 
 -- nothing was
-pub halted_quiet : (halt : Halt) (old new : Outside) (rest : List Item) (text before now : List ℕ) → HasWriteCause halt old new → now ≡ before → SummaryHalted halt rest text before now
+pub halted_quiet : (halt : Halt) (old new : Outside) (rest : List Item) (text before now : List ℕ) → HasSinkCause halt old new → now ≡ before → SummaryHalted halt rest text before now
 halted_quiet Memory old new rest text before now cause same = inl same
-halted_quiet (Device unit) old new rest text before now cause same = same
 halted_quiet Sink old new rest text before now cause same = inl same
 halted_quiet Source old new rest text before now cause same = absurd cause
 halted_quiet TooLong old new rest text before now cause same = absurd cause
 
 sink_reply : (halt : Halt) (old new : Outside) (rest : List Item) (text before now : List ℕ) → rest ≡ [] → HasSinkCause halt old new → WroteSome text before now → SummaryHalted halt rest text before now
 sink_reply Memory old new rest text before now all cause some = inr (all, some)
-sink_reply (Device unit) old new rest text before now all cause some = absurd cause
 sink_reply Sink old new rest text before now all cause some = inr (all, some)
 sink_reply Source old new rest text before now all cause some = absurd cause
 sink_reply TooLong old new rest text before now all cause some = absurd cause

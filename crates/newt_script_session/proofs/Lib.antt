@@ -4,6 +4,7 @@ pub mod Counting
 pub mod Cutting
 pub mod Items
 pub mod Rows
+pub mod Throwing
 pub mod Replying
 pub mod Turning
 pub mod Crashing

@@ -1,61 +1,74 @@
--- Where the only step is what the plain world answers.
-use Rattle.std.proofs.Common.{◌≡◌, ℕ, zero, suc, List, [], ◌∷◌, ◌++◌, map, take, Ok, Err, refl, sym, ◌∙◌, ap}
-use Rattle.newt_spec_script.specs.Script.{Item, replies_to, step, world_after}
+-- Where no device fails, a run of steps is what the plain world answers.
+use Rattle.std.proofs.Common.{◌≡◌, ℕ, zero, suc, ◌+◌, Bool, true, false, cond, eqb, List, [], ◌∷◌, ◌++◌, map, flat_map, refl, sym, ◌∙◌, ap, subst, arith}
+use Rattle.std.proofs.lemmas.Bool.{eqb-false}
+use Rattle.newt_host.specs.Outside.{Rose}
+use Rattle.newt_laws_steps.specs.Steps.{AllSure, AreQuiet}
+use Rattle.newt_laws_steps.specs.Thrown.{RoseBy, RowsThrew}
+use Rattle.newt_laws_steps.proofs.Runs.{quiet-run}
+use Rattle.newt_spec_script.specs.Rows.{IsRun, output_of, replies_of, reply_texts, Row, throws, thrown_count, world_behind}
 use Rattle.newt_spec_script.specs.Runs.{reply_texts as plain_texts, texts}
+use Rattle.newt_spec_script.specs.Script.{Item, replies_to, world_after}
 use Rattle.newt_spec_world.specs.Reply.{Reply, reply_text}
+use Rattle.newt_spec_world.specs.Step.{Step}
 use Rattle.newt_spec_world.specs.World.{World}
-use Rattle.newt_spec_script.specs.Rows.{Goes, IsRun, output_of, plain_step, reply_texts, Row, world_behind}
+use Rattle.newt_script_session.proofs.Throwing.{thrown_one}
 
--- what the plain world answers to items one after another
-abbrev pub plain_rows : World → List Item → List Row
-plain_rows world [] = []
-plain_rows world (item ∷ items) = step world item ∷ plain_rows (step world item).0 items
+same_number : (u : ℕ) → eqb u u ≡ true
+same_number u = go (eqb u u) refl
+  where
+    go : (b : Bool) → eqb u u ≡ b → eqb u u ≡ true
+    go true e = e
+    go false e = absurd (eqb-false u u e refl)
 
-row_is : (world : World) (item : Item) (row : Row) → Goes plain_step world item row → row ≡ step world item
-row_is world (Ok command) (next, reply) goes = sym goes
-row_is world (Err refusal) (next, reply) goes = ap {A = World} {B = Row} (λ v. (v, reply)) goes.0 ∙ ap {A = Reply} {B = Row} (λ r. (world, r)) goes.1
+-- a reply that names a unit is counted for it
+named : (unit : ℕ) (reply : Reply) → reply ≡ Reply.thrown unit → throws unit reply ≡ true
+named unit reply e = subst (λ (r : Reply). throws unit r ≡ true) (sym e) (same_number unit)
 
--- no other run is over them
-pub plain_run : (world : World) (items : List Item) (rows : List Row) → IsRun plain_step world items rows → rows ≡ plain_rows world items
-plain_run world [] [] run = refl
-plain_run world [] (row ∷ rows) run = absurd run
-plain_run world (item ∷ items) [] run = absurd run
-plain_run world (item ∷ items) (row ∷ rows) run =
-    let first = row_is world item row run.0 in
-    ap (λ (rs : List Row). row ∷ rs) (plain_run row.0 items rows run.1) ∙ ap (λ (r : Row). r ∷ plain_rows r.0 items) first
+-- no reply names a unit, where none is counted for any
+none_named : (rows : List Row) → ((unit : ℕ) → thrown_count unit rows ≡ 0) → AreQuiet rows
+none_named [] none = tt
+none_named (row ∷ rows) none = (
+  (λ unit e.
+      let there : 1 + thrown_count unit rows ≡ 0 =
+      sym (thrown_one unit row rows ∙ ap (λ (b : Bool). cond b 1 0 + thrown_count unit rows) (named unit row.1 e)) ∙ none unit in
+      absurd (omega (arith, there))),
+  none_named rows (λ unit.
+      let one = thrown_one unit row rows in
+      omega (arith, one, none unit)),
+)
 
-pub plain_behind : (world : World) (items : List Item) → world_behind world (plain_rows world items) ≡ world_after world items
-plain_behind world [] = refl
-plain_behind world (item ∷ items) = plain_behind (step world item).0 items
+not_risen : (n before now : ℕ) → RoseBy n before now → ¬ Rose before now → n ≡ 0
+not_risen zero before now rose not = refl
+not_risen (suc n) before now rose not = absurd (not (omega (arith, rose)))
 
-plain_replies : (world : World) (items : List Item) → map (λ (row : Row). row.1) (plain_rows world items) ≡ replies_to world items
-plain_replies world [] = refl
-plain_replies world (item ∷ items) = ap (λ (rs : List Reply). (step world item).1 ∷ rs) (plain_replies (step world item).0 items)
+-- no reply says that a device failed, where no count of the faults of one rose
+pub quiet_rows : (rows : List Row) (was is : ℕ → ℕ) → RowsThrew rows was is → ((unit : ℕ) → ¬ Rose (was unit) (is unit)) → AreQuiet rows
+quiet_rows rows was is threw none = none_named rows (λ unit. not_risen (thrown_count unit rows) (was unit) (is unit) (threw.rose unit) (none unit))
 
-pub plain_reply_texts : (world : World) (items : List Item) → reply_texts (plain_rows world items) ≡ plain_texts world items
-plain_reply_texts world [] = refl
-plain_reply_texts world (item ∷ items) = ap (λ (ts : List (List ℕ)). reply_text (step world item).1 ∷ ts) (plain_reply_texts (step world item).0 items)
+-- ---- texts of replies
 
-pub plain_output : (world : World) (items : List Item) → output_of (plain_rows world items) ≡ texts world items
-unfolding output_of texts
-plain_output world [] = refl
-plain_output world (item ∷ items) = ap (λ t. reply_text (step world item).1 ++ t) (plain_output (step world item).0 items)
+texts_of : (rows : List Row) → reply_texts rows ≡ map reply_text (replies_of rows)
+texts_of [] = refl
+texts_of (row ∷ rows) = ap (λ (ts : List (List ℕ)). reply_text row.1 ∷ ts) (texts_of rows)
 
--- of items behind one another
-pub plain_append : (world : World) (a b : List Item) → plain_rows world (a ++ b) ≡ plain_rows world a ++ plain_rows (world_after world a) b
-plain_append world [] b = refl
-plain_append world (item ∷ a) b = ap (λ (rs : List Row). step world item ∷ rs) (plain_append (step world item).0 a b)
-
--- of the first items
-pub plain_take : (m : ℕ) (world : World) (items : List Item) → take m (plain_rows world items) ≡ plain_rows world (take m items)
-plain_take zero world items = refl
-plain_take (suc m) world [] = refl
-plain_take (suc m) world (item ∷ items) = ap (λ (rs : List Row). step world item ∷ rs) (plain_take m (step world item).0 items)
+put_of : (rows : List Row) → output_of rows ≡ flat_map reply_text (replies_of rows)
+unfolding output_of
+put_of [] = refl
+put_of (row ∷ rows) = ap (λ t. reply_text row.1 ++ t) (put_of rows)
 
 -- ---- so it is said of every run
 
-pub world_is_plain : (world : World) (items : List Item) (rows : List Row) → IsRun plain_step world items rows → world_behind world rows ≡ world_after world items
-world_is_plain world items rows run = ap (world_behind world) (plain_run world items rows run) ∙ plain_behind world items
+module _ (world : World) (items : List Item) (rows : List Row) (was is : ℕ → ℕ) (sure : AllSure world) (run : IsRun Step world items rows) (threw : RowsThrew rows was is)
+    (none : (unit : ℕ) → ¬ Rose (was unit) (is unit)) where
+  pub replies_are_plain : replies_of rows ≡ replies_to world items
+  replies_are_plain = (quiet-run world items rows sure run (quiet_rows rows was is threw none)).0
 
-pub replies_are_plain : (world : World) (items : List Item) (rows : List Row) → IsRun plain_step world items rows → map (λ (row : Row). row.1) rows ≡ replies_to world items
-replies_are_plain world items rows run = ap (map (λ (row : Row). row.1)) (plain_run world items rows run) ∙ plain_replies world items
+  pub world_is_plain : world_behind world rows ≡ world_after world items
+  world_is_plain = (quiet-run world items rows sure run (quiet_rows rows was is threw none)).1
+
+  pub texts_are_plain : reply_texts rows ≡ plain_texts world items
+  texts_are_plain = texts_of rows ∙ ap (map reply_text) replies_are_plain
+
+  pub output_is_plain : output_of rows ≡ texts world items
+  unfolding texts
+  output_is_plain = put_of rows ∙ ap (flat_map reply_text) replies_are_plain

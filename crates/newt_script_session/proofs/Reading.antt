@@ -32,7 +32,7 @@ unread_printing bytes old new some = Always-map (λ m part. ap taken part.moment
 
 -- a command is answered
 pub unread_stepped : {told : Bool} {E : Type 0} {step : Stepping} {reads : List ℕ → Option Store} {command : Command} {result : Result Reply E} {Before After : World → Type 0} {a b : Outside} → OnDevices a b
-    → (IsTrue told → (world : World) × Before world) → (IsTrue told → (world : World) → Before world → Stepped step reads command result world After a.now b.now) → Unread told a b
+    → (IsTrue told → (world : World) × Before world) → (IsTrue told → (world : World) → Before world → Stepped step reads command result world After a.now b.now a.dev_faults b.dev_faults) → Unread told a b
 unread_stepped on some stepped = record {
   input = on.input;
   moments = λ tells. let w = some tells in Always-map (λ m a. a.unread) (stepped tells w.0 w.1).moments;

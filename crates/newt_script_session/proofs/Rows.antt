@@ -5,6 +5,7 @@ use Rattle.std.proofs.lemmas.List.{map-append}
 use Rattle.newt_spec_script.specs.Script.{Item}
 use Rattle.newt_spec_world.specs.Reply.{reply_text}
 use Rattle.newt_spec_world.specs.World.{World}
+use Rattle.newt_script_session.specs.Moments.{worlds_behind}
 use Rattle.newt_spec_script.specs.Rows.{IsRun, output_of, reply_texts, Row, Stepping, world_behind}
 
 pub run_append : (step : Stepping) (world : World) (a b : List Item) (ra rb : List Row) → IsRun step world a ra → IsRun step (world_behind world ra) b rb → IsRun step world (a ++ b) (ra ++ rb)
@@ -42,3 +43,7 @@ output_first row rows = refl
 
 pub replies_append : (a b : List Row) → reply_texts (a ++ b) ≡ reply_texts a ++ reply_texts b
 replies_append a b = map-append (λ (row : Row). reply_text row.1) a b
+
+pub worlds_append : (before : List World) (world : World) (a b : List Row) → worlds_behind before world (a ++ b) ≡ worlds_behind (worlds_behind before world a) (world_behind world a) b
+worlds_append before world [] b = refl
+worlds_append before world (row ∷ a) b = worlds_append (world ∷ before) row.0 a b

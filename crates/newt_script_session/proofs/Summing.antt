@@ -1,9 +1,10 @@
 -- A script whose replies are counted, and its summary.
 use Rattle.std.proofs.Common.{◌≡◌, ℕ, suc, ◌+◌, ◌<◌, ◌≤◌, ◌^◌, true, false, cond, eqb, Option, Some, None, Result, Ok, Err, OnErr, IfErr, List, [], ◌∷◌, ◌++◌, length, refl, sym, ◌∙◌, ap, subst, append-nil, arith}
+use Rattle.std.specs.Prelude.{drop}
 use Rattle.std.proofs.lemmas.List.{length-append, length-map, take_at}
 use Rattle.std.proofs.lemmas.Result.{on_ok_weaker}
 use Rattle.newt_host.specs.Meanings.{out_of}
-use Rattle.newt_host.specs.Moments.{Moment, Always, output as printed}
+use Rattle.newt_host.specs.Moments.{Moment, Always, MayLeave, output as printed}
 use Rattle.newt_host.specs.Outside.{Outside, PrintsSome}
 use Rattle.newt_host.proofs.Moments.{Always-append, Always-last, Always-map}
 use Rattle.newt_host.proofs.Printing.{output-printed}
@@ -16,21 +17,22 @@ use Rattle.newt_spec_world.specs.declared.command.Command.{Command}
 use Rattle.newt_spec_world.specs.Reply.{reply_text}
 use Rattle.newt_spec_world.specs.World.{World}
 use Rattle.newt_script_session.specs.Answered.{Ran}
-use Rattle.newt_script_session.specs.Causes.{HasSinkCause, HasWriteCause}
+use Rattle.newt_script_session.specs.Causes.{HasSinkCause}
 use Rattle.newt_script_session.specs.Counted.{Counted, CountedAt}
 use Rattle.newt_script_session.specs.Counts.{Tallies, lines_of_tally, summary_of}
 use Rattle.newt_script_session.specs.Lines.{ended_lines, unended, last_line, lines_of}
-use Rattle.newt_script_session.specs.Moments.{BeforeOrAfter}
+use Rattle.newt_script_session.specs.Moments.{BlankThrough, Fresh, worlds_behind}
 use Rattle.newt_spec_script.specs.Rows.{IsRun, reply_texts, Row, Stepping, world_at, world_behind}
 use Rattle.newt_script_session.specs.Script.{commands_of, given, items_of, script_items}
 use Rattle.newt_script_session.specs.Stream.{Puts, WroteSome}
 use Rattle.newt_script_session.specs.declared.halt.Halt.{Halt}
 use Rattle.newt_script_session.specs.declared.tally.Tally.{Tally}
-use Rattle.newt_script_session.proofs.Crashing.{AtRest, counted_always, its_before, left_same, prints_changes}
+use Rattle.newt_script_session.proofs.Crashing.{AtRest, counted_always, fresh_through, its_at, left_same, prints_changes}
 use Rattle.newt_script_session.proofs.Halting.{halted_quiet, halted_writing}
 use Rattle.newt_script_session.proofs.Rows.{run_length}
 use Rattle.newt_script_session.proofs.Spelling.{script_items_are}
 use Rattle.newt_script_session.proofs.Texts.{tally_summary}
+use Rattle.newt_script_session.proofs.Throwing.{failed_same, threw_same}
 
 -- ---- a script has no more replies than bytes
 
@@ -91,26 +93,29 @@ few_replies step world script rows run =
 -- ---- moments
 
 module _ (step : Stepping) (reads : List ℕ → Option Store) (script : List ℕ) (world : World) (old mid : Outside) where
-  counting : {T : Type 0} (result : Result T Halt) (Last : World → Type 0) (had has : List (List ℕ) → Type 0) → (r : Ran step false reads result world Last (script_items script) had has old.now mid.now)
+  counting : {T : Type 0} (result : Result T Halt) (Last : World → Type 0) (had has : List (List ℕ) → Type 0) → (r : Ran step false reads result world Last (script_items script) had has old.now mid.now old.dev_faults mid.dev_faults)
       → Always (CountedAt reads old.now world (script_items script) r.given.rows (out_of old)) old.now mid.now
-  counting result Last had has r = counted_always reads old.now world (script_items script) r.given.rows (out_of old) old.now mid.now (r.moments old.now (λ unit none. refl))
+  counting result Last had has r = counted_always reads old.now world (script_items script) r.given.first r.given.rest r.given.split r.given.rows (out_of old) old.now mid.now
+      (r.moments old.now [] (λ unit left f blank may. may))
 
-  quiet : {T : Type 0} (result : Result T Halt) (Last : World → Type 0) (had has : List (List ℕ) → Type 0) → Ran step false reads result world Last (script_items script) had has old.now mid.now → out_of mid ≡ out_of old
-  quiet result Last had has r = (Always-last (r.moments old.now (λ unit none. refl))).out ∙ append-nil (out_of old)
+  quiet : {T : Type 0} (result : Result T Halt) (Last : World → Type 0) (had has : List (List ℕ) → Type 0) → Ran step false reads result world Last (script_items script) had has old.now mid.now old.dev_faults mid.dev_faults → out_of mid ≡ out_of old
+  quiet result Last had has r = (Always-last (r.moments old.now [] (λ unit left f blank may. may))).out ∙ append-nil (out_of old)
 
   -- a command was not answered
-  pub counted_halted : {T U : Type 0} (result : Result T Halt) (halt : Halt) (Last : World → Type 0) (had has : List (List ℕ) → Type 0) → result ≡ Err halt → HasWriteCause halt old mid
-      → Ran step false reads {T = U} (Err halt) world Last (script_items script) had has old.now mid.now → Counted step reads script result world old mid
+  pub counted_halted : {T U : Type 0} (result : Result T Halt) (halt : Halt) (Last : World → Type 0) (had has : List (List ℕ) → Type 0) → result ≡ Err halt → HasSinkCause halt old mid
+      → Ran step false reads {T = U} (Err halt) world Last (script_items script) had has old.now mid.now old.dev_faults mid.dev_faults → Counted step reads script result world old mid
   counted_halted {T} {U} result halt Last had has is cause r =
       subst (λ (v : Result T Halt). Counted step reads script v world old mid) (sym is) (record {
         given = r.given;
         out = tt;
         halted = halted_quiet halt old mid r.given.rest (summary_of r.given.rows) (out_of old) (out_of mid) cause (quiet {T = U} (Err halt) Last had has r);
+        threw = r.threw;
+        failed = tt;
         crash = counting {T = U} (Err halt) Last had has r;
       })
 
   -- all were, and then the summary was written
-  module _ {T : Type 0} (x : T) (Last : World → Type 0) (has : List (List ℕ) → Type 0) (first tally : Tally) (r : Ran step false reads {T = T} (Ok x) world Last (script_items script) (Tallies first) has old.now mid.now)
+  module _ {T : Type 0} (x : T) (Last : World → Type 0) (has : List (List ℕ) → Type 0) (first tally : Tally) (r : Ran step false reads {T = T} (Ok x) world Last (script_items script) (Tallies first) has old.now mid.now old.dev_faults mid.dev_faults)
       (its : AtRest reads (world_behind world r.given.rows) mid.now) where
     abbrev rows : List Row
     rows = r.given.rows
@@ -129,27 +134,32 @@ module _ (step : Stepping) (reads : List ℕ → Option Store) (script : List �
     counted_last text now some = record {
       shown = some.done;
       out = ap printed some.moment ∙ (output-printed some.done mid.now ∙ ap (λ o. o ++ some.done) same);
-      leaves = λ more. (
+      leaves = λ later more. (
         length (script_items script),
         (λ out. refl),
         (λ unit left may.
+            let n = length (script_items script) in
             let last = world_behind world rows in
-            let here_is : last ≡ world_at world (rows ++ more) (length (script_items script)) =
-            ap (world_behind world) (sym (take_at rows more (length (script_items script)) (run_length step world (script_items script) rows run_all))) in
-            subst (λ (v : World). BeforeOrAfter reads old.now v (world_at world (rows ++ more) (length (script_items script) + 1)) unit left) here_is
-            (its_before reads old.now last (world_at world (rows ++ more) (length (script_items script) + 1)) unit left
-            (its old.now (r.done.1.untouched old.now (λ u none. refl)) unit left (left_same unit left mid.now now (prints_changes text mid.now now some unit) may)))),
+            let all = rows ++ more in
+            let size = run_length step world (script_items script) rows run_all in
+            let here_is : last ≡ world_at world all n = ap (world_behind world) (sym (take_at rows more n size)) in
+            let fresh : BlankThrough world all n unit → Fresh (worlds_behind [] world rows) unit = λ b. fresh_through world rows more n unit [] size tt b in
+            its_at reads (MayLeave unit old.now) (Fresh (worlds_behind [] world rows) unit) (BlankThrough world all n unit) last (world_at world all n) (drop n (script_items script ++ later))
+            (world_at world all (n + 1)) unit left here_is fresh
+            (its old.now (worlds_behind [] world rows) (r.done.1.untouched old.now [] (λ unit left f blank may. may)) unit left (left_same unit left mid.now now (prints_changes text mid.now now some unit) may))),
       );
     }
 
     pub counted_put : {U : Type 0} → Tallies first [] → ((texts : List (List ℕ)) → has texts → Tallies tally texts) → length script < 2 ^ 64 → (result : Result U Halt) (new : Outside)
-        → IfErr result (λ halt. HasSinkCause halt mid new) → Puts result (lines_of_tally tally) mid.now new.now → Counted step reads script result world old new
-    counted_put none tallies size result new cause puts =
+        → ((unit : ℕ) → new.dev_faults unit ≡ mid.dev_faults unit) → IfErr result (λ halt. HasSinkCause halt mid new) → Puts result (lines_of_tally tally) mid.now new.now → Counted step reads script result world old new
+    counted_put none tallies size result new counts_same cause puts =
         let counts = tallies (reply_texts rows) (r.done.1.took [] none) (omega (arith, few_replies step world script rows run_all, size)) in
         let put : Puts result (summary_of rows) mid.now new.now = subst (λ (t : List ℕ). Puts result t mid.now new.now) (tally_summary rows tally counts) puts in
         record {
           given = r.given;
           out = on_ok_weaker result (λ e. (r.done.0, e ∙ ap (λ o. o ++ summary_of rows) same)) put.whole;
+          threw = threw_same rows old.dev_faults mid.dev_faults new.dev_faults counts_same r.threw;
+          failed = on_ok_weaker result (λ e. failed_same rows old.dev_faults mid.dev_faults new.dev_faults counts_same r.done.1.failed) put.whole;
           halted = halted_writing result mid new r.given.rest (summary_of rows) (out_of old) (out_of new) r.done.0 cause
               (subst (λ (o : List ℕ). OnErr result (WroteSome (summary_of rows) o (out_of new))) same put.failed);
           crash = Always-append (counting {T = T} (Ok x) Last (Tallies first) has r) (Always-map (λ m some. counted_last (summary_of rows) m some) put.moments);

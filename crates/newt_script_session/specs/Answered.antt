@@ -7,11 +7,12 @@ use Rattle.newt_spec_store.specs.Store.{Store}
 use Rattle.newt_spec_world.specs.World.{World}
 use Rattle.newt_script_session.specs.Causes.{flow_of}
 use Rattle.newt_script_session.specs.Lines.{ended_lines, unended}
-use Rattle.newt_script_session.specs.Moments.{SafeAt, Untouched}
+use Rattle.newt_script_session.specs.Moments.{SafeAt, Untouched, worlds_behind}
 use Rattle.newt_spec_script.specs.Rows.{IsRun, output_of, reply_texts, Row, Stepping, world_behind}
 use Rattle.newt_script_session.specs.Run.{HaltedIn}
 use Rattle.newt_script_session.specs.Script.{has_quit}
 use Rattle.newt_script_session.specs.Stream.{put_out}
+use Rattle.newt_laws_steps.specs.Thrown.{RowsFailed, RowsThrew}
 use Rattle.newt_script_session.specs.declared.halt.Flow.{Flow}
 use Rattle.newt_script_session.specs.declared.halt.Flow.TheVariants.{Go}
 use Rattle.newt_script_session.specs.declared.halt.Halt.{Halt}
@@ -26,12 +27,13 @@ module _ (shows : Bool) where
   -- The rows were answered, and the world behind them is one of those that are stood for then. Each
   -- reply was taken: the sink had some replies before and has these behind them.
   pub record Answered (world : World) (StoodFor : World → Type 0) (rows : List Row)
-      (had has : List (List ℕ) → Type 0) (old now : Moment) : Type 0 where
+      (had has : List (List ℕ) → Type 0) (old now : Moment) (was is : ℕ → ℕ) : Type 0 where
     pub stands_for : StoodFor (world_behind world rows)
     pub put : printed now ≡ printed old ++ put_out shows (output_of rows)
     pub took : (before : List (List ℕ)) → had before → has (before ++ reply_texts rows)
-    pub untouched : (start : Moment) → Untouched start world old
-        → Untouched start (world_behind world rows) now
+    pub untouched : (start : Moment) (before : List World) → Untouched start before world old
+        → Untouched start (worlds_behind before world rows) (world_behind world rows) now
+    pub failed : RowsFailed rows was is
 
 module _ (step : Stepping) where
   -- The first of the items have been given, and these rows are a run over them.
@@ -47,11 +49,13 @@ module _ (step : Stepping) where
     -- first ones, and a crash at each moment leaves what it may.
     pub record Ran {T : Type 0} (result : Result T Halt) (world : World)
         (StoodFor : World → Type 0) (items : List Item) (had has : List (List ℕ) → Type 0)
-        (old now : Moment) : Type 0 where
+        (old now : Moment) (was is : ℕ → ℕ) : Type 0 where
       pub given : Given world items
       pub done : OnOk result
-          ((given.rest ≡ []) × Answered shows world StoodFor given.rows had has old now)
+          ((given.rest ≡ []) × Answered shows world StoodFor given.rows had has old now was is)
       pub halted : IsTrue shows
           → IfErr result (λ halt. HaltedIn halt given.rows (printed old) (printed now))
-      pub moments : (start : Moment) → Untouched start world old
-          → Always (SafeAt shows store_of_image start world given.rows (printed old)) old now
+      pub threw : RowsThrew given.rows was is
+      pub moments : (start : Moment) (before : List World) → Untouched start before world old
+          → Always (SafeAt shows store_of_image start before world given.first given.rows
+          (printed old)) old now

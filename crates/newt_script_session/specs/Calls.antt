@@ -2,18 +2,18 @@
 -- is attached.
 use Rattle.std.specs.Prelude.{◌≡◌, Bool, IsTrue, Result, OnOk, IfErr}
 use Rattle.newt_host.specs.Moments.{Always, taken}
-use Rattle.newt_host.specs.Outside.{Outside, NoFault, Rose, SameCards}
-use Rattle.newt_script_session.specs.Causes.{HasCause, HasWriteCause, NeverLess, SameDevices}
+use Rattle.newt_host.specs.Outside.{Outside, Rose, SameCards}
+use Rattle.newt_script_session.specs.Causes.{HasCause, HasSinkCause, NeverLess, NoStreamFault, SameDevices}
 use Rattle.newt_script_session.specs.declared.halt.Halt.{Halt}
 use Rattle.newt_script_session.specs.declared.halt.Halt.TheVariants.{Source}
 
--- No count of faults has fallen. With an error there is its cause, and with an answer no fault was
--- counted at all.
+-- No count of faults has fallen. With an error there is its cause, and with an answer no fault of
+-- the input or of the output was counted.
 pub record Faults {T E : Type 0} (Cause : E → (old new : Outside) → Type 0) (result : Result T E)
     (old new : Outside) : Type 0 where
   pub later : NeverLess old new
   pub cause : IfErr result (λ error. Cause error old new)
-  pub no_fault : OnOk result (NoFault old new)
+  pub no_fault : OnOk result (NoStreamFault old new)
 
 -- the output has failed, whatever the error is
 abbrev pub OutputFailed : {E : Type 0} → E → (old new : Outside) → Type 0
@@ -37,7 +37,7 @@ pub record AnswerCall {T : Type 0} (told : Bool) (result : Result T Halt)
     (old new : Outside) : Type 0 where
   pub unread : Unread told old new
   pub cards : SameCards old new
-  pub faults : Faults HasWriteCause result old new
+  pub faults : Faults HasSinkCause result old new
 
 -- the input has failed
 abbrev pub HasReadCause : Halt → (old new : Outside) → Type 0
@@ -57,8 +57,8 @@ pub record RunCall {T : Type 0} (result : Result T Halt) (old new : Outside) : T
   pub cards : SameCards old new
   pub faults : Faults HasCause result old new
 
--- So far no byte was read, the same devices are attached, and no fault was counted.
+-- So far no byte was read, the same devices are attached, and no fault of a stream was counted.
 pub record Quiet (told : Bool) (old new : Outside) : Type 0 where
   pub unread : Unread told old new
   pub cards : SameCards old new
-  pub no_fault : NoFault old new
+  pub no_fault : NoStreamFault old new

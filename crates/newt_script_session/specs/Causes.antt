@@ -2,44 +2,27 @@
 use Rattle.std.specs.Prelude.{◌≡◌, ℕ, ◌≤◌, Bool, true, false, IsTrue}
 use Rattle.newt_host.specs.Moments.{changes}
 use Rattle.newt_host.specs.Outside.{Outside, Rose, SameCards, SameCounts}
-use Rattle.newt_pagebook.specs.declared.book.Stop.{Stop}
-use Rattle.newt_pagebook.specs.declared.book.Stop.TheVariants as stops
 use Rattle.newt_script_session.specs.declared.halt.Flow.{Flow}
 use Rattle.newt_script_session.specs.declared.halt.Flow.TheVariants.{Go, Quit}
 use Rattle.newt_script_session.specs.declared.halt.Halt.{Halt}
-use Rattle.newt_script_session.specs.declared.halt.Halt.TheVariants.{Memory, Device, Source, Sink, TooLong}
+use Rattle.newt_script_session.specs.declared.halt.Halt.TheVariants.{Memory, Source, Sink, TooLong}
 
 -- the script goes on, but for a quit
 abbrev pub flow_of : Bool → Flow
 flow_of true = Quit
 flow_of false = Go
 
--- why a run ends where a command was not answered
-abbrev pub halt_of : Stop → Halt
-halt_of stops.Memory = Memory
-halt_of (stops.Device unit) = Device unit
-
 -- what may halt the writing of a text: out of memory, or the output where it has failed
 abbrev pub HasSinkCause : Halt → (old new : Outside) → Type 0
 HasSinkCause Memory old new = Unit {0}
-HasSinkCause (Device unit) old new = ⊥
 HasSinkCause Sink old new = Rose old.out_faults new.out_faults
 HasSinkCause Source old new = ⊥
 HasSinkCause TooLong old new = ⊥
 
--- what may halt an answer: out of memory, or a device or the output where it has failed
-abbrev pub HasWriteCause : Halt → (old new : Outside) → Type 0
-HasWriteCause Memory old new = Unit {0}
-HasWriteCause (Device unit) old new = Rose (old.dev_faults unit) (new.dev_faults unit)
-HasWriteCause Sink old new = Rose old.out_faults new.out_faults
-HasWriteCause Source old new = ⊥
-HasWriteCause TooLong old new = ⊥
-
--- a fault of the input, of the output or of a device was counted where one is said to have halted the run
+-- a fault of the input or of the output was counted where one is said to have halted the run
 abbrev pub HasCause : Halt → (old new : Outside) → Type 0
 HasCause Memory old new = Unit {0}
 HasCause TooLong old new = Unit {0}
-HasCause (Device unit) old new = Rose (old.dev_faults unit) (new.dev_faults unit)
 HasCause Source old new = Rose old.in_faults new.in_faults
 HasCause Sink old new = Rose old.out_faults new.out_faults
 
@@ -48,6 +31,12 @@ pub record SameDevices (told : Bool) (old new : Outside) : Type 0 where
   pub cards : SameCards old new
   pub counts : SameCounts old new
   pub changes : IsTrue told → (unit : ℕ) → changes unit new.now ≡ changes unit old.now
+
+-- no fault of the input or of the output was counted, and no count of a device has fallen
+pub record NoStreamFault (old new : Outside) : Type 0 where
+  pub in_faults : new.in_faults ≡ old.in_faults
+  pub out_faults : new.out_faults ≡ old.out_faults
+  pub dev_faults : (unit : ℕ) → old.dev_faults unit ≤ new.dev_faults unit
 
 -- no count of faults has fallen
 pub record NeverLess (old new : Outside) : Type 0 where

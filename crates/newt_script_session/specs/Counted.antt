@@ -1,15 +1,16 @@
 -- What a crash leaves at each moment of a script whose replies are counted. All of it is this
 -- project's own.
-use Rattle.std.specs.Prelude.{◌≡◌, ℕ, ◌+◌, ◌<◌, List, [], ◌++◌, length, Option, Result, OnOk, IfErr}
+use Rattle.std.specs.Prelude.{◌≡◌, ℕ, ◌+◌, ◌<◌, List, [], ◌++◌, length, Option, Some, Result, OnOk, IfErr}
 use Rattle.newt_host.specs.Meanings.{out_of}
 use Rattle.newt_host.specs.Moments.{Moment, MayLeave, Always, output as printed}
 use Rattle.newt_host.specs.Outside.{Outside}
 use Rattle.newt_script_session.specs.Answered.{Given}
 use Rattle.newt_script_session.specs.Counts.{summary_of}
-use Rattle.newt_script_session.specs.Moments.{BeforeOrAfter, HeldOrAfter}
-use Rattle.newt_spec_script.specs.Rows.{Row, Stepping, world_at}
+use Rattle.newt_script_session.specs.Moments.{Behind}
+use Rattle.newt_spec_script.specs.Rows.{Row, Stepping}
 use Rattle.newt_script_session.specs.Run.{SummaryHalted}
 use Rattle.newt_script_session.specs.Script.{script_items}
+use Rattle.newt_laws_steps.specs.Thrown.{RowsFailed, RowsThrew}
 use Rattle.newt_script_session.specs.declared.halt.Halt.{Halt}
 use Rattle.newt_spec_script.specs.Script.{Item}
 use Rattle.newt_spec_store.specs.Store.{Store}
@@ -23,10 +24,11 @@ pub record CountedAt (store_of_image : List ℕ → Option Store) (start : Momen
     (items : List Item) (rows : List Row) (old : List ℕ) (now : Moment) : Type 0 where
   pub shown : List ℕ
   pub out : printed now ≡ old ++ shown
-  pub leaves : (more : List Row) → (done : ℕ) × (0 < length shown → done ≡ length items)
+  pub leaves : (later : List Item) (more : List Row) → (done : ℕ)
+      × (0 < length shown → done ≡ length items)
       × ((unit : ℕ) (left : List ℕ) → MayLeave unit now left
-      → BeforeOrAfter store_of_image start (world_at world (rows ++ more) done)
-      (world_at world (rows ++ more) (done + 1)) unit left)
+      → Behind store_of_image (MayLeave unit start) world (items ++ later) (rows ++ more) done unit
+      left)
 
 -- What a crash has left on a unit whose device was held like this before the run, while that was
 -- the output: the unit is between the worlds behind a number of the rows and behind one more,
@@ -36,9 +38,10 @@ pub record HasLeftCounted (store_of_image : List ℕ → Option Store) (world : 
     (left : List ℕ) : Type 0 where
   pub shown : List ℕ
   pub grown : out ≡ old ++ shown
-  pub leaves : (more : List Row) → (done : ℕ) × (0 < length shown → done ≡ length items)
-      × HeldOrAfter store_of_image held (world_at world (rows ++ more) done)
-      (world_at world (rows ++ more) (done + 1)) unit left
+  pub leaves : (later : List Item) (more : List Row) → (done : ℕ)
+      × (0 < length shown → done ≡ length items)
+      × Behind store_of_image (λ bytes. held ≡ Some bytes) world (items ++ later) (rows ++ more) done
+      unit left
 
 -- The script was answered from this world on, by a run over its first items, and with an answer
 -- over all, and the replies counted: what was written of the summary, and what a crash leaves at
@@ -49,5 +52,7 @@ pub record Counted {T : Type 0} (step : Stepping) (store_of_image : List ℕ →
   pub out : OnOk result ((given.rest ≡ []) × (out_of new ≡ out_of old ++ summary_of given.rows))
   pub halted : IfErr result
       (λ halt. SummaryHalted halt given.rest (summary_of given.rows) (out_of old) (out_of new))
+  pub threw : RowsThrew given.rows old.dev_faults new.dev_faults
+  pub failed : OnOk result (RowsFailed given.rows old.dev_faults new.dev_faults)
   pub crash : Always (CountedAt store_of_image old.now world (script_items script) given.rows
       (out_of old)) old.now new.now

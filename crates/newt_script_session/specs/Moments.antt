@@ -1,11 +1,15 @@
--- What a crash leaves at each moment of a script.
-use Rattle.std.specs.Prelude.{◌≡◌, ◌⊎◌, ℕ, zero, suc, ◌+◌, ◌-◌, Bool, List, [], ◌∷◌, ◌++◌, length}
-use Rattle.std.specs.Prelude.{Option, Some, None, MatchOption}
-use Rattle.newt_host.specs.Moments.{Moment, MayLeave, changes, output as printed}
+-- What a crash leaves at each moment of a script, where devices may fail.
+use Rattle.std.specs.Prelude.{◌≡◌, ◌⊎◌, ℕ, zero, suc, ◌+◌, ◌-◌, ◌≤◌, Bool, false, List, [], ◌∷◌, ◌++◌, length, drop}
+use Rattle.std.specs.Prelude.{Option, Some, Ok, Err}
+use Rattle.newt_host.specs.Moments.{Moment, MayLeave, output as printed}
+use Rattle.newt_laws_steps.specs.Answering.{ReadsOneOf}
+use Rattle.newt_spec_graph.specs.Lists.{Among, Each}
+use Rattle.newt_spec_script.specs.Rows.{Row, reply_texts, world_at}
+use Rattle.newt_spec_script.specs.Script.{Item}
 use Rattle.newt_spec_store.specs.Store.{Store}
 use Rattle.newt_spec_world.specs.Reply.{reply_text}
-use Rattle.newt_spec_world.specs.World.{World, store_on_unit}
-use Rattle.newt_spec_script.specs.Rows.{Row, reply_texts, world_at}
+use Rattle.newt_spec_world.specs.Step.{formats}
+use Rattle.newt_spec_world.specs.World.{World, stores_on, IsBlankOn}
 use Rattle.newt_script_session.specs.Stream.{put_out}
 
 -- how many of the texts have begun where so many bytes are out
@@ -18,65 +22,93 @@ begun (text ∷ texts) (suc n) = suc (begun texts (suc n - length text))
 abbrev pub replies_begun : List Row → ℕ → ℕ
 replies_begun rows shown = begun (reply_texts rows) shown
 
-module _ (store_of_image : List ℕ → Option Store) (start : Moment) where
-  -- So a crash leaves a unit between two worlds: with a store in the first, it reads as that store
-  -- or as its store in the second; without one in both, it is what a crash might have left at the
-  -- start.
-  abbrev pub BeforeOrAfter : World → World → ℕ → List ℕ → Type 0
-  BeforeOrAfter world next unit left = MatchOption (store_on_unit world unit)
-      (store_on_unit next unit ≡ None → MayLeave unit start left)
-      (λ store. (store_of_image left ≡ Some store)
-      ⊎ (store_of_image left ≡ store_on_unit next unit))
+-- the unit holds no store in the worlds up to and with the one behind so many rows
+abbrev pub BlankThrough : World → List Row → ℕ → ℕ → Type 0
+BlankThrough world rows m unit = (k : ℕ) → k ≤ m → IsBlankOn (world_at world rows k) unit
+
+-- the item is a format of the unit that is not refused in this world
+abbrev pub item_formats : World → Item → ℕ → Bool
+item_formats world (Ok command) unit = formats world command unit
+item_formats world (Err refusal) unit = false
+
+-- the first of the items is one
+abbrev pub formats_next : World → List Item → ℕ → Bool
+formats_next world [] unit = false
+formats_next world (item ∷ items) unit = item_formats world item unit
+
+-- a unit holds no store in these worlds
+abbrev pub Fresh : List World → ℕ → Type 0
+Fresh worlds unit = Each (λ w. IsBlankOn w unit) worlds
+
+-- worlds, and those of a run behind them but for the last, the latest first
+abbrev pub worlds_behind : List World → World → List Row → List World
+worlds_behind before world [] = before
+worlds_behind before world (row ∷ rows) = worlds_behind (world ∷ before) row.0 rows
+
+-- Of a unit that holds no store, nor held one in the worlds before, a crash leaves what it might have left at the start.
+abbrev pub Untouched : Moment → List World → World → Moment → Type 0
+Untouched start before world now = (unit : ℕ) (left : List ℕ) → Fresh before unit → IsBlankOn world unit → MayLeave unit now left → MayLeave unit start left
+
+-- What is left of a unit between two worlds, where the items go on from the first: one of its
+-- stores in the one or in the other, where it has one, or one of two, in the first; and where F says
+-- that it held none before, and it holds none in the first and is not to hold one, what was left of
+-- it at first.
+pub record Between (store_of_image : List ℕ → Option Store) (AtFirst : List ℕ → Type 0)
+    (F : Type 0) (world : World) (items : List Item) (next : World) (unit : ℕ)
+    (left : List ℕ) : Type 0 where
+  pub stores : (s : Store) → Among (stores_on world unit) s
+      → ReadsOneOf store_of_image (stores_on world unit ++ stores_on next unit) left
+  pub blank : F → IsBlankOn world unit
+      → (formats_next world items unit ≡ false) ⊎ IsBlankOn next unit → AtFirst left
+
+-- what is left of a unit behind m of the rows, which the items gave: it held no store up to there
+abbrev pub Behind : (List ℕ → Option Store) → (AtFirst : List ℕ → Type 0) → World → List Item
+    → List Row → ℕ → ℕ → List ℕ → Type 0
+Behind store_of_image AtFirst world items rows m unit left = Between store_of_image AtFirst
+    (BlankThrough world rows m unit) (world_at world rows m) (drop m items)
+    (world_at world rows (m + 1)) unit left
 
 module _ (store_of_image : List ℕ → Option Store) (start : Moment) where
   -- A crash at this moment: the output has grown by so much, so of the rows a number m has replies
   -- that have begun, and the crash leaves each unit between the worlds behind m rows and behind one
-  -- more, whatever rows follow. Behind the last row both are one.
-  pub record CrashAt (world : World) (rows : List Row) (old : List ℕ) (now : Moment) : Type 0 where
+  -- more, whatever items and rows follow. Behind the last row both are one.
+  pub record CrashAt (world : World) (items : List Item) (rows : List Row) (old : List ℕ)
+      (now : Moment) : Type 0 where
     pub shown : List ℕ
     pub out : printed now ≡ old ++ shown
-    pub leaves : (more : List Row) (unit : ℕ) (left : List ℕ) → MayLeave unit now left
-        → let all = rows ++ more in let m = replies_begun all (length shown) in
-        BeforeOrAfter store_of_image start (world_at world all m) (world_at world all (m + 1)) unit left
+    pub leaves : (later : List Item) (more : List Row) (unit : ℕ) (left : List ℕ)
+        → MayLeave unit now left → Behind store_of_image (MayLeave unit start) world
+        (items ++ later) (rows ++ more) (replies_begun (rows ++ more) (length shown)) unit left
 
   -- the same by recursion on the rows, where so many bytes are out
-  unfoldable pub Leaves : World → List Row → ℕ → ℕ → List ℕ → Type 0
-  Leaves world [] shown unit left = BeforeOrAfter store_of_image start world world unit left
-  Leaves world (row ∷ rows) zero unit left =
-      BeforeOrAfter store_of_image start world row.0 unit left
-  Leaves world (row ∷ rows) (suc n) unit left =
-      Leaves row.0 rows (suc n - length (reply_text row.1)) unit left
+  unfoldable pub Leaves : Type 0 → World → List Item → List Row → ℕ → ℕ → List ℕ → Type 0
+  Leaves F world items [] shown unit left =
+      Between store_of_image (MayLeave unit start) F world items world unit left
+  Leaves F world items (row ∷ rows) zero unit left =
+      Between store_of_image (MayLeave unit start) F world items row.0 unit left
+  Leaves F world items (row ∷ rows) (suc n) unit left =
+      Leaves (IsBlankOn world unit × F) row.0 (drop 1 items) rows
+      (suc n - length (reply_text row.1)) unit left
 
--- A crash at this moment leaves what it may, whatever rows follow these: of the replies so many
--- bytes were taken, and put out where the sink shows them.
+-- A crash at this moment leaves what it may, whatever items and rows follow these: of the replies so
+-- many bytes were taken, and put out where the sink shows them.
 pub record SafeAt (shows : Bool) (store_of_image : List ℕ → Option Store) (start : Moment)
-    (world : World) (rows : List Row) (old : List ℕ) (now : Moment) : Type 0 where
+    (before : List World) (world : World) (items : List Item) (rows : List Row) (old : List ℕ)
+    (now : Moment) : Type 0 where
   pub shown : List ℕ
   pub out : printed now ≡ old ++ put_out shows shown
-  pub safe : (more : List Row) (unit : ℕ) (left : List ℕ) → MayLeave unit now left
-      → Leaves store_of_image start world (rows ++ more) (length shown) unit left
+  pub safe : (later : List Item) (more : List Row) (unit : ℕ) (left : List ℕ)
+      → MayLeave unit now left → Leaves store_of_image start (Fresh before unit) world
+      (items ++ later) (rows ++ more) (length shown) unit left
 
--- what has happened to a unit without a store is what had at the start
-abbrev pub Untouched : Moment → World → Moment → Type 0
-Untouched start world now = (unit : ℕ) → store_on_unit world unit ≡ None
-    → changes unit now ≡ changes unit start
-
--- What a crash has left on a unit whose device was held like this before the run, between two
--- worlds: the unit's store in the one or in the other, and a unit without a store in both is as its
--- device was held. Only a format that is not refused gives a unit a store, and nothing takes it
--- away.
-abbrev pub HeldOrAfter : (List ℕ → Option Store) → Option (List ℕ) → World → World → ℕ → List ℕ → Type 0
-HeldOrAfter store_of_image held world next unit left = MatchOption (store_on_unit world unit)
-    (store_on_unit next unit ≡ None → held ≡ Some left)
-    (λ store. (store_of_image left ≡ Some store) ⊎ (store_of_image left ≡ store_on_unit next unit))
-
--- What a crash has left on such a unit, while that was the output: of the rows a number m has
--- replies of which a byte was out, and the unit is between the worlds behind m rows and behind one
--- more, whatever rows follow.
-pub record HasLeft (store_of_image : List ℕ → Option Store) (world : World) (rows : List Row)
-    (held : Option (List ℕ)) (old out : List ℕ) (unit : ℕ) (left : List ℕ) : Type 0 where
+-- What a crash has left on a unit whose device was held like this before the run, while that was the
+-- output: of the rows a number m has replies of which a byte was out, and the unit is between the
+-- worlds behind m rows and behind one more, whatever items and rows follow.
+pub record HasLeft (store_of_image : List ℕ → Option Store) (world : World) (items : List Item)
+    (rows : List Row) (held : Option (List ℕ)) (old out : List ℕ) (unit : ℕ)
+    (left : List ℕ) : Type 0 where
   pub shown : List ℕ
   pub grown : out ≡ old ++ shown
-  pub leaves : (more : List Row)
-      → let all = rows ++ more in let m = replies_begun all (length shown) in
-      HeldOrAfter store_of_image held (world_at world all m) (world_at world all (m + 1)) unit left
+  pub leaves : (later : List Item) (more : List Row)
+      → Behind store_of_image (λ bytes. held ≡ Some bytes) world (items ++ later) (rows ++ more)
+      (replies_begun (rows ++ more) (length shown)) unit left

@@ -14,6 +14,7 @@ use Rattle.newt_script_session.specs.Run.{SummaryHalted}
 use Rattle.newt_script_session.specs.Session.{Played}
 use Rattle.newt_script_session.specs.Script.{script_items}
 use Rattle.newt_spec_script.specs.Rows.{Stepping}
+use Rattle.newt_laws_steps.specs.Thrown.{RowsFailed, RowsThrew}
 use Rattle.newt_script_session.specs.declared.halt.Halt.{Halt}
 
 -- the world before the first command: the devices of the names as they are held, of which none is
@@ -37,12 +38,12 @@ pub record RanNamed {T : Type 0} (step : Stepping) (store_of_image : List ℕ �
     (limit : ℕ) (result : Result T Halt) (names : List (List ℕ)) (old new : Outside) : Type 0 where
   pub played : Played step limit result (first_world store_of_image names old) old new
   pub crash : AtEachMoment new (λ unit left shown.
-      HasLeft store_of_image (first_world store_of_image names old) played.given.rows
+      HasLeft store_of_image (first_world store_of_image names old) played.given.first
+      played.given.rows
       (held_by names old unit) (out_of old) shown unit left)
 
 -- A script in memory was answered, by a run over its first items, and with an answer over all, and
--- its replies counted: what was written is the summary, or a first part of it, and nothing where a
--- device failed.
+-- its replies counted: what was written is the summary, or a first part of it.
 pub record CountedNamed {T : Type 0} (step : Stepping) (store_of_image : List ℕ → Option Store)
     (script : List ℕ) (result : Result T Halt) (names : List (List ℕ))
     (old new : Outside) : Type 0 where
@@ -50,6 +51,8 @@ pub record CountedNamed {T : Type 0} (step : Stepping) (store_of_image : List �
   pub out : OnOk result ((given.rest ≡ []) × (out_of new ≡ out_of old ++ summary_of given.rows))
   pub halted : IfErr result
       (λ halt. SummaryHalted halt given.rest (summary_of given.rows) (out_of old) (out_of new))
+  pub threw : RowsThrew given.rows old.dev_faults new.dev_faults
+  pub failed : OnOk result (RowsFailed given.rows old.dev_faults new.dev_faults)
   pub crash : AtEachMoment new (λ unit left shown.
       HasLeftCounted store_of_image (first_world store_of_image names old) (script_items script)
       given.rows (held_by names old unit) (out_of old) shown unit left)

@@ -5,7 +5,7 @@ use Rattle.newt_spec_script.specs.Rows.{Row, output_of}
 use Rattle.newt_script_session.specs.Script.{ended_items, quits}
 use Rattle.newt_script_session.specs.Stream.{WroteSome}
 use Rattle.newt_script_session.specs.declared.halt.Halt.{Halt}
-use Rattle.newt_script_session.specs.declared.halt.Halt.TheVariants.{Memory, Device, Source, Sink}
+use Rattle.newt_script_session.specs.declared.halt.Halt.TheVariants.{Memory, Source, Sink}
 use Rattle.newt_script_session.specs.declared.halt.Halt.TheVariants.{TooLong}
 
 -- More bytes came than are read, and no quit ended before.
@@ -20,18 +20,9 @@ pub record IsReadThrough (limit : ℕ) (script left : List ℕ) : Type 0 where
   pub ends : (left ≡ []) ⊎ (quits taken ≡ true)
   pub not_too_long : IsTooLong limit script → ⊥
 
--- The output is that of some first rows: whole replies.
-pub record WroteWhole (rows : List Row) (old now : List ℕ) : Type 0 where
-  pub first : List Row
-  pub rest : List Row
-  pub split : rows ≡ first ++ rest
-  pub out : now ≡ old ++ output_of first
-
--- what is written of the replies of rows where the run is halted in them: a first part, and whole
--- replies where a device failed
+-- what is written of the replies of rows where the run is halted in them: a first part
 abbrev pub HaltedIn : Halt → (rows : List Row) → (old now : List ℕ) → Type 0
 HaltedIn Memory rows old now = WroteSome (output_of rows) old now
-HaltedIn (Device unit) rows old now = WroteWhole rows old now
 HaltedIn Sink rows old now = WroteSome (output_of rows) old now
 HaltedIn Source rows old now = ⊥
 HaltedIn TooLong rows old now = ⊥
@@ -47,7 +38,6 @@ pub record AnsweredTaken (items : List Item) (rows : List Row)
 -- what a run leaves that is halted behind these items of the script, which gave these rows
 abbrev pub Halted : ℕ → Halt → List Item → List Row → (script left old now : List ℕ) → Type 0
 Halted limit Memory items rows script left old now = HaltedIn Memory rows old now
-Halted limit (Device unit) items rows script left old now = HaltedIn (Device unit) rows old now
 Halted limit Sink items rows script left old now = HaltedIn Sink rows old now
 Halted limit Source items rows script left old now = AnsweredTaken items rows script left old now
 Halted limit TooLong items rows script left old now = IsTooLong limit script
@@ -57,7 +47,6 @@ Halted limit TooLong items rows script left old now = IsTooLong limit script
 -- replies, of which none is left.
 abbrev pub SummaryHalted : Halt → List Item → (summary old now : List ℕ) → Type 0
 SummaryHalted Memory rest summary old now = (now ≡ old) ⊎ ((rest ≡ []) × WroteSome summary old now)
-SummaryHalted (Device unit) rest summary old now = now ≡ old
 SummaryHalted Sink rest summary old now = (now ≡ old) ⊎ ((rest ≡ []) × WroteSome summary old now)
 SummaryHalted Source rest summary old now = ⊥
 SummaryHalted TooLong rest summary old now = ⊥

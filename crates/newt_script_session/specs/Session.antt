@@ -11,11 +11,13 @@ use Rattle.newt_script_session.specs.Reading.{ReadsInTime}
 use Rattle.newt_spec_script.specs.Rows.{output_of, Stepping}
 use Rattle.newt_script_session.specs.Run.{Halted, IsReadThrough}
 use Rattle.newt_script_session.specs.Script.{script_items}
+use Rattle.newt_laws_steps.specs.Thrown.{RowsFailed, RowsThrew}
 use Rattle.newt_script_session.specs.declared.halt.Halt.{Halt}
 
 -- The script of the input was answered from this world on, by a run over its first items, and with
 -- an answer over all: what was written, what was read, how far the run came where it was halted,
--- and, whatever the result is, that nothing was read ahead of a reply that was due.
+-- and, whatever the result is, that nothing was read ahead of a reply that was due, and that the
+-- replies that tell a fault of a device are at most as many as its faults that were counted.
 pub record Played {T : Type 0} (step : Stepping) (limit : ℕ) (result : Result T Halt)
     (world : World) (old new : Outside) : Type 0 where
   pub given : Given step world (script_items old.input)
@@ -24,11 +26,13 @@ pub record Played {T : Type 0} (step : Stepping) (limit : ℕ) (result : Result 
   pub halted : IfErr result (λ halt. Halted limit halt given.first given.rows old.input new.input
       (out_of old) (out_of new))
   pub in_time : ReadsInTime step world given.rows old.now new.now
+  pub threw : RowsThrew given.rows old.dev_faults new.dev_faults
+  pub failed : OnOk result (RowsFailed given.rows old.dev_faults new.dev_faults)
 
 -- The same, and at each moment a crash leaves each unit as it is behind some first rows, every row
 -- among them whose reply has begun.
 pub record Session {T : Type 0} (step : Stepping) (store_of_image : List ℕ → Option Store)
     (limit : ℕ) (result : Result T Halt) (world : World) (old new : Outside) : Type 0 where
   pub played : Played step limit result world old new
-  pub crash : Always (CrashAt store_of_image old.now world played.given.rows (out_of old))
-      old.now new.now
+  pub crash : Always (CrashAt store_of_image old.now world played.given.first played.given.rows
+      (out_of old)) old.now new.now

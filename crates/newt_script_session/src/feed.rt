@@ -41,7 +41,8 @@ pub fn feed<H: Host, I: Interpreter, S: Sink>(
         → Ran I.step S.shows I.store_of_image result world
         (I.means interpreter.new (H.outside host.new))
         (commands_of (ended_lines line.old.items piece.now)) (S.has sink.old) (S.has sink.new)
-        (H.outside host.old).now (H.outside host.new).now }
+        (H.outside host.old).now (H.outside host.new).now
+        (H.outside host.old).dev_faults (H.outside host.new).dev_faults }
     ensures call { AnswerCall H.told result (H.outside host.old) (H.outside host.new) }
 {
     let mut rest = piece;
@@ -76,7 +77,8 @@ pub fn finish<H: Host, I: Interpreter, S: Sink>(
         → Ran I.step S.shows I.store_of_image result world
         (I.means interpreter.new (H.outside host.new))
         (commands_of (last_line line.now)) (S.has sink.old) (S.has sink.new)
-        (H.outside host.old).now (H.outside host.new).now }
+        (H.outside host.old).now (H.outside host.new).now
+        (H.outside host.old).dev_faults (H.outside host.new).dev_faults }
     ensures call { AnswerCall H.told result (H.outside host.old) (H.outside host.new) }
 {
     if line.is_empty() {
@@ -101,7 +103,8 @@ pub fn answer_text<H: Host, I: Interpreter, S: Sink>(
         → Ran I.step S.shows I.store_of_image result world
         (I.means interpreter.new (H.outside host.new))
         (script_items text.now) (S.has sink.old) (S.has sink.new)
-        (H.outside host.old).now (H.outside host.new).now }
+        (H.outside host.old).now (H.outside host.new).now
+        (H.outside host.old).dev_faults (H.outside host.new).dev_faults }
     ensures call { AnswerCall H.told result (H.outside host.old) (H.outside host.new) }
 {
     let mut line = Vec::new(alloc);

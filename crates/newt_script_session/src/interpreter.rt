@@ -1,22 +1,22 @@
 //! What an engine promises for one command.
-ghost use Rattle.std.specs.Prelude.{◌≡◌, ◌≤◌, ℕ, List, Bool, true, Option, Some, None, length, map};
-ghost use Rattle.std.specs.Prelude.{IsTrue, IfOk, IfErr, OnOk, string_bytes};
+ghost use Rattle.std.specs.Prelude.{◌≡◌, ◌≤◌, ℕ, List, Bool, true, Option, None, length, map};
+ghost use Rattle.std.specs.Prelude.{IsTrue, IfOk, OnOk, string_bytes};
 ghost use Rattle.newt_host.specs.Meanings.{held};
 ghost use Rattle.newt_host.specs.Moments.{MayLeave};
-ghost use Rattle.newt_host.specs.Outside.{Outside, OnDevices, NoFault};
+ghost use Rattle.newt_host.specs.Outside.{Outside, OnDevices};
 ghost use Rattle.newt_host_attach.specs.Named.{AreAttached, AreDistinct};
+ghost use Rattle.newt_laws_steps.specs.Answering.{ReadsOneOf};
 ghost use Rattle.newt_laws_world.specs.Worlds.{has_form};
-ghost use Rattle.newt_pagebook.specs.Stops.{HasStopCause};
 ghost use Rattle.newt_script_session.specs.Causes.{SameDevices};
 ghost use Rattle.newt_script_session.specs.Steps.{Stepped};
+ghost use Rattle.newt_spec_graph.specs.Lists.{Among};
 ghost use Rattle.newt_spec_store.specs.Store.{Store};
 ghost use Rattle.newt_spec_world.specs.First.{world_of};
 ghost use Rattle.newt_spec_world.specs.Reply as plain;
-ghost use Rattle.newt_spec_world.specs.World.{World, store_on_unit};
+ghost use Rattle.newt_spec_world.specs.World.{World, stores_on};
 ghost use Rattle.newt_spec_world.specs.declared.command.Command as asked;
 
 use newt_host::Host;
-use newt_pagebook::Stop;
 use newt_reply::Reply;
 use newt_script::Command;
 use std::alloc::{AllocError, Global};
@@ -48,18 +48,17 @@ pub trait Interpreter: Sized + Drop {
         ensures attached { AreAttached H.told (map string_bytes names.now)
             (H.outside host.old) (H.outside host.new) };
 
-    /// Answers one command, by a step from each world that it stands for. After an error it is
-    /// spent.
-    fn apply<H: Host>(&mut self, host: &mut H, command: Command) -> Result<Reply, Stop>
+    /// Answers one command, by a step from each world that it stands for. A device that fails ends
+    /// nothing: its unit is thrown out, and the reply says so. The error is that memory was refused,
+    /// and after it the interpreter is spent.
+    fn apply<H: Host>(&mut self, host: &mut H, command: Command) -> Result<Reply, AllocError>
         requires stands { stands H.told self.old (H.outside host.old) }
         requires form { IsTrue (has_form command) }
         ensures stands { OnOk result (stands H.told self.new (H.outside host.new)) }
         ensures stepped { IsTrue H.told → (world : World) → means self.old (H.outside host.old) world
             → Stepped step store_of_image command result world
-            (means self.new (H.outside host.new)) (H.outside host.old).now (H.outside host.new).now }
-        ensures cause { IfErr result (λ stop.
-            HasStopCause stop (H.outside host.old) (H.outside host.new)) }
-        ensures no_fault { OnOk result (NoFault (H.outside host.old) (H.outside host.new)) }
+            (means self.new (H.outside host.new)) (H.outside host.old).now (H.outside host.new).now
+            (H.outside host.old).dev_faults (H.outside host.new).dev_faults }
         ensures alone { OnDevices (H.outside host.old) (H.outside host.new) };
 
     /// It stands for some world.
@@ -74,14 +73,10 @@ pub trait Interpreter: Sized + Drop {
     ghost same_worlds: { (it : Self) (old new : Outside) (world : World)
         → SameDevices true old new → means it old world → means it new world };
 
-    /// Between two commands a crash leaves each unit that has a store as that store.
+    /// Between two commands a crash leaves each unit that has a store, or one of two, as one of
+    /// these.
     ghost leaves: { (it : Self) (outside : Outside) (world : World) → stands true it outside
         → means it outside world → (unit : ℕ) (store : Store) (left : List ℕ)
-        → store_on_unit world unit ≡ Some store → MayLeave unit outside.now left
-        → store_of_image left ≡ Some store };
-
-    /// No command takes a unit's store away.
-    ghost stays: { (w next : World) (command : asked.Command) (reply : plain.Reply) (unit : ℕ)
-        → step w command next reply
-        → store_on_unit next unit ≡ None → store_on_unit w unit ≡ None };
+        → Among (stores_on world unit) store → MayLeave unit outside.now left
+        → ReadsOneOf store_of_image (stores_on world unit) left };
 }

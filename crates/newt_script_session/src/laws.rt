@@ -1,10 +1,14 @@
 //! Laws of scripts.
-ghost use Rattle.std.specs.Prelude.{◌≡◌, ℕ, List, map};
+ghost use Rattle.std.specs.Prelude.{◌≡◌, ℕ, List};
+ghost use Rattle.newt_host.specs.Outside.{Rose};
+ghost use Rattle.newt_laws_steps.specs.Steps.{AllSure};
+ghost use Rattle.newt_laws_steps.specs.Thrown.{RowsThrew};
 ghost use Rattle.newt_script.specs.Graphs.{readers};
 ghost use Rattle.newt_script_session.specs.Lines.{lines_of};
-ghost use Rattle.newt_spec_script.specs.Rows.{IsRun, plain_step, Row, world_behind};
 ghost use Rattle.newt_script_session.specs.Script.{commands_of};
+ghost use Rattle.newt_spec_script.specs.Rows.{IsRun, Row, replies_of, world_behind};
 ghost use Rattle.newt_spec_script.specs.Script as plain;
+ghost use Rattle.newt_spec_world.specs.Step.{Step};
 ghost use Rattle.newt_spec_world.specs.World.{World};
 
 /// The lines that are answered are those of the definitions of a script, with the readings that the
@@ -15,13 +19,16 @@ pub fn lines_are_spelled()
         → commands_of (lines_of script) ≡ plain.up_to_quit (plain.items_of readers script) }
 {}
 
-/// Where the only step is what the plain world answers, the only run over items is what it answers
-/// to them one after another.
-pub fn run_is_plain()
-    ensures world { (world : World) (items : List plain.Item) (rows : List Row)
-        → IsRun plain_step world items rows
+/// Where it is known what each unit holds, and no count of the faults of a device rose, a run of
+/// steps whose replies tell no more than these counts is what the plain world answers to the items
+/// one after another.
+pub fn faultless_runs_are_plain()
+    ensures world { (world : World) (items : List plain.Item) (rows : List Row) (was is : ℕ → ℕ)
+        → AllSure world → IsRun Step world items rows → RowsThrew rows was is
+        → ((unit : ℕ) → ¬ Rose (was unit) (is unit))
         → world_behind world rows ≡ plain.world_after world items }
-    ensures replies { (world : World) (items : List plain.Item) (rows : List Row)
-        → IsRun plain_step world items rows
-        → map (λ row. row.1) rows ≡ plain.replies_to world items }
+    ensures replies { (world : World) (items : List plain.Item) (rows : List Row) (was is : ℕ → ℕ)
+        → AllSure world → IsRun Step world items rows → RowsThrew rows was is
+        → ((unit : ℕ) → ¬ Rose (was unit) (is unit))
+        → replies_of rows ≡ plain.replies_to world items }
 {}

@@ -25,7 +25,7 @@ mod write;
 
 pub use halt::Halt;
 pub use interpreter::Interpreter;
-pub use laws::{lines_are_spelled, run_is_plain};
+pub use laws::{faultless_runs_are_plain, lines_are_spelled};
 pub use named::{run_named, tally_named};
 pub use pieces::{piece_buffer, read_piece};
 pub use write::write_all;

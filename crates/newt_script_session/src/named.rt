@@ -2,7 +2,7 @@
 ghost use Rattle.std.specs.Prelude.{IsTrue, ◌≡◌, ℕ, ◌≤◌, None, length, map, string_bytes};
 ghost use Rattle.newt_host_attach.specs.Named.{AreDistinct};
 ghost use Rattle.newt_script_session.specs.Calls.{Faults};
-ghost use Rattle.newt_script_session.specs.Causes.{HasCause, HasWriteCause};
+ghost use Rattle.newt_script_session.specs.Causes.{HasCause, HasSinkCause};
 ghost use Rattle.newt_script_session.specs.Named.{CountedNamed, RanNamed};
 
 use crate::count::tally_script;
@@ -48,7 +48,7 @@ pub fn tally_named<H: Host, I: Interpreter>(
     ensures counted { IsTrue H.told → CountedNamed I.step I.store_of_image script.now result
         (map string_bytes names.now) (H.outside host.old) (H.outside host.new) }
     ensures left { (H.outside host.new).input ≡ (H.outside host.old).input }
-    ensures faults { Faults HasWriteCause result (H.outside host.old) (H.outside host.new) }
+    ensures faults { Faults HasSinkCause result (H.outside host.old) (H.outside host.new) }
 {
     let Ok(mut interpreter) = I::new(alloc, host, names) else {
         return Err(Halt::Memory);

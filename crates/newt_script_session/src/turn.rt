@@ -8,7 +8,7 @@ ghost use Rattle.newt_laws_world.specs.Worlds.{has_form};
 ghost use Rattle.newt_spec_script.specs.Script.{is_quit};
 ghost use Rattle.newt_spec_world.specs.World.{World};
 
-use crate::halt::{Flow, Halt, halted_by};
+use crate::halt::{Flow, Halt};
 use crate::interpreter::Interpreter;
 use crate::sink::{Sink, put_reply};
 use newt_base::Refusal;
@@ -44,17 +44,16 @@ fn obey<H: Host, I: Interpreter, S: Sink>(
         → Ran I.step S.shows I.store_of_image result world
         (I.means interpreter.new (H.outside host.new))
         (Ok command ∷ []) (S.has sink.old) (S.has sink.new)
-        (H.outside host.old).now (H.outside host.new).now }
+        (H.outside host.old).now (H.outside host.new).now
+        (H.outside host.old).dev_faults (H.outside host.new).dev_faults }
     ensures call { AnswerCall H.told result (H.outside host.old) (H.outside host.new) }
 {
     let flow = flow_after(&command);
-    match interpreter.apply(host, command) {
-        Ok(reply) => {
-            put_reply(alloc, host, sink, &reply)?;
-            Ok(flow)
-        }
-        Err(stop) => Err(halted_by(stop)),
-    }
+    let Ok(reply) = interpreter.apply(host, command) else {
+        return Err(Halt::Memory);
+    };
+    put_reply(alloc, host, sink, &reply)?;
+    Ok(flow)
 }
 
 /// Hands on the reply to a line that is refused.
@@ -73,7 +72,8 @@ fn refuse<H: Host, I: Interpreter, S: Sink>(
         → Ran I.step S.shows I.store_of_image result world
         (I.means interpreter.now (H.outside host.new))
         (Err refusal ∷ []) (S.has sink.old) (S.has sink.new)
-        (H.outside host.old).now (H.outside host.new).now }
+        (H.outside host.old).now (H.outside host.new).now
+        (H.outside host.old).dev_faults (H.outside host.new).dev_faults }
     ensures call { AnswerCall H.told result (H.outside host.old) (H.outside host.new) }
 {
     let reply = Reply::Refused(refusal);
@@ -97,7 +97,8 @@ pub fn turn<H: Host, I: Interpreter, S: Sink>(
         → Ran I.step S.shows I.store_of_image result world
         (I.means interpreter.new (H.outside host.new))
         (commands_of (bytes.now ∷ [])) (S.has sink.old) (S.has sink.new)
-        (H.outside host.old).now (H.outside host.new).now }
+        (H.outside host.old).now (H.outside host.new).now
+        (H.outside host.old).dev_faults (H.outside host.new).dev_faults }
     ensures call { AnswerCall H.told result (H.outside host.old) (H.outside host.new) }
 {
     match line(alloc, bytes) {

@@ -1,5 +1,5 @@
 -- What a change of a store answers.
-use Rattle.std.proofs.Common.{◌≡◌, inl, inr, ℕ, ◌<◌, ◌≤◌, Bool, true, false, nat_lt, List, [], ◌∷◌, ◌++◌, Option, Some, None, Result, Ok, Err, IfErr, IsErrAnd, refl, sym, ◌∙◌, ap, subst, arith, ⊎_elim, ◌+◌, ◌⊎◌, cond, is_some}
+use Rattle.std.proofs.Common.{◌≡◌, inl, inr, ℕ, ◌<◌, ◌≤◌, Bool, true, false, nat_lt, List, [], ◌∷◌, ◌++◌, Option, Some, None, Result, Ok, Err, IfErr, IsErrAnd, refl, sym, ◌∙◌, ap, subst, arith, ⊎_elim, ◌+◌, ◌⊎◌, cond, is_some, IsSome}
 use Rattle.std.proofs.lemmas.Bool.{cases_lt}
 use Rattle.std.proofs.lemmas.Bool.Decides.{nat_tests}
 use Rattle.newt_base.specs.Refusals.{Checks, first_of}
@@ -95,6 +95,10 @@ fits-check (Add sig g) blocks now s low = first-not Full (nat_lt (cap blocks) (c
 fits-check (Move a u b) blocks now s low = first-not Full (nat_lt (cap blocks) (cost (changed_by (Move a u b) now s))) [] (not-more _ _ low)
 fits-check (Replace a u g) blocks now s low = first-not Full (nat_lt (cap blocks) (cost (changed_by (Replace a u g) now s))) [] (not-more _ _ low)
 
+pub none-due-some : (due : Option Refusal) → due ≡ None → IsSome due → ⊥
+none-due-some None is some = cc
+none-due-some (Some r) is some = cc
+
 pub none-due : (change : Change) (blocks now : ℕ) (s : Store) → first_of (first_checks change s) ≡ None → cost (changed_by change now s) ≤ cap blocks → refusal_of change blocks now s ≡ None
 none-due change blocks now s first low = first-later (first_checks change s) (full_check change blocks now s) first ∙ fits-check change blocks now s low
 
@@ -125,6 +129,13 @@ full-check (Replace a u g) blocks now s other low more = first-holds Full (nat_l
 
 pub full-due : (change : Change) (blocks now : ℕ) (s : Store) → is_patch change ≡ false → first_of (first_checks change s) ≡ None → cost s ≤ cap blocks → cap blocks < cost (changed_by change now s) → refusal_of change blocks now s ≡ Some Full
 full-due change blocks now s other first low more = first-later (first_checks change s) (full_check change blocks now s) first ∙ full-check change blocks now s other low more
+
+-- where a refusal is due, what holds where the unit would be full
+pub refused-idle : (change : Change) (blocks now : ℕ) (s : Store) {A : Type 0} → first_of (first_checks change s) ≡ None → (cap blocks < cost (changed_by change now s) → A) → IsSome (refusal_of change blocks now s) → A
+refused-idle change blocks now s first full due = ⊎_elim
+    (λ (more : cap blocks < cost (changed_by change now s)). full more)
+    (λ (low : cost (changed_by change now s) ≤ cap blocks). absurd (none-due-some (refusal_of change blocks now s) (none-due change blocks now s first low) due))
+    (cases_lt (cap blocks) (cost (changed_by change now s)))
 
 -- a refusal of the carrying out is the one that is due
 pub refuses-full : {due : Option Refusal} (fault : StoreFault) → RefusesOnly Full fault → (IsRefused (failed fault) → due ≡ Some Full) → RefusesWith due fault

@@ -58,6 +58,7 @@ unit-same told unit next catalog outside durable = record {
   bound = λ tells s t stands turns room. spends-nothing unit (turn_bytes next s t) 0 outside;
   wears = λ tells s t stands turns room. wears-nothing unit outside;
   too_many = λ tells s t stands turns more. (spends-nothing unit 0 0 outside, Wears-refl unit outside);
+  idle = λ tells s t stands turns more. refl;
 }
 
 -- ---- what is written
@@ -92,5 +93,7 @@ module _ (told : Bool) (catalog : Catalog) (next : Next) (records gone : List �
             subst (λ (n : ℕ). Spends unit n 0 before after) same (commits.bound tells (subst (λ (n : ℕ). IsOpenFor n now) (sym same) room));
         wears = λ tells s t stands turns room. commits.wears tells (subst (λ (n : ℕ). IsOpenFor n now) (sym (size s t tells stands turns)) room);
         too_many = λ tells s t stands turns more. writes.too_many tells stands.texts stands.holds (λ will wrote.
+            subst (λ (n : ℕ). cap (blocks_of now) < n) (sym (cost-after catalog next records sound.places sound.names is are s t now stands turns will (subst (λ (l : List ℕ). WritesNext next l stands.texts will) ids-are wrote))) more);
+        idle = λ tells s t stands turns more. writes.idle tells stands.texts stands.holds (λ will wrote.
             subst (λ (n : ℕ). cap (blocks_of now) < n) (sym (cost-after catalog next records sound.places sound.names is are s t now stands turns will (subst (λ (l : List ℕ). WritesNext next l stands.texts will) ids-are wrote))) more);
       }

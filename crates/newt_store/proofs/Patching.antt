@@ -64,7 +64,7 @@ use Rattle.newt_store.specs.Patch.{IsLargeOf, record_pages}
 use Rattle.newt_store_catalog.specs.Stands.{Describes, StandsFor}
 use Rattle.newt_store_change.specs.Faults.{GoesOn, RefusesWith}
 use Rattle.newt_store.specs.Stands.{IsBeforeOrChanged}
-use Rattle.newt_store.proofs.Applying.{more-than, not-more, leaves-before}
+use Rattle.newt_store.proofs.Applying.{more-than, none-due-some, not-more, leaves-before}
 use Rattle.newt_store.proofs.Entries.{FoundAt, found-at}
 use Rattle.newt_store.proofs.Found.{soup-some, entry-placed}
 use Rattle.newt_store.proofs.Ids.{lengths-from}
@@ -524,6 +524,14 @@ patch-spends catalog s now stands sig uid node o l at bytes blocks minute unit o
     (λ (past : length l.bytes < at + length bytes). spends-record (most_bytes (Patch sig uid node at bytes) blocks minute s) unit (entry_at sig uid s) old new (spends-no-more unit (512 * record_pages (entry_at sig uid s)) old mid new first (third past)))
     (λ (low : at + length bytes ≤ length l.bytes). spends-both catalog s now stands sig uid node o l at bytes low blocks minute unit old mid new first
     (second (subst (λ (n : ℕ). IsOpenFor n now) (bytes-due catalog s now stands sig uid node o l at bytes low blocks minute) room)))
+    (cases_lt (length l.bytes) (at + length bytes))
+
+-- where a refusal is due, what holds where the range ends behind the binary
+pub patch-idle : (catalog : Catalog) (s : Store) (now : List ℕ) (stands : StandsFor catalog s now) (sig uid node o : ℕ) (l : IsLargeOf catalog s sig uid node o) (at : ℕ) (bytes : List ℕ) (blocks minute : ℕ) {A : Type 0}
+    → (length l.bytes < at + length bytes → A) → IsSome (refusal_of (Patch sig uid node at bytes) blocks minute s) → A
+patch-idle catalog s now stands sig uid node o l at bytes blocks minute nothing due = ⊎_elim
+    (λ (past : length l.bytes < at + length bytes). nothing past)
+    (λ (low : at + length bytes ≤ length l.bytes). absurd (none-due-some (refusal_of (Patch sig uid node at bytes) blocks minute s) (none-due catalog s now stands sig uid node o l at bytes low blocks minute) due))
     (cases_lt (length l.bytes) (at + length bytes))
 
 pub patch-wears : (catalog : Catalog) (s : Store) (now : List ℕ) (stands : StandsFor catalog s now) (sig uid node o : ℕ) (l : IsLargeOf catalog s sig uid node o) (at : ℕ) (bytes : List ℕ) (blocks minute unit : ℕ) (old new : Outside)

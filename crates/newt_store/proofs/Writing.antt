@@ -213,6 +213,9 @@ module _ (told : Bool) (objects : Held) (numbers : Numbers) (unit : ℕ) (outsid
         too_many = λ tells was holds each.
             let w = led leads was (held-are told objects numbers unit outside kept was tells holds) in
             (makes.too_many tells was w.0 w.1 (each w.0 w.2), makes.too_many_wears tells was w.0 w.1 (each w.0 w.2));
+        idle = λ tells was holds each.
+            let w = led leads was (held-are told objects numbers unit outside kept was tells holds) in
+            makes.idle tells was w.0 w.1 (each w.0 w.2);
       }
 
 -- memory was wanting before anything was written
@@ -243,4 +246,5 @@ writes-memory told unit next gone old new outside r memory durable = record {
   still = λ is id. absurd (memory-refuses r memory is);
   any_moment = λ tells was holds. leaves-none unit next gone was outside.now holds (durable tells);
   too_many = λ tells was holds each. (spends-nothing unit 0 0 outside, Wears-refl unit outside);
+  idle = λ tells was holds each. refl;
 }

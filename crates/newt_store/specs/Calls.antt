@@ -1,5 +1,5 @@
 -- What calls on a store promise. All of it is this project's own.
-use Rattle.std.specs.Prelude.{◌≡◌, ℕ, ◌*◌, Bool, IsTrue, List, Option, Some, None, option_map, Result, OnOk, IfOk, IfErr, IsErrOf}
+use Rattle.std.specs.Prelude.{◌≡◌, ℕ, ◌*◌, Bool, IsTrue, List, Option, Some, None, IsSome, option_map, Result, OnOk, IfOk, IfErr, IsErrOf}
 use Rattle.newt_nsof_flat.specs.Stream.{stream_graph}
 use Rattle.newt_host.specs.Moments.{Anything, IsDurable, image, Leaves}
 use Rattle.newt_host.specs.Outside.{Outside, NoFault, OnlyReads, Spends, Touches, Wears}
@@ -193,6 +193,10 @@ module _ {B : Type 0} (place : B → ℕ) (numbers : B → Numbers) (stands : Bo
     pub any_moment : ForStore told catalog (image (place old) before.now) (λ s. Leaves (place old)
         (IsBeforeOrChanged change (blocks_of (image (place old) before.now)) now s)
         before.now after.now)
+    -- where one of its refusals is due nothing happens, whatever the answer
+    pub idle : ForStore told catalog (image (place old) before.now) (λ s.
+        IsSome (refusal_of change (blocks_of (image (place old) before.now)) now s) →
+        after.now ≡ before.now)
     -- while the bank is not closed and has room for what is programmed, nothing is erased
     pub wears : ForStore told catalog (image (place old) before.now) (λ s.
         IsOpenFor (most_bytes change (blocks_of (image (place old) before.now)) now s)

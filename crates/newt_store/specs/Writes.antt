@@ -57,6 +57,10 @@ pub record WritesObjects (told : Bool) (unit : ℕ) (next : Next) (gone : List �
   pub too_many : ForHeld told (image unit before.now) (λ was. ((will : Objects) →
       WritesNext next gone was will → cap (blocks_of (image unit before.now)) < total_pages will) →
       Spends unit 0 0 before after × Wears unit 0 0 before after)
+  -- and nothing happens
+  pub idle : ForHeld told (image unit before.now) (λ was. ((will : Objects) →
+      WritesNext next gone was will → cap (blocks_of (image unit before.now)) < total_pages will) →
+      after.now ≡ before.now)
 
 -- what is claimed, where bytes are told, of all stores that an image stands for and that what is
 -- planned leads to
@@ -94,6 +98,9 @@ pub record TurnsUnit (told : Bool) (unit : ℕ) (next : Next) (catalog : Catalog
   pub too_many : ForTurn told catalog next (image unit before.now) (λ s t.
       cap (blocks_of (image unit before.now)) < cost t →
       Spends unit 0 0 before after × Wears unit 0 0 before after)
+  -- and nothing happens
+  pub idle : ForTurn told catalog next (image unit before.now) (λ s t.
+      cap (blocks_of (image unit before.now)) < cost t → after.now ≡ before.now)
 
 -- The places follow what was written: the entries that go have none, and all others as they were.
 pub record FollowsPlaces (going : Gone) (old new : Places) : Type 0 where

@@ -1,6 +1,6 @@
 -- A change of the store, and an entry that is read, as a card promises them.
 use Rattle.std.proofs.Common.{◌≡◌, ℕ, Bool, IsTrue, List, Some, None, sym, ◌∙◌, ap, subst}
-use Rattle.std.specs.Prelude.{Result, Ok, Err, OnOk}
+use Rattle.std.specs.Prelude.{Result, Ok, Err, IsSome, OnOk}
 use Rattle.newt_host.specs.Moments.{Moment, image}
 use Rattle.newt_host.specs.Outside.{Outside, Spends, Wears}
 use Rattle.newt_host.proofs.Moments.{Leaves-others}
@@ -9,7 +9,7 @@ use Rattle.newt_spec_store.specs.OfImage.{blocks_of}
 use Rattle.newt_spec_store.specs.Store.{Store as Plain}
 use Rattle.newt_index_ranges.specs.Stands.{AreRangesOf}
 use Rattle.newt_index_ranges.specs.declared.rows.SoupRanges.{SoupRanges}
-use Rattle.newt_store_change.specs.Change.{changed_by, answer_of, refusals, most_bytes, bytes_fetched}
+use Rattle.newt_store_change.specs.Change.{changed_by, answer_of, refusal_of, refusals, most_bytes, bytes_fetched}
 use Rattle.newt_store_change.specs.Faults.{Does, GoesOn, IsRefused}
 use Rattle.newt_store_change.specs.declared.change.Change.{Change}
 use Rattle.newt_store_change.specs.declared.fault.StoreFault.{StoreFault}
@@ -96,6 +96,7 @@ module _ {B : Type 0} (place : B → ℕ) (numbers : B → Numbers) (stands : Bo
     wears = λ tells s reads.
         let P : ℕ → Type 0 = λ blocks. IsOpenFor (most_bytes change blocks now s) img → Wears (on-unit a) 0 2 before after in
         subst P (size tells) (e.of_store.wears tells s (at tells s reads));
+    idle = λ tells s reads due. e.of_store.idle tells s (at tells s reads) (subst (λ (blocks : ℕ). IsSome (refusal_of change blocks now s)) (sym (size tells)) due);
     open_after = e.of_store.open_after;
     nothing_done = e.of_store.nothing_done;
     alone = e.of_store.alone;

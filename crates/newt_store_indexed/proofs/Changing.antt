@@ -1,6 +1,6 @@
 -- A change after calls that read.
 use Rattle.std.proofs.Common.{◌≡◌, ℕ, ◌+◌, ◌*◌, Bool, IsTrue, List, None, inl, sym, ◌∙◌, ap, subst, arith}
-use Rattle.std.specs.Prelude.{Result, Ok, Err, OnOk, IfOk, IfErr}
+use Rattle.std.specs.Prelude.{IsSome, Result, Ok, Err, OnOk, IfOk, IfErr}
 use Rattle.newt_host.specs.Moments.{Moment, image, IsDurable, Leaves}
 use Rattle.newt_host.proofs.Moments.{Leaves-start}
 use Rattle.newt_host.specs.Outside.{Outside, NoFault, Touches, Spends}
@@ -47,6 +47,7 @@ module _ {B : Type 0} (place : B → ℕ) (numbers : B → Numbers) (stands : Bo
     refused = λ tells s shows. subst (λ (img : List ℕ). IfErr result (RefusesWith (refusal_of change (blocks_of img) now s))) same (y.refused tells s (on s shows));
     still = λ tells s shows is. subst (λ (img : List ℕ). StandsFor c.catalog s img) same (y.still tells s (on s shows) is);
     nothing_done = λ is. y.nothing_done is ∙ x.looks.moment;
+    idle = λ tells s shows due. y.idle tells s (on s shows) (subst (λ (img : List ℕ). IsSome (refusal_of change (blocks_of img) now s)) (sym same) due) ∙ x.looks.moment;
     any_moment = λ tells s shows.
         subst (λ (m : Moment). Leaves (place a.book) (IsBeforeOrChanged change (blocks_of (image (place a.book) before.now)) now s) m after.now) x.looks.moment
         (subst (λ (img : List ℕ). Leaves (place a.book) (IsBeforeOrChanged change (blocks_of img) now s) between.now after.now) same
@@ -80,6 +81,7 @@ module _ {B : Type 0} (place : B → ℕ) (numbers : B → Numbers) (stands : Bo
     refused = λ tells s shows. tt;
     still = λ tells s shows is. absurd is;
     nothing_done = λ is. absurd is;
+    idle = λ tells s shows due. x.looks.moment;
     any_moment = λ tells s shows. leaves-before a.catalog change now (blocks_of (image (place a.book) before.now)) s (place a.book) before.now between.now x.looks.moment shows (durable tells);
     wears = λ tells s shows room. wears-none x.looks.wears;
     open_after = λ tells. tt;

@@ -1,5 +1,5 @@
 -- What the units ask of a card, of a store that stands for its unit. This project's own.
-use Rattle.std.specs.Prelude.{◌≡◌, ℕ, Bool, true, IsTrue, List, Some}
+use Rattle.std.specs.Prelude.{◌≡◌, ℕ, ◌*◌, Bool, true, IsTrue, List, length, Some}
 use Rattle.std.proofs.Common.{ap, subst, refl, sym, ◌∙◌}
 use Rattle.newt_host.specs.Moments.{Change as Event, image, bytes_after}
 use Rattle.newt_host.specs.Outside.{Outside}
@@ -9,12 +9,13 @@ use Rattle.newt_pagebook.specs.Book.{Numbers, IsSameFor}
 use Rattle.newt_spec_store.specs.Laid.{bare}
 use Rattle.newt_spec_store.specs.OfImage.{blocks_of}
 use Rattle.newt_spec_store.specs.Store.{Store as Plain}
-use Rattle.newt_spec_store.specs.Valid.{well_formed, fits}
+use Rattle.newt_spec_store.specs.Valid.{valid, well_formed, fits}
 use Rattle.newt_laws_images.proofs.Assembled.{read-valid}
 use Rattle.newt_laws_images.proofs.Gathering.{image-sound}
 use Rattle.std.specs.FinMap as map
 use Rattle.newt_soupdir.specs.Bare.{bare_store}
 use Rattle.newt_nsof_flat.specs.Stream.{stream_graph}
+use Rattle.newt_objects_commit.proofs.Committing.{blocks-are}
 use Rattle.newt_objects_commit.specs.Places.{place_of}
 use Rattle.newt_objects_commit.specs.Names.{names_of}
 use Rattle.newt_store.proofs.Reading.{both, read-back}
@@ -30,6 +31,12 @@ pub formed_read : (bytes : List ℕ) (s : Plain) → readable bytes ≡ Some s �
 formed_read bytes s h =
     let is = image-sound stream_graph bytes s h in
     (both (well_formed s) (fits (blocks_of bytes) s) (read-valid stream_graph (version bytes) (map.entries is.objects) (blocks_of bytes) s is.reads)).0
+
+-- and of an image of so many blocks only stores that are valid there
+pub fits_read : (blocks : ℕ) (bytes : List ℕ) (s : Plain) → length bytes ≡ blocks * 4096 → readable bytes ≡ Some s → IsTrue (valid blocks s)
+fits_read blocks bytes s size h =
+    let is = image-sound stream_graph bytes s h in
+    subst (λ n. IsTrue (valid n s)) (blocks-are bytes blocks size) (read-valid stream_graph (version bytes) (map.entries is.objects) (blocks_of bytes) s is.reads)
 
 -- where memory and image stand for a store, the image is read as one whose soups are known
 pub read_as : (catalog : Catalog) (rows : List SoupRanges) (now : List ℕ) → StandsForOne catalog rows now → (s : Plain) × (readable now ≡ Some s) × (bare s ≡ bare_store catalog.directory)

@@ -42,7 +42,8 @@ impl<P: PageBook> Card for IndexedStore<P> {
     ghost use Rattle.newt_soupdir.specs.Bare.{bare_store};
     ghost use Rattle.newt_store_catalog.specs.Readable.{readable};
     ghost use Rattle.newt_store_indexed.specs.Stands.{StandsOn};
-    ghost use Rattle.newt_store_indexed.specs.Laws.{formed_read, plain_read, kept_on};
+    ghost use Rattle.newt_store_indexed.specs.Laws.{fits_read, formed_read, plain_read};
+    ghost use Rattle.newt_store_indexed.specs.Laws.{kept_on};
 
     ghost reads = { readable };
 
@@ -53,6 +54,8 @@ impl<P: PageBook> Card for IndexedStore<P> {
     ghost stands = { λ told card outside. StandsOn P.place P.numbers P.stands told card outside };
 
     ghost formed = { formed_read };
+
+    ghost fits = { fits_read };
 
     ghost plain = { λ card outside stands. plain_read P.place P.numbers P.stands card outside stands };
 

@@ -1,17 +1,23 @@
-//! Each call of the outside fails once.
+//! Each call of the outside fails once, and some of two.
 
-use crate::script::SCRIPT;
-use newt_test_scripts::expect_statuses;
+use crate::script::{LISTING, SCRIPT};
+use newt_test_scripts::{expect_statuses, expect_thrown};
 use std::test::Fail;
 
-/// How many calls a run of the script makes.
-const CALLS: u64 = 475;
-
-#[test]
-fn ends_at_each_call_that_fails(rt: HostRuntime) -> Result<(), Fail> {
-    let calls = expect_statuses(rt.alloc(), SCRIPT, 0, CALLS)?;
-    if calls != CALLS {
-        return Err(Fail::new(format_args!("{calls} calls")));
+/// There were so many calls that failed.
+fn expect_count(count: u32, wanted: u32) -> Result<(), Fail> {
+    if count != wanted {
+        return Err(Fail::new(format_args!("{count} calls")));
     }
     Ok(())
+}
+
+#[test]
+fn ends_at_each_call_of_a_stream_that_fails(rt: HostRuntime) -> Result<(), Fail> {
+    expect_count(expect_statuses(rt.alloc(), SCRIPT)?, 59)
+}
+
+#[test]
+fn goes_on_behind_each_call_of_a_device_that_fails(rt: HostRuntime) -> Result<(), Fail> {
+    expect_count(expect_thrown(rt.alloc(), SCRIPT, LISTING)?, 416)
 }

@@ -2,7 +2,7 @@
 
 use newt_host::Unit;
 use newt_memhost::Pick;
-use newt_test_scripts::{expect_all_safe, expect_halts, image, run_table};
+use newt_test_scripts::{expect_all_safe, expect_halts, expect_thrown, image, run_table};
 use std::alloc::Global;
 use std::test::Fail;
 
@@ -129,6 +129,12 @@ remove 0 Notes 0 => ok
 ";
 
 #[test]
-fn halts_at_each_call_that_fails(rt: HostRuntime) -> Result<(), Fail> {
+fn halts_at_each_call_of_a_stream_that_fails(rt: HostRuntime) -> Result<(), Fail> {
     expect_halts(rt.alloc(), SHORT, LOOK)
+}
+
+#[test]
+fn goes_on_behind_each_call_of_a_device_that_fails(rt: HostRuntime) -> Result<(), Fail> {
+    expect_thrown(rt.alloc(), SHORT, b"mount 0\nsoups 0\nget 0 Notes 0\n")?;
+    Ok(())
 }

@@ -22,6 +22,8 @@ mod rectangles;
 #[cfg(test)]
 mod replaces;
 #[cfg(test)]
+mod thrown;
+#[cfg(test)]
 mod trial;
 #[cfg(test)]
 mod units;

@@ -1,7 +1,7 @@
 //! Commands on units, with replies that were written by hand.
 
 use newt_host::Unit;
-use newt_test_scripts::{blocks, expect, expect_end, image, over, run_table, run_table_on};
+use newt_test_scripts::{blocks, expect, image, run_table, run_table_on};
 use newt_top::Status;
 use std::process::Abort;
 use std::test::Fail;
@@ -130,18 +130,6 @@ fn takes_names_with_spaces_and_refuses_lines_without_their_form(
     rt: HostRuntime,
 ) -> Result<(), Fail> {
     expect(rt.alloc(), "run a", NAMES)
-}
-
-#[test]
-fn tells_which_device_failed(rt: HostRuntime) -> Result<(), Fail> {
-    let alloc = rt.alloc();
-    let script: &[u8] = b"nsof 020A\nmount 0\nnsof 020A\n";
-    let mut host = over(alloc, script, &blocks(alloc, 13)?, &[])?;
-    // The first call takes the input, the second writes a reply, and the third is the first one on
-    // the device.
-    host.fail(2)?;
-    let status = Status::Device(Unit(0));
-    expect_end(alloc, "run a", &mut host, status, b"ok 020A\n")
 }
 
 /// Of three units the second has a device.

@@ -9,6 +9,7 @@ mod halts;
 mod hosts;
 mod runs;
 mod tables;
+mod thrown;
 
 pub use crashes::{
     Counts, Looks, begun, expect_all_safe, expect_safe, expect_unit_safe, look, looks_behind,
@@ -17,3 +18,4 @@ pub use halts::{expect_halts, expect_statuses};
 pub use hosts::{blocks, host, over, over_blank, over_blocks};
 pub use runs::{expect, expect_end, expect_over, image, run_on, run_table, run_table_on};
 pub use tables::{expanded, lines_of};
+pub use thrown::{calls_behind, expect_thrown, run_failing};

@@ -1,25 +1,24 @@
 -- An input that is read to its end, and then converted.
 use Rattle.std.proofs.Common.{◌≡◌, ℕ, ◌<◌, Bool, IsTrue, List, length, Result, Ok, Err, sym, subst, arith}
 use Rattle.newt_host.specs.Meanings.{out_of}
-use Rattle.newt_host.specs.Outside.{Outside, NoFault}
-use Rattle.newt_host.proofs.Outside.{NoFault-append, NoFault-refl}
+use Rattle.newt_host.specs.Outside.{Outside}
 use Rattle.newt_script_session.specs.Calls.{HasReadCause as ReadFailed, ReadCall, WriteCall}
-use Rattle.newt_script_session.specs.Causes.{HasCause, HasSinkCause, SameDevices}
+use Rattle.newt_script_session.specs.Causes.{HasCause, HasSinkCause, NoStreamFault, SameDevices}
 use Rattle.newt_script_session.specs.declared.halt.Halt.{Halt}
-use Rattle.newt_script_session.specs.declared.halt.Halt.TheVariants.{Memory, Device, Source, Sink, TooLong}
-use Rattle.newt_script_session.proofs.Counting.{faults_end, faults_err, faults_none, faults_same, same-refl, same-trans, sink_from}
+use Rattle.newt_script_session.specs.declared.halt.Halt.TheVariants.{Memory, Source, Sink, TooLong}
+use Rattle.newt_script_session.proofs.Counting.{faults_end, faults_err, faults_none, faults_same, none-append, none-refl, same-refl, same-trans, sink_from}
 use Rattle.newt_top.specs.Whole.{HasReadCause, ReadsAll, WholeCall}
 
--- So far no device is other than it was, and no fault was counted.
+-- So far no device is other than it was, and no fault of a stream was counted.
 pub record Reading (told : Bool) (old now : Outside) : Type 0 where
   pub devices : SameDevices told old now
-  pub no_fault : NoFault old now
+  pub no_fault : NoStreamFault old now
 
 pub reading-refl : (told : Bool) (a : Outside) → Reading told a a
-reading-refl told a = record { devices = same-refl told a; no_fault = NoFault-refl a }
+reading-refl told a = record { devices = same-refl told a; no_fault = none-refl a }
 
 pub reading_more : {told : Bool} {T : Type 0} {x : T} {a b c : Outside} → Reading told a b → ReadCall told (Ok x) b c → Reading told a c
-reading_more r w = record { devices = same-trans r.devices w.devices; no_fault = NoFault-append r.no_fault w.faults.no_fault }
+reading_more r w = record { devices = same-trans r.devices w.devices; no_fault = none-append r.no_fault w.faults.no_fault }
 
 pub whole_ok : {told : Bool} {T : Type 0} {x : T} {Cause : Halt → (old new : Outside) → Type 0} {a b : Outside} → Reading told a b → WholeCall told Cause (Ok x) a b
 whole_ok {x = x} {Cause = Cause} {a = a} {b = b} r = record { devices = r.devices; faults = faults_none Cause x a b r.no_fault }
@@ -37,7 +36,7 @@ unread {told} {T} {limit} {read} result halt {a} {b} is long quiet = subst (λ (
 pub whole_memory : {told : Bool} {T : Type 0} {a b : Outside} → Reading told a b → WholeCall {T = T} told HasCause (Err Memory) a b
 whole_memory {a = a} {b = b} r = record { devices = r.devices; faults = faults_end HasCause Memory a b r.no_fault tt }
 
-read_failed : (halt : Halt) (a b c : Outside) → NoFault a b → ReadFailed halt b c → HasReadCause halt a c
+read_failed : (halt : Halt) (a b c : Outside) → NoStreamFault a b → ReadFailed halt b c → HasReadCause halt a c
 read_failed halt a b c none cause = subst (λ (h : Halt). HasReadCause h a c) (sym cause.0) (omega (arith, cause.1, none.in_faults))
 
 pub whole_unread : {told : Bool} {T U : Type 0} (result : Result T Halt) (halt : Halt) {a b c : Outside} → result ≡ Err halt → Reading told a b
@@ -52,19 +51,17 @@ read_cause Memory a b cause = tt
 read_cause TooLong a b cause = tt
 read_cause Source a b cause = cause
 read_cause Sink a b cause = absurd cause
-read_cause (Device unit) a b cause = absurd cause
 
 -- the run ends with it
 pub whole_ends : {told : Bool} {T U : Type 0} (result : Result T Halt) (halt : Halt) {a b : Outside} → result ≡ Err halt
     → WholeCall {T = U} told HasReadCause (Err halt) a b → WholeCall told HasCause result a b
 whole_ends {T = T} {U = U} result halt {a} {b} is w = record {
   devices = w.devices;
-  faults = faults_err HasReadCause HasCause a a b (NoFault-refl a) {T = T} {U = U} result halt halt is (λ cause. read_cause halt a b cause) w.faults;
+  faults = faults_err HasReadCause HasCause a a b (none-refl a) {T = T} {U = U} result halt halt is (λ cause. read_cause halt a b cause) w.faults;
 }
 
 sink_cause : (halt : Halt) (a b : Outside) → HasSinkCause halt a b → HasCause halt a b
 sink_cause Memory a b cause = tt
-sink_cause (Device unit) a b cause = absurd cause
 sink_cause Sink a b cause = cause
 sink_cause Source a b cause = absurd cause
 sink_cause TooLong a b cause = tt

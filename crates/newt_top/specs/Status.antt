@@ -1,9 +1,9 @@
 -- Statuses, their numbers and their causes.
-use Rattle.std.specs.Prelude.{ℕ}
+use Rattle.std.specs.Prelude.{ℕ, Result, Ok as Answered, Err as Ended}
 use Rattle.newt_host.specs.Outside.{Outside, NoFault, Rose}
-use Rattle.newt_script_session.specs.Causes.{NeverLess}
+use Rattle.newt_script_session.specs.Causes.{NeverLess, NoStreamFault}
 use Rattle.newt_script_session.specs.declared.halt.Halt.{Halt}
-use Rattle.newt_script_session.specs.declared.halt.Halt.TheVariants.{Memory as NoMemory, Device as BadDevice, Source as BadSource, Sink as BadSink, TooLong as LongInput}
+use Rattle.newt_script_session.specs.declared.halt.Halt.TheVariants.{Memory as NoMemory, Source as BadSource, Sink as BadSink, TooLong as LongInput}
 use Rattle.newt_top.specs.declared.status.Status.{Status}
 use Rattle.newt_top.specs.declared.status.Status.TheVariants.{Ok, Usage, Memory, Device, Source, Sink, TooLong}
 
@@ -20,18 +20,22 @@ exit_of TooLong = 7
 -- the status of a run that was halted
 abbrev pub status_of : Halt → Status
 status_of NoMemory = Memory
-status_of (BadDevice unit) = Device unit
 status_of BadSource = Source
 status_of BadSink = Sink
 status_of LongInput = TooLong
 
--- a fault was counted where one is told
+-- and of one that may have been
+abbrev pub ended_as : {T : Type 0} → Result T Halt → Status
+ended_as (Answered x) = Ok
+ended_as (Ended halt) = status_of halt
+
+-- A fault was counted where one is told. A device that fails ends no run.
 abbrev pub HasStatusCause : Status → (old new : Outside) → Type 0
 HasStatusCause Ok old new = Unit {0}
 HasStatusCause Usage old new = Unit {0}
 HasStatusCause Memory old new = Unit {0}
 HasStatusCause TooLong old new = Unit {0}
-HasStatusCause (Device unit) old new = Rose (old.dev_faults unit) (new.dev_faults unit)
+HasStatusCause (Device unit) old new = ⊥
 HasStatusCause Source old new = Rose old.in_faults new.in_faults
 HasStatusCause Sink old new = Rose old.out_faults new.out_faults
 
@@ -42,16 +46,17 @@ IsFaultless Source = ⊥
 IsFaultless Sink = ⊥
 IsFaultless status = Unit {0}
 
--- with these statuses no fault was counted
+-- with Usage no fault was counted, and with Ok none of the input or of the output
 abbrev pub IsFaultFree : Status → (old new : Outside) → Type 0
-IsFaultFree Ok old new = NoFault old new
+IsFaultFree Ok old new = NoStreamFault old new
 IsFaultFree Usage old new = NoFault old new
 IsFaultFree status old new = Unit {0}
 
--- What a run promises of faults. No count has fallen. A fault is told only where it was counted; with Ok and with Usage none was counted at all; and where none was
+-- What a run promises of faults. No count has fallen. A fault is told only where it was counted;
+-- with Ok none of a stream was counted, and with Usage none at all; and where none of a stream was
 -- counted, none is told.
 pub record StatusFaults (status : Status) (old new : Outside) : Type 0 where
   pub later : NeverLess old new
   pub cause : HasStatusCause status old new
   pub no_fault : IsFaultFree status old new
-  pub complete : ¬ Rose old.in_faults new.in_faults → ¬ Rose old.out_faults new.out_faults → ((unit : ℕ) → ¬ Rose (old.dev_faults unit) (new.dev_faults unit)) → IsFaultless status
+  pub complete : ¬ Rose old.in_faults new.in_faults → ¬ Rose old.out_faults new.out_faults → IsFaultless status

@@ -16,7 +16,7 @@ use Rattle.newt_script_session.specs.Calls.{Faults}
 use Rattle.newt_script_session.specs.Causes.{SameDevices}
 use Rattle.newt_script_session.specs.Stream.{WroteSome}
 use Rattle.newt_script_session.specs.declared.halt.Halt.{Halt}
-use Rattle.newt_script_session.specs.declared.halt.Halt.TheVariants.{Memory, Device, Source, Sink, TooLong}
+use Rattle.newt_script_session.specs.declared.halt.Halt.TheVariants.{Memory, Source, Sink, TooLong}
 use Rattle.newt_top.specs.declared.status.Conversion.{Conversion}
 use Rattle.newt_top.specs.declared.status.Conversion.TheVariants.{Show, Pack}
 
@@ -42,7 +42,6 @@ converted Pack input = packed (literal_of input)
 abbrev pub HaltedWhole : Conversion → ℕ → Halt → (input old now : List ℕ) → Type 0
 HaltedWhole conversion limit Memory input old now = WroteSome (converted conversion input) old now
 HaltedWhole conversion limit Sink input old now = WroteSome (converted conversion input) old now
-HaltedWhole conversion limit (Device unit) input old now = ⊥
 HaltedWhole conversion limit Source input old now = now ≡ old
 HaltedWhole conversion limit TooLong input old now = (limit < length input) × (now ≡ old)
 
@@ -52,7 +51,6 @@ HasReadCause Memory old new = Unit {0}
 HasReadCause TooLong old new = Unit {0}
 HasReadCause Source old new = Rose old.in_faults new.in_faults
 HasReadCause Sink old new = ⊥
-HasReadCause (Device unit) old new = ⊥
 
 -- All of the input was read, at most so many bytes, and nothing of it is left; or it was halted,
 -- for too long an input only where there are more. Nothing is written.

@@ -1,11 +1,12 @@
 -- Both soups are looked up, the entry is read, and its graph is added.
 use Rattle.std.proofs.Common.{Some, refl, subst, sym, ◌∙◌, ◌≡◌}
+use Rattle.std.proofs.lemmas.Bool.{eq-eqb}
 use Rattle.newt_engine_units.specs.Looks.{known_both}
 use Rattle.std.proofs.lemmas.Result.{err_from_is_err_and}
 use Rattle.newt_engine_units.specs.Stands.{Stands, world_of}
 use Rattle.newt_spec_world.specs.Reply.{Reply}
 use Rattle.newt_spec_world.specs.declared.command.Command.TheVariants as command
-use Rattle.std.specs.Prelude.{Err, None}
+use Rattle.std.specs.Prelude.{Err, None, Ok}
 use Rattle.std.specs.Option.{option_and_then}
 use Rattle.newt_spec_store.specs.Store.{Entry, entry_of}
 use Rattle.newt_store_change.specs.Entries.{ReadsEntry}
@@ -15,7 +16,6 @@ use Rattle.newt_host.proofs.Outside.{NoFault-append, OnDevices-append}
 use Rattle.newt_spec_store.specs.Store.{change_soup, add_entry}
 use Rattle.newt_spec_world.specs.World.{World, store_on_unit}
 use Rattle.newt_store_change.specs.Faults.{Does}
-use Rattle.newt_laws_world.specs.Answering.{Answering}
 use Rattle.newt_spec_world.specs.Answer.{answer}
 use Rattle.newt_laws_answers.proofs.Tests.{add_tests, with_added}
 use Rattle.newt_laws_answers.specs.There.{OnUnit}
@@ -25,7 +25,7 @@ use Rattle.newt_laws_answers.proofs.Refusals.{added-uid}
 use Rattle.newt_engine_commands.proofs.Commands.{copy-missing, copy-answers, copy-makes, read-found, entry-fits}
 use Rattle.newt_engine_commands.proofs.Costing.{copy-costs, copy-few}
 use Rattle.newt_engine_units.proofs.Obeying.{cause-after, handed-ends, none-refused, read-obeys, refused-obeys}
-use Rattle.newt_engine_commands.proofs.Said.{said-made, said-moments, said-costs}
+use Rattle.newt_engine_commands.proofs.Said.{said-made, said-moments, said-costs, behind-breaks, behind-moments, behind-untorn, unrefused}
 use Rattle.newt_engine_units.proofs.Settings.{Setting, is-err, both-refused, has-soup}
 use Rattle.newt_engine_commands.proofs.copies.copy.Given.{Over}
 use Rattle.newt_engine_commands.proofs.copies.copy.Goals as goal
@@ -87,12 +87,11 @@ returns g c =
           let there = subst (λ y. OnUnit y c.args.to k.blocks k.store) (sym same) k.on in
           let fits = entry-fits h.store c.args.name.now h.soup c.args.uid x h.formed h.named found in
           let v = (answer w (command.Copy c.args.unit c.args.name.now c.args.uid c.args.to c.args.target.now)).0 in
-          subst (λ (m : Moment). Always (Answering g.C.Card.reads w v m) m (o c.change.new.host).now) read.looks.moment
-          (subst (λ (y : World). Always (Answering g.C.Card.reads y v (o c.read_entry.new.host).now) (o c.read_entry.new.host).now (o c.change.new.host).now) same
-          (said-moments e t there (add-said k.blocks c.read_entry.new.self.minute c.in_ok-soup.into k.store k.soup k.by_sig c.in_ok-graph.field-0.graph) v
+          behind-moments (command.Copy c.args.unit c.args.name.now c.args.uid c.args.to c.args.target.now) v t read.looks
+          (said-moments e t there (add-said k.blocks c.read_entry.new.self.minute c.in_ok-soup.into k.store k.soup k.by_sig c.in_ok-graph.field-0.graph) _ v (eq-eqb c.args.to c.args.to refl)
           (λ tests. subst (λ (y : World). store_on_unit v c.args.to ≡ Some (change_soup k.soup.name (add_entry y.minute x.graph) k.store)) (sym same)
           (copy-makes w w c.args.unit h.blocks h.store c.args.name.now h.soup c.args.uid h.on h.named refl c.args.to k.blocks k.store c.args.target.now k.soup k.on k.named k.name_is x found fits
-          (subst (λ (y : World). first_of (add_tests k.blocks y.minute k.soup.name x.graph k.store k.soup) ≡ None) same tests)))));
+          (subst (λ (y : World). first_of (add_tests k.blocks y.minute k.soup.name x.graph k.store k.soup) ≡ None) same tests))));
       costs = λ t.
           let h = has-soup at t c.args.unit c.args.name.now c.in_ok-soup.soup c.in_ok-soup.ensures.0 in
           let k = has-soup at t c.args.to c.args.target.now c.in_ok-soup.into c.in_ok-soup.ensures.1 in
@@ -103,5 +102,17 @@ returns g c =
           copy-costs h c.args.uid x found _ same (record { alone = read.looks.untouched; moment = read.looks.moment; reads = read.fetches t h.blocks h.store h.on }) k (said-costs e t there (add-said k.blocks c.read_entry.new.self.minute c.in_ok-soup.into k.store k.soup k.by_sig c.in_ok-graph.field-0.graph));
       alone = OnDevices-append read.looks.alone e.alone;
       cause = cause-after _ _ read.looks.alone e.cause;
+      broke = behind-breaks (command.Copy c.args.unit c.args.name.now c.args.uid c.args.to c.args.target.now) read.looks (read.ends.no_fault tt) e (λ t.
+          let h = has-soup at t c.args.unit c.args.name.now c.in_ok-soup.soup c.in_ok-soup.ensures.0 in
+          let k = has-soup at t c.args.to c.args.target.now c.in_ok-soup.into c.in_ok-soup.ensures.1 in
+          let x : Entry = record { uid = c.in_ok-graph.field-0.uid; time = c.in_ok-graph.field-0.time; graph = c.in_ok-graph.field-0.graph } in
+          let found : entry_of c.args.uid h.soup ≡ Some x = read-found c.in_ok-soup.soup c.args.uid h.store h.soup c.in_ok-graph.field-0 c.in_ok-graph.field-0.graph refl h.by_sig (c.in_ok-graph.ensures.read t h.blocks h.store h.on) in
+          let same = read.looks.world t in
+          let fits = entry-fits h.store c.args.name.now h.soup c.args.uid x h.formed h.named found in
+          behind-untorn e t (subst (λ y. OnUnit y c.args.to k.blocks k.store) (sym same) k.on) (add-said k.blocks c.read_entry.new.self.minute c.in_ok-soup.into k.store k.soup k.by_sig c.in_ok-graph.field-0.graph)
+          w same (command.Copy c.args.unit c.args.name.now c.args.uid c.args.to c.args.target.now) (eq-eqb c.args.to c.args.to refl) refl
+          (λ q. unrefused (λ n. Reply.number n) w _ (command.Copy c.args.unit c.args.name.now c.args.uid c.args.to c.args.target.now) k.soup.next_uid (λ r x. cc)
+          (copy-answers w _ c.args.unit h.blocks h.store c.args.name.now h.soup c.args.uid h.on h.named refl c.args.to k.blocks k.store c.args.target.now k.soup k.on k.named k.name_is x found fits (Ok k.soup.next_uid)
+          (subst (λ (y : World). first_of (add_tests k.blocks y.minute k.soup.name x.graph k.store k.soup) ≡ None) same q, refl, refl))));
       no_fault = λ goes. NoFault-append (read.ends.no_fault tt) (e.no_fault goes);
     }

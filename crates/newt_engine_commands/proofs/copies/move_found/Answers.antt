@@ -1,5 +1,8 @@
 -- The entry is looked for, and its card moves it.
-use Rattle.std.proofs.Common.{refl, sym, ℕ, ◌≡◌, ◌∙◌}
+use Rattle.std.proofs.Common.{refl, sym, ap, ℕ, ◌≡◌, ◌∙◌, ◌||◌, ◌&&◌, not}
+use Rattle.std.proofs.lemmas.Bool.{eq-eqb}
+use Rattle.newt_spec_world.specs.Reply.{Reply}
+use Rattle.newt_spec_world.specs.declared.command.Command.TheVariants as command
 use Rattle.newt_engine_units.specs.Stands.{Stands, world_of}
 use Rattle.newt_engine_commands.proofs.Moves.{inside-answers, inside-by-sig, inside-makes, inside-missing}
 use Rattle.newt_engine_commands.proofs.Costing.{inside-costs}
@@ -8,7 +11,7 @@ use Rattle.newt_engine_units.proofs.Obeying.{ends-change, none-ends}
 use Rattle.newt_engine_units.proofs.Settings.{Setting, still, stand-told, has-entry}
 use Rattle.newt_laws_answers.proofs.Changes.{move-said}
 use Rattle.newt_laws_answers.proofs.Refusals.{moved-uid}
-use Rattle.newt_engine_commands.proofs.Said.{said-made, said-moments, said-costs}
+use Rattle.newt_engine_commands.proofs.Said.{said-made, said-moments, said-costs, said-untorn}
 use Rattle.newt_engine_commands.proofs.copies.move_found.Given.{Over}
 use Rattle.newt_engine_commands.proofs.copies.move_found.Goals as goal
 
@@ -35,10 +38,14 @@ returns-then-has_entry g c =
           record {
             answered = inside-answers w c.args.unit name target c.args.soup c.args.into c.args.uid x k refl _ _
                 (said-made e t x.of.on said (λ n. n ≡ k.soup.next_uid) (λ n is. is ∙ moved-uid x.of.blocks w.minute c.args.soup x.of.store x.of.soup x.of.by_sig c.args.uid x.entry x.found c.args.into k.soup into));
-            moments = said-moments e t x.of.on said _ (inside-makes w c.args.unit name target c.args.soup c.args.into c.args.uid x k refl);
+            moments = said-moments e t x.of.on said _ _ (ap (λ b. b || b) (eq-eqb c.args.unit c.args.unit refl)) (inside-makes w c.args.unit name target c.args.soup c.args.into c.args.uid x k refl);
+            untorn = said-untorn e t x.of.on said (command.Move c.args.unit name c.args.uid c.args.unit target) (λ n. Reply.number n) k.soup.next_uid (λ n. n ≡ k.soup.next_uid)
+                (ap (λ b. b || b) (eq-eqb c.args.unit c.args.unit refl)) (ap (λ b. b && not b) (eq-eqb c.args.unit c.args.unit refl)) (λ r q. cc) refl
+                (inside-answers w c.args.unit name target c.args.soup c.args.into c.args.uid x k refl _);
             costs = inside-costs x k (said-costs e t x.of.on said);
           };
       ends = ends-change e;
+      broke = e.broke;
     }
 
 pub returns-else-has_entry : goal.returns-else-has_entry
@@ -50,8 +57,10 @@ returns-else-has_entry g c =
           let w = world_of g.C.Card.reads c.args.units.now (g.H.Host.outside c.args.host.now) in
           record {
             answered = inside-missing w c.args.unit name target c.args.soup c.args.into c.args.uid h k (sym (c.if-has_entry.ensures (g.H.Host.outside c.args.host.now) at.eight (stand-told at t) h.blocks h.store h.on));
-            moments = still at t _ _ refl;
+            moments = still at t _ _ _ refl;
+            untorn = λ untorn. refl;
             costs = idle-costs _ _ _ _ _;
           };
       ends = none-ends {T = ℕ} _ tt;
+      broke = tt;
     }

@@ -1,5 +1,7 @@
 -- Both soups are looked up.
-use Rattle.std.proofs.Common.{IsTrue}
+use Rattle.std.proofs.Common.{◌≡◌, subst, false, IsTrue}
+use Rattle.newt_spec_world.specs.Step.{may_tear}
+use Rattle.newt_engine_units.proofs.Broken.{err-device-map}
 use Rattle.newt_engine_units.specs.Looks.{known_both}
 use Rattle.std.proofs.lemmas.Result.{err_from_is_err_and}
 use Rattle.newt_engine_units.specs.Stands.{Stands, world_of}
@@ -32,6 +34,7 @@ pub returns : goal.returns
 returns g c =
     let at = begins g c.requires in
     let o = g.H.Host.outside in
+    let w = world_of g.C.Card.reads c.args.units.now (o c.args.host.now) in
     let e = c.move_found.ensures in
     let moved : IsTrue g.H.Host.told → MovesNamed g.C.Card.reads c.args.unit c.args.name.now c.args.uid c.args.target.now c.args.units.now c.move_found.new.units (o c.args.host.now) (o c.move_found.new.host) c.move_found.result = λ t.
     e.moved t c.args.name.now c.args.target.now (has-soup at t c.args.unit c.args.name.now c.in_ok-soup.soup c.in_ok-soup.ensures.0) (has-soup at t c.args.unit c.args.target.now c.in_ok-soup.into c.in_ok-soup.ensures.1) in
@@ -42,5 +45,9 @@ returns g c =
       costs = λ t. (moved t).costs;
       alone = e.ends.alone;
       cause = e.ends.cause;
+      broke = err-device-map _ _ c.move_found.result (λ n b. record {
+        breaks = b.1;
+        same = λ t tears sure store. (moved t).untorn (subst (λ k. may_tear w (command.Move c.args.unit c.args.name.now c.args.uid c.args.unit c.args.target.now) k ≡ false) b.0 tears);
+      }) e.broke;
       no_fault = e.ends.no_fault;
     }

@@ -1,6 +1,7 @@
 -- The soup is looked up, and its card adds the entry.
 use Rattle.std.proofs.Common.{ap, refl, ◌∙◌, ◌≡◌}
 use Rattle.std.specs.Prelude.{unwrap_or}
+use Rattle.std.proofs.lemmas.Bool.{eq-eqb}
 use Rattle.newt_engine_units.specs.Looks.{known_checks}
 use Rattle.std.proofs.lemmas.Result.{err_from_is_err_and}
 use Rattle.newt_engine_units.specs.Stands.{Stands, world_of}
@@ -12,7 +13,7 @@ use Rattle.newt_laws_answers.proofs.Refusals.{added-uid}
 use Rattle.newt_engine_commands.proofs.Commands.{add-answers, add-makes, addx-answers, addx-makes, addu-answers, addu-makes}
 use Rattle.newt_engine_commands.proofs.Costing.{add-costs, addx-costs, addu-costs}
 use Rattle.newt_engine_units.proofs.Obeying.{none-refused, refused-obeys}
-use Rattle.newt_engine_commands.proofs.Said.{said-made, said-moments, said-costs}
+use Rattle.newt_engine_commands.proofs.Said.{said-made, said-moments, said-costs, change-breaks, said-untorn}
 use Rattle.newt_engine_units.proofs.Settings.{Setting, unit-there, soup-refused, has-soup}
 use Rattle.newt_engine_commands.proofs.entries.add.Given.{Over}
 use Rattle.newt_engine_commands.proofs.entries.add.Goals as goal
@@ -45,12 +46,16 @@ returns-clause-obeyed g c =
           add-answers w _ c.args.unit h.blocks h.store h.on refl c.args.name.now h.soup h.named h.name_is c.args.graph _ (said-made e t h.on (add-said h.blocks w.minute c.in_ok-soup.soup h.store h.soup h.by_sig c.args.graph) (λ n. n ≡ h.soup.next_uid) (λ n is. is ∙ added-uid h.blocks w.minute c.in_ok-soup.soup h.store h.soup h.by_sig c.args.graph));
       moments = λ t.
           let h = has-soup at t c.args.unit c.args.name.now c.in_ok-soup.soup c.in_ok-soup.ensures in
-          said-moments e t h.on (add-said h.blocks w.minute c.in_ok-soup.soup h.store h.soup h.by_sig c.args.graph) _ (add-makes w w c.args.unit h.blocks h.store h.on refl c.args.name.now h.soup h.named h.name_is c.args.graph);
+          said-moments e t h.on (add-said h.blocks w.minute c.in_ok-soup.soup h.store h.soup h.by_sig c.args.graph) _ _ (eq-eqb c.args.unit c.args.unit refl) (add-makes w w c.args.unit h.blocks h.store h.on refl c.args.name.now h.soup h.named h.name_is c.args.graph);
       costs = λ t.
           let h = has-soup at t c.args.unit c.args.name.now c.in_ok-soup.soup c.in_ok-soup.ensures in
           add-costs h c.args.graph (said-costs e t h.on (add-said h.blocks w.minute c.in_ok-soup.soup h.store h.soup h.by_sig c.args.graph));
       alone = e.alone;
       cause = e.cause;
+      broke = change-breaks (command.Add c.args.unit c.args.name.now c.args.graph) e (λ t.
+          let h = has-soup at t c.args.unit c.args.name.now c.in_ok-soup.soup c.in_ok-soup.ensures in
+          said-untorn e t h.on (add-said h.blocks w.minute c.in_ok-soup.soup h.store h.soup h.by_sig c.args.graph) (command.Add c.args.unit c.args.name.now c.args.graph) (λ n. Reply.number n) h.soup.next_uid (λ n. n ≡ h.soup.next_uid) (eq-eqb c.args.unit c.args.unit refl) refl (λ r x. cc) refl
+          (add-answers w _ c.args.unit h.blocks h.store h.on refl c.args.name.now h.soup h.named h.name_is c.args.graph));
       no_fault = e.no_fault;
     }
 
@@ -73,12 +78,16 @@ returns-clause-as_stream g c =
           addx-answers w _ c.args.unit h.blocks h.store h.on refl c.args.name.now h.soup h.named h.name_is c.args.graph _ (said-made e t h.on (add-said h.blocks w.minute c.in_ok-soup.soup h.store h.soup h.by_sig c.args.graph) (λ n. n ≡ h.soup.next_uid) (λ n is. is ∙ added-uid h.blocks w.minute c.in_ok-soup.soup h.store h.soup h.by_sig c.args.graph));
       moments = λ t.
           let h = has-soup at t c.args.unit c.args.name.now c.in_ok-soup.soup c.in_ok-soup.ensures in
-          said-moments e t h.on (add-said h.blocks w.minute c.in_ok-soup.soup h.store h.soup h.by_sig c.args.graph) _ (addx-makes w w c.args.unit h.blocks h.store h.on refl c.args.name.now h.soup h.named h.name_is c.args.graph);
+          said-moments e t h.on (add-said h.blocks w.minute c.in_ok-soup.soup h.store h.soup h.by_sig c.args.graph) _ _ (eq-eqb c.args.unit c.args.unit refl) (addx-makes w w c.args.unit h.blocks h.store h.on refl c.args.name.now h.soup h.named h.name_is c.args.graph);
       costs = λ t.
           let h = has-soup at t c.args.unit c.args.name.now c.in_ok-soup.soup c.in_ok-soup.ensures in
           addx-costs h c.args.graph (said-costs e t h.on (add-said h.blocks w.minute c.in_ok-soup.soup h.store h.soup h.by_sig c.args.graph));
       alone = e.alone;
       cause = e.cause;
+      broke = change-breaks (command.Addx c.args.unit c.args.name.now c.args.graph) e (λ t.
+          let h = has-soup at t c.args.unit c.args.name.now c.in_ok-soup.soup c.in_ok-soup.ensures in
+          said-untorn e t h.on (add-said h.blocks w.minute c.in_ok-soup.soup h.store h.soup h.by_sig c.args.graph) (command.Addx c.args.unit c.args.name.now c.args.graph) (λ n. Reply.number n) h.soup.next_uid (λ n. n ≡ h.soup.next_uid) (eq-eqb c.args.unit c.args.unit refl) refl (λ r x. cc) refl
+          (addx-answers w _ c.args.unit h.blocks h.store h.on refl c.args.name.now h.soup h.named h.name_is c.args.graph));
       no_fault = e.no_fault;
     }
 
@@ -102,11 +111,15 @@ returns-clause-to_default g c d =
           addu-answers w _ c.args.unit h.blocks h.store h.on refl c.args.name.now h.soup h.named h.name_is c.args.graph (ap (λ o. unwrap_or o 8) d) _ (said-made e t h.on (add-said h.blocks w.minute c.in_ok-soup.soup h.store h.soup h.by_sig c.args.graph) (λ n. n ≡ h.soup.next_uid) (λ n is. is ∙ added-uid h.blocks w.minute c.in_ok-soup.soup h.store h.soup h.by_sig c.args.graph));
       moments = λ t.
           let h = has-soup at t c.args.unit c.args.name.now c.in_ok-soup.soup c.in_ok-soup.ensures in
-          said-moments e t h.on (add-said h.blocks w.minute c.in_ok-soup.soup h.store h.soup h.by_sig c.args.graph) _ (addu-makes w w c.args.unit h.blocks h.store h.on refl c.args.name.now h.soup h.named h.name_is c.args.graph (ap (λ o. unwrap_or o 8) d));
+          said-moments e t h.on (add-said h.blocks w.minute c.in_ok-soup.soup h.store h.soup h.by_sig c.args.graph) _ _ (eq-eqb _ c.args.unit (ap (λ o. unwrap_or o 8) d)) (addu-makes w w c.args.unit h.blocks h.store h.on refl c.args.name.now h.soup h.named h.name_is c.args.graph (ap (λ o. unwrap_or o 8) d));
       costs = λ t.
           let h = has-soup at t c.args.unit c.args.name.now c.in_ok-soup.soup c.in_ok-soup.ensures in
           addu-costs h c.args.graph (ap (λ o. unwrap_or o 8) d) (said-costs e t h.on (add-said h.blocks w.minute c.in_ok-soup.soup h.store h.soup h.by_sig c.args.graph));
       alone = e.alone;
       cause = e.cause;
+      broke = change-breaks (command.Addu c.args.name.now c.args.graph) e (λ t.
+          let h = has-soup at t c.args.unit c.args.name.now c.in_ok-soup.soup c.in_ok-soup.ensures in
+          said-untorn e t h.on (add-said h.blocks w.minute c.in_ok-soup.soup h.store h.soup h.by_sig c.args.graph) (command.Addu c.args.name.now c.args.graph) (λ n. Reply.added c.args.unit n) h.soup.next_uid (λ n. n ≡ h.soup.next_uid) (eq-eqb _ c.args.unit (ap (λ o. unwrap_or o 8) d)) refl (λ r x. cc) refl
+          (addu-answers w _ c.args.unit h.blocks h.store h.on refl c.args.name.now h.soup h.named h.name_is c.args.graph (ap (λ o. unwrap_or o 8) d)));
       no_fault = e.no_fault;
     }

@@ -31,6 +31,7 @@ returns-in-Ok g c =
       costs = λ t. costs-of (e.costs t) (λ goes. tt);
       alone = e.alone;
       cause = tt;
+      broke = tt;
       no_fault = λ goes. e.no_fault tt;
     }
 

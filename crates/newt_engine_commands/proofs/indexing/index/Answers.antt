@@ -1,5 +1,7 @@
 -- The soup is looked up, its indexes are looked through, and its card declares one more.
 use Rattle.std.proofs.Common.{ap, refl, subst, ◌∙◌, ◌≡◌}
+use Rattle.std.proofs.lemmas.Bool.{eq-eqb}
+use Rattle.std.specs.Bool.{⊤}
 use Rattle.newt_engine_units.specs.Looks.{known_checks}
 use Rattle.std.proofs.lemmas.Result.{err_from_is_err_and}
 use Rattle.newt_engine_units.specs.Stands.{Stands, world_of}
@@ -14,7 +16,7 @@ use Rattle.newt_engine_commands.specs.Declares.{MayDeclare}
 use Rattle.newt_engine_commands.proofs.Declaring.{index-fails, index-answers, index-makes}
 use Rattle.newt_engine_commands.proofs.Costing.{index-costs}
 use Rattle.newt_engine_units.proofs.Obeying.{none-refused, refused-obeys}
-use Rattle.newt_engine_commands.proofs.Said.{said-done, said-moments, said-costs, done-goes, done-cause, done-costs}
+use Rattle.newt_engine_commands.proofs.Said.{said-done, said-moments, said-costs, done-goes, done-cause, done-costs, change-breaks, said-untorn}
 use Rattle.newt_engine_units.proofs.Settings.{Setting, is-err, stand-told, soup-refused, has-soup}
 use Rattle.newt_engine_commands.proofs.indexing.index.Given.{Over}
 use Rattle.newt_engine_commands.proofs.indexing.index.Goals as goal
@@ -63,7 +65,7 @@ returns g c =
           let h = has-soup at t c.args.unit c.args.name.now c.in_ok-soup.soup c.in_ok-soup.ensures in
           let may : MayDeclare {T = IndexSpec} c.args.parts.now h.soup (Ok c.in_ok-spec.spec) = subst (λ x. MayDeclare {T = IndexSpec} x h.soup (Ok c.in_ok-spec.spec)) c.list-words.ensures
           (c.in_ok-spec.ensures.may (g.H.Host.outside c.args.host.now) at.eight (stand-told at t) h.blocks h.store h.soup h.on h.by_sig) in
-          said-moments e t h.on (index-said h.blocks w.minute c.in_ok-soup.soup h.store h.soup h.by_sig c.in_ok-spec.spec) _ (index-makes w w c.args.unit h.blocks h.store h.on refl c.args.name.now h.soup h.named h.name_is c.args.parts.now c.in_ok-spec.spec words may.0 may.1);
+          said-moments e t h.on (index-said h.blocks w.minute c.in_ok-soup.soup h.store h.soup h.by_sig c.in_ok-spec.spec) _ _ (eq-eqb c.args.unit c.args.unit refl) (index-makes w w c.args.unit h.blocks h.store h.on refl c.args.name.now h.soup h.named h.name_is c.args.parts.now c.in_ok-spec.spec words may.0 may.1);
       costs = λ t.
           let h = has-soup at t c.args.unit c.args.name.now c.in_ok-soup.soup c.in_ok-soup.ensures in
           let may : MayDeclare {T = IndexSpec} c.args.parts.now h.soup (Ok c.in_ok-spec.spec) = subst (λ x. MayDeclare {T = IndexSpec} x h.soup (Ok c.in_ok-spec.spec)) c.list-words.ensures
@@ -71,5 +73,11 @@ returns g c =
           index-costs h c.args.parts.now may.0 may.1 c.in_ok-spec.spec words (done-costs c.change.result is (said-costs e t h.on (index-said h.blocks w.minute c.in_ok-soup.soup h.store h.soup h.by_sig c.in_ok-spec.spec)));
       alone = e.alone;
       cause = done-cause c.change.result is _ e.cause;
+      broke = done-cause c.change.result is _ (change-breaks (command.Index c.args.unit c.args.name.now c.args.parts.now) e (λ t.
+          let h = has-soup at t c.args.unit c.args.name.now c.in_ok-soup.soup c.in_ok-soup.ensures in
+          let may : MayDeclare {T = IndexSpec} c.args.parts.now h.soup (Ok c.in_ok-spec.spec) = subst (λ x. MayDeclare {T = IndexSpec} x h.soup (Ok c.in_ok-spec.spec)) c.list-words.ensures
+          (c.in_ok-spec.ensures.may (g.H.Host.outside c.args.host.now) at.eight (stand-told at t) h.blocks h.store h.soup h.on h.by_sig) in
+          said-untorn e t h.on (index-said h.blocks w.minute c.in_ok-soup.soup h.store h.soup h.by_sig c.in_ok-spec.spec) (command.Index c.args.unit c.args.name.now c.args.parts.now) (λ _. Reply.done) tt (λ _. ⊤) (eq-eqb c.args.unit c.args.unit refl) refl (λ r x. cc) tt
+          (index-answers w _ c.args.unit h.blocks h.store h.on refl c.args.name.now h.soup h.named h.name_is c.args.parts.now c.in_ok-spec.spec words may.0 may.1)));
       no_fault = λ goes. e.no_fault (done-goes c.change.result is goes);
     }

@@ -1,5 +1,7 @@
 -- The soup is looked up, its indexes are looked through, and its card removes one.
 use Rattle.std.proofs.Common.{ap, refl, sym, ◌∙◌}
+use Rattle.std.proofs.lemmas.Bool.{eq-eqb}
+use Rattle.std.specs.Bool.{⊤}
 use Rattle.newt_engine_units.specs.Looks.{known_checks}
 use Rattle.std.proofs.lemmas.Result.{err_from_is_err_and}
 use Rattle.newt_engine_units.specs.Stands.{Stands, world_of}
@@ -11,7 +13,7 @@ use Rattle.newt_laws_answers.proofs.Declares.{unindex-not-found, unindex-missing
 use Rattle.newt_engine_commands.proofs.Declaring.{unindex-answers, unindex-makes}
 use Rattle.newt_engine_commands.proofs.Costing.{unindex-costs}
 use Rattle.newt_engine_units.proofs.Obeying.{none-refused, refused-obeys, still-obeys}
-use Rattle.newt_engine_commands.proofs.Said.{said-done, said-moments, said-costs, done-goes, done-cause, done-costs}
+use Rattle.newt_engine_commands.proofs.Said.{said-done, said-moments, said-costs, done-goes, done-cause, done-costs, change-breaks, said-untorn}
 use Rattle.newt_engine_units.proofs.Settings.{Setting, stand-told, soup-refused, has-soup}
 use Rattle.newt_engine_commands.proofs.indexing.unindex.Given.{Over}
 use Rattle.newt_engine_commands.proofs.indexing.unindex.Goals as goal
@@ -53,11 +55,15 @@ returns g c =
           unindex-answers w _ c.args.unit h.blocks h.store h.on refl c.args.name.now h.soup h.named h.name_is c.args.paths (ap (λ x. has_paths x h.soup.specs) (sym c.list.ensures) ∙ sym (c.has_index.ensures (g.H.Host.outside c.args.host.now) at.eight (stand-told at t) h.blocks h.store h.soup h.on h.by_sig) ∙ c.if-not-has_index.false) _ (said-done e t h.on (unindex-said h.blocks w.minute c.in_ok-soup.soup h.store h.soup h.by_sig c.args.paths) _ is);
       moments = λ t.
           let h = has-soup at t c.args.unit c.args.name.now c.in_ok-soup.soup c.in_ok-soup.ensures in
-          said-moments e t h.on (unindex-said h.blocks w.minute c.in_ok-soup.soup h.store h.soup h.by_sig c.args.paths) _ (λ _. unindex-makes w w c.args.unit h.blocks h.store h.on refl c.args.name.now h.soup h.named h.name_is c.args.paths (ap (λ x. has_paths x h.soup.specs) (sym c.list.ensures) ∙ sym (c.has_index.ensures (g.H.Host.outside c.args.host.now) at.eight (stand-told at t) h.blocks h.store h.soup h.on h.by_sig) ∙ c.if-not-has_index.false));
+          said-moments e t h.on (unindex-said h.blocks w.minute c.in_ok-soup.soup h.store h.soup h.by_sig c.args.paths) _ _ (eq-eqb c.args.unit c.args.unit refl) (λ _. unindex-makes w w c.args.unit h.blocks h.store h.on refl c.args.name.now h.soup h.named h.name_is c.args.paths (ap (λ x. has_paths x h.soup.specs) (sym c.list.ensures) ∙ sym (c.has_index.ensures (g.H.Host.outside c.args.host.now) at.eight (stand-told at t) h.blocks h.store h.soup h.on h.by_sig) ∙ c.if-not-has_index.false));
       costs = λ t.
           let h = has-soup at t c.args.unit c.args.name.now c.in_ok-soup.soup c.in_ok-soup.ensures in
           unindex-costs h c.args.paths c.args.paths (ap (λ x. has_paths x h.soup.specs) (sym c.list.ensures) ∙ sym (c.has_index.ensures (g.H.Host.outside c.args.host.now) at.eight (stand-told at t) h.blocks h.store h.soup h.on h.by_sig) ∙ c.if-not-has_index.false) refl (done-costs c.change.result is (said-costs e t h.on (unindex-said h.blocks w.minute c.in_ok-soup.soup h.store h.soup h.by_sig c.args.paths)));
       alone = e.alone;
       cause = done-cause c.change.result is _ e.cause;
+      broke = done-cause c.change.result is _ (change-breaks (command.Unindex c.args.unit c.args.name.now c.args.paths) e (λ t.
+          let h = has-soup at t c.args.unit c.args.name.now c.in_ok-soup.soup c.in_ok-soup.ensures in
+          said-untorn e t h.on (unindex-said h.blocks w.minute c.in_ok-soup.soup h.store h.soup h.by_sig c.args.paths) (command.Unindex c.args.unit c.args.name.now c.args.paths) (λ _. Reply.done) tt (λ _. ⊤) (eq-eqb c.args.unit c.args.unit refl) refl (λ r x. cc) tt
+          (unindex-answers w _ c.args.unit h.blocks h.store h.on refl c.args.name.now h.soup h.named h.name_is c.args.paths (ap (λ x. has_paths x h.soup.specs) (sym c.list.ensures) ∙ sym (c.has_index.ensures (g.H.Host.outside c.args.host.now) at.eight (stand-told at t) h.blocks h.store h.soup h.on h.by_sig) ∙ c.if-not-has_index.false))));
       no_fault = λ goes. e.no_fault (done-goes c.change.result is goes);
     }

@@ -1,5 +1,7 @@
 -- The soup is looked up, and its card gives it the info frame.
 use Rattle.std.proofs.Common.{refl}
+use Rattle.std.proofs.lemmas.Bool.{eq-eqb}
+use Rattle.std.specs.Bool.{⊤}
 use Rattle.newt_engine_units.specs.Looks.{known_checks}
 use Rattle.std.proofs.lemmas.Result.{err_from_is_err_and}
 use Rattle.newt_engine_units.specs.Stands.{Stands, world_of}
@@ -10,7 +12,7 @@ use Rattle.newt_laws_answers.proofs.Declares.{set-info-not-found}
 use Rattle.newt_engine_commands.proofs.Declaring.{info-answers, info-makes}
 use Rattle.newt_engine_commands.proofs.Costing.{info-costs}
 use Rattle.newt_engine_units.proofs.Obeying.{none-refused, refused-obeys}
-use Rattle.newt_engine_commands.proofs.Said.{said-done, said-moments, said-costs, done-goes, done-cause, done-costs}
+use Rattle.newt_engine_commands.proofs.Said.{said-done, said-moments, said-costs, done-goes, done-cause, done-costs, change-breaks, said-untorn}
 use Rattle.newt_engine_units.proofs.Settings.{Setting, ends, soup-refused, has-soup}
 use Rattle.newt_engine_commands.proofs.infos.set_info.Given.{Over}
 use Rattle.newt_engine_commands.proofs.infos.set_info.Goals as goal
@@ -44,11 +46,15 @@ returns g c =
           info-answers w _ c.args.unit h.blocks h.store h.on refl c.args.name.now h.soup h.named h.name_is c.args.literal c.info_of-info.result c.info_of-info.ensures _ (said-done e t h.on (info-said h.blocks w.minute c.in_ok-soup.soup h.store h.soup h.by_sig c.info_of-info.result) _ is);
       moments = λ t.
           let h = has-soup at t c.args.unit c.args.name.now c.in_ok-soup.soup c.in_ok-soup.ensures in
-          said-moments e t h.on (info-said h.blocks w.minute c.in_ok-soup.soup h.store h.soup h.by_sig c.info_of-info.result) _ (info-makes w w c.args.unit h.blocks h.store h.on refl c.args.name.now h.soup h.named h.name_is c.args.literal c.info_of-info.result c.info_of-info.ensures);
+          said-moments e t h.on (info-said h.blocks w.minute c.in_ok-soup.soup h.store h.soup h.by_sig c.info_of-info.result) _ _ (eq-eqb c.args.unit c.args.unit refl) (info-makes w w c.args.unit h.blocks h.store h.on refl c.args.name.now h.soup h.named h.name_is c.args.literal c.info_of-info.result c.info_of-info.ensures);
       costs = λ t.
           let h = has-soup at t c.args.unit c.args.name.now c.in_ok-soup.soup c.in_ok-soup.ensures in
           info-costs h c.args.literal c.info_of-info.result c.info_of-info.ensures (done-costs c.change.result is (said-costs e t h.on (info-said h.blocks w.minute c.in_ok-soup.soup h.store h.soup h.by_sig c.info_of-info.result)));
       alone = e.alone;
       cause = done-cause c.change.result is _ e.cause;
+      broke = done-cause c.change.result is _ (change-breaks (command.SetInfo c.args.unit c.args.name.now c.args.literal) e (λ t.
+          let h = has-soup at t c.args.unit c.args.name.now c.in_ok-soup.soup c.in_ok-soup.ensures in
+          said-untorn e t h.on (info-said h.blocks w.minute c.in_ok-soup.soup h.store h.soup h.by_sig c.info_of-info.result) (command.SetInfo c.args.unit c.args.name.now c.args.literal) (λ _. Reply.done) tt (λ _. ⊤) (eq-eqb c.args.unit c.args.unit refl) refl (λ r x. cc) tt
+          (info-answers w _ c.args.unit h.blocks h.store h.on refl c.args.name.now h.soup h.named h.name_is c.args.literal c.info_of-info.result c.info_of-info.ensures)));
       no_fault = λ goes. e.no_fault (done-goes c.change.result is goes);
     }

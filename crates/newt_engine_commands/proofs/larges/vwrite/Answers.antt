@@ -1,11 +1,12 @@
 -- The soup is looked up, the entry is read, its large binary is found, and its card puts the bytes over it.
 use Rattle.std.proofs.Common.{Some, length, refl, subst, sym, ◌≡◌}
+use Rattle.std.proofs.lemmas.Bool.{eq-eqb}
 use Rattle.newt_engine_units.specs.Looks.{known_checks}
 use Rattle.std.proofs.lemmas.Result.{err_from_is_err_and}
 use Rattle.newt_engine_units.specs.Stands.{Stands, world_of}
 use Rattle.newt_spec_world.specs.Reply.{Reply}
 use Rattle.newt_spec_world.specs.declared.command.Command.TheVariants as command
-use Rattle.std.specs.Prelude.{Err}
+use Rattle.std.specs.Prelude.{Err, Ok}
 use Rattle.std.specs.Option.{option_and_then}
 use Rattle.newt_spec_store.specs.Store.{Entry, entry_of}
 use Rattle.newt_store_change.specs.Entries.{ReadsEntry}
@@ -14,7 +15,6 @@ use Rattle.newt_host.specs.Moments.{Moment, Always}
 use Rattle.newt_host.proofs.Outside.{NoFault-append, OnDevices-append}
 use Rattle.newt_spec_world.specs.World.{World, change_store}
 use Rattle.newt_store_change.specs.Faults.{Does}
-use Rattle.newt_laws_world.specs.Answering.{Answering}
 use Rattle.newt_spec_world.specs.Answer.{answer}
 use Rattle.newt_laws_answers.proofs.Tests.{patch_tests, patched_within}
 use Rattle.newt_laws_answers.specs.There.{OnUnit}
@@ -25,7 +25,7 @@ use Rattle.newt_engine_commands.proofs.Binaries.{missing, reached, vwrite-answer
 use Rattle.newt_engine_commands.proofs.Commands.{read-found}
 use Rattle.newt_engine_commands.proofs.Costing.{vwrite-costs, get-few}
 use Rattle.newt_engine_units.proofs.Obeying.{cause-after, ends-after, handed-ends, none-ends, none-refused, read-obeys, refused-obeys}
-use Rattle.newt_engine_commands.proofs.Said.{said-done, said-moments, said-costs, done-goes, done-cause, done-costs}
+use Rattle.newt_engine_commands.proofs.Said.{said-done, said-moments, said-costs, done-goes, done-cause, done-costs, behind-breaks, behind-moments, behind-untorn, unrefused}
 use Rattle.newt_engine_units.proofs.Settings.{Setting, is-err, soup-refused, has-soup}
 use Rattle.newt_engine_commands.proofs.larges.vwrite.Given.{Over}
 use Rattle.newt_engine_commands.proofs.larges.vwrite.Goals as goal
@@ -84,10 +84,9 @@ returns-in-Some g c =
           let found : entry_of c.args.uid h.soup ≡ Some x = read-found c.in_ok-soup.soup c.args.uid h.store h.soup c.in_ok-graph.field-0 c.in_ok-graph.field-0.graph refl h.by_sig (c.in_ok-graph.ensures.read t h.blocks h.store h.on) in
           let same = read.looks.world t in
           let v = (answer w (command.Vwrite c.args.unit c.args.name.now c.args.uid c.args.path.now c.args.at c.args.bytes)).0 in
-          subst (λ (m : Moment). Always (Answering g.C.Card.reads w v m) m (o c.change.new.host).now) read.looks.moment
-          (subst (λ (y : World). Always (Answering g.C.Card.reads y v (o c.read_entry.new.host).now) (o c.read_entry.new.host).now (o c.change.new.host).now) same
-          (said-moments e t (subst (λ y. OnUnit y c.args.unit h.blocks h.store) (sym same) h.on) (patch-said h.blocks c.read_entry.new.self.minute c.in_ok-soup.soup h.store h.soup h.by_sig c.args.uid x found c.in-Some.node c.args.at c.args.bytes binary.0 binary.1 binary.2) v
-          (vwrite-makes w w c.args.unit h.blocks h.store h.on refl c.args.name.now h.soup h.named h.name_is c.args.uid x found c.args.path.now c.args.at c.args.bytes c.in-Some.node reach)));
+          behind-moments (command.Vwrite c.args.unit c.args.name.now c.args.uid c.args.path.now c.args.at c.args.bytes) v t read.looks
+          (said-moments e t (subst (λ y. OnUnit y c.args.unit h.blocks h.store) (sym same) h.on) (patch-said h.blocks c.read_entry.new.self.minute c.in_ok-soup.soup h.store h.soup h.by_sig c.args.uid x found c.in-Some.node c.args.at c.args.bytes binary.0 binary.1 binary.2) _ v (eq-eqb c.args.unit c.args.unit refl)
+          (vwrite-makes w w c.args.unit h.blocks h.store h.on refl c.args.name.now h.soup h.named h.name_is c.args.uid x found c.args.path.now c.args.at c.args.bytes c.in-Some.node reach));
       costs = λ t.
           let h = has-soup at t c.args.unit c.args.name.now c.in_ok-soup.soup c.in_ok-soup.ensures in
           let x : Entry = record { uid = c.in_ok-graph.field-0.uid; time = c.in_ok-graph.field-0.time; graph = c.in_ok-graph.field-0.graph } in
@@ -97,6 +96,15 @@ returns-in-Some g c =
           (done-costs c.change.result is (said-costs e t (subst (λ y. OnUnit y c.args.unit h.blocks h.store) (sym same) h.on) (patch-said h.blocks c.read_entry.new.self.minute c.in_ok-soup.soup h.store h.soup h.by_sig c.args.uid x found c.in-Some.node c.args.at c.args.bytes binary.0 binary.1 binary.2)));
       alone = OnDevices-append read.looks.alone e.alone;
       cause = cause-after _ _ read.looks.alone (done-cause c.change.result is _ e.cause);
+      broke = done-cause c.change.result is _ (behind-breaks (command.Vwrite c.args.unit c.args.name.now c.args.uid c.args.path.now c.args.at c.args.bytes) read.looks (read.ends.no_fault tt) e (λ t.
+          let h = has-soup at t c.args.unit c.args.name.now c.in_ok-soup.soup c.in_ok-soup.ensures in
+          let x : Entry = record { uid = c.in_ok-graph.field-0.uid; time = c.in_ok-graph.field-0.time; graph = c.in_ok-graph.field-0.graph } in
+          let found : entry_of c.args.uid h.soup ≡ Some x = read-found c.in_ok-soup.soup c.args.uid h.store h.soup c.in_ok-graph.field-0 c.in_ok-graph.field-0.graph refl h.by_sig (c.in_ok-graph.ensures.read t h.blocks h.store h.on) in
+          let same = read.looks.world t in
+          behind-untorn e t (subst (λ y. OnUnit y c.args.unit h.blocks h.store) (sym same) h.on) (patch-said h.blocks c.read_entry.new.self.minute c.in_ok-soup.soup h.store h.soup h.by_sig c.args.uid x found c.in-Some.node c.args.at c.args.bytes binary.0 binary.1 binary.2)
+          w same (command.Vwrite c.args.unit c.args.name.now c.args.uid c.args.path.now c.args.at c.args.bytes) (eq-eqb c.args.unit c.args.unit refl) refl
+          (λ k. unrefused (λ _. Reply.done) w _ (command.Vwrite c.args.unit c.args.name.now c.args.uid c.args.path.now c.args.at c.args.bytes) tt (λ r x. cc)
+          (vwrite-answers w _ c.args.unit h.blocks h.store h.on refl c.args.name.now h.soup h.named h.name_is c.args.uid x found c.args.path.now c.args.at c.args.bytes c.in-Some.node reach (Ok tt) (k, tt, refl)))));
       no_fault = λ goes. NoFault-append (read.ends.no_fault tt) (e.no_fault (done-goes c.change.result is goes));
     }
 

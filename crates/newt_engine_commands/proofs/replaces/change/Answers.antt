@@ -1,6 +1,8 @@
 -- The entry is looked up, and its card puts the graph in its place.
 use Rattle.std.proofs.Common.{refl}
 use Rattle.std.proofs.lemmas.Result.{err_from_is_err_and}
+use Rattle.std.proofs.lemmas.Bool.{eq-eqb}
+use Rattle.std.specs.Bool.{⊤}
 use Rattle.newt_engine_units.specs.Stands.{Stands, world_of}
 use Rattle.newt_spec_world.specs.Reply.{Reply}
 use Rattle.newt_spec_world.specs.declared.command.Command.TheVariants as command
@@ -9,7 +11,7 @@ use Rattle.newt_laws_answers.proofs.Replaces.{change-not-found}
 use Rattle.newt_engine_commands.proofs.Replacing.{change-answers, change-makes}
 use Rattle.newt_engine_commands.proofs.Costing.{change-costs}
 use Rattle.newt_engine_units.proofs.Obeying.{none-only, refused-obeys}
-use Rattle.newt_engine_commands.proofs.Said.{said-done, said-moments, said-costs, done-goes, done-cause, done-costs}
+use Rattle.newt_engine_commands.proofs.Said.{said-done, said-moments, said-costs, done-goes, done-cause, done-costs, change-breaks, said-untorn}
 use Rattle.newt_engine_units.proofs.Settings.{Setting, stand-told, entry-refused}
 use Rattle.newt_engine_commands.proofs.replaces.change.Given.{Over}
 use Rattle.newt_engine_commands.proofs.replaces.change.Goals as goal
@@ -46,7 +48,7 @@ returns g c =
       moments = λ t.
           let k = c.in_ok-soup.ensures.found (g.H.Host.outside c.args.host.now) at.eight (stand-told at t) in
           let h = k.of in
-          said-moments e t h.on (replace-said h.blocks w.minute c.in_ok-soup.soup h.store h.soup h.by_sig c.args.uid k.entry k.found c.args.graph) _
+          said-moments e t h.on (replace-said h.blocks w.minute c.in_ok-soup.soup h.store h.soup h.by_sig c.args.uid k.entry k.found c.args.graph) _ _ (eq-eqb c.args.unit c.args.unit refl)
           (change-makes w w c.args.unit h.blocks h.store h.on refl c.args.name.now h.soup h.named h.name_is c.args.uid k.entry k.found c.args.graph);
       costs = λ t.
           let k = c.in_ok-soup.ensures.found (g.H.Host.outside c.args.host.now) at.eight (stand-told at t) in
@@ -55,5 +57,10 @@ returns g c =
           (done-costs c.change.result is (said-costs e t h.on (replace-said h.blocks w.minute c.in_ok-soup.soup h.store h.soup h.by_sig c.args.uid k.entry k.found c.args.graph)));
       alone = e.alone;
       cause = done-cause c.change.result is _ e.cause;
+      broke = done-cause c.change.result is _ (change-breaks (command.Change c.args.unit c.args.name.now c.args.uid c.args.graph) e (λ t.
+          let k = c.in_ok-soup.ensures.found (g.H.Host.outside c.args.host.now) at.eight (stand-told at t) in
+          let h = k.of in
+          said-untorn e t h.on (replace-said h.blocks w.minute c.in_ok-soup.soup h.store h.soup h.by_sig c.args.uid k.entry k.found c.args.graph) (command.Change c.args.unit c.args.name.now c.args.uid c.args.graph) (λ _. Reply.done) tt (λ _. ⊤) (eq-eqb c.args.unit c.args.unit refl) refl (λ r x. cc) tt
+          (change-answers w _ c.args.unit h.blocks h.store h.on refl c.args.name.now h.soup h.named h.name_is c.args.uid k.entry k.found c.args.graph)));
       no_fault = λ goes. e.no_fault (done-goes c.change.result is goes);
     }

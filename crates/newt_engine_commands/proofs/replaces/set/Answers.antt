@@ -1,11 +1,12 @@
 -- The soup is looked up, the entry is read, the value is put into its graph, and the graph that is made is put in its place.
 use Rattle.std.proofs.Common.{Some, ap, refl, subst, sym, ◌≡◌}
+use Rattle.std.proofs.lemmas.Bool.{eq-eqb}
 use Rattle.newt_engine_units.specs.Looks.{known_checks}
 use Rattle.std.proofs.lemmas.Result.{err_from_is_err_and}
 use Rattle.newt_engine_units.specs.Stands.{Stands, world_of}
 use Rattle.newt_spec_world.specs.Reply.{Reply}
 use Rattle.newt_spec_world.specs.declared.command.Command.TheVariants as command
-use Rattle.std.specs.Prelude.{Result, Err, None}
+use Rattle.std.specs.Prelude.{Result, Err, None, Ok}
 use Rattle.std.specs.Option.{option_and_then}
 use Rattle.newt_spec_store.specs.Store.{Entry, entry_of}
 use Rattle.newt_store_change.specs.Entries.{ReadsEntry}
@@ -17,7 +18,6 @@ use Rattle.newt_host.specs.Moments.{Moment, Always}
 use Rattle.newt_host.proofs.Outside.{NoFault-append, OnDevices-append}
 use Rattle.newt_spec_world.specs.World.{World, store_on_unit, change_store}
 use Rattle.newt_store_change.specs.Faults.{Does}
-use Rattle.newt_laws_world.specs.Answering.{Answering}
 use Rattle.newt_spec_world.specs.Answer.{answer}
 use Rattle.newt_laws_answers.proofs.Tests.{replace_tests, replaced}
 use Rattle.newt_laws_answers.specs.There.{OnUnit}
@@ -28,7 +28,7 @@ use Rattle.newt_engine_commands.proofs.Replacing.{set-answers, set-makes, set-mi
 use Rattle.newt_engine_commands.proofs.Commands.{read-found, entry-fits}
 use Rattle.newt_engine_commands.proofs.Costing.{set-costs, get-few}
 use Rattle.newt_engine_units.proofs.Obeying.{cause-after, ends-after, handed-ends, none-ends, none-put, none-refused, read-obeys, refused-obeys}
-use Rattle.newt_engine_commands.proofs.Said.{said-done, said-moments, said-costs, done-goes, done-cause, done-costs}
+use Rattle.newt_engine_commands.proofs.Said.{said-done, said-moments, said-costs, done-goes, done-cause, done-costs, behind-breaks, behind-moments, behind-untorn, unrefused}
 use Rattle.newt_engine_units.proofs.Settings.{Setting, is-err, soup-refused, has-soup}
 use Rattle.newt_engine_commands.proofs.replaces.set.Given.{Over}
 use Rattle.newt_engine_commands.proofs.replaces.set.Goals as goal
@@ -100,12 +100,11 @@ returns g c =
           let same = read.looks.world t in
           let fits = entry-fits h.store c.args.name.now h.soup c.args.uid x h.formed h.named found in
           let v = (answer w (command.Set c.args.unit c.args.name.now c.args.uid c.args.path.now c.args.value.now)).0 in
-          subst (λ (m : Moment). Always (Answering g.C.Card.reads w v m) m (o c.change.new.host).now) read.looks.moment
-          (subst (λ (y : World). Always (Answering g.C.Card.reads y v (o c.read_entry.new.host).now) (o c.read_entry.new.host).now (o c.change.new.host).now) same
-          (said-moments e t (subst (λ y. OnUnit y c.args.unit h.blocks h.store) (sym same) h.on) (replace-said h.blocks c.read_entry.new.self.minute c.in_ok-soup.soup h.store h.soup h.by_sig c.args.uid x found c.in_ok-made.made) v
+          behind-moments (command.Set c.args.unit c.args.name.now c.args.uid c.args.path.now c.args.value.now) v t read.looks
+          (said-moments e t (subst (λ y. OnUnit y c.args.unit h.blocks h.store) (sym same) h.on) (replace-said h.blocks c.read_entry.new.self.minute c.in_ok-soup.soup h.store h.soup h.by_sig c.args.uid x found c.in_ok-made.made) _ v (eq-eqb c.args.unit c.args.unit refl)
           (λ tests. subst (λ (y : World). store_on_unit v c.args.unit ≡ Some (replaced y.minute h.soup.name c.args.uid c.in_ok-made.made h.store)) (sym same)
           (set-makes w w c.args.unit h.blocks h.store h.on refl c.args.name.now h.soup h.named h.name_is c.args.uid x found c.args.path.now c.args.value.now c.in_ok-made.made c.in_ok-made.ensures.form fits
-          (subst (λ (y : World). first_of (replace_tests h.blocks y.minute h.soup.name c.args.uid c.in_ok-made.made h.store) ≡ None) same tests)))));
+          (subst (λ (y : World). first_of (replace_tests h.blocks y.minute h.soup.name c.args.uid c.in_ok-made.made h.store) ≡ None) same tests))));
       costs = λ t.
           let h = has-soup at t c.args.unit c.args.name.now c.in_ok-soup.soup c.in_ok-soup.ensures in
           let x : Entry = record { uid = c.in_ok-graph.field-0.uid; time = c.in_ok-graph.field-0.time; graph = c.in_ok-graph.field-0.graph } in
@@ -115,5 +114,16 @@ returns g c =
           (done-costs c.change.result is (said-costs e t (subst (λ y. OnUnit y c.args.unit h.blocks h.store) (sym same) h.on) (replace-said h.blocks c.read_entry.new.self.minute c.in_ok-soup.soup h.store h.soup h.by_sig c.args.uid x found c.in_ok-made.made)));
       alone = OnDevices-append read.looks.alone e.alone;
       cause = cause-after _ _ read.looks.alone (done-cause c.change.result is _ e.cause);
+      broke = done-cause c.change.result is _ (behind-breaks (command.Set c.args.unit c.args.name.now c.args.uid c.args.path.now c.args.value.now) read.looks (read.ends.no_fault tt) e (λ t.
+          let h = has-soup at t c.args.unit c.args.name.now c.in_ok-soup.soup c.in_ok-soup.ensures in
+          let x : Entry = record { uid = c.in_ok-graph.field-0.uid; time = c.in_ok-graph.field-0.time; graph = c.in_ok-graph.field-0.graph } in
+          let found : entry_of c.args.uid h.soup ≡ Some x = read-found c.in_ok-soup.soup c.args.uid h.store h.soup c.in_ok-graph.field-0 c.in_ok-graph.field-0.graph refl h.by_sig (c.in_ok-graph.ensures.read t h.blocks h.store h.on) in
+          let same = read.looks.world t in
+          let fits = entry-fits h.store c.args.name.now h.soup c.args.uid x h.formed h.named found in
+          behind-untorn e t (subst (λ y. OnUnit y c.args.unit h.blocks h.store) (sym same) h.on) (replace-said h.blocks c.read_entry.new.self.minute c.in_ok-soup.soup h.store h.soup h.by_sig c.args.uid x found c.in_ok-made.made)
+          w same (command.Set c.args.unit c.args.name.now c.args.uid c.args.path.now c.args.value.now) (eq-eqb c.args.unit c.args.unit refl) refl
+          (λ k. unrefused (λ _. Reply.done) w _ (command.Set c.args.unit c.args.name.now c.args.uid c.args.path.now c.args.value.now) tt (λ r x. cc)
+          (set-answers w _ c.args.unit h.blocks h.store h.on refl c.args.name.now h.soup h.named h.name_is c.args.uid x found c.args.path.now c.args.value.now c.in_ok-made.made c.in_ok-made.ensures.form fits (Ok tt)
+          (subst (λ (y : World). first_of (replace_tests h.blocks y.minute h.soup.name c.args.uid c.in_ok-made.made h.store) ≡ None) same k, tt, refl)))));
       no_fault = λ goes. NoFault-append (read.ends.no_fault tt) (e.no_fault (done-goes c.change.result is goes));
     }

@@ -1,5 +1,7 @@
 -- The soup is looked up, and its card drops it.
 use Rattle.std.proofs.Common.{refl}
+use Rattle.std.proofs.lemmas.Bool.{eq-eqb}
+use Rattle.std.specs.Bool.{⊤}
 use Rattle.newt_engine_units.specs.Looks.{known_checks}
 use Rattle.std.proofs.lemmas.Result.{err_from_is_err_and}
 use Rattle.newt_engine_units.specs.Stands.{Stands, world_of}
@@ -10,7 +12,7 @@ use Rattle.newt_laws_answers.proofs.Soups.{drop-not-found}
 use Rattle.newt_engine_commands.proofs.Commands.{drop-answers, drop-makes}
 use Rattle.newt_engine_commands.proofs.Costing.{drop-costs}
 use Rattle.newt_engine_units.proofs.Obeying.{none-refused, refused-obeys}
-use Rattle.newt_engine_commands.proofs.Said.{said-done, said-moments, said-costs, done-goes, done-cause, done-costs}
+use Rattle.newt_engine_commands.proofs.Said.{said-done, said-moments, said-costs, done-goes, done-cause, done-costs, change-breaks, said-untorn}
 use Rattle.newt_engine_units.proofs.Settings.{Setting, soup-refused, has-soup}
 use Rattle.newt_engine_commands.proofs.soups.drop_soup.Given.{Over}
 use Rattle.newt_engine_commands.proofs.soups.drop_soup.Goals as goal
@@ -45,12 +47,16 @@ returns g c =
           (said-done e t h.on (drop-said h.blocks w.minute c.in_ok-soup.soup h.store h.soup h.by_sig) _ is);
       moments = λ t.
           let h = has-soup at t c.args.unit c.args.name.now c.in_ok-soup.soup c.in_ok-soup.ensures in
-          said-moments e t h.on (drop-said h.blocks w.minute c.in_ok-soup.soup h.store h.soup h.by_sig) _
+          said-moments e t h.on (drop-said h.blocks w.minute c.in_ok-soup.soup h.store h.soup h.by_sig) _ _ (eq-eqb c.args.unit c.args.unit refl)
           (λ _. drop-makes w w c.args.unit h.blocks h.store h.on refl c.args.name.now h.soup h.named h.name_is);
       costs = λ t.
           let h = has-soup at t c.args.unit c.args.name.now c.in_ok-soup.soup c.in_ok-soup.ensures in
           drop-costs h (done-costs c.change.result is (said-costs e t h.on (drop-said h.blocks w.minute c.in_ok-soup.soup h.store h.soup h.by_sig)));
       alone = e.alone;
       cause = done-cause c.change.result is _ e.cause;
+      broke = done-cause c.change.result is _ (change-breaks (command.Drop c.args.unit c.args.name.now) e (λ t.
+          let h = has-soup at t c.args.unit c.args.name.now c.in_ok-soup.soup c.in_ok-soup.ensures in
+          said-untorn e t h.on (drop-said h.blocks w.minute c.in_ok-soup.soup h.store h.soup h.by_sig) (command.Drop c.args.unit c.args.name.now) (λ _. Reply.done) tt (λ _. ⊤) (eq-eqb c.args.unit c.args.unit refl) refl (λ r x. cc) tt
+          (drop-answers w _ c.args.unit h.blocks h.store h.on refl c.args.name.now h.soup h.named h.name_is)));
       no_fault = λ goes. e.no_fault (done-goes c.change.result is goes);
     }

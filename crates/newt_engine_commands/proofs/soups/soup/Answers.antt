@@ -1,5 +1,6 @@
 -- The unit is looked up, and its card makes the soup.
 use Rattle.std.proofs.Common.{refl, ◌≡◌}
+use Rattle.std.proofs.lemmas.Bool.{eq-eqb}
 use Rattle.newt_engine_units.specs.Looks.{known_unit}
 use Rattle.std.proofs.lemmas.Result.{err_from_is_err_and}
 use Rattle.newt_engine_units.specs.Stands.{Stands, world_of}
@@ -11,7 +12,7 @@ use Rattle.newt_engine_commands.proofs.Commands.{soup-answers, soup-makes}
 use Rattle.newt_laws_answers.proofs.Most.{soup-most}
 use Rattle.newt_spec_graph.proofs.Lists.{both-ways}
 use Rattle.newt_engine_units.proofs.Obeying.{none-refused, refused-obeys}
-use Rattle.newt_engine_commands.proofs.Said.{said-made, said-moments, said-costs}
+use Rattle.newt_engine_commands.proofs.Said.{said-made, said-moments, said-costs, change-breaks, said-untorn}
 use Rattle.newt_engine_units.proofs.Costs.{on-costs}
 use Rattle.newt_engine_units.proofs.Settings.{Setting, unit-refused, unit-there}
 use Rattle.newt_engine_commands.proofs.soups.soup.Given.{Over}
@@ -44,11 +45,15 @@ returns g c =
           soup-answers w _ c.args.unit _ p.store p.on refl c.args.name _ (said-made e t p.on (make-said _ w.minute c.args.name p.store) (λ n. n ≡ p.store.next_soup) (λ n is. is));
       moments = λ t.
           let p = (unit-there at t c.args.unit c.in_ok-find_unit.ensures).1 in
-          said-moments e t p.on (make-said _ w.minute c.args.name p.store) _ (soup-makes w w c.args.unit _ p.store p.on refl c.args.name);
+          said-moments e t p.on (make-said _ w.minute c.args.name p.store) _ _ (eq-eqb c.args.unit c.args.unit refl) (soup-makes w w c.args.unit _ p.store p.on refl c.args.name);
       costs = λ t.
           let p = (unit-there at t c.args.unit c.in_ok-find_unit.ensures).1 in
           on-costs (said-costs e t p.on (make-said _ w.minute c.args.name p.store)).programs (soup-most w c.args.unit _ p.store c.args.name p.on) (λ means. absurd (both-ways means));
       alone = e.alone;
       cause = e.cause;
+      broke = change-breaks (command.Soup c.args.unit c.args.name) e (λ t.
+          let p = (unit-there at t c.args.unit c.in_ok-find_unit.ensures).1 in
+          said-untorn e t p.on (make-said _ w.minute c.args.name p.store) (command.Soup c.args.unit c.args.name) (λ n. Reply.number n) p.store.next_soup (λ n. n ≡ p.store.next_soup)
+          (eq-eqb c.args.unit c.args.unit refl) refl (λ r x. cc) refl (soup-answers w _ c.args.unit _ p.store p.on refl c.args.name));
       no_fault = e.no_fault;
     }

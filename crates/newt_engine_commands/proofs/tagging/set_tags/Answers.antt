@@ -1,18 +1,19 @@
 -- The soup is looked up, and its card gives it the declaration.
 use Rattle.std.proofs.Common.{ap, false, length, nat_lt, refl, subst, ◌<◌, ◌∙◌, ◌≡◌, ◌≤◌}
+use Rattle.std.specs.Bool.{⊤}
 use Rattle.newt_engine_units.specs.Looks.{known_checks}
 use Rattle.std.proofs.lemmas.Result.{err_from_is_err_and}
 use Rattle.newt_engine_units.specs.Stands.{Stands, world_of}
 use Rattle.newt_spec_world.specs.Reply.{Reply}
 use Rattle.newt_spec_world.specs.declared.command.Command.TheVariants as command
-use Rattle.std.proofs.lemmas.Bool.{lt-ltb, le-ltb}
+use Rattle.std.proofs.lemmas.Bool.{lt-ltb, le-ltb, eq-eqb}
 use Rattle.newt_spec_store.specs.Store.{TagTable}
 use Rattle.newt_laws_answers.proofs.Changes.{tags-said}
 use Rattle.newt_laws_answers.proofs.Declares.{set-tags-not-found, set-tags-many}
 use Rattle.newt_engine_commands.proofs.Declaring.{tags-answers, tags-makes}
 use Rattle.newt_engine_commands.proofs.Costing.{tags-costs}
 use Rattle.newt_engine_units.proofs.Obeying.{none-refused, refused-obeys, still-obeys}
-use Rattle.newt_engine_commands.proofs.Said.{said-done, said-moments, said-costs, done-goes, done-cause, done-costs}
+use Rattle.newt_engine_commands.proofs.Said.{said-done, said-moments, said-costs, done-goes, done-cause, done-costs, change-breaks, said-untorn}
 use Rattle.newt_pagebook.specs.declared.book.Stop.TheVariants.{Memory}
 use Rattle.newt_store_change.specs.declared.fault.StoreFault.TheVariants.{Stop}
 use Rattle.newt_engine_units.proofs.Settings.{Setting, ends, soup-refused, has-soup}
@@ -65,11 +66,15 @@ returns g c =
           tags-answers w _ c.args.unit h.blocks h.store h.on refl c.args.name.now h.soup h.named h.name_is c.args.path.now c.args.symbols.now few c.in_ok-table.table words _ (said-done e t h.on (tags-said h.blocks w.minute c.in_ok-soup.soup h.store h.soup h.by_sig c.in_ok-table.table) _ is);
       moments = λ t.
           let h = has-soup at t c.args.unit c.args.name.now c.in_ok-soup.soup c.in_ok-soup.ensures in
-          said-moments e t h.on (tags-said h.blocks w.minute c.in_ok-soup.soup h.store h.soup h.by_sig c.in_ok-table.table) _ (tags-makes w w c.args.unit h.blocks h.store h.on refl c.args.name.now h.soup h.named h.name_is c.args.path.now c.args.symbols.now few c.in_ok-table.table words);
+          said-moments e t h.on (tags-said h.blocks w.minute c.in_ok-soup.soup h.store h.soup h.by_sig c.in_ok-table.table) _ _ (eq-eqb c.args.unit c.args.unit refl) (tags-makes w w c.args.unit h.blocks h.store h.on refl c.args.name.now h.soup h.named h.name_is c.args.path.now c.args.symbols.now few c.in_ok-table.table words);
       costs = λ t.
           let h = has-soup at t c.args.unit c.args.name.now c.in_ok-soup.soup c.in_ok-soup.ensures in
           tags-costs h c.args.path.now c.args.symbols.now few c.in_ok-table.table words (done-costs c.change.result is (said-costs e t h.on (tags-said h.blocks w.minute c.in_ok-soup.soup h.store h.soup h.by_sig c.in_ok-table.table)));
       alone = e.alone;
       cause = done-cause c.change.result is _ e.cause;
+      broke = done-cause c.change.result is _ (change-breaks (command.SetTags c.args.unit c.args.name.now c.args.path.now c.args.symbols.now) e (λ t.
+          let h = has-soup at t c.args.unit c.args.name.now c.in_ok-soup.soup c.in_ok-soup.ensures in
+          said-untorn e t h.on (tags-said h.blocks w.minute c.in_ok-soup.soup h.store h.soup h.by_sig c.in_ok-table.table) (command.SetTags c.args.unit c.args.name.now c.args.path.now c.args.symbols.now) (λ _. Reply.done) tt (λ _. ⊤) (eq-eqb c.args.unit c.args.unit refl) refl (λ r x. cc) tt
+          (tags-answers w _ c.args.unit h.blocks h.store h.on refl c.args.name.now h.soup h.named h.name_is c.args.path.now c.args.symbols.now few c.in_ok-table.table words)));
       no_fault = λ goes. e.no_fault (done-goes c.change.result is goes);
     }

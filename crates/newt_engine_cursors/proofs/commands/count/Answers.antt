@@ -11,7 +11,7 @@ use Rattle.newt_store_change.specs.declared.fault.StoreFault.{StoreFault}
 use Rattle.newt_engine_units.specs.Answers.{Answers}
 use Rattle.newt_engine_cursors.specs.World.{world_with}
 use Rattle.newt_engine_cursors.proofs.Answered.{open-alike, count-closed, count-open, count-said, unread-open}
-use Rattle.newt_engine_cursors.proofs.Calls.{stays, turns-end, turns-read, walks-of}
+use Rattle.newt_engine_cursors.proofs.Calls.{all-kept, stays, turns-end, turns-read, walks-of}
 use Rattle.newt_engine_cursors.proofs.commands.count.Goals as goal
 
 pub returns-in_default : goal.returns-in_default
@@ -21,7 +21,7 @@ returns-in_default g c =
 
 pub returns-in_err-count_hits : goal.returns-in_err-count_hits
 returns-in_err-count_hits g c =
-    walks-of (turns-end (λ (r : Result ℕ StoreFault) (w v : World). Answers w v (command.Count c.args.cursor) (λ n. Reply.number n) r) c.in_err-count_hits.ensures.reading c.requires.desk
+    walks-of (turns-end (λ (r : Result ℕ StoreFault) (w v : World). Answers w v (command.Count c.args.cursor) (λ n. Reply.number n) r) c.in_err-count_hits.ensures.reading c.requires.desk (all-kept _ _)
     c.from_residual.result (err_from_is_err_and c.from_residual.result c.from_residual.ensures.1) (λ w v. tt))
     (λ t apart settled d. d)
     (λ t apart settled un. (λ u. let z = (c.in_err-count_hits.ensures.reading.unread

@@ -12,13 +12,13 @@ use Rattle.newt_engine_units.specs.Stands.{world_of}
 use Rattle.newt_engine_cursors.specs.Fits.{DeskFits}
 use Rattle.newt_engine_cursors.specs.Opening.{Opens}
 use Rattle.newt_engine_cursors.specs.World.{world_with}
-use Rattle.newt_engine_cursors.proofs.Calls.{turns-end}
+use Rattle.newt_engine_cursors.proofs.Calls.{all-kept, turns-end}
 use Rattle.newt_engine_cursors.proofs.Cursors.{opens-at, set-fits}
 use Rattle.newt_engine_cursors.proofs.opening.open.Goals as goal
 
 pub returns-in_err-first-clause-turns : goal.returns-in_err-first-clause-turns
 returns-in_err-first-clause-turns g c =
-    turns-end (λ (r : Result ℕ StoreFault) (w v : World). Opens w v (query_of c.args.query) r) c.in_err-first.ensures.reading c.requires.desk
+    turns-end (λ (r : Result ℕ StoreFault) (w v : World). Opens w v (query_of c.args.query) r) c.in_err-first.ensures.reading c.requires.desk (all-kept _ _)
     c.from_residual.result (err_from_is_err_and c.from_residual.result c.from_residual.ensures.1) (λ w v. tt)
 
 pub returns-in-Ok-clause-turns : goal.returns-in-Ok-clause-turns
@@ -38,6 +38,8 @@ returns-in-Ok-clause-turns g c =
                 ∙ opens-at w (record k { place = first_place (hits_of w (query_of c.args.query)) }) c.in-Ok.cursor c.in-Ok.ensures.number,
           );
       cause = tt;
+      failed = tt;
+      kept = tt;
       no_fault = λ goes. read.no_fault;
     }
 
@@ -55,10 +57,12 @@ returns-in-Err-Limit-clause-turns g c =
             ∙ ap (λ (ks : List (Option Cursor)). with_cursors ks (world_of g.C.Card.reads c.args.units.now (g.H.Host.outside c.args.host.now))) same,
       );
       cause = tt;
+      failed = tt;
+      kept = tt;
       no_fault = λ goes. read.no_fault;
     }
 
 pub returns-in-Err-Memory-clause-turns : goal.returns-in-Err-Memory-clause-turns
 returns-in-Err-Memory-clause-turns g c =
     let read = c.in_ok-first.ensures.reading in
-    record { read = read.read; desk = subst DeskFits (sym c.in-Err-Memory.ensures.err) c.requires.desk; turned = λ t apart. tt; cause = tt; no_fault = λ goes. absurd goes }
+    record { read = read.read; desk = subst DeskFits (sym c.in-Err-Memory.ensures.err) c.requires.desk; turned = λ t apart. tt; cause = tt; failed = tt; kept = tt; no_fault = λ goes. absurd goes }

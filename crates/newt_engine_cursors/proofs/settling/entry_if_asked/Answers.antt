@@ -1,5 +1,5 @@
 -- The entry is read where it is asked for.
-use Rattle.std.proofs.Common.{arith, ◌≡◌, refl, sym, ◌∙◌, Bool, true, false, Option}
+use Rattle.std.proofs.Common.{arith, ◌≡◌, refl, Bool, true, false, Option}
 use Rattle.std.specs.Prelude.{slice_get}
 use Rattle.std.proofs.lemmas.Result.{IfOk-weaker}
 use Rattle.newt_host.proofs.Outside.{NoFault-refl}

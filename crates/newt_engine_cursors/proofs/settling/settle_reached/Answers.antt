@@ -1,6 +1,6 @@
 -- Nothing, one entry, or the cursors on a store or a soup.
 use Rattle.std.proofs.Common.{arith, ◌≡◌, ◌∙◌, ◌*◌, ap, sym, subst, true, false}
-use Rattle.std.specs.Prelude.{OnOk}
+use Rattle.std.specs.Prelude.{IfErr, OnOk}
 use Rattle.newt_host.proofs.Outside.{NoFault-refl}
 use Rattle.newt_spec_world.specs.World.{mounted_store}
 use Rattle.newt_laws_reach.specs.Reach.{Reach, entry_reached, is_of_one, settle_reached}
@@ -8,7 +8,8 @@ use Rattle.newt_laws_reach.proofs.Reaching.{nowhere-stays}
 use Rattle.newt_store_change.specs.Change.{pages_of_entry}
 use Rattle.newt_engine_units.specs.Stands.{world_of}
 use Rattle.newt_engine_hits.proofs.Reading.{not-read}
-use Rattle.newt_engine_cursors.specs.Reached.{NoneAsks, seen_reach}
+use Rattle.newt_engine_units.specs.Breaks.{AtStop}
+use Rattle.newt_engine_cursors.specs.Reached.{NoneAsks, in_reach, seen_reach}
 use Rattle.newt_engine_cursors.specs.World.{world_with}
 use Rattle.newt_engine_cursors.proofs.Calls.{settles-as}
 use Rattle.newt_engine_cursors.proofs.Reaches.{within-reached}
@@ -25,6 +26,8 @@ returns-in-Nowhere-clause-settles g c = record {
       let w = world_with g.C.Card.reads c.args.units.now c.args.desk.now (g.H.Host.outside c.args.host.now) in
       sym (nowhere-stays w) ∙ ap (λ (r : Reach). settle_reached r w) (ap seen_reach (sym c.in-Nowhere.is));
   cause = tt;
+  failed = tt;
+  kept = tt;
   no_fault = NoFault-refl _;
 }
 
@@ -52,3 +55,8 @@ returns-in-Nowhere-clause-unread g c t apart none u = omega arith
 
 pub returns-in-Entry-clause-unread : goal.returns-in-Entry-clause-unread
 returns-in-Entry-clause-unread g c t apart none = c.settle_entry.ensures.unread (subst (λ (r : Reach). NoneAsks r c.args.desk.now) (ap seen_reach c.in-Entry.is) none)
+
+pub returns-in-Entry-clause-own : goal.returns-in-Entry-clause-own
+returns-in-Entry-clause-own g c t =
+    let w = world_of g.C.Card.reads c.args.units.now (g.H.Host.outside c.args.host.now) in
+    subst (λ (r : Reach). IfErr c.settle_entry.result (AtStop (λ u. in_reach r (mounted_store w u) ≡ true))) (ap seen_reach (sym c.in-Entry.is)) (c.settle_entry.ensures.own t)

@@ -27,7 +27,7 @@ use Rattle.newt_engine_cursors.specs.Replies.{shown_at, shown_reply}
 use Rattle.newt_engine_cursors.specs.Calls.{Shows}
 use Rattle.newt_engine_cursors.specs.World.{world_with}
 use Rattle.newt_engine_cursors.specs.declared.show.Shown.{Shown}
-use Rattle.newt_engine_cursors.proofs.Calls.{stays, turns-end, turns-read, turns-settled, settles-reads, settles-after, walks-of, unread-query}
+use Rattle.newt_engine_cursors.proofs.Calls.{all-kept, stays, turns-end, turns-read, turns-settled, settles-reads, settles-after, walks-of, unread-query}
 use Rattle.newt_engine_cursors.proofs.Stepped.{still-settled}
 use Rattle.newt_engine_cursors.proofs.Going.{unit-faults, no-cursor-goto, no-hit-goto, hit-goto, goto-does-so, goto-few, goto-pages}
 use Rattle.newt_engine_cursors.proofs.stepping.go_to.Goals as goal
@@ -57,7 +57,7 @@ returns-in_default g c = stays c.requires.stands c.requires.desk tt (λ t apart.
 
 pub returns-in_err-spot : goal.returns-in_err-spot
 returns-in_err-spot g c =
-    walks-of (turns-end (λ (r : Result Shown StoreFault) (w v : World). Answers w v (command.Goto c.args.cursor c.args.unit c.args.uid) shown_reply r) c.in_err-spot.ensures.reading c.requires.desk
+    walks-of (turns-end (λ (r : Result Shown StoreFault) (w v : World). Answers w v (command.Goto c.args.cursor c.args.unit c.args.uid) shown_reply r) c.in_err-spot.ensures.reading c.requires.desk (all-kept _ _)
     c.from_residual-in_err-spot.result (err_from_is_err_and c.from_residual-in_err-spot.result c.from_residual-in_err-spot.ensures.1) (λ w v. tt))
     (λ t apart settled d. d)
     (λ t apart settled un. (λ u. let z = (c.in_err-spot.ensures.reading.unread (unread-query (flat (slice_get c.args.desk.now c.args.cursor)) (seen_cursor (c.in-Some.query, c.in-Some.field-0-1)) c.in-Some.ensures un)) u in omega (arith, z)))
@@ -90,7 +90,7 @@ returns-in_err-move_to g c =
     let k = seen_cursor (c.in-Some.query, c.in-Some.field-0-1) in
     let h = spot_hit c.in-Some-2.spot in
     walks-of (turns-end (λ (r : Result Shown StoreFault) (w v : World). Answers w v (command.Goto c.args.cursor c.args.unit c.args.uid) shown_reply r)
-    (read-more {asks = true} read.read read.no_fault (asked-read refl) (settles-reads c.in_err-move_to.ensures.moved)) c.in_err-move_to.ensures.moved.desk r (err_from_is_err_and r c.from_residual-in_err-move_to.ensures.1) (λ w v. tt))
+    (read-more {asks = true} read.read read.no_fault (asked-read refl) (settles-reads c.in_err-move_to.ensures.moved)) c.in_err-move_to.ensures.moved.desk c.in_err-move_to.ensures.moved.kept r (err_from_is_err_and r c.from_residual-in_err-move_to.ensures.1) (λ w v. tt))
     (λ t apart settled d. d)
     (λ t apart settled un.
     let stand : Stands g.C.Card.place g.C.Card.stands true c.args.units.now o = subst (λ b. Stands g.C.Card.place g.C.Card.stands b c.args.units.now o) t c.requires.stands in

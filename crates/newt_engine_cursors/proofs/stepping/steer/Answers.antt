@@ -17,7 +17,7 @@ use Rattle.newt_engine_cursors.specs.World.{world_with}
 use Rattle.newt_engine_cursors.specs.declared.show.Shown.{Shown}
 use Rattle.newt_engine_cursors.proofs.Answering.{steers-there, there-stepped}
 use Rattle.newt_engine_cursors.proofs.Coming.{comes-among}
-use Rattle.newt_engine_cursors.proofs.Calls.{stays-turn, turns-end, turns-settled, settles-reads, settles-after, unread-query}
+use Rattle.newt_engine_cursors.proofs.Calls.{all-kept, stays-turn, turns-end, turns-settled, settles-reads, settles-after, unread-query}
 use Rattle.newt_engine_cursors.proofs.stepping.steer.Goals as goal
 
 pub returns-in_default-clause-turns : goal.returns-in_default-clause-turns
@@ -28,7 +28,7 @@ returns-in_default-clause-fetches g c t apart un u = omega arith
 
 pub returns-in_err-place-clause-turns : goal.returns-in_err-place-clause-turns
 returns-in_err-place-clause-turns g c =
-    turns-end (λ (r : Result Shown StoreFault) (w v : World). Steers w v c.args.cursor (step_of c.args.motion) r) c.in_err-place.ensures.reading c.requires.desk
+    turns-end (λ (r : Result Shown StoreFault) (w v : World). Steers w v c.args.cursor (step_of c.args.motion) r) c.in_err-place.ensures.reading c.requires.desk (all-kept _ _)
     c.from_residual.result (err_from_is_err_and c.from_residual.result c.from_residual.ensures.1) (λ w v. tt)
 
 pub returns-in_err-place-clause-fetches : goal.returns-in_err-place-clause-fetches
@@ -40,7 +40,7 @@ returns-in_err-come_to-clause-turns g c =
     let r = c.from_residual-in_err-come_to.result in
     let read = c.in_ok-place.ensures.reading in
     turns-end (λ (r : Result Shown StoreFault) (w v : World). Steers w v c.args.cursor (step_of c.args.motion) r)
-    (read-more {asks = true} read.read read.no_fault (asked-read refl) (settles-reads c.in_err-come_to.ensures.moved)) c.in_err-come_to.ensures.moved.desk r (err_from_is_err_and r c.from_residual-in_err-come_to.ensures.1) (λ w v. tt)
+    (read-more {asks = true} read.read read.no_fault (asked-read refl) (settles-reads c.in_err-come_to.ensures.moved)) c.in_err-come_to.ensures.moved.desk c.in_err-come_to.ensures.moved.kept r (err_from_is_err_and r c.from_residual-in_err-come_to.ensures.1) (λ w v. tt)
 
 pub returns-in_err-come_to-clause-fetches : goal.returns-in_err-come_to-clause-fetches
 returns-in_err-come_to-clause-fetches g c t apart un =

@@ -1,6 +1,7 @@
 -- What was read decides.
 use Rattle.std.proofs.Common.{◌∙◌, ap, refl, sym, subst, ◌&&◌, ℕ, Option, true}
 use Rattle.std.proofs.lemmas.Result.{err_from_is_err_and}
+use Rattle.newt_host.proofs.Outside.{NoFault-refl}
 use Rattle.newt_cursor.specs.Seen.{query_of}
 use Rattle.newt_query.specs.Filter.{in_range}
 use Rattle.newt_spec_store.specs.Store.{TagTable}
@@ -32,7 +33,8 @@ returns-in-None-clause-kept g c t blocks s on =
 pub returns-in_err-entry-clause-reading : goal.returns-in_err-entry-clause-reading
 returns-in_err-entry-clause-reading g c =
     let r = c.from_residual.result in
-    end-read {S = ℕ} (not-read c.requires.stands) (asked-read refl) (record { read = c.in_err-entry.ensures.looks; cause = c.in_err-entry.ensures.cause; no_fault = tt; unread = asked-read refl })
+    end-read {S = ℕ} (not-read c.requires.stands) (NoFault-refl _) (asked-read refl)
+    (record { read = c.in_err-entry.ensures.looks; cause = c.in_err-entry.ensures.cause; failed = c.in_err-entry.ensures.failed; no_fault = tt; unread = asked-read refl })
     r (err_from_is_err_and r c.from_residual.ensures.1)
 
 pub returns-in_err-is_kept-in-Some-clause-reading : goal.returns-in_err-is_kept-in-Some-clause-reading

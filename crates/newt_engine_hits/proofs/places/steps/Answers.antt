@@ -43,7 +43,7 @@ pub step-requires-clause-fits : goal.step-requires-clause-fits
 step-requires-clause-fits g c = c.steps.invariant.fits
 
 pub returns-in_err-place-clause-reading : goal.returns-in_err-place-clause-reading
-returns-in_err-place-clause-reading g c = end-read c.steps.invariant.read c.steps.invariant.unread c.in_err-place.ensures.reading c.from_residual.result (err_from_is_err_and c.from_residual.result c.from_residual.ensures.1)
+returns-in_err-place-clause-reading g c = end-read c.steps.invariant.read c.steps.invariant.no_fault c.steps.invariant.unread c.in_err-place.ensures.reading c.from_residual.result (err_from_is_err_and c.from_residual.result c.from_residual.ensures.1)
 
 pub steps-preserved : goal.steps-preserved
 steps-preserved g c = record {

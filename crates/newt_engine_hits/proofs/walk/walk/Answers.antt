@@ -53,7 +53,7 @@ pub keeps-requires : goal.keeps-requires
 keeps-requires g c = c.steps.invariant.read.stand
 
 pub returns-in_err-keeps-clause-reading : goal.returns-in_err-keeps-clause-reading
-returns-in_err-keeps-clause-reading g c = end-read c.steps.invariant.read c.steps.invariant.unread c.in_err-keeps.ensures.reading c.from_residual.result (err_from_is_err_and c.from_residual.result c.from_residual.ensures.1)
+returns-in_err-keeps-clause-reading g c = end-read c.steps.invariant.read c.steps.invariant.no_fault c.steps.invariant.unread c.in_err-keeps.ensures.reading c.from_residual.result (err_from_is_err_and c.from_residual.result c.from_residual.ensures.1)
 
 pub returns-then-branch-clause-reading : goal.returns-then-branch-clause-reading
 returns-then-branch-clause-reading g c = is-read (read-then c.steps.invariant.read c.in_ok-keeps.ensures.reading.read) (NoFault-append c.steps.invariant.no_fault c.in_ok-keeps.ensures.reading.no_fault)

@@ -29,7 +29,7 @@ returns-clause-counted g c = λ told w means.
     let stands = subst (λ (t : Bool). it.stands t c.answer_text.new.interpreter mid) told c.in_ok-answer_text.ensures.stands in
     let its = at_rest it.store_of_image last mid.now (g.met.I.Interpreter.leaves c.answer_text.new.interpreter mid last stands ran.done.1.stands_for) in
     counted_put it.step it.store_of_image c.args.script.now w before mid _ _ (Tallies c.answer_text.new.sink) c.new-tally.result c.answer_text.new.sink ran its
-    c.new-tally.ensures (λ texts h. h) (omega arith) c.put_tally.result new c.put_tally.ensures.call.faults.cause (c.put_tally.ensures.puts told)
+    c.new-tally.ensures (λ texts h. h) (omega arith) c.put_tally.result new c.put_tally.ensures.call.devices.counts.dev_faults c.put_tally.ensures.call.faults.cause (c.put_tally.ensures.puts told)
 
 pub returns-clause-call : goal.returns-clause-call
 returns-clause-call g c = answer_write _ (quiet_then (quiet-refl _) c.in_ok-answer_text.ensures.call) c.put_tally.ensures.call

@@ -20,8 +20,8 @@ returns-in_err-feed-clause-ran g c = λ told w means.
     let stands = subst (λ (t : Bool). it.stands t c.args.interpreter.now before) told c.requires.stands in
     let its = at_rest it.store_of_image w before.now (g.met.I.Interpreter.leaves c.args.interpreter.now before w stands means) in
     let some = text_then_some begun text c.new-line.ensures.items in
-    ran_part it.step shows it.store_of_image _ _ _ _ _ _ _ _ (progress_start it.step shows it.store_of_image w (it.means c.args.interpreter.now before) (script_items text) (g.S.Sink.has c.args.sink.now) before.now means its)
-    (commands_of (ended_lines begun text)) some.0 some.1 _ c.in_err-feed.field-0.0 _ _ _ _ _ (p.1 ∙ ap Err p.2) (c.in_err-feed.ensures.ran told w means)
+    ran_part it.step shows it.store_of_image _ _ _ _ _ _ _ _ _ _ (progress_start it.step shows it.store_of_image w (it.means c.args.interpreter.now before) (script_items text) (g.S.Sink.has c.args.sink.now) before.now before.dev_faults means its)
+    (commands_of (ended_lines begun text)) some.0 some.1 _ c.in_err-feed.field-0.0 _ _ _ _ _ _ (p.1 ∙ ap Err p.2) (c.in_err-feed.ensures.ran told w means)
 
 pub returns-in-Go-clause-ran : goal.returns-in-Go-clause-ran
 unfolding progress_start
@@ -35,11 +35,12 @@ returns-in-Go-clause-ran g c = λ told w means.
     let stands = subst (λ (t : Bool). it.stands t c.args.interpreter.now before) told c.requires.stands in
     let its = at_rest it.store_of_image w before.now (g.met.I.Interpreter.leaves c.args.interpreter.now before w stands means) in
     let go = go_is (has_quit (ended_lines begun text)) (sym c.in-Go.is ∙ c.in_ok-feed.ensures.fed.quits) in
-    let p = progress_more it.step shows it.store_of_image _ _ _ _ _ _ _ _ (progress_start it.step shows it.store_of_image w (it.means c.args.interpreter.now before) (script_items text) (g.S.Sink.has c.args.sink.now) before.now means its)
+    let p = progress_more it.step shows it.store_of_image _ _ _ _ _ _ _ _ _ _
+    (progress_start it.step shows it.store_of_image w (it.means c.args.interpreter.now before) (script_items text) (g.S.Sink.has c.args.sink.now) before.now before.dev_faults means its)
     (commands_of (ended_lines begun text)) (commands_of (last_line lent)) (text_then_last begun text lent c.new-line.ensures.items go (c.deref.ensures.value ∙ c.in_ok-feed.ensures.fed.line_is c.in-Go.is))
-    _ _ _ (c.in_ok-feed.ensures.ran told w means) in
-    ran_last it.step shows it.store_of_image c.finish.result _ _ _ _ _ _ _ _ p
-    (commands_of (last_line lent)) (sym (append-nil _)) _ _ _ (c.finish.ensures.ran told _ p.answered.stands_for)
+    _ _ _ _ (c.in_ok-feed.ensures.ran told w means) in
+    ran_last it.step shows it.store_of_image c.finish.result _ _ _ _ _ _ _ _ _ _ p
+    (commands_of (last_line lent)) (sym (append-nil _)) _ _ _ _ (c.finish.ensures.ran told _ p.answered.stands_for)
 
 pub returns-in-Go-clause-call : goal.returns-in-Go-clause-call
 returns-in-Go-clause-call g c = answer_then (quiet_then (quiet-refl _) c.in_ok-feed.ensures.call) c.finish.ensures.call
@@ -63,6 +64,6 @@ returns-clause-ran g c = λ told w means.
     let stands = subst (λ (t : Bool). it.stands t c.args.interpreter.now before) told c.requires.stands in
     let its = at_rest it.store_of_image w before.now (g.met.I.Interpreter.leaves c.args.interpreter.now before w stands means) in
     let stop = quit_is (has_quit (ended_lines begun text)) (sym c.in-Quit.is ∙ c.in_ok-feed.ensures.fed.quits) in
-    ran_all it.step shows it.store_of_image _ _ _ [] _ _ _ _
-    (progress_more it.step shows it.store_of_image _ _ _ _ _ _ _ _ (progress_start it.step shows it.store_of_image w (it.means c.args.interpreter.now before) (script_items text) (g.S.Sink.has c.args.sink.now) before.now means its)
-    (commands_of (ended_lines begun text)) [] (text_then_none begun text c.new-line.ensures.items stop) _ _ _ (c.in_ok-feed.ensures.ran told w means)) tt refl
+    ran_all it.step shows it.store_of_image _ _ _ [] _ _ _ _ _ _
+    (progress_more it.step shows it.store_of_image _ _ _ _ _ _ _ _ _ _ (progress_start it.step shows it.store_of_image w (it.means c.args.interpreter.now before) (script_items text) (g.S.Sink.has c.args.sink.now) before.now before.dev_faults means its)
+    (commands_of (ended_lines begun text)) [] (text_then_none begun text c.new-line.ensures.items stop) _ _ _ _ (c.in_ok-feed.ensures.ran told w means)) tt refl

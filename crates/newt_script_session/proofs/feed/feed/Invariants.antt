@@ -18,7 +18,7 @@ invariant-loop-ended g l =
       stands : it.stands g.H.Host.told l.interpreter now;
       progress : IsTrue g.H.Host.told → (world : World) → it.means l.fn.interpreter before world
           → Progress it.step g.S.Sink.shows it.store_of_image world (commands_of all) (it.means l.interpreter now) (commands_of rest)
-          (g.S.Sink.has l.fn.sink) (g.S.Sink.has l.sink) before.now now.now;
+          (g.S.Sink.has l.fn.sink) (g.S.Sink.has l.sink) before.now now.now before.dev_faults now.dev_faults;
       flow : has_quit rest ≡ has_quit all;
       line : unended l.line.items l.rest ≡ unended l.fn.line.items l.fn.piece;
       quiet : Quiet g.H.Host.told before now;

@@ -32,7 +32,7 @@ returns-in_default-clause-ran g c = λ told.
     (λ unit none. g.met.H.Host.untouched c.new.new.host unit told none) (λ unit some. g.met.H.Host.history c.new.new.host unit told some)
     c.args.limit result
     (subst S found (session_ran it.step it.store_of_image c.args.limit result (unmounted it.store_of_image mid) mid mid (λ w. Unit {0}) (λ texts. Unit {0}) (λ texts. Unit {0})
-    (ran_nothing it.step true it.store_of_image (unmounted it.store_of_image mid) (λ w. Unit {0}) (script_items mid.input) _ mid.now tt its) tt start))
+    (ran_nothing it.step true it.store_of_image (unmounted it.store_of_image mid) (λ w. Unit {0}) (script_items mid.input) _ mid.now mid.dev_faults tt its) tt start))
 
 pub returns-in_default-clause-faults : goal.returns-in_default-clause-faults
 returns-in_default-clause-faults g c = faults_end HasCause Memory _ _ (attached_faultless _ _ _ _ c.new.ensures.attached) tt

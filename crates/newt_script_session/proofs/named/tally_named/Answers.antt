@@ -2,13 +2,13 @@ use Rattle.std.proofs.Common.{false, Bool, Global, Result, Err, map, string_byte
 use Rattle.newt_host_attach.specs.Named.{AreAttached}
 use Rattle.newt_spec_world.specs.World.{World}
 use Rattle.newt_script_session.specs.Counted.{Counted}
-use Rattle.newt_script_session.specs.Causes.{HasWriteCause}
+use Rattle.newt_script_session.specs.Causes.{HasSinkCause}
 use Rattle.newt_script_session.specs.First.{unmounted}
 use Rattle.newt_script_session.specs.Script.{script_items}
 use Rattle.newt_script_session.specs.declared.halt.Halt.{Halt}
 use Rattle.newt_script_session.specs.declared.halt.Halt.TheVariants.{Memory}
 use Rattle.newt_script_session.proofs.Beginning.{first_is, attached_at_rest, attached_faultless, named_counted, rests_first}
-use Rattle.newt_script_session.proofs.Counting.{faults_end, faults_same, write_from}
+use Rattle.newt_script_session.proofs.Counting.{faults_end, faults_same, sink_from}
 use Rattle.newt_script_session.proofs.Progress.{ran_nothing}
 use Rattle.newt_script_session.proofs.Summing.{counted_halted}
 use Rattle.newt_script_session.proofs.named.tally_named.Goals as goal
@@ -32,13 +32,13 @@ returns-in_default-clause-counted g c = λ told.
     c.args.script.now result
     (subst S found (counted_halted it.step it.store_of_image c.args.script.now (unmounted it.store_of_image mid) mid mid {T = Unit {0}} {U = Unit {0}} result Memory (λ w. Unit {0})
     (λ texts. Unit {0}) (λ texts. Unit {0}) refl tt
-    (ran_nothing it.step false it.store_of_image (unmounted it.store_of_image mid) (λ w. Unit {0}) (script_items c.args.script.now) _ mid.now tt its)))
+    (ran_nothing it.step false it.store_of_image (unmounted it.store_of_image mid) (λ w. Unit {0}) (script_items c.args.script.now) _ mid.now mid.dev_faults tt its)))
 
 pub returns-in_default-clause-left : goal.returns-in_default-clause-left
 returns-in_default-clause-left g c = c.new.ensures.attached.input
 
 pub returns-in_default-clause-faults : goal.returns-in_default-clause-faults
-returns-in_default-clause-faults g c = faults_end HasWriteCause Memory _ _ (attached_faultless _ _ _ _ c.new.ensures.attached) tt
+returns-in_default-clause-faults g c = faults_end HasSinkCause Memory _ _ (attached_faultless _ _ _ _ c.new.ensures.attached) tt
 
 -- ---- the script
 
@@ -61,4 +61,4 @@ returns-clause-left g c = c.tally_script.ensures.call.unread.input ∙ c.new.ens
 pub returns-clause-faults : goal.returns-clause-faults
 returns-clause-faults g c =
     let none = attached_faultless _ _ _ _ c.new.ensures.attached in
-    faults_same HasWriteCause HasWriteCause _ _ _ c.tally_script.result none (λ halt cause. write_from halt _ _ _ none cause) c.tally_script.ensures.call.faults
+    faults_same HasSinkCause HasSinkCause _ _ _ c.tally_script.result none (λ halt cause. sink_from halt _ _ _ none cause) c.tally_script.ensures.call.faults

@@ -25,7 +25,7 @@ pieces-init g c =
       going = λ told w means.
           let stands = subst (λ (t : Bool). it.stands t c.args.interpreter.now before) told c.requires.stands in
           let its = at_rest it.store_of_image w before.now (g.met.I.Interpreter.leaves c.args.interpreter.now before w stands means) in
-          ([], refl, sym (append-nil _), going_start it.step it.store_of_image w _ before.input c.args.line.now.items (λ texts. Unit {0}) before.now means its c.requires.empty);
+          ([], refl, sym (append-nil _), going_start it.step it.store_of_image w _ before.input c.args.line.now.items (λ texts. Unit {0}) before.now before.dev_faults means its c.requires.empty);
       within = omega arith;
       running = running-refl _;
     }
@@ -45,11 +45,12 @@ returns-in_err-moved-clause-session g c = λ told w means.
     let p = err_from_is_err_and c.from_residual.result c.from_residual.ensures.1 in
     let v = c.pieces.invariant.going told w means in
     let devices = subst (λ (t : Bool). SameDevices t (g.H.Host.outside c.pieces.host) mid) told c.read_piece.ensures.call.devices in
+    let counts = c.read_piece.ensures.call.devices.counts.dev_faults in
     let same = λ (u : World) (stood : it.means c.pieces.interpreter (g.H.Host.outside c.pieces.host) u).
     g.met.I.Interpreter.same_worlds c.pieces.interpreter (g.H.Host.outside c.pieces.host) mid u devices stood in
-    let going = going_moved it.step it.store_of_image _ _ v.0 _ _ _ _ _ _ _ _ mid.now c.in_err-moved.ensures.failed.1 same v.3 in
+    let going = going_moved it.step it.store_of_image _ _ v.0 _ _ _ _ _ _ _ _ mid.now _ _ mid.dev_faults c.in_err-moved.ensures.failed.1 same counts v.3 in
     session_halted it.step it.store_of_image c.args.limit _ _ (g.H.Host.outside c.args.host.now) mid v.0 _ _ _ _ _ going Source (p.1 ∙ ap Err (p.2 ∙ c.in_err-moved.ensures.call.faults.cause.0))
-    (answered_taken it.step it.store_of_image _ _ v.0 _ _ _ _ _ _ mid.now going mid.input c.in_err-moved.ensures.failed.0)
+    (answered_taken it.step it.store_of_image _ _ v.0 _ _ _ _ _ _ mid.now _ mid.dev_faults going mid.input c.in_err-moved.ensures.failed.0)
 
 pub returns-in_err-moved-clause-call : goal.returns-in_err-moved-clause-call
 returns-in_err-moved-clause-call g c =
@@ -64,9 +65,10 @@ returns-then-taken-limit-clause-session g c = λ told w means.
     let mid = g.H.Host.outside c.read_piece.new.host in
     let v = c.pieces.invariant.going told w means in
     let devices = subst (λ (t : Bool). SameDevices t (g.H.Host.outside c.pieces.host) mid) told c.read_piece.ensures.call.devices in
+    let counts = c.read_piece.ensures.call.devices.counts.dev_faults in
     let same = λ (u : World) (stood : it.means c.pieces.interpreter (g.H.Host.outside c.pieces.host) u).
     g.met.I.Interpreter.same_worlds c.pieces.interpreter (g.H.Host.outside c.pieces.host) mid u devices stood in
-    let going = going_took it.step it.store_of_image _ _ v.0 _ _ _ _ _ _ _ _ _ mid.now (c.in_ok-moved.ensures.took told).moment same v.2 v.3 in
+    let going = going_took it.step it.store_of_image _ _ v.0 _ _ _ _ _ _ _ _ _ mid.now _ _ mid.dev_faults (c.in_ok-moved.ensures.took told).moment same counts v.2 v.3 in
     let buffer = c.read_piece.new.buffer in
     let within : c.in_ok-moved.moved ≤ c.min-most.result = c.in_ok-moved.ensures.within in
     let fits : c.in_ok-moved.moved ≤ length buffer = omega arith in
@@ -75,7 +77,7 @@ returns-then-taken-limit-clause-session g c = λ told w means.
     let taken = v.1 in
     let full : length v.0 ≡ c.args.limit = omega arith in
     session_halted it.step it.store_of_image c.args.limit _ _ (g.H.Host.outside c.args.host.now) mid v.0 _ _ _ _ _ going TooLong refl
-    (going_too_long it.step it.store_of_image _ _ v.0 _ _ _ _ _ _ mid.now going (take c.in_ok-moved.moved buffer) _ c.args.limit full ((c.in_ok-moved.ensures.took told).input) some)
+    (going_too_long it.step it.store_of_image _ _ v.0 _ _ _ _ _ _ mid.now _ mid.dev_faults going (take c.in_ok-moved.moved buffer) _ c.args.limit full ((c.in_ok-moved.ensures.took told).input) some)
 
 pub returns-then-taken-limit-clause-call : goal.returns-then-taken-limit-clause-call
 returns-then-taken-limit-clause-call g c = run_long (running_read c.pieces.invariant.running c.in_ok-moved.ensures.call)
@@ -90,12 +92,13 @@ returns-in_err-feed-clause-session g c = λ told w means.
     let p = err_from_is_err_and c.from_residual-in_err-feed.result c.from_residual-in_err-feed.ensures.1 in
     let v = c.pieces.invariant.going told w means in
     let devices = subst (λ (t : Bool). SameDevices t (g.H.Host.outside c.pieces.host) mid) told c.read_piece.ensures.call.devices in
+    let counts = c.read_piece.ensures.call.devices.counts.dev_faults in
     let same = λ (u : World) (stood : it.means c.pieces.interpreter (g.H.Host.outside c.pieces.host) u).
     g.met.I.Interpreter.same_worlds c.pieces.interpreter (g.H.Host.outside c.pieces.host) mid u devices stood in
-    let going = going_took it.step it.store_of_image _ _ v.0 _ _ _ _ _ _ _ _ _ mid.now (c.in_ok-moved.ensures.took told).moment same v.2 v.3 in
+    let going = going_took it.step it.store_of_image _ _ v.0 _ _ _ _ _ _ _ _ _ mid.now _ _ mid.dev_faults (c.in_ok-moved.ensures.took told).moment same counts v.2 v.3 in
     let piece = take c.in_ok-moved.moved c.read_piece.new.buffer in
     let some = piece_then_some c.pieces.line.items (g.H.Host.outside c.pieces.host).input piece mid.input ((c.in_ok-moved.ensures.took told).input) in
-    session_part it.step it.store_of_image c.args.limit _ (g.H.Host.outside c.args.host.now) new v.0 _ _ _ _ _ mid.now going (commands_of (ended_lines c.pieces.line.items piece)) some.0 some.1
+    session_part it.step it.store_of_image c.args.limit _ (g.H.Host.outside c.args.host.now) new v.0 _ _ _ _ _ mid.now mid.dev_faults going (commands_of (ended_lines c.pieces.line.items piece)) some.0 some.1
     (it.means c.feed.new.interpreter new) (λ texts. Unit {0}) (c.in_err-feed.ensures.call.unread.moments told) _ c.in_err-feed.field-0.0 (p.1 ∙ ap Err p.2) (c.in_err-feed.ensures.ran told _ going.answered.stands_for)
 
 pub returns-in_err-feed-clause-call : goal.returns-in_err-feed-clause-call
@@ -112,9 +115,10 @@ returns-in-Quit-clause-session g c = λ told w means.
     let new = g.H.Host.outside c.feed.new.host in
     let v = c.pieces.invariant.going told w means in
     let devices = subst (λ (t : Bool). SameDevices t (g.H.Host.outside c.pieces.host) mid) told c.read_piece.ensures.call.devices in
+    let counts = c.read_piece.ensures.call.devices.counts.dev_faults in
     let same = λ (u : World) (stood : it.means c.pieces.interpreter (g.H.Host.outside c.pieces.host) u).
     g.met.I.Interpreter.same_worlds c.pieces.interpreter (g.H.Host.outside c.pieces.host) mid u devices stood in
-    let going = going_took it.step it.store_of_image _ _ v.0 _ _ _ _ _ _ _ _ _ mid.now (c.in_ok-moved.ensures.took told).moment same v.2 v.3 in
+    let going = going_took it.step it.store_of_image _ _ v.0 _ _ _ _ _ _ _ _ _ mid.now _ _ mid.dev_faults (c.in_ok-moved.ensures.took told).moment same counts v.2 v.3 in
     let buffer = c.read_piece.new.buffer in
     let piece = take c.in_ok-moved.moved buffer in
     let stop = quit_is (has_quit (ended_lines c.pieces.line.items piece)) (sym c.in-Quit.is ∙ c.in_ok-feed.ensures.fed.quits) in
@@ -124,10 +128,10 @@ returns-in-Quit-clause-session g c = λ told w means.
     let taken = v.1 in
     let P : List ℕ → Type 0 = λ left. IsReadThrough c.args.limit (g.H.Host.outside c.args.host.now).input left in
     let last = piece_then_none c.pieces.line.items (g.H.Host.outside c.pieces.host).input piece mid.input ((c.in_ok-moved.ensures.took told).input) stop in
-    session_whole it.step it.store_of_image c.args.limit _ (g.H.Host.outside c.args.host.now) new v.0 _ _ _ _ _ mid.now going (commands_of (ended_lines c.pieces.line.items piece)) [] last
+    session_whole it.step it.store_of_image c.args.limit _ (g.H.Host.outside c.args.host.now) new v.0 _ _ _ _ _ mid.now mid.dev_faults going (commands_of (ended_lines c.pieces.line.items piece)) [] last
     (it.means c.feed.new.interpreter new) (λ texts. Unit {0}) (c.in_ok-feed.ensures.call.unread.moments told) refl (c.in_ok-feed.ensures.ran told _ going.answered.stands_for)
     (subst P (sym c.feed.ensures.call.unread.input)
-    (through_quit it.step it.store_of_image _ _ v.0 _ _ _ _ _ _ mid.now going piece mid.input c.args.limit ((c.in_ok-moved.ensures.took told).input) stop (omega arith)))
+    (through_quit it.step it.store_of_image _ _ v.0 _ _ _ _ _ _ mid.now _ mid.dev_faults going piece mid.input c.args.limit ((c.in_ok-moved.ensures.took told).input) stop (omega arith)))
 
 pub returns-in-Quit-clause-call : goal.returns-in-Quit-clause-call
 returns-in-Quit-clause-call g c = run_ok (running_answer (running_read c.pieces.invariant.running c.in_ok-moved.ensures.call) c.in_ok-feed.ensures.call)
@@ -151,20 +155,21 @@ pieces-preserved g c =
       going = λ told w means.
           let v = c.pieces.invariant.going told w means in
           let devices = subst (λ (t : Bool). SameDevices t (g.H.Host.outside c.pieces.host) mid) told c.read_piece.ensures.call.devices in
+          let counts = c.read_piece.ensures.call.devices.counts.dev_faults in
           let same = λ (u : World) (stood : it.means c.pieces.interpreter (g.H.Host.outside c.pieces.host) u).
           g.met.I.Interpreter.same_worlds c.pieces.interpreter (g.H.Host.outside c.pieces.host) mid u devices stood in
-          let going = going_took it.step it.store_of_image _ _ v.0 _ _ _ _ _ _ _ _ _ mid.now (c.in_ok-moved.ensures.took told).moment same v.2 v.3 in
+          let going = going_took it.step it.store_of_image _ _ v.0 _ _ _ _ _ _ _ _ _ mid.now _ _ mid.dev_faults (c.in_ok-moved.ensures.took told).moment same counts v.2 v.3 in
           let unread = c.in_ok-feed.ensures.call.unread.moments told in
           let grown : taken_by new.now ≡ taken_by before.now ++ (v.0 ++ piece) =
           Always-last unread ∙ (ap (λ (m : Moment). taken_by m) (c.in_ok-moved.ensures.took told).moment
           ∙ (ap (λ t. t ++ piece) v.2 ∙ append_assoc (taken_by before.now) v.0 piece)) in
           let P : List ℕ → Type 0 = λ left. Going it.step it.store_of_image w before.input (v.0 ++ piece) left (it.means c.feed.new.interpreter new) c.feed.new.line.items
-          (λ texts. Unit {0}) (λ texts. Unit {0}) before.now new.now in (
+          (λ texts. Unit {0}) (λ texts. Unit {0}) before.now new.now before.dev_faults new.dev_faults in (
             v.0 ++ piece,
             (length-append v.0 piece ∙ (ap (λ n. n + length piece) v.1 ∙ ap (λ n. c.pieces.taken + n) size)),
             grown,
             subst P (sym c.feed.ensures.call.unread.input)
-                (going_more it.step it.store_of_image _ _ v.0 _ _ _ _ _ _ mid.now going piece mid.input _ _ _ _ unread ((c.in_ok-moved.ensures.took told).input) go (c.in_ok-feed.ensures.fed.line_is c.in-Go.is) (c.in_ok-feed.ensures.ran told _ going.answered.stands_for)),
+                (going_more it.step it.store_of_image _ _ v.0 _ _ _ _ _ _ mid.now _ mid.dev_faults going piece mid.input _ _ _ _ new.dev_faults unread ((c.in_ok-moved.ensures.took told).input) go (c.in_ok-feed.ensures.fed.line_is c.in-Go.is) (c.in_ok-feed.ensures.ran told _ going.answered.stands_for)),
           );
       within = omega arith;
       running = running_answer (running_read c.pieces.invariant.running c.in_ok-moved.ensures.call) c.in_ok-feed.ensures.call;
@@ -179,16 +184,17 @@ returns-clause-session g c = λ told w means.
     let new = g.H.Host.outside c.finish.new.host in
     let v = c.pieces.invariant.going told w means in
     let devices = subst (λ (t : Bool). SameDevices t (g.H.Host.outside c.pieces.host) mid) told c.read_piece.ensures.call.devices in
+    let counts = c.read_piece.ensures.call.devices.counts.dev_faults in
     let same = λ (u : World) (stood : it.means c.pieces.interpreter (g.H.Host.outside c.pieces.host) u).
     g.met.I.Interpreter.same_worlds c.pieces.interpreter (g.H.Host.outside c.pieces.host) mid u devices stood in
-    let going = going_took it.step it.store_of_image _ _ v.0 _ _ _ _ _ _ _ _ _ mid.now (c.in_ok-moved.ensures.took told).moment same v.2 v.3 in
+    let going = going_took it.step it.store_of_image _ _ v.0 _ _ _ _ _ _ _ _ _ mid.now _ _ mid.dev_faults (c.in_ok-moved.ensures.took told).moment same counts v.2 v.3 in
     let end : (g.H.Host.outside c.pieces.host).input ≡ [] = c.in_ok-moved.ensures.end told (omega arith) (omega arith) in
     let none = none_left c.in_ok-moved.moved c.read_piece.new.buffer _ _ (omega arith) ((c.in_ok-moved.ensures.took told).input) end in
     let ran = c.finish.ensures.ran told _ going.answered.stands_for in
-    session_last it.step it.store_of_image c.args.limit _ (g.H.Host.outside c.args.host.now) new v.0 _ _ _ _ _ mid.now going (commands_of (last_line c.deref.result.now)) []
+    session_last it.step it.store_of_image c.args.limit _ (g.H.Host.outside c.args.host.now) new v.0 _ _ _ _ _ mid.now mid.dev_faults going (commands_of (last_line c.deref.result.now)) []
     (last_commands c.pieces.line.items (g.H.Host.outside c.pieces.host).input c.deref.result.now end c.deref.ensures.value)
     (it.means c.finish.new.interpreter new) (λ texts. Unit {0}) (c.finish.ensures.call.unread.moments told) c.finish.result refl ran
-    (on_ok_weaker c.finish.result (λ d. through_end it.step it.store_of_image _ _ v.0 _ _ _ _ _ _ mid.now going new.input c.args.limit (omega arith) end (c.finish.ensures.call.unread.input ∙ none)) ran.done)
+    (on_ok_weaker c.finish.result (λ d. through_end it.step it.store_of_image _ _ v.0 _ _ _ _ _ _ mid.now _ mid.dev_faults going new.input c.args.limit (omega arith) end (c.finish.ensures.call.unread.input ∙ none)) ran.done)
 
 pub returns-clause-call : goal.returns-clause-call
 returns-clause-call g c = run_answer c.finish.result (running_read c.pieces.invariant.running c.in_ok-moved.ensures.call) c.finish.ensures.call

@@ -15,7 +15,7 @@ invariant-pieces g l =
       going : IsTrue g.H.Host.told → (world : World) → it.means l.fn.interpreter before world
           → (taken : List ℕ) × (length taken ≡ l.taken) × (taken_by now.now ≡ taken_by before.now ++ taken)
           × Going it.step it.store_of_image world before.input taken now.input (it.means l.interpreter now) l.line.items
-          (λ texts. Unit {0}) (λ texts. Unit {0}) before.now now.now;
+          (λ texts. Unit {0}) (λ texts. Unit {0}) before.now now.now before.dev_faults now.dev_faults;
       within : l.taken ≤ l.limit;
       running : Running before now;
     }

@@ -13,7 +13,7 @@ returns-in_default-clause-session g c = λ told w means.
     let before = g.H.Host.outside c.args.host.now in
     let stands = subst (λ (t : Bool). it.stands t c.args.interpreter.now before) told c.requires.stands in
     let its = at_rest it.store_of_image w before.now (g.met.I.Interpreter.leaves c.args.interpreter.now before w stands means) in
-    session_ran it.step it.store_of_image c.args.limit _ w before before (it.means c.args.interpreter.now before) (λ texts. Unit {0}) (λ texts. Unit {0}) (ran_nothing it.step true it.store_of_image w _ (script_items before.input) _ before.now means its) tt start
+    session_ran it.step it.store_of_image c.args.limit _ w before before (it.means c.args.interpreter.now before) (λ texts. Unit {0}) (λ texts. Unit {0}) (ran_nothing it.step true it.store_of_image w _ (script_items before.input) _ before.now before.dev_faults means its) tt start
 
 pub returns-in_default-clause-call : goal.returns-in_default-clause-call
 returns-in_default-clause-call g c = run_memory (running-refl _)

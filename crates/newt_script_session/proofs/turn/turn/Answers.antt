@@ -23,7 +23,7 @@ returns-in-Ok-None-clause-ran g c = λ told w means.
     let before = g.H.Host.outside c.args.host.now in
     let stands = subst (λ (t : Bool). it.stands t c.args.interpreter.now before) told c.requires.stands in
     let its = at_rest it.store_of_image w before.now (g.met.I.Interpreter.leaves c.args.interpreter.now before w stands means) in
-    ran_none it.step g.S.Sink.shows it.store_of_image _ w _ (commands_of (c.args.bytes.now ∷ [])) _ before.now means its (commands_silent c.args.bytes.now said)
+    ran_none it.step g.S.Sink.shows it.store_of_image _ w _ (commands_of (c.args.bytes.now ∷ [])) _ before.now before.dev_faults means its (commands_silent c.args.bytes.now said)
 
 pub returns-in-Ok-None-clause-call : goal.returns-in-Ok-None-clause-call
 returns-in-Ok-None-clause-call g c = answer_ok (quiet-refl _)
@@ -42,7 +42,7 @@ returns-in-Ok-Some-clause-ran g c = λ told w means.
     let before = g.H.Host.outside c.args.host.now in
     let new = g.H.Host.outside c.obey.new.host in
     let P : List Item → Type 0 = λ items. Ran it.step g.S.Sink.shows it.store_of_image c.obey.result w (it.means c.obey.new.interpreter new) items
-    (g.S.Sink.has c.args.sink.now) (g.S.Sink.has c.obey.new.sink) before.now new.now in
+    (g.S.Sink.has c.args.sink.now) (g.S.Sink.has c.obey.new.sink) before.now new.now before.dev_faults new.dev_faults in
     subst P (sym (commands_command c.args.bytes.now c.in-Ok-Some.command said)) (c.obey.ensures.ran told w means)
 
 -- a refusal
@@ -59,7 +59,7 @@ returns-in-Err-Refused-clause-ran g c = λ told w means.
     let before = g.H.Host.outside c.args.host.now in
     let new = g.H.Host.outside c.refuse.new.host in
     let P : List Item → Type 0 = λ items. Ran it.step g.S.Sink.shows it.store_of_image c.refuse.result w (it.means c.args.interpreter.now new) items
-    (g.S.Sink.has c.args.sink.now) (g.S.Sink.has c.refuse.new.sink) before.now new.now in
+    (g.S.Sink.has c.args.sink.now) (g.S.Sink.has c.refuse.new.sink) before.now new.now before.dev_faults new.dev_faults in
     subst P (sym (commands_refused c.args.bytes.now c.in-Err-Refused.refusal said)) (c.refuse.ensures.ran told w means)
 
 -- out of memory
@@ -69,7 +69,7 @@ returns-in-Err-Memory-clause-ran g c = λ told w means.
     let before = g.H.Host.outside c.args.host.now in
     let stands = subst (λ (t : Bool). it.stands t c.args.interpreter.now before) told c.requires.stands in
     let its = at_rest it.store_of_image w before.now (g.met.I.Interpreter.leaves c.args.interpreter.now before w stands means) in
-    ran_nothing it.step g.S.Sink.shows it.store_of_image w _ (commands_of (c.args.bytes.now ∷ [])) _ before.now means its
+    ran_nothing it.step g.S.Sink.shows it.store_of_image w _ (commands_of (c.args.bytes.now ∷ [])) _ before.now before.dev_faults means its
 
 pub returns-in-Err-Memory-clause-call : goal.returns-in-Err-Memory-clause-call
 returns-in-Err-Memory-clause-call g c = answer_memory (quiet-refl _)

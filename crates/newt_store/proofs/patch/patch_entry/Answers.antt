@@ -1,4 +1,4 @@
-use Rattle.std.proofs.Common.{◌≡◌, ◌*◌, ℕ, IsTrue, List, length, Some, None, Result, Ok, Err, IfErr, refl, sym, ◌∙◌, ap, subst}
+use Rattle.std.proofs.Common.{◌≡◌, ◌*◌, ℕ, IsTrue, List, length, Some, None, IsSome, Result, Ok, Err, IfErr, refl, sym, ◌∙◌, ap, subst}
 use Rattle.newt_spec_image.specs.Records.{version}
 use Rattle.std.specs.FinMap as map
 use Rattle.std.specs.FinSet as set
@@ -31,7 +31,7 @@ use Rattle.newt_store.proofs.Applying.{from-err, leaves-before}
 use Rattle.newt_store_catalog.proofs.Kept.{kept-over}
 use Rattle.newt_store.proofs.Unanswered.{no-value}
 use Rattle.newt_store.proofs.Writing.{failed}
-use Rattle.newt_store.proofs.Patching.{text-there, past-due, none-due, stands-after, spends-record, not-full, patch-leaves, patch-spends, patch-wears, patch-refuses, goes-error, less-over}
+use Rattle.newt_store.proofs.Patching.{text-there, past-due, none-due, stands-after, spends-record, not-full, patch-idle, patch-leaves, patch-spends, patch-wears, patch-refuses, goes-error, less-over}
 use Rattle.newt_store.proofs.Opened.{open-over, refused-on, shows-made, shows-still}
 use Rattle.newt_store.proofs.patch.patch_entry.Goals as goal
 
@@ -71,6 +71,7 @@ returns-in_err-object-clause-changes g c = λ minute.
           c.from_residual.result c.in_err-object.field-0.0 c.from_residual.ensures.1 (c.in_err-object.ensures.finds tells s stands c.args.at c.args.bytes.now).refused;
       still = λ tells s stands is. stands;
       nothing_done = λ is. c.find_large.ensures.reads.book.looks.moment;
+      idle = λ tells s stands due. c.find_large.ensures.reads.book.looks.moment;
       any_moment = λ tells s stands.
           leaves-before c.args.catalog.now (Patch c.args.sig c.args.uid c.args.node c.args.at c.args.bytes.now) minute (blocks_of (image u (o c.args.host.now).now)) s u (o c.args.host.now).now (o c.find_large.new.host).now c.find_large.ensures.reads.book.looks.moment stands
           (g.met.P.PageBook.tells g.H.Host.told c.args.book.now (o c.args.host.now) c.requires.book tells).1;
@@ -149,6 +150,13 @@ returns-in-Ok-clause-changes g c = λ minute.
           (subst (λ (k : Moment). Leaves u (IsBeforeOrPatched (image u m) stands.texts after) k n) c.find_large.ensures.reads.book.looks.moment
           (with-unit (λ (v : ℕ). Leaves v (IsBeforeOrPatched (image u m) stands.texts after) m' n) u' u c.find_large.ensures.reads.book.same_place
           (subst (λ (i : List ℕ). Leaves u' (IsBeforeOrPatched i stands.texts after) m' n) e (c.patch_object.ensures.overwrites.any_moment tells stands.texts l.bytes holds there)))));
+      idle = λ tells s stands.
+          let l : IsLargeOf cat s c.args.sig c.args.uid c.args.node x = (c.in_ok-object.ensures.finds tells s stands c.args.at c.args.bytes.now).found in
+          let holds : HoldsObjects (image u' m') stands.texts = subst (λ (b : List ℕ). HoldsObjects b stands.texts) (sym e) stands.holds in
+          let there : map.get stands.texts x ≡ Some l.bytes = text-there cat s (image u m) stands c.args.sig c.args.uid c.args.node x l in
+          subst (λ (b : List ℕ). IsSome (refusal_of (Patch c.args.sig c.args.uid c.args.node c.args.at b) (blocks_of (image u m)) minute s) → n ≡ m) c.list.ensures
+          (patch-idle cat s (image u m) stands c.args.sig c.args.uid c.args.node x l c.args.at b (blocks_of (image u m)) minute
+          (λ past. c.patch_object.ensures.commits.nothing_done (range-refused (c.patch_object.ensures.overwrites.past tells stands.texts l.bytes holds there past)) ∙ c.find_large.ensures.reads.book.looks.moment));
       wears = λ tells s stands.
           let l : IsLargeOf cat s c.args.sig c.args.uid c.args.node x = (c.in_ok-object.ensures.finds tells s stands c.args.at c.args.bytes.now).found in
           let holds : HoldsObjects (image u' m') stands.texts = subst (λ (b : List ℕ). HoldsObjects b stands.texts) (sym e) stands.holds in
@@ -237,6 +245,13 @@ returns-in-Err-clause-changes g c = λ minute.
           (subst (λ (k : Moment). Leaves u (IsBeforeOrPatched (image u m) stands.texts after) k n) c.find_large.ensures.reads.book.looks.moment
           (with-unit (λ (v : ℕ). Leaves v (IsBeforeOrPatched (image u m) stands.texts after) m' n) u' u c.find_large.ensures.reads.book.same_place
           (subst (λ (i : List ℕ). Leaves u' (IsBeforeOrPatched i stands.texts after) m' n) e (c.patch_object.ensures.overwrites.any_moment tells stands.texts l.bytes holds there)))));
+      idle = λ tells s stands.
+          let l : IsLargeOf cat s c.args.sig c.args.uid c.args.node x = (c.in_ok-object.ensures.finds tells s stands c.args.at c.args.bytes.now).found in
+          let holds : HoldsObjects (image u' m') stands.texts = subst (λ (b : List ℕ). HoldsObjects b stands.texts) (sym e) stands.holds in
+          let there : map.get stands.texts x ≡ Some l.bytes = text-there cat s (image u m) stands c.args.sig c.args.uid c.args.node x l in
+          subst (λ (b : List ℕ). IsSome (refusal_of (Patch c.args.sig c.args.uid c.args.node c.args.at b) (blocks_of (image u m)) minute s) → n ≡ m) c.list.ensures
+          (patch-idle cat s (image u m) stands c.args.sig c.args.uid c.args.node x l c.args.at b (blocks_of (image u m)) minute
+          (λ past. c.patch_object.ensures.commits.nothing_done (range-refused (c.patch_object.ensures.overwrites.past tells stands.texts l.bytes holds there past)) ∙ c.find_large.ensures.reads.book.looks.moment));
       wears = λ tells s stands.
           let l : IsLargeOf cat s c.args.sig c.args.uid c.args.node x = (c.in_ok-object.ensures.finds tells s stands c.args.at c.args.bytes.now).found in
           let holds : HoldsObjects (image u' m') stands.texts = subst (λ (b : List ℕ). HoldsObjects b stands.texts) (sym e) stands.holds in

@@ -28,6 +28,7 @@ returns-in-Ok-clause-changes g c =
       refused = λ tells s shows. is-memory r (RefusesWith (refusal_of c.args.change (blocks_of img) c.args.now s)) m tt;
       still = λ tells s shows is. no-refusal r m is;
       nothing_done = λ is. no-refusal r m is;
+      idle = e.idle;
       any_moment = e.any_moment;
       wears = e.wears;
       open_after = λ tells. ok-all r (e.open_after tells);

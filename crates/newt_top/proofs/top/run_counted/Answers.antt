@@ -1,9 +1,6 @@
-use Rattle.std.proofs.Common.{◌++◌, map, Global, string_bytes, ap, ◌∙◌, arith}
-use Rattle.newt_host.specs.Meanings.{out_of}
+use Rattle.std.proofs.Common.{Ok, Err, map, Global, string_bytes, refl, arith}
 use Rattle.std.proofs.lemmas.List.{length-map}
-use Rattle.newt_top.proofs.Crashing.{is_left_counted}
-use Rattle.newt_top.proofs.Halting.{ends_counting, ends_ok, halted_counting}
-use Rattle.newt_top.proofs.Plain.{summary_is}
+use Rattle.newt_top.proofs.Halting.{ends_counting, ends_ok}
 use Rattle.newt_top.proofs.Naming.{few_names, distinct_names}
 use Rattle.newt_top.proofs.top.run_counted.Goals as goal
 
@@ -15,25 +12,11 @@ tally_named-requires-clause-few g c =
 pub tally_named-requires-clause-distinct : goal.tally_named-requires-clause-distinct
 tally_named-requires-clause-distinct g c = distinct_names (map (string_bytes {Z = Global}) c.args.names.now) c.requires.may.names
 
-pub returns-in-Ok-clause-leaves : goal.returns-in-Ok-clause-leaves
-returns-in-Ok-clause-leaves g c = λ told unit t left out at some.
-    let r = c.tally_named.ensures.counted told in
-    is_left_counted _ _ r.given _ _ _ unit left (r.crash unit t left out at some)
-
-pub returns-in-Err-clause-leaves : goal.returns-in-Err-clause-leaves
-returns-in-Err-clause-leaves g c = λ told unit t left out at some.
-    let r = c.tally_named.ensures.counted told in
-    is_left_counted _ _ r.given _ _ _ unit left (r.crash unit t left out at some)
-
 pub returns-in-Ok-clause-ran : goal.returns-in-Ok-clause-ran
-returns-in-Ok-clause-ran g c = λ told.
-    let r = c.in-Ok.ensures.counted told in
-    r.out.1 ∙ ap (λ t. out_of (g.H.Host.outside c.args.host.now) ++ t) (summary_is _ c.args.script.now r.given r.out.0)
+returns-in-Ok-clause-ran g c = λ told. record { result = Ok tt; ends = refl; ran = c.in-Ok.ensures.counted told }
 
 pub returns-in-Err-clause-ran : goal.returns-in-Err-clause-ran
-returns-in-Err-clause-ran g c = λ told.
-    let r = c.in-Err.ensures.counted told in
-    rw c.halted.ensures (halted_counting c.in-Err.halt c.args.script.now (map (string_bytes {Z = Global}) c.args.names.now) _ _ r.given r.halted)
+returns-in-Err-clause-ran g c = λ told. record { result = Err c.in-Err.halt; ends = c.halted.ensures; ran = c.in-Err.ensures.counted told }
 
 pub returns-in-Ok-clause-ends : goal.returns-in-Ok-clause-ends
 returns-in-Ok-clause-ends g c = ends_ok _ _ c.in-Ok.ensures.faults

@@ -1,13 +1,11 @@
-use Rattle.std.proofs.Common.{◌≡◌, ℕ, List, map, Global, string_bytes, subst, arith}
+use Rattle.std.proofs.Common.{◌≡◌, ℕ, List, Err, map, Global, string_bytes, refl, subst, arith}
 use Rattle.std.proofs.lemmas.Grind.{common_steps}
 use Rattle.newt_host.proofs.Histories.{untouched-attached}
-use Rattle.newt_host.specs.Meanings.{out_of}
-use Rattle.newt_script_session.proofs.Writing.{wrote_nothing}
-use Rattle.newt_spec_script.specs.Generator.{gen_script}
-use Rattle.newt_top.specs.Script.{summary_of}
-use Rattle.newt_top.specs.Modes.{first, LeavesCounted, RanCounted}
+use Rattle.newt_script_session.specs.declared.halt.Halt.TheVariants as halts
 use Rattle.newt_script_session.proofs.Counting.{never-refl}
-use Rattle.newt_top.proofs.Halting.{ends_quiet, none_attached}
+use Rattle.newt_spec_script.specs.Generator.{gen_script}
+use Rattle.newt_top.specs.Modes.{RanCounted}
+use Rattle.newt_top.proofs.Halting.{counted_nothing, ends_quiet}
 use Rattle.newt_top.specs.declared.status.Status.TheVariants.{Memory}
 use Rattle.newt_top.proofs.top.run_generated.Goals as goal
 
@@ -16,13 +14,12 @@ use Rattle.newt_top.proofs.top.run_generated.Goals as goal
 pub returns-in_default-clause-ran : goal.returns-in_default-clause-ran
 returns-in_default-clause-ran g c = λ told.
     let before = g.H.Host.outside c.args.host.now in
-    wrote_nothing (summary_of (first (map (string_bytes {Z = Global}) c.args.names.now) before) (gen_script c.args.seed c.args.count)) (out_of before)
-
-pub returns-in_default-clause-leaves : goal.returns-in_default-clause-leaves
-returns-in_default-clause-leaves g c = λ told.
-    let before = g.H.Host.outside c.args.host.now in
-    none_attached (gen_script c.args.seed c.args.count) (map (string_bytes {Z = Global}) c.args.names.now) before
-    (λ unit. untouched-attached unit before.now (g.met.H.Host.untouched c.args.host.now unit told (c.requires.may.free unit)))
+    record {
+      result = Err halts.Memory;
+      ends = refl;
+      ran = counted_nothing (gen_script c.args.seed c.args.count) (map (string_bytes {Z = Global}) c.args.names.now) before
+          (λ unit. untouched-attached unit before.now (g.met.H.Host.untouched c.args.host.now unit told (c.requires.may.free unit)));
+    }
 
 pub returns-in_default-clause-ends : goal.returns-in_default-clause-ends
 returns-in_default-clause-ends g c = ends_quiet _ _ Memory tt tt (λ same. absurd (cc)) (never-refl _)
@@ -35,10 +32,3 @@ returns-clause-ran g c = λ told.
     let script_is : c.deref.result.now ≡ gen_script c.args.seed c.args.count = grind (arith, common_steps) in
     let P : List ℕ → Type 0 = λ script. RanCounted script names c.run_counted.result (g.H.Host.outside c.args.host.now) (g.H.Host.outside c.run_counted.new.host) in
     subst P script_is (c.run_counted.ensures.ran told)
-
-pub returns-clause-leaves : goal.returns-clause-leaves
-returns-clause-leaves g c = λ told.
-    let names = map (string_bytes {Z = Global}) c.args.names.now in
-    let script_is : c.deref.result.now ≡ gen_script c.args.seed c.args.count = grind (arith, common_steps) in
-    let P : List ℕ → Type 0 = λ script. LeavesCounted script names (g.H.Host.outside c.args.host.now) (g.H.Host.outside c.run_counted.new.host) in
-    subst P script_is (c.run_counted.ensures.leaves told)

@@ -1,22 +1,48 @@
 use Rattle.std.proofs.Common.{Some, Global, map, string_bytes, sym, subst}
-use Rattle.newt_top.specs.Modes.{Leaves, LeavesDevices, Ran}
+use Rattle.newt_spec_script.specs.Generator.{gen_script}
+use Rattle.newt_top.specs.Modes.{IsPlain, LeavesDevices, Ran, RanCounted, RanScript}
 use Rattle.newt_top.specs.declared.status.Mode.{Mode}
+use Rattle.newt_top.specs.declared.status.Status.{Status}
+use Rattle.newt_top.proofs.Plain.{plain_counted, plain_script}
 use Rattle.newt_top.proofs.top.run_mode.Goals as goal
 
-pub returns-in-Run-clause-leaves : goal.returns-in-Run-clause-leaves
-returns-in-Run-clause-leaves g c = λ told.
-    let P : Mode → Type 0 = λ mode. Leaves (Some mode) (map (string_bytes {Z = Global}) c.args.names.now) (g.H.Host.outside c.args.host.now) (g.H.Host.outside c.run_script.new.host) in
-    subst P (sym c.in-Run.is) (c.run_script.ensures.leaves told)
-
-pub returns-in-Generate-clause-leaves : goal.returns-in-Generate-clause-leaves
-returns-in-Generate-clause-leaves g c = λ told.
-    let P : Mode → Type 0 = λ mode. Leaves (Some mode) (map (string_bytes {Z = Global}) c.args.names.now) (g.H.Host.outside c.args.host.now) (g.H.Host.outside c.run_generated.new.host) in
-    subst P (sym c.in-Generate.is) (c.run_generated.ensures.leaves told)
+pub returns-in-Run-clause-ran : goal.returns-in-Run-clause-ran
+returns-in-Run-clause-ran g c = λ told.
+    let P : Mode → Type 0 = λ mode. Ran (Some mode) (map (string_bytes {Z = Global}) c.args.names.now) c.args.limit c.run_script.result (g.H.Host.outside c.args.host.now) (g.H.Host.outside c.run_script.new.host) in
+    subst P (sym c.in-Run.is) (c.run_script.ensures.ran told)
 
 pub returns-in-Generate-clause-ran : goal.returns-in-Generate-clause-ran
 returns-in-Generate-clause-ran g c = λ told.
     let P : Mode → Type 0 = λ mode. Ran (Some mode) (map (string_bytes {Z = Global}) c.args.names.now) c.args.limit c.run_generated.result (g.H.Host.outside c.args.host.now) (g.H.Host.outside c.run_generated.new.host) in
     subst P (sym c.in-Generate.is) (c.run_generated.ensures.left, c.run_generated.ensures.ran told)
+
+-- ---- where no device failed
+
+pub returns-in-Run-clause-plain : goal.returns-in-Run-clause-plain
+returns-in-Run-clause-plain g c = λ told ok none.
+    let names = map (string_bytes {Z = Global}) c.args.names.now in
+    let before = g.H.Host.outside c.args.host.now in
+    let after = g.H.Host.outside c.run_script.new.host in
+    let R : Status → Type 0 = λ status. RanScript names c.args.limit status before after in
+    let P : Mode → Type 0 = λ mode. IsPlain (Some mode) names before after in
+    subst P (sym c.in-Run.is) (plain_script names before after none c.args.limit (subst R ok (c.run_script.ensures.ran told)))
+
+pub returns-in-Convert-clause-plain : goal.returns-in-Convert-clause-plain
+returns-in-Convert-clause-plain g c = λ told ok none.
+    let P : Mode → Type 0 = λ mode. IsPlain (Some mode) (map (string_bytes {Z = Global}) c.args.names.now) (g.H.Host.outside c.args.host.now) (g.H.Host.outside c.run_conversion.new.host) in
+    subst P (sym c.in-Convert.is) tt
+
+pub returns-in-Generate-clause-plain : goal.returns-in-Generate-clause-plain
+returns-in-Generate-clause-plain g c = λ told ok none.
+    let names = map (string_bytes {Z = Global}) c.args.names.now in
+    let script = gen_script c.in-Generate.seed c.in-Generate.count in
+    let before = g.H.Host.outside c.args.host.now in
+    let after = g.H.Host.outside c.run_generated.new.host in
+    let R : Status → Type 0 = λ status. RanCounted script names status before after in
+    let P : Mode → Type 0 = λ mode. IsPlain (Some mode) names before after in
+    subst P (sym c.in-Generate.is) (plain_counted names before after none script (subst R ok (c.run_generated.ensures.ran told)))
+
+-- ---- devices
 
 pub returns-in-Run-clause-devices : goal.returns-in-Run-clause-devices
 returns-in-Run-clause-devices g c =

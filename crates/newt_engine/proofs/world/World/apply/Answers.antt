@@ -1,79 +1,55 @@
--- A refusal is a reply, and leaves the world.
-use Rattle.std.proofs.Common.{refl, sym, Err, subst}
-use Rattle.std.specs.Prelude.{Ok}
-use Rattle.newt_reply.specs.Said.{said}
-use Rattle.newt_reply.specs.declared.reply.Reply.{Reply}
-use Rattle.newt_reply.specs.declared.reply.Reply.TheVariants as reply
-use Rattle.newt_store_change.specs.declared.fault.StoreFault.{StoreFault}
-use Rattle.newt_store_change.specs.Faults.{GoesOn, HasFaultCause, IsRefusal, NoDevice}
-use Rattle.newt_engine_units.specs.Answers.{Answers}
-use Rattle.newt_engine_cursors.specs.World.{world_with}
-use Rattle.newt_engine.proofs.Handed.{only_memory}
-use Rattle.newt_engine.proofs.Refusing.{refusal_stays}
+-- A refusal is a reply, and so is a device that failed: its unit is thrown out.
+use Rattle.std.proofs.Common.{◌≡◌, refl, ap, sym, ◌∙◌, subst, ℕ, IsTrue, Some}
+use Rattle.std.specs.Prelude.{IsSome}
+use Rattle.newt_host.specs.Moments.{MayLeave, changes, image}
+use Rattle.newt_host.proofs.Histories.{history-leaves}
+use Rattle.newt_spec_store.specs.Store.{Store}
+use Rattle.newt_spec_store.specs.Valid.{valid}
+use Rattle.newt_store_change.specs.declared.fault.StoreFault.TheVariants.{Stop}
+use Rattle.newt_engine_units.specs.Stands.{Eight}
+use Rattle.newt_engine_units.proofs.Known.{Laws}
+use Rattle.newt_engine.specs.Laws.{laws_of}
+use Rattle.newt_engine.proofs.Applied.{applied-done, applied-memory, applied-refused, applied-thrown, broke-stands, served-as}
+use Rattle.newt_engine.proofs.Outcast.{slot-there}
+use Rattle.newt_engine.proofs.world.World.apply.Given.{Over}
 use Rattle.newt_engine.proofs.world.World.apply.Goals as goal
 
+abbrev laws : (g : Over) → Laws g.C.Card.reads g.C.Card.place g.C.Card.soups g.C.Card.stands
+laws g = laws_of g.met.C.Card.formed g.met.C.Card.plain g.met.C.Card.durable g.met.C.Card.banks g.met.C.Card.kept
+
+units_are : (g : Over) (host : _) → Eight (g.H.Host.outside host)
+units_are g host = record { eight = g.met.H.Host.eight host; none = g.met.H.Host.none host }
+
+-- what reads is one of what may be left
+may_leave : (g : Over) (host : _) → IsTrue g.H.Host.told → let o = g.H.Host.outside host in (u : ℕ) → IsSome (o.card u) → MayLeave u o.now (image u o.now)
+may_leave g host t u has = history-leaves _ (changes u (g.H.Host.outside host).now) (g.met.H.Host.history host u t has)
+
+-- and only stores that are valid are read
+valid_there : (g : Over) (host : _) → IsTrue g.H.Host.told → let o = g.H.Host.outside host in (u : ℕ) (s : Store) → IsSome (o.card u) → g.C.Card.reads (image u o.now) ≡ Some s → IsTrue (valid (o.blocks u) s)
+valid_there g host t u s has is = g.met.C.Card.fits ((g.H.Host.outside host).blocks u) (image u (g.H.Host.outside host).now) s (g.met.H.Host.sized host u t) is
+
 pub returns-in-Ok : goal.returns-in-Ok
-returns-in-Ok g c =
-    let e = c.in-Ok.ensures in record {
-      stands = e.stands tt;
-      answered = λ t. e.answered t;
-      moments = e.moments;
-      finished = record {
-        alone = e.alone;
-        bound = λ t other. (e.costs t).bound other;
-        settling = λ t. (e.costs t).fetched;
-        step = e.step;
-        open_after = λ t. (e.costs t).open_after tt;
-        cause = tt;
-        no_fault = e.no_fault tt;
-        never_memory = λ none. refl;
-        never_device = λ none. tt;
-      };
-      refused = λ t r is. refusal_stays _ _ c.args.command r (Ok c.in-Ok.reply) (e.answered t) is;
-    }
+returns-in-Ok g c = applied-done (laws g) c.requires.stands (may_leave g c.args.host.now) (valid_there g c.args.host.now) c.in-Ok.reply c.in-Ok.ensures
 
 pub returns-in-Err-Refused : goal.returns-in-Err-Refused
 returns-in-Err-Refused g c =
-    let w = world_with g.C.Card.reads c.args.self.now.units c.args.self.now.desk (g.H.Host.outside c.args.host.now) in
-    let v = world_with g.C.Card.reads c.serve.new.self.units c.serve.new.self.desk (g.H.Host.outside c.serve.new.host) in
-    let e = c.in-Err-Refused.ensures in
-    let goes = subst (λ (f : StoreFault). GoesOn {T = Reply} (Err f)) (sym c.in-Err-Refused.field-0-is) tt in record {
-      stands = e.stands goes;
-      answered = λ t. subst (λ (f : StoreFault). Answers w v c.args.command said (Err f)) c.in-Err-Refused.field-0-is (e.answered t);
-      moments = e.moments;
-      finished = record {
-        alone = e.alone;
-        bound = λ t other. (e.costs t).bound other;
-        settling = λ t. (e.costs t).fetched;
-        step = e.step;
-        open_after = λ t. (e.costs t).open_after goes;
-        cause = tt;
-        no_fault = e.no_fault goes;
-        never_memory = λ none. refl;
-        never_device = λ none. tt;
-      };
-      refused = λ t r is. refusal_stays w v c.args.command c.in-Err-Refused.refusal (Ok (reply.Refused c.in-Err-Refused.refusal))
-          (subst (λ (f : StoreFault). Answers w v c.args.command said (Err f)) c.in-Err-Refused.field-0-is (e.answered t)) refl;
-    }
+    let h = c.in-Err-Refused in
+    applied-refused (laws g) c.requires.stands (may_leave g c.args.host.now) (valid_there g c.args.host.now) h.refusal (served-as h.field-0-is h.ensures)
 
-pub returns-in-Err-Stop : goal.returns-in-Err-Stop
-returns-in-Err-Stop g c =
-    let e = c.in-Err-Stop.ensures in
-    let o = g.H.Host.outside c.args.host.now in
-    let p = g.H.Host.outside c.serve.new.host in record {
-      stands = tt;
-      answered = λ t. tt;
-      moments = e.moments;
-      finished = record {
-        alone = e.alone;
-        bound = λ t other. (e.costs t).bound other;
-        settling = λ t. (e.costs t).fetched;
-        step = e.step;
-        open_after = λ t. tt;
-        cause = subst (λ (f : StoreFault). HasFaultCause f o p) c.in-Err-Stop.field-0-is e.cause;
-        no_fault = tt;
-        never_memory = λ none. absurd (subst (λ (f : StoreFault). IsRefusal f) c.in-Err-Stop.field-0-is (e.ends none));
-        never_device = λ none. only_memory c.in-Err-Stop.stop (subst (λ (f : StoreFault). NoDevice f) c.in-Err-Stop.field-0-is (e.device none));
-      };
-      refused = λ t r is. cc;
-    }
+pub throw_out-requires : goal.throw_out-requires
+throw_out-requires g c =
+    let h = c.in-Err-Stop-Device in
+    let k = broke-stands h.unit (served-as (h.field-0-is ∙ ap Stop h.field-0-0-is) h.ensures) in
+    slot-there h.unit (units_are g c.serve.new.host) k.0 (subst IsSome (sym (h.ensures.alone.cards.card h.unit)) k.1)
+
+pub returns-in-Err-Stop-Device : goal.returns-in-Err-Stop-Device
+returns-in-Err-Stop-Device g c =
+    let h = c.in-Err-Stop-Device in
+    let k = c.throw_out.ensures in
+    applied-thrown (laws g) c.requires.stands (may_leave g c.args.host.now) (valid_there g c.args.host.now) (units_are g c.serve.new.host) h.unit (served-as (h.field-0-is ∙ ap Stop h.field-0-0-is) h.ensures) refl
+    k.stands k.world
+
+pub returns-in-Err-Stop-Memory : goal.returns-in-Err-Stop-Memory
+returns-in-Err-Stop-Memory g c =
+    let h = c.in-Err-Stop-Memory in
+    applied-memory (laws g) c.requires.stands (may_leave g c.args.host.now) (valid_there g c.args.host.now) _ (served-as (h.field-0-is ∙ ap Stop h.field-0-0-is) h.ensures)

@@ -1,5 +1,6 @@
 -- The entry is read, its graph is added to the target, the cursors on it are settled, and then it is removed.
-use Rattle.std.proofs.Common.{refl, sym, subst, ap, ℕ, ◌≡◌, ◌∙◌, ◌*◌, true, IsTrue, Ok}
+use Rattle.std.proofs.Common.{refl, sym, subst, ap, ℕ, ◌≡◌, ◌⊎◌, inl, inr, ◌∙◌, ◌*◌, true, IsTrue, Ok}
+use Rattle.std.specs.Prelude.{Err}
 use Rattle.std.proofs.lemmas.Result.{err_from_is_err_and}
 use Rattle.newt_reply.specs.Said.{said}
 use Rattle.newt_reply.specs.declared.reply.Reply.{Reply as Shown}
@@ -14,6 +15,10 @@ use Rattle.newt_laws_reach.specs.Reach.{Reach, entry_reached, is_of_one, on_entr
 use Rattle.newt_store_change.specs.Change.{pages_of_entry}
 use Rattle.newt_engine_card.specs.Bounds.{FetchesAtMost}
 use Rattle.newt_engine_units.specs.Answers.{Answers}
+use Rattle.newt_engine_units.specs.Breaks.{FailsAlone}
+use Rattle.newt_engine_units.proofs.Broken.{at-device-map, fails-after}
+use Rattle.newt_spec_script.specs.Rows.{throws}
+use Rattle.newt_engine.specs.Calls.{Fails, FailsHalfway}
 use Rattle.newt_engine_units.specs.Stands.{Eight, Stands, world_of}
 use Rattle.newt_engine_units.proofs.Known.{Laws}
 use Rattle.newt_engine_units.proofs.Obeying.{ends-after, ends-change, ends-ok, handed-ends, read-obeys}
@@ -22,15 +27,17 @@ use Rattle.newt_engine_hits.proofs.Stores.{stores-formed}
 use Rattle.newt_engine_commands.proofs.Commands.{read-found}
 use Rattle.newt_engine_commands.proofs.Costing.{copy-few}
 use Rattle.newt_engine_commands.proofs.Moves.{move-missing}
-use Rattle.newt_engine_cursors.specs.Reached.{reached_by}
+use Rattle.newt_engine_commands.proofs.Said.{behind-breaks}
+use Rattle.newt_engine_cursors.specs.Reached.{in_reach, reached_by}
 use Rattle.newt_engine_cursors.specs.World.{world_with}
 use Rattle.newt_engine_cursors.specs.declared.reach.Aim.{Aim}
 use Rattle.newt_engine.specs.Laws.{laws_of}
-use Rattle.newt_engine.proofs.Between.{Carried, added-costs, added-fails, added-moments, mid-apart, moved-answers, moved-costs, moved-moments, new_pages, removal-ends, settled-costs, with-moments}
+use Rattle.newt_engine.proofs.Between.{Carried, added-costs, added-fails, added-moments, added-untorn, mid-apart, moved-answers, moved-costs, moved-moments, new_pages, removal-ends, settled-costs, source-fails, target-fails, with-moments}
 use Rattle.newt_engine.proofs.Costing.{unread_uses_cursor}
 use Rattle.newt_engine.proofs.Handed.{told_stands}
 use Rattle.newt_engine.proofs.Moving.{move_no_cursor}
-use Rattle.newt_engine.proofs.Serving.{served_ended, served_handed}
+use Rattle.newt_engine.proofs.Failing.{told-device}
+use Rattle.newt_engine.proofs.Serving.{err-device-both, served_ended, served_handed}
 use Rattle.newt_engine.proofs.Settling.{stands_after}
 use Rattle.newt_engine.proofs.world.World.move_found.Given.{Over}
 use Rattle.newt_engine.proofs.world.World.move_found.Goals as goal
@@ -96,6 +103,7 @@ returns-in_err-added g c name target both =
       costs = λ t. added-costs (b t) first;
       alone = ends.alone;
       cause = ends.cause;
+      broke = behind-breaks cmd read.looks (read.ends.no_fault tt) first (λ t. added-untorn (b t) first);
       no_fault = ends.no_fault;
     })
 
@@ -134,6 +142,15 @@ returns-in_err-reply g c name target both =
     (err_from_is_err_and c.from_residual-in_err-reply.result c.from_residual-in_err-reply.ensures.1)
     (λ t. s.only) (λ goes. s.read.stand) s.desk (λ t. with-moments (b t) first (o c.settled.new.host).now s.read.moment) (λ t. settled-costs (b t) first s.read (few t))
     (ends-after read.ends tt (ends-after (ends-change first) tt s.ends))
+    (err-device-both {T = Shown} (λ v. FailsAlone (o c.change.new.host) (o c.settled.new.host) v × (c.settled.new.self.desk ≡ start.desk))
+    (λ v. IsTrue g.H.Host.told → in_reach (reached_by c.aim_into-aim.result x2 (Reply.number n)) (mounted_store x2 v) ≡ true)
+    (λ v. Fails g.C.Card.reads g.C.Card.place g.C.Card.stands g.H.Host.told cmd start c.settled.new.self (o c.args.host.now) (o c.settled.new.host) v
+    ⊎ FailsHalfway g.C.Card.reads g.C.Card.place g.C.Card.stands g.H.Host.told cmd start c.settled.new.self (o c.args.host.now) (o c.settled.new.host) v) (Err c.in_err-reply.field-0.0)
+    (λ v f reaches. inl (target-fails b first s.read f.1 v (fails-after read.looks.alone.cards (read.ends.no_fault tt) (fails-after first.alone.cards (first.no_fault tt) f.0))
+    (λ t. subst (λ (r : Reach). in_reach r (mounted_store x2 v) ≡ true) (aimed t) (reaches t))))
+    (err-device-both {T = Shown} (FailsAlone (o c.change.new.host) (o c.settled.new.host)) (λ v. c.settled.new.self.desk ≡ start.desk) (λ v. FailsAlone (o c.change.new.host) (o c.settled.new.host) v × (c.settled.new.self.desk ≡ start.desk))
+    (Err c.in_err-reply.field-0.0) (λ v f same. (f, same)) s.ends.failed s.kept)
+    (told-device {T = Shown} (IsTrue g.H.Host.told) (λ v. in_reach (reached_by c.aim_into-aim.result x2 (Reply.number n)) (mounted_store x2 v) ≡ true) (Err c.in_err-reply.field-0.0) s.own))
 
 pub returns-in_err-change : goal.returns-in_err-change
 returns-in_err-change g c name target both =
@@ -172,6 +189,11 @@ returns-in_err-change g c name target both =
     (λ t. removal-ends (b t) first s.read (few t) second) second.stands s.desk (λ t. moved-moments (b t) first s.read (few t) second)
     (λ t. moved-costs (b t) first s.read (few t) second (λ goes. goes))
     (ends-after read.ends tt (ends-after (ends-change first) tt (ends-after s.ends tt (ends-change second))))
+    (at-device-map _ _ c.in_err-change.field-0.0 (λ v k. inr (source-fails b first s.read s.desk v k.0 k.1
+    (fails-after read.looks.alone.cards (read.ends.no_fault tt) (fails-after first.alone.cards (first.no_fault tt) (fails-after s.read.alone.cards (s.ends.no_fault tt) k.1.failed)))
+    (λ t. stores-formed (laws g) c.change.new.self (o c.change.new.host) (units_are g c.change.new.host) (told_stands g.H.Host.told c.change.new.self (o c.change.new.host) (first.stands tt) t))
+    (λ t. subst (λ (r : Reach). with_cursors c.settled.new.self.desk (world_of g.C.Card.reads c.settled.new.self.units (o c.settled.new.host)) ≡ settle_reached r (with_cursors start.desk x2)) (aimed t)
+    (s.settled t (mid-apart (b t) first))) c.requires.apart)) second.broke)
 
 pub returns : goal.returns
 returns g c name target both =
@@ -217,15 +239,17 @@ returns g c name target both =
     (s.settled t (mid-apart (b t) first)))
     ∙ ap {B = World × Reply} (λ r. (v, said r)) (sym s.same) in
     record {
-      stands = λ goes. stands_after g.H.Host.told start.units c.change-2.new.self start.desk c.settled.new.self.desk (o c.args.host.now) (o c.change-2.new.host) c.requires.stands
-          (second.stands tt) (units_are g c.change-2.new.host) s.desk cmd said (Ok c.in_ok-reply.reply) answers goes;
+      stands = λ goes. stands_after g.H.Host.told c.change-2.new.self c.settled.new.self.desk (o c.change-2.new.host)
+          (second.stands tt) (units_are g c.change-2.new.host) s.desk (with_cursors start.desk w) cmd said (Ok c.in_ok-reply.reply) (λ t. (c.requires.stands.apart t, c.requires.stands.settled t)) answers goes;
       answered = answers;
       moments = λ t. moved-moments (b t) first s.read (few t) second;
       costs = λ t. moved-costs (b t) first s.read (few t) second (λ goes. tt);
       step = λ t unread. absurd (unread_uses_cursor (with_cursors start.desk w) cmd none unread);
       alone = ends.alone;
       cause = ends.cause;
+      broke = tt;
       no_fault = ends.no_fault;
       ends = λ no. absurd (both-ways (sym no));
       device = λ no. absurd (both-ways (sym no));
+      quiet = λ v. ap (λ (k : Shown). throws v (said k)) s.same;
     }

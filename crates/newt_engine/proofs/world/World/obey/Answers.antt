@@ -7,12 +7,18 @@ use Rattle.newt_reply.specs.declared.reply.Reply.TheVariants as reply
 use Rattle.newt_spec_graph.proofs.Lists.{both-ways}
 use Rattle.newt_spec_world.specs.Answer.{answer}
 use Rattle.newt_laws_answers.proofs.Stores.{nsof-done, lit-done}
+use Rattle.std.specs.Prelude.{IfErr}
+use Rattle.newt_engine_units.specs.Answers.{Answers}
+use Rattle.newt_engine_units.specs.Breaks.{AtDevice}
+use Rattle.newt_engine_units.specs.Calls.{BreaksIn}
 use Rattle.newt_engine_units.specs.Stands.{Eight, world_of}
+use Rattle.newt_engine_units.proofs.Broken.{none-devices}
+use Rattle.newt_laws_steps.specs.StandsFor.{seen}
 use Rattle.newt_engine.specs.Ends.{takes_memory, uses_device}
 use Rattle.newt_engine.specs.Laws.{laws_of}
 use Rattle.newt_engine.proofs.Costing.{format_costs, still_costs}
 use Rattle.newt_engine.proofs.Groups.{format_form, in_memory, index_form, tags_form, within_own}
-use Rattle.newt_engine.proofs.Handed.{answered_on, err_on, goes_back, has_cause, moments_same, quiet, told_stands}
+use Rattle.newt_engine.proofs.Handed.{answered_on, err_on, goes_back, has_cause, moments_same, quiet, quiet_on, seen_in_memory, told_stands}
 use Rattle.newt_laws_world.specs.Settled.{moves_keys}
 use Rattle.newt_engine.proofs.Obeying.{handed_obeyed}
 use Rattle.newt_engine.proofs.Settling.{moves_no_format, moves_on_devices}
@@ -23,16 +29,18 @@ returns-in-Nsof g c =
     let o = g.H.Host.outside c.args.host.now in
     let w = world_of g.C.Card.reads c.args.self.now.units o in record {
       stands = λ goes. c.requires.stands;
-      answered = λ t. subst (λ x. answer w x ≡ (w, said (reply.Nsof c.in-Nsof.graph))) (sym c.in-Nsof.is) (nsof-done w refl c.in-Nsof.graph);
-      moments = λ t. quiet (laws_of g.met.C.Card.formed g.met.C.Card.plain g.met.C.Card.durable g.met.C.Card.banks g.met.C.Card.kept) g.H.Host.told c.args.self.now.units o (record { eight = g.met.H.Host.eight c.args.host.now; none = g.met.H.Host.none c.args.host.now }) c.requires.stands t _;
+      answered = λ t. subst (λ x. answer (seen g.C.Card.reads w o.now x) x ≡ (w, said (reply.Nsof c.in-Nsof.graph))) (sym c.in-Nsof.is) (nsof-done w refl c.in-Nsof.graph);
+      moments = λ t. quiet (laws_of g.met.C.Card.formed g.met.C.Card.plain g.met.C.Card.durable g.met.C.Card.banks g.met.C.Card.kept) g.H.Host.told c.args.self.now.units o (record { eight = g.met.H.Host.eight c.args.host.now; none = g.met.H.Host.none c.args.host.now }) c.requires.stands t c.args.command _;
       desk = refl;
       unrefused = λ t moves. absurd (moves_on_devices _ moves (ap uses_device c.in-Nsof.is));
       costs = λ t. still_costs (λ u. alone-refl u _) (λ means. idle-fetches _ _ o);
       alone = OnDevices-refl o;
       cause = tt;
+      broke = tt;
       no_fault = λ goes. NoFault-refl o;
       ends = λ none. tt;
       device = λ none. tt;
+      quiet = λ u. refl;
     }
 
 pub returns-in-Lit : goal.returns-in-Lit
@@ -40,16 +48,18 @@ returns-in-Lit g c =
     let o = g.H.Host.outside c.args.host.now in
     let w = world_of g.C.Card.reads c.args.self.now.units o in record {
       stands = λ goes. c.requires.stands;
-      answered = λ t. subst (λ x. answer w x ≡ (w, said (reply.Literal c.in-Lit.graph))) (sym c.in-Lit.is) (lit-done w refl c.in-Lit.graph);
-      moments = λ t. quiet (laws_of g.met.C.Card.formed g.met.C.Card.plain g.met.C.Card.durable g.met.C.Card.banks g.met.C.Card.kept) g.H.Host.told c.args.self.now.units o (record { eight = g.met.H.Host.eight c.args.host.now; none = g.met.H.Host.none c.args.host.now }) c.requires.stands t _;
+      answered = λ t. subst (λ x. answer (seen g.C.Card.reads w o.now x) x ≡ (w, said (reply.Literal c.in-Lit.graph))) (sym c.in-Lit.is) (lit-done w refl c.in-Lit.graph);
+      moments = λ t. quiet (laws_of g.met.C.Card.formed g.met.C.Card.plain g.met.C.Card.durable g.met.C.Card.banks g.met.C.Card.kept) g.H.Host.told c.args.self.now.units o (record { eight = g.met.H.Host.eight c.args.host.now; none = g.met.H.Host.none c.args.host.now }) c.requires.stands t c.args.command _;
       desk = refl;
       unrefused = λ t moves. absurd (moves_on_devices _ moves (ap uses_device c.in-Lit.is));
       costs = λ t. still_costs (λ u. alone-refl u _) (λ means. idle-fetches _ _ o);
       alone = OnDevices-refl o;
       cause = tt;
+      broke = tt;
       no_fault = λ goes. NoFault-refl o;
       ends = λ none. tt;
       device = λ none. tt;
+      quiet = λ u. refl;
     }
 
 pub format-requires-clause-sig : goal.format-requires-clause-sig
@@ -64,76 +74,81 @@ set_tags-requires-clause-form g c = tags_form c.args.command _ _ _ _ c.in-SetTag
 pub returns-in-Format : goal.returns-in-Format
 returns-in-Format g c =
     let call = c.format.ensures in
+    let o = g.H.Host.outside c.args.host.now in
+    let p = g.H.Host.outside c.format.new.host in
+    let w = world_of g.C.Card.reads c.args.self.now.units o in
     let on = c.done.ensures in record {
       stands = λ goes. call.stands (goes_back on goes);
-      answered = λ t. answered_on on _ _ c.in-Format.is (call.answered t);
-      moments = λ t. moments_same g.C.Card.reads _ _ _ c.args.command _ c.in-Format.is (call.moments t);
+      answered = λ t. subst (λ x. Answers (seen g.C.Card.reads w o.now x) (world_of g.C.Card.reads c.format.new.self p) x said c.done.result) (sym c.in-Format.is) (answered_on on _ _ refl (call.answered t));
+      moments = λ t. moments_same g.C.Card.reads _ _ _ _ c.args.command _ c.in-Format.is (call.moments t);
       desk = refl;
       unrefused = λ t moves. absurd (moves_no_format _ _ _ (subst (λ x. moves_keys x ≡ true) c.in-Format.is moves));
       costs = λ t. format_costs c.in-Format.is (λ goes. call.open_after t (goes_back on goes));
       alone = call.ends.alone;
       cause = err_on on _ call.ends.cause;
+      broke = subst (λ x. IfErr c.done.result (AtDevice (BreaksIn g.C.Card.reads g.C.Card.place g.C.Card.stands g.H.Host.told x c.args.self.now.units c.format.new.self o p))) (sym c.in-Format.is) (err_on on _ call.broke);
       no_fault = λ goes. call.ends.no_fault (goes_back on goes);
       ends = λ none. absurd (both-ways (sym none ∙ ap takes_memory c.in-Format.is));
       device = λ none. absurd (both-ways (sym none ∙ ap uses_device c.in-Format.is));
+      quiet = quiet_on on (λ x u. refl);
     }
 
 pub returns-in-Mount : goal.returns-in-Mount
-returns-in-Mount g c = handed_obeyed c.mounted.ensures c.in-Mount.is refl refl (λ x r k. cc) c.mount.ensures refl
+returns-in-Mount g c = handed_obeyed c.mounted.ensures c.in-Mount.is refl refl (λ x r k. cc) (λ x u. refl) c.mount.ensures refl
 
 pub returns-in-Soup : goal.returns-in-Soup
-returns-in-Soup g c = handed_obeyed c.numbered.ensures c.in-Soup.is refl refl (λ x r k. cc) c.soup.ensures refl
+returns-in-Soup g c = handed_obeyed c.numbered.ensures c.in-Soup.is refl refl (λ x r k. cc) (λ x u. refl) c.soup.ensures refl
 
 pub returns-in-Drop : goal.returns-in-Drop
-returns-in-Drop g c = handed_obeyed c.done-in-Drop.ensures c.in-Drop.is refl refl (λ x r k. cc) c.drop_soup.ensures refl
+returns-in-Drop g c = handed_obeyed c.done-in-Drop.ensures c.in-Drop.is refl refl (λ x r k. cc) (λ x u. refl) c.drop_soup.ensures refl
 
 pub returns-in-Index : goal.returns-in-Index
-returns-in-Index g c = handed_obeyed c.done-in-Index.ensures c.in-Index.is refl refl (λ x r k. cc) c.index.ensures refl
+returns-in-Index g c = handed_obeyed c.done-in-Index.ensures c.in-Index.is refl refl (λ x r k. cc) (λ x u. refl) c.index.ensures refl
 
 pub returns-in-Unindex : goal.returns-in-Unindex
-returns-in-Unindex g c = handed_obeyed c.done-in-Unindex.ensures c.in-Unindex.is refl refl (λ x r k. cc) c.unindex.ensures refl
+returns-in-Unindex g c = handed_obeyed c.done-in-Unindex.ensures c.in-Unindex.is refl refl (λ x r k. cc) (λ x u. refl) c.unindex.ensures refl
 
 pub returns-in-SetTags : goal.returns-in-SetTags
-returns-in-SetTags g c = handed_obeyed c.done-in-SetTags.ensures c.in-SetTags.is refl refl (λ x r k. cc) c.set_tags.ensures refl
+returns-in-SetTags g c = handed_obeyed c.done-in-SetTags.ensures c.in-SetTags.is refl refl (λ x r k. cc) (λ x u. refl) c.set_tags.ensures refl
 
 pub returns-in-SetInfo : goal.returns-in-SetInfo
-returns-in-SetInfo g c = handed_obeyed c.done-in-SetInfo.ensures c.in-SetInfo.is refl refl (λ x r k. cc) c.set_info.ensures refl
+returns-in-SetInfo g c = handed_obeyed c.done-in-SetInfo.ensures c.in-SetInfo.is refl refl (λ x r k. cc) (λ x u. refl) c.set_info.ensures refl
 
 pub returns-in-Add : goal.returns-in-Add
-returns-in-Add g c = handed_obeyed c.numbered-in-Add.ensures c.in-Add.is refl refl (λ x r k. cc) c.add.ensures.obeyed refl
+returns-in-Add g c = handed_obeyed c.numbered-in-Add.ensures c.in-Add.is refl refl (λ x r k. cc) (λ x u. refl) c.add.ensures.obeyed refl
 
 pub returns-in-Addx : goal.returns-in-Addx
-returns-in-Addx g c = handed_obeyed c.numbered-in-Addx.ensures c.in-Addx.is refl refl (λ x r k. cc) c.add-in-Addx.ensures.as_stream refl
+returns-in-Addx g c = handed_obeyed c.numbered-in-Addx.ensures c.in-Addx.is refl refl (λ x r k. cc) (λ x u. refl) c.add-in-Addx.ensures.as_stream refl
 
 pub returns-in-Addu : goal.returns-in-Addu
-returns-in-Addu g c = handed_obeyed c.added.ensures c.in-Addu.is refl refl (λ x r k. cc) c.add_to_default.ensures refl
+returns-in-Addu g c = handed_obeyed c.added.ensures c.in-Addu.is refl refl (λ x r k. cc) (λ x u. refl) c.add_to_default.ensures refl
 
 pub returns-in-Get : goal.returns-in-Get
-returns-in-Get g c = handed_obeyed c.timed.ensures c.in-Get.is refl refl (λ x r k. cc) c.get.ensures.obeyed refl
+returns-in-Get g c = handed_obeyed c.timed.ensures c.in-Get.is refl refl (λ x r k. cc) (λ x u. refl) c.get.ensures.obeyed refl
 
 pub returns-in-Getx : goal.returns-in-Getx
-returns-in-Getx g c = handed_obeyed c.timed_nsof.ensures c.in-Getx.is refl refl (λ x r k. cc) c.get-in-Getx.ensures.as_stream refl
+returns-in-Getx g c = handed_obeyed c.timed_nsof.ensures c.in-Getx.is refl refl (λ x r k. cc) (λ x u. refl) c.get-in-Getx.ensures.as_stream refl
 
 pub returns-in-Set : goal.returns-in-Set
-returns-in-Set g c = handed_obeyed c.done-in-Set.ensures c.in-Set.is refl refl (λ x r k. cc) c.set.ensures refl
+returns-in-Set g c = handed_obeyed c.done-in-Set.ensures c.in-Set.is refl refl (λ x r k. cc) (λ x u. refl) c.set.ensures refl
 
 pub returns-in-Change : goal.returns-in-Change
-returns-in-Change g c = handed_obeyed c.done-in-Change.ensures c.in-Change.is refl refl (λ x r k. cc) c.change.ensures refl
+returns-in-Change g c = handed_obeyed c.done-in-Change.ensures c.in-Change.is refl refl (λ x r k. cc) (λ x u. refl) c.change.ensures refl
 
 pub returns-in-Remove : goal.returns-in-Remove
-returns-in-Remove g c = handed_obeyed c.done-in-Remove.ensures c.in-Remove.is refl refl (λ x r k. cc) c.remove.ensures refl
+returns-in-Remove g c = handed_obeyed c.done-in-Remove.ensures c.in-Remove.is refl refl (λ x r k. cc) (λ x u. refl) c.remove.ensures refl
 
 pub returns-in-Copy : goal.returns-in-Copy
-returns-in-Copy g c = handed_obeyed c.numbered-in-Copy.ensures c.in-Copy.is refl refl (λ x r k. cc) c.copy.ensures refl
+returns-in-Copy g c = handed_obeyed c.numbered-in-Copy.ensures c.in-Copy.is refl refl (λ x r k. cc) (λ x u. refl) c.copy.ensures refl
 
 pub returns-in-Move : goal.returns-in-Move
-returns-in-Move g c = handed_obeyed c.numbered-in-Move.ensures (within_own c.args.command _ _ _ _ _ c.in-Move.is c.requires.within) refl refl (λ x r k. cc) c.move_within.ensures refl
+returns-in-Move g c = handed_obeyed c.numbered-in-Move.ensures (within_own c.args.command _ _ _ _ _ c.in-Move.is c.requires.within) refl refl (λ x r k. cc) (λ x u. refl) c.move_within.ensures refl
 
 pub returns-in-Vread : goal.returns-in-Vread
-returns-in-Vread g c = handed_obeyed c.hex.ensures c.in-Vread.is refl refl (λ x r k. cc) c.vread.ensures refl
+returns-in-Vread g c = handed_obeyed c.hex.ensures c.in-Vread.is refl refl (λ x r k. cc) (λ x u. refl) c.vread.ensures refl
 
 pub returns-in-Vwrite : goal.returns-in-Vwrite
-returns-in-Vwrite g c = handed_obeyed c.done-in-Vwrite.ensures c.in-Vwrite.is refl refl (λ x r k. cc) c.vwrite.ensures refl
+returns-in-Vwrite g c = handed_obeyed c.done-in-Vwrite.ensures c.in-Vwrite.is refl refl (λ x r k. cc) (λ x u. refl) c.vwrite.ensures refl
 
 pub obey_in_memory-obeyed-requires : goal.obey_in_memory-obeyed-requires
 obey_in_memory-obeyed-requires g c =
@@ -150,14 +165,17 @@ returns-in_default g c =
     let no_device = is.1 in
     let call = c.obey_in_memory-obeyed.ensures in record {
       stands = λ goes. call.stands g.H.Host.told o c.requires.stands;
-      answered = λ t. call.answered o eight (told_stands g.H.Host.told c.args.self.now.units o c.requires.stands t);
-      moments = λ t. quiet (laws_of g.met.C.Card.formed g.met.C.Card.plain g.met.C.Card.durable g.met.C.Card.banks g.met.C.Card.kept) g.H.Host.told c.args.self.now.units o eight c.requires.stands t _;
+      answered = λ t. subst (λ x. Answers x (world_of g.C.Card.reads c.obey_in_memory-obeyed.new.self.units o) c.args.command said c.obey_in_memory-obeyed.result)
+          (sym (seen_in_memory g.C.Card.reads (world_of g.C.Card.reads c.args.self.now.units o) o.now c.args.command no_device)) (call.answered o eight (told_stands g.H.Host.told c.args.self.now.units o c.requires.stands t));
+      moments = λ t. quiet (laws_of g.met.C.Card.formed g.met.C.Card.plain g.met.C.Card.durable g.met.C.Card.banks g.met.C.Card.kept) g.H.Host.told c.args.self.now.units o eight c.requires.stands t c.args.command _;
       desk = call.desk;
       unrefused = λ t moves. absurd (moves_on_devices c.args.command moves no_device);
       costs = λ t. still_costs (λ u. alone-refl u _) (λ means. idle-fetches _ _ o);
       alone = OnDevices-refl o;
       cause = has_cause _ _ _ call.device;
+      broke = none-devices _ _ call.device;
       no_fault = λ goes. NoFault-refl o;
       ends = call.ends;
       device = λ uses_none. call.device;
+      quiet = call.quiet;
     }

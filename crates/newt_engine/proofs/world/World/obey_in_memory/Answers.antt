@@ -1,7 +1,7 @@
 -- The units do it.
 use Rattle.std.proofs.Common.{◌≡◌, ap, map, refl, subst, sym, ◌∙◌}
 use Rattle.std.proofs.lemmas.Result.{err_from_is_err_and}
-use Rattle.std.specs.Prelude.{IfErr}
+use Rattle.std.specs.Prelude.{IfErr, IfOk}
 use Rattle.newt_reply.specs.Said.{said, store_row}
 use Rattle.newt_spec_graph.proofs.Lists.{both-ways}
 use Rattle.newt_spec_world.specs.Reply.{Reply as plain}
@@ -10,9 +10,11 @@ use Rattle.newt_laws_answers.proofs.Stores.{quit-done}
 use Rattle.newt_store_change.specs.Faults.{NoDevice}
 use Rattle.newt_engine_units.specs.Answers.{Answers}
 use Rattle.newt_engine_units.specs.Stands.{world_of}
+use Rattle.newt_engine.specs.Calls.{IsNotThrown}
 use Rattle.newt_engine.specs.Ends.{takes_memory}
 use Rattle.newt_engine.proofs.Groups.{no_other}
-use Rattle.newt_engine.proofs.Handed.{answered_on, blameless, err_on, for_memory}
+use Rattle.newt_engine.proofs.Handed.{answered_on, blameless, err_on, for_memory, quiet_on}
+use Rattle.newt_engine.proofs.Obeying.{nil_quiet}
 use Rattle.newt_engine.proofs.world.World.obey_in_memory.Goals as goal
 
 pub returns-in-Time : goal.returns-in-Time
@@ -22,6 +24,7 @@ returns-in-Time g c =
       answered = λ outside eight stand. subst (λ x. answer (world_of g.C.Card.reads c.args.self.now.units outside) x ≡ (world_of g.C.Card.reads c.set_minute.new.self outside, plain.done)) (sym c.in-Time.is) (call.answered outside);
       desk = refl;
       device = tt;
+      quiet = λ u. refl;
       ends = λ none. tt;
     }
 
@@ -31,6 +34,7 @@ returns-in-Quit g c = record {
   answered = λ outside eight stand. let w = world_of g.C.Card.reads c.args.self.now.units outside in subst (λ x. answer w x ≡ (w, plain.done)) (sym c.in-Quit.is) (quit-done w refl);
   desk = refl;
   device = tt;
+  quiet = λ u. refl;
   ends = λ none. tt;
 }
 
@@ -42,6 +46,7 @@ returns-in-Unmount g c =
       answered = λ outside eight stand. answered_on on _ _ c.in-Unmount.is (call.answered outside eight stand);
       desk = refl;
       device = err_on on _ (blameless _ call.only);
+      quiet = quiet_on on (λ x u. refl);
       ends = λ none. err_on on _ call.only;
     }
 
@@ -54,6 +59,7 @@ returns-in_ok-stores-in-Stores g c =
           subst (λ x. answer w x ≡ (w, plain.stores (map store_row rows))) (sym c.in-Stores.is) (c.in_ok-stores-in-Stores.ensures.answered outside eight stand);
       desk = refl;
       device = tt;
+      quiet = λ u. refl;
       ends = λ none. tt;
     }
 
@@ -66,6 +72,7 @@ returns-in_err-stores-in-Stores g c =
           for_memory (λ r. Answers w w c.args.command.now said r) _ memory tt;
       desk = refl;
       device = for_memory (λ r. IfErr r (λ fault. NoDevice fault)) _ memory tt;
+      quiet = for_memory (λ r. IfOk r (λ it. IsNotThrown it)) _ memory tt;
       ends = λ none. absurd (both-ways (sym none ∙ ap takes_memory c.in-Stores.is));
     }
 
@@ -77,6 +84,7 @@ returns-in-Default g c =
       answered = λ outside eight stand. answered_on on _ _ c.in-Default.is (call.answered outside eight stand);
       desk = refl;
       device = err_on on _ (blameless _ call.only);
+      quiet = quiet_on on (λ x u. refl);
       ends = λ none. err_on on _ call.only;
     }
 
@@ -88,6 +96,7 @@ returns-in-Soups g c =
       answered = λ outside eight stand. answered_on on _ _ c.in-Soups.is (call.answered outside eight stand);
       desk = refl;
       device = err_on on _ call.only;
+      quiet = quiet_on on (λ x u. refl);
       ends = λ none. absurd (both-ways (sym none ∙ ap takes_memory c.in-Soups.is));
     }
 
@@ -99,6 +108,7 @@ returns-in-Indexes g c =
       answered = λ outside eight stand. answered_on on _ _ c.in-Indexes.is (call.answered outside eight stand);
       desk = refl;
       device = err_on on _ call.only;
+      quiet = quiet_on on (λ x u. refl);
       ends = λ none. absurd (both-ways (sym none ∙ ap takes_memory c.in-Indexes.is));
     }
 
@@ -110,6 +120,7 @@ returns-in-Tags g c =
       answered = λ outside eight stand. answered_on on _ _ c.in-Tags.is (call.answered outside eight stand);
       desk = refl;
       device = err_on on _ call.only;
+      quiet = quiet_on on (λ x u. refl);
       ends = λ none. absurd (both-ways (sym none ∙ ap takes_memory c.in-Tags.is));
     }
 
@@ -121,6 +132,7 @@ returns-in-Info g c =
       answered = λ outside eight stand. answered_on on _ _ c.in-Info.is (call.answered outside eight stand);
       desk = refl;
       device = err_on on _ call.only;
+      quiet = quiet_on on (λ x u. nil_quiet plain.literal_of x u (λ y. refl));
       ends = λ none. absurd (both-ways (sym none ∙ ap takes_memory c.in-Info.is));
     }
 
@@ -132,6 +144,7 @@ returns-in-Alias g c =
       answered = λ outside eight stand. answered_on on _ _ c.in-Alias.is (call.answered outside eight stand);
       desk = refl;
       device = err_on on _ (blameless _ call.only);
+      quiet = quiet_on on (λ x u. refl);
       ends = λ none. err_on on _ call.only;
     }
 
@@ -143,6 +156,7 @@ returns-in-Resolve g c =
       answered = λ outside eight stand. answered_on on _ _ c.in-Resolve.is (call.answered outside eight stand);
       desk = refl;
       device = err_on on _ call.only;
+      quiet = quiet_on on (λ x u. nil_quiet (λ y. plain.where_is y.0 y.1 y.2) x u (λ y. refl));
       ends = λ none. absurd (both-ways (sym none ∙ ap takes_memory c.in-Resolve.is));
     }
 

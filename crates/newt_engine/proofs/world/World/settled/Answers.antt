@@ -5,7 +5,8 @@ use Rattle.newt_reply.specs.Said.{said}
 use Rattle.newt_spec_world.specs.World.{mounted_store}
 use Rattle.newt_store_change.specs.Change.{pages_of_entry}
 use Rattle.newt_engine_card.specs.Bounds.{FetchesAtMost}
-use Rattle.newt_engine_cursors.specs.Reached.{reached_by, seen_reach}
+use Rattle.newt_engine_units.specs.Breaks.{AtStop}
+use Rattle.newt_engine_cursors.specs.Reached.{in_reach, reached_by, seen_reach}
 use Rattle.newt_engine_cursors.specs.World.{world_with}
 use Rattle.newt_engine_units.specs.Stands.{world_of}
 use Rattle.newt_engine.proofs.Handed.{told_stands}
@@ -26,7 +27,9 @@ returns-in-Ok g c =
       settled = λ t apart. subst (λ (r : Reach). world_with g.C.Card.reads c.settle_reached.new.units c.settle_reached.new.desk p ≡ settle_reached r w) (same t) (c.in-Ok.ensures.settles.settled t apart);
       fetches = λ t. subst (λ (r : Reach). is_of_one r ≡ true → FetchesAtMost (λ u. 512 * pages_of_entry (entry_reached r (mounted_store (world_of g.C.Card.reads a.units o) u))) o p) (same t) (c.settle_reached.ensures.fetches t);
       same = refl;
-      ends = record { alone = e.read.alone; cause = tt; no_fault = λ goes. c.in-Ok.ensures.settles.no_fault };
+      ends = record { alone = e.read.alone; cause = tt; failed = tt; no_fault = λ goes. c.in-Ok.ensures.settles.no_fault };
+      own = λ t. tt;
+      kept = tt;
       only = tt;
     }
 
@@ -45,6 +48,8 @@ returns-in-Err g c =
       settled = λ t apart. tt;
       fetches = λ t. subst (λ (r : Reach). is_of_one r ≡ true → FetchesAtMost (λ u. 512 * pages_of_entry (entry_reached r (mounted_store (world_of g.C.Card.reads a.units o) u))) o p) (same t) (c.settle_reached.ensures.fetches t);
       same = tt;
-      ends = record { alone = e.read.alone; cause = c.in-Err.ensures.settles.cause; no_fault = λ goes. absurd goes };
+      ends = record { alone = e.read.alone; cause = c.in-Err.ensures.settles.cause; failed = c.in-Err.ensures.settles.failed; no_fault = λ goes. absurd goes };
+      own = λ t. subst (λ (r : Reach). AtStop (λ u. in_reach r (mounted_store (world_of g.C.Card.reads a.units o) u) ≡ true) c.in-Err.stop) (same t) (c.in-Err.ensures.own t);
+      kept = c.in-Err.ensures.settles.kept;
       only = tt;
     }

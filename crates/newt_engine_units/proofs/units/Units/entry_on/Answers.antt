@@ -1,7 +1,9 @@
 -- A call on the card of the unit after which nothing has happened.
-use Rattle.std.proofs.Common.{sym}
+use Rattle.std.proofs.Common.{◌≡◌, sym, subst}
 use Rattle.newt_engine_units.specs.Stands.{Eight}
-use Rattle.newt_engine_units.proofs.Calls.{Called, mounted-bound, not-there, stop-cause, call-fetches, call-looks, call-reads}
+use Rattle.newt_engine_units.proofs.Calls.{Called, mounted-bound, not-there, stop-cause, call-fetches, call-looks, call-reads, call-fails, place-is}
+use Rattle.newt_engine_units.proofs.Broken.{its-stops}
+use Rattle.newt_engine_units.specs.Breaks.{FailsAlone}
 use Rattle.newt_engine_units.proofs.Known.{Laws}
 use Rattle.newt_engine_units.proofs.units.Units.entry_on.Goals as goal
 
@@ -22,11 +24,15 @@ returns-in-Some g c =
       was = c.in-Some.is;
       place_is = c.entry.ensures.same_place;
       touches = c.entry.ensures.looks.alone;
-    } in record {
+    } in
+    let o = g.H.Host.outside c.args.host.now in
+    let p = g.H.Host.outside c.entry.new.host in record {
       looks = call-looks laws call c.requires.stands c.entry.ensures.stands c.entry.ensures.looks;
       read = λ t blocks s on. c.entry.ensures.found t s (call-reads laws t eight call c.requires.stands blocks s on);
       fetches = λ t blocks s on. call-fetches laws call c.requires.stands (c.entry.ensures.costs t s (call-reads laws t eight call c.requires.stands blocks s on));
       cause = stop-cause _ _ _ _ c.entry.ensures.cause;
+      failed = its-stops (FailsAlone o p) (g.C.Card.place c.in-Some.card) o p c.entry.result (subst (FailsAlone o p) (sym (place-is laws call c.requires.stands)) (call-fails laws eight call c.requires.stands)) c.entry.ensures.cause;
+      its = its-stops (λ u. u ≡ c.args.unit) (g.C.Card.place c.in-Some.card) o p c.entry.result (place-is laws call c.requires.stands) c.entry.ensures.cause;
       no_fault = c.entry.ensures.no_fault;
     }
 

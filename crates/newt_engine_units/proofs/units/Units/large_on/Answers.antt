@@ -1,7 +1,7 @@
 -- A call on the card of the unit after which nothing has happened.
-use Rattle.std.proofs.Common.{sym}
+use Rattle.std.proofs.Common.{IsSome, sym, subst}
 use Rattle.newt_engine_units.specs.Stands.{Eight}
-use Rattle.newt_engine_units.proofs.Calls.{Called, mounted-bound, not-there, ends-of, call-fetches, call-looks, call-reads}
+use Rattle.newt_engine_units.proofs.Calls.{Called, mounted-bound, not-there, ends-of, call-fetches, call-looks, call-reads, call-there, place-is}
 use Rattle.newt_engine_units.proofs.Known.{Laws}
 use Rattle.newt_engine_units.proofs.units.Units.large_on.Goals as goal
 
@@ -27,7 +27,8 @@ returns-in-Some g c =
       read = λ t blocks s on. c.large.ensures.found t s (call-reads laws t eight call c.requires.stands blocks s on);
       fetches = λ t blocks s on. call-fetches laws call c.requires.stands (c.large.ensures.costs t s (call-reads laws t eight call c.requires.stands blocks s on));
       whole = λ t blocks s on. call-fetches laws call c.requires.stands (c.large.ensures.whole t s (call-reads laws t eight call c.requires.stands blocks s on));
-      ends = ends-of _ c.large.ensures.looks.alone c.large.ensures.cause c.large.ensures.no_fault;
+      ends = ends-of _ (subst (λ u. IsSome ((g.H.Host.outside c.args.host.now).card u)) (sym (place-is laws call c.requires.stands)) (call-there laws eight call c.requires.stands))
+          c.large.ensures.looks.alone c.large.ensures.cause c.large.ensures.no_fault;
     }
 
 pub returns-in-None : goal.returns-in-None

@@ -1,9 +1,9 @@
 -- The unit is looked up, and nothing but the default is other.
-use Rattle.std.proofs.Common.{◌≡◌, refl, subst, true}
+use Rattle.std.proofs.Common.{◌≡◌, refl, subst, sym, true}
 use Rattle.std.proofs.lemmas.Result.{err_from_is_err_and}
 use Rattle.newt_laws_answers.proofs.Stores.{default-done, default-refused}
 use Rattle.newt_engine_units.specs.Stands.{mounted_in, world_of}
-use Rattle.newt_spec_graph.proofs.Lists.{some-same}
+use Rattle.newt_spec_graph.proofs.Lists.{none-some, some-same}
 use Rattle.newt_engine_units.proofs.Settings.{Setting, unit-there, unit-refused}
 use Rattle.newt_engine_units.proofs.units.Units.set_default.Goals as goal
 
@@ -22,6 +22,8 @@ returns-clause-stands g c told outside s = record {
   few = s.few;
   attached = s.attached;
   cards = s.cards;
+  none = λ h. absurd (none-some _ (sym h));
+  sure = s.sure;
   durable = s.durable;
   default = λ u h. subst (λ n. mounted_in c.args.self.now.slots.items n ≡ true) (some-same _ _ h) c.in_ok-find_unit.ensures;
 }

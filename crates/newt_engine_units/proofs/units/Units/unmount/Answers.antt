@@ -20,7 +20,7 @@ returns-in_err-find_unit-clause-answered g c outside eight stand =
 pub returns-clause-stands : goal.returns-clause-stands
 returns-clause-stands g c told outside s =
     unmounted-stands g.C.Card.soups c.args.self.now _ c.args.unit c.take.ensures.slots
-    (c.default_after-self.ensures ∙ ap (λ d. default_after (card_faces g.C.Card.soups c.take.new.self.slots.items) d c.args.unit) c.take.ensures.default) g.C.Card.place g.C.Card.stands told outside s
+    (c.default_after-self.ensures ∙ ap (λ d. default_after (card_faces g.C.Card.soups c.take.new.self.slots.items) d c.args.unit) c.take.ensures.default) c.in_ok-find_unit.ensures g.C.Card.place g.C.Card.stands told outside s
 
 pub returns-clause-answered : goal.returns-clause-answered
 returns-clause-answered g c outside eight stand =
@@ -31,4 +31,4 @@ returns-clause-answered g c outside eight stand =
     } in
     let p = (unit-there at refl c.args.unit c.in_ok-find_unit.ensures).1 in
     unmount-answers g.C.Card.soups c.args.self.now (record c.take.new.self { default = c.default_after-self.result }) c.args.unit c.take.ensures.slots
-    (c.default_after-self.ensures ∙ ap (λ d. default_after (card_faces g.C.Card.soups c.take.new.self.slots.items) d c.args.unit) c.take.ensures.default) at.laws outside eight stand _ p.store p.on c.in_ok-find_unit.ensures c.take.ensures.minute
+    (c.default_after-self.ensures ∙ ap (λ d. default_after (card_faces g.C.Card.soups c.take.new.self.slots.items) d c.args.unit) c.take.ensures.default) c.in_ok-find_unit.ensures at.laws outside eight stand _ p.store p.on c.take.ensures.minute

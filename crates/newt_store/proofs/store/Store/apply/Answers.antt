@@ -17,7 +17,7 @@ use Rattle.newt_pagebook.specs.Book.{IsOpenFor}
 use Rattle.newt_store_change.specs.Change.{entry_fetched, pages_of_entry, most_bytes}
 use Rattle.newt_store.specs.Next.{turn_bytes}
 use Rattle.newt_store_catalog.proofs.Opening.{same-image}
-use Rattle.newt_store.proofs.Applying.{no-patch, spends-more, spends-both, wears-both, none-due, full-due, refuses-full, refuses-first, from-err, sound-over, leaves-changed, leaves-before}
+use Rattle.newt_store.proofs.Applying.{no-patch, spends-more, spends-both, wears-both, none-due, full-due, refuses-full, refuses-first, refused-idle, from-err, sound-over, leaves-changed, leaves-before}
 use Rattle.newt_store.proofs.Unanswered.{no-value}
 use Rattle.newt_store.proofs.Opened.{open-over, refused-on, shows-made, shows-still}
 use Rattle.newt_store.proofs.store.Store.apply.Goals as goal
@@ -42,6 +42,7 @@ returns-in_err-next-clause-changes g c =
           (refuses-first c.args.change (blocks_of (image (g.P.PageBook.place c.args.self.now.book) (g.H.Host.outside c.args.host.now).now)) c.args.now s c.in_err-next.field-0.0 (c.in_err-next.ensures.plans.refused tells s stands));
       still = λ tells s stands is. stands;
       nothing_done = λ is. c.plan_change.ensures.reads.looks.moment;
+      idle = λ tells s stands due. c.plan_change.ensures.reads.looks.moment;
       any_moment = λ tells s stands.
           let o = g.H.Host.outside in
           let u : ℕ = g.P.PageBook.place c.args.self.now.book in
@@ -112,6 +113,19 @@ returns-in-Ok-clause-changes g c =
           (subst (λ (b : List ℕ). Leaves u' (IsEitherStore b s t) m' (o c.carry_out.new.host).now) e (c.carry_out.ensures.unit.any_moment tells s t stands' plan.turns))));
       open_after = λ tells. subst (λ (v : ℕ). IsOpenFor 0 (image v (g.H.Host.outside c.carry_out.new.host).now)) c.plan_change.ensures.reads.same_place (c.in-Ok.ensures.leaves.open_after tells);
       alone = Touches-append c.plan_change.ensures.reads.looks.alone (subst (λ (v : ℕ). Touches v (g.H.Host.outside c.plan_change.new.host) (g.H.Host.outside c.carry_out.new.host)) c.plan_change.ensures.reads.same_place c.carry_out.ensures.leaves.alone);
+      idle = λ tells s stands.
+          let o = g.H.Host.outside in
+          let u : ℕ = g.P.PageBook.place c.args.self.now.book in
+          let u' : ℕ = g.P.PageBook.place c.plan_change.new.book in
+          let m : Moment = (o c.args.host.now).now in
+          let m' : Moment = (o c.plan_change.new.host).now in
+          let e : image u' m' ≡ image u m = same-image u u' m m' c.plan_change.ensures.reads.same_place c.plan_change.ensures.reads.looks.moment in
+          let cat = c.args.self.now.catalog in
+          let stands' : StandsFor cat s (image u' m') = subst (λ (b : List ℕ). StandsFor cat s b) (sym e) stands in
+          let t : PlainStore = changed_by c.args.change c.args.now s in
+          let plan = c.in_ok-next.ensures.plans.planned tells s stands in
+          refused-idle c.args.change (blocks_of (image u m)) c.args.now s plan.accepted
+          (λ more. c.carry_out.ensures.unit.idle tells s t stands' plan.turns (subst (λ (b : List ℕ). cap (blocks_of b) < cost t) (sym e) more) ∙ c.plan_change.ensures.reads.looks.moment);
       wears = λ tells s stands room.
           let o = g.H.Host.outside in
           let u : ℕ = g.P.PageBook.place c.args.self.now.book in
@@ -194,6 +208,19 @@ returns-in-Err-clause-changes g c =
           (subst (λ (b : List ℕ). Leaves u' (IsEitherStore b s t) m' (o c.carry_out.new.host).now) e (c.carry_out.ensures.unit.any_moment tells s t stands' plan.turns))));
       open_after = λ tells. tt;
       alone = Touches-append c.plan_change.ensures.reads.looks.alone (subst (λ (v : ℕ). Touches v (g.H.Host.outside c.plan_change.new.host) (g.H.Host.outside c.carry_out.new.host)) c.plan_change.ensures.reads.same_place c.carry_out.ensures.leaves.alone);
+      idle = λ tells s stands.
+          let o = g.H.Host.outside in
+          let u : ℕ = g.P.PageBook.place c.args.self.now.book in
+          let u' : ℕ = g.P.PageBook.place c.plan_change.new.book in
+          let m : Moment = (o c.args.host.now).now in
+          let m' : Moment = (o c.plan_change.new.host).now in
+          let e : image u' m' ≡ image u m = same-image u u' m m' c.plan_change.ensures.reads.same_place c.plan_change.ensures.reads.looks.moment in
+          let cat = c.args.self.now.catalog in
+          let stands' : StandsFor cat s (image u' m') = subst (λ (b : List ℕ). StandsFor cat s b) (sym e) stands in
+          let t : PlainStore = changed_by c.args.change c.args.now s in
+          let plan = c.in_ok-next.ensures.plans.planned tells s stands in
+          refused-idle c.args.change (blocks_of (image u m)) c.args.now s plan.accepted
+          (λ more. c.carry_out.ensures.unit.idle tells s t stands' plan.turns (subst (λ (b : List ℕ). cap (blocks_of b) < cost t) (sym e) more) ∙ c.plan_change.ensures.reads.looks.moment);
       wears = λ tells s stands room.
           let o = g.H.Host.outside in
           let u : ℕ = g.P.PageBook.place c.args.self.now.book in

@@ -1,5 +1,5 @@
 use Rattle.newt_script_session.proofs.Plain.{world_is_plain, replies_are_plain}
-use Rattle.newt_script_session.proofs.laws.run_is_plain.Goals as goal
+use Rattle.newt_script_session.proofs.laws.faultless_runs_are_plain.Goals as goal
 
 pub returns-clause-world : goal.returns-clause-world
 returns-clause-world c = world_is_plain

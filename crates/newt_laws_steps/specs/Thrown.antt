@@ -1,0 +1,29 @@
+-- How the counts of the faults of devices go with the replies that tell them. All of it is this project's own.
+use Rattle.std.specs.Prelude.{◌≡◌, ℕ, ◌+◌, ◌-◌, ◌^◌, ◌≤◌, true, false, List, min}
+use Rattle.newt_host.specs.Outside.{Rose}
+use Rattle.newt_spec_script.specs.Rows.{Row, throws, thrown_count}
+use Rattle.newt_spec_world.specs.Reply.{Reply}
+
+-- No count of the faults of a unit has fallen, and where the reply says that the device of a unit
+-- failed, its count has risen.
+pub record Threw (reply : Reply) (was is : ℕ → ℕ) : Type 0 where
+  pub later : (unit : ℕ) → was unit ≤ is unit
+  pub rose : (unit : ℕ) → throws unit reply ≡ true → Rose (was unit) (is unit)
+
+-- where the reply does not say so of a unit, no fault of its device was counted
+abbrev pub Failed : Reply → (was is : ℕ → ℕ) → Type 0
+Failed reply was is = (unit : ℕ) → throws unit reply ≡ false → is unit ≡ was unit
+
+-- a count has risen by so much at least, or stands at its last value
+abbrev pub RoseBy : ℕ → ℕ → ℕ → Type 0
+RoseBy n before now = min (before + n) (2 ^ 64 - 1) ≤ now
+
+-- No count has fallen, and the replies that say so of a unit are at most as many as its faults that
+-- were counted, unless the count stands at its last value.
+pub record RowsThrew (rows : List Row) (was is : ℕ → ℕ) : Type 0 where
+  pub later : (unit : ℕ) → was unit ≤ is unit
+  pub rose : (unit : ℕ) → RoseBy (thrown_count unit rows) (was unit) (is unit)
+
+-- where none says so of a unit, no fault of its device was counted
+abbrev pub RowsFailed : List Row → (was is : ℕ → ℕ) → Type 0
+RowsFailed rows was is = (unit : ℕ) → thrown_count unit rows ≡ 0 → is unit ≡ was unit

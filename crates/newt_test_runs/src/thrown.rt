@@ -1,0 +1,297 @@
+//! Cards that fail: each is thrown out, and the run goes on.
+
+use newt_host::Unit;
+use newt_script_generator::gen_script;
+use newt_test_scripts::{
+    blocks, calls_behind, expect_end, image, lines_of, over, run_failing, run_on,
+};
+use newt_top::Status;
+use std::alloc::Global;
+use std::test::Fail;
+
+/// One of the calls on a unit that a line makes.
+#[derive(Clone, Copy)]
+enum Place {
+    /// The first of them.
+    First,
+    /// So many from the last one on.
+    FromLast(usize),
+}
+
+impl Place {
+    fn of(self, calls: &[u64]) -> Option<u64> {
+        match self {
+            Place::First => calls.first().copied(),
+            Place::FromLast(back) => calls.iter().rev().nth(back).copied(),
+        }
+    }
+}
+
+/// Runs a table over five devices of 13 blocks of zero bytes, where this call of the line behind so
+/// many replies fails, which is on this unit, and looks for its replies.
+fn expect_failing(
+    alloc: Global,
+    table: &str,
+    unit: Unit,
+    replies: usize,
+    place: Place,
+) -> Result<(), Fail> {
+    let text = "run a b c d e";
+    let (script, output) = lines_of(alloc, table)?;
+    let calls = calls_behind(alloc, text, &script, &[], unit, replies)?;
+    let Some(call) = place.of(&calls) else {
+        return Err(Fail::new("no such call"));
+    };
+    let host = run_failing(alloc, text, &script, &[call])?;
+    if host.output() != output.as_slice() {
+        return Err(Fail::new(format_args!("other replies where call {call} fails")));
+    }
+    Ok(())
+}
+
+/// The bytes of an entry do not come onto the card.
+const NOT_ADDED: &str = "
+format 0 Internal 7 => ok
+mount 0 => ok 7 Internal
+soup 0 S => ok 0
+add 0 S {} => error 50 device 0
+get 0 S 0 => error 25 notmounted
+mount 0 => ok 7 Internal
+soups 0 => ok S 0 0
+";
+
+/// They do, and the last sync fails.
+const ADDED: &str = "
+format 0 Internal 7 => ok
+mount 0 => ok 7 Internal
+soup 0 S => ok 0
+add 0 S {} => error 50 device 0
+get 0 S 0 => error 25 notmounted
+mount 0 => ok 7 Internal
+soups 0 => ok S 0 1
+";
+
+#[test]
+fn tells_which_store_a_card_holds(rt: HostRuntime) -> Result<(), Fail> {
+    let alloc = rt.alloc();
+    expect_failing(alloc, NOT_ADDED, Unit(0), 3, Place::First)?;
+    expect_failing(alloc, ADDED, Unit(0), 3, Place::FromLast(0))
+}
+
+#[test]
+fn goes_on_behind_a_device_that_failed(rt: HostRuntime) -> Result<(), Fail> {
+    let alloc = rt.alloc();
+    let script: &[u8] = b"nsof 020A\nmount 0\nnsof 020A\n";
+    let mut host = over(alloc, script, &blocks(alloc, 13)?, &[])?;
+    // The first call takes the input, the second writes a reply, and the third is the first one on
+    // the device.
+    host.fail(2)?;
+    let output = b"ok 020A\nerror 50 device 0\nok 020A\n";
+    expect_end(alloc, "run a", &mut host, Status::Ok, output)
+}
+
+/// A card of 200 generated names, of 64 blocks.
+fn names(alloc: Global) -> Result<Vec<u8>, Fail> {
+    let mut script = gen_script(alloc, 1, 200)?;
+    script.truncate(script.len().saturating_sub(b"quit\n".len()));
+    let mut host = over(alloc, &script, &blocks(alloc, 64)?, &[])?;
+    if run_on(alloc, "run a", &mut host)? != Status::Ok {
+        return Err(Fail::new("the script does not end well"));
+    }
+    image(alloc, &host, Unit(0))
+}
+
+/// Gets all entries but the first, which is at hand no more then, and the first one.
+fn gets(alloc: Global) -> Result<Vec<u8>, Fail> {
+    let mut script = Vec::from_slice(alloc, b"mount 0\nquery 0 Names {}\n")?;
+    for id in 1u32..200 {
+        script.extend_from_slice(format!(in alloc; "get 0 Names {id}\n")?.as_bytes())?;
+    }
+    script.extend_from_slice(b"get 0 Names 0\nentry 0\nmount 0\nentry 0\n")?;
+    Ok(script)
+}
+
+/// What is answered where the first one cannot be read.
+const UNREAD: &[u8] = b"error 50 device 0
+ok deleted
+ok 1 Gen
+ok 0 0 0 {name: {first: \"F8\", last: \"L838\"}, labels: 'business, n: 0}
+";
+
+#[test]
+fn a_cursor_waits_for_its_card(rt: HostRuntime) -> Result<(), Fail> {
+    let alloc = rt.alloc();
+    let card = names(alloc)?;
+    let script = gets(alloc)?;
+    let mut sound = over(alloc, &script, &card, &[])?;
+    if run_on(alloc, "run a", &mut sound)? != Status::Ok || sound.calls() == 0 {
+        return Err(Fail::new("the card cannot be read"));
+    }
+    let mut read = 0u64;
+    for call in 0..sound.calls() {
+        if sound.unit_of(call).is_some() {
+            read = call;
+        }
+    }
+    if read >= sound.calls() {
+        return Err(Fail::new("nothing is read"));
+    }
+    let end = sound.output().len().min(sound.out_before(read) as usize);
+    let mut output = Vec::from_slice(alloc, &sound.output()[..end])?;
+    output.extend_from_slice(UNREAD)?;
+    let mut host = over(alloc, &script, &card, &[])?;
+    host.fail(read)?;
+    expect_end(alloc, "run a", &mut host, Status::Ok, &output)
+}
+
+/// An entry is on its new card, and could not be taken from the other.
+const MOVED: &str = "
+format 0 A 7 => ok
+format 1 B 9 => ok
+mount 0 => ok 7 A
+mount 1 => ok 9 B
+soup 0 N => ok 0
+soup 1 N => ok 0
+index 0 N k:string:ascend => ok
+index 1 N k:string:ascend => ok
+add 0 N {k: \"a\"} => ok 0
+add 0 N {k: \"m\"} => ok 1
+add 1 N {k: \"m\"} => ok 0
+add 1 N {k: \"z\"} => ok 1
+move 0 N 0 1 N => error 50 device 0
+get 1 N 2 => ok 0 {k: \"a\"}
+mount 0 => ok 7 A
+get 0 N 0 => ok 0 {k: \"a\"}
+";
+
+#[test]
+fn what_moved_stays_where_it_went(rt: HostRuntime) -> Result<(), Fail> {
+    // The last but one programs what makes the removal hold.
+    expect_failing(rt.alloc(), MOVED, Unit(0), 12, Place::FromLast(1))
+}
+
+/// One of four cards fails under a cursor, and comes back.
+const FOUR: &str = "
+format 0 A 7 => ok
+format 1 B 9 => ok
+format 2 C 3 => ok
+format 3 D 5 => ok
+mount 0 => ok 7 A
+mount 1 => ok 9 B
+mount 2 => ok 3 C
+mount 3 => ok 5 D
+soup 0 N => ok 0
+soup 1 N => ok 0
+soup 2 N => ok 0
+soup 3 N => ok 0
+index 0 N k:int:ascend => ok
+index 1 N k:int:ascend => ok
+index 2 N k:int:ascend => ok
+index 3 N k:int:ascend => ok
+add 0 N {k: 1} => ok 0
+add 1 N {k: 2} => ok 0
+add 2 N {k: 3} => ok 0
+add 3 N {k: 4} => ok 0
+query * N {indexPath: 'k} => ok 0
+count 0 => ok 4
+end 0 => ok 3 0 0 {k: 4}
+prev 0 => ok 2 0 0 {k: 3}
+add 2 N {k: 5} => error 50 device 2
+entry 0 => ok deleted
+stores => ok 0 7 A, 1 9 B, 3 5 D
+count 0 => ok 3
+next 0 => ok 3 0 0 {k: 4}
+prev 0 => ok 1 0 0 {k: 2}
+mount 2 => ok 3 C
+count 0 => ok 4
+next 0 => ok 2 0 0 {k: 3}
+next 0 => ok 3 0 0 {k: 4}
+add 2 N {k: 6} => ok 1
+count 0 => ok 5
+";
+
+#[test]
+fn a_union_goes_on_without_a_card(rt: HostRuntime) -> Result<(), Fail> {
+    expect_failing(rt.alloc(), FOUR, Unit(2), 24, Place::First)
+}
+
+/// A blank card fails while it is formatted.
+const BLANK: &str = "
+format 0 A 7 => error 50 device 0
+mount 0 => error 22 nostore
+format 0 A 7 => ok
+mount 0 => ok 7 A
+";
+
+/// And one that has a store.
+const FORMATTED: &str = "
+format 0 A 7 => ok
+format 0 B 9 => error 50 device 0
+mount 0 => ok 7 A
+";
+
+#[test]
+fn a_format_fails(rt: HostRuntime) -> Result<(), Fail> {
+    let alloc = rt.alloc();
+    expect_failing(alloc, BLANK, Unit(0), 0, Place::First)?;
+    expect_failing(alloc, FORMATTED, Unit(0), 1, Place::First)
+}
+
+/// The default store is the next one then, and stays it.
+const DEFAULTS: &str = "
+format 0 A 7 => ok
+format 1 B 9 => ok
+mount 0 => ok 7 A
+mount 1 => ok 9 B
+soup 0 S => ok 0
+soup 1 S => ok 0
+addu S {} => error 50 device 0
+addu S {} => ok 1 0
+mount 0 => ok 7 A
+addu S {} => ok 1 1
+default 0 => ok
+addu S {} => ok 0 0
+";
+
+#[test]
+fn the_default_store_is_the_next_one(rt: HostRuntime) -> Result<(), Fail> {
+    expect_failing(rt.alloc(), DEFAULTS, Unit(0), 6, Place::First)
+}
+
+/// A card that never works again.
+const FOR_EVER: &str = "
+format 0 A 7 => ok
+format 1 B 9 => ok
+mount 0 => ok 7 A
+mount 1 => ok 9 B
+soup 0 S => ok 0
+soup 1 S => ok 0
+add 0 S {} => error 50 device 0
+mount 0 => error 50 device 0
+format 0 A 7 => error 50 device 0
+add 1 S {} => ok 0
+mount 0 => error 50 device 0
+unmount 0 => error 25 notmounted
+stores => ok 1 9 B
+mount 0 => error 50 device 0
+get 1 S 0 => ok 0 {}
+quit => ok
+";
+
+#[test]
+fn a_card_fails_for_ever(rt: HostRuntime) -> Result<(), Fail> {
+    let alloc = rt.alloc();
+    let (script, output) = lines_of(alloc, FOR_EVER)?;
+    let mut failing: Vec<u64> = Vec::new(alloc);
+    for replies in 6usize..14 {
+        let calls = calls_behind(alloc, "run a b", &script, &failing, Unit(0), replies)?;
+        if let Some(call) = calls.first() {
+            failing.push(*call)?;
+        }
+    }
+    let host = run_failing(alloc, "run a b", &script, &failing)?;
+    if failing.len() != 5 || host.output() != output.as_slice() {
+        return Err(Fail::new(format_args!("{} calls fail", failing.len())));
+    }
+    Ok(())
+}

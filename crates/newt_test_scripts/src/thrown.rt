@@ -1,0 +1,248 @@
+//! Runs in which calls of a device fail: its card is thrown out, and the run goes on.
+
+ghost use Rattle.std.specs.Prelude.{◌<◌, IfOk};
+ghost use Rattle.newt_memhost.specs.Outside.{outside_of};
+ghost use Rattle.newt_memhost.specs.Words.{calls_of};
+ghost use Rattle.newt_test_scripts.specs.Free.{IsFree};
+
+use crate::crashes::{Looks, begun, look, looks_behind};
+use crate::hosts::{blocks, over_blank};
+use crate::runs::{has_device, run_on, run_table};
+use crate::tables::lines_of;
+use newt_host::Unit;
+use newt_memhost::MemHost;
+use newt_top::Status;
+use std::alloc::{AllocError, Global};
+use std::test::Fail;
+
+/// Appends the reply to a command whose device failed.
+fn push_thrown(to: &mut Vec<u8>, unit: Unit) -> Result<(), AllocError> {
+    to.extend_from_slice(b"error 50 device ")?;
+    to.push(b'0'.saturating_add(unit.0))?;
+    to.push(b'\n')?;
+    Ok(())
+}
+
+/// Appends questions about the first unit, asked of another: the first `0` of each line is its
+/// number.
+fn push_asked(to: &mut Vec<u8>, ask: &[u8], unit: Unit) -> Result<(), AllocError> {
+    let mut is_named = false;
+    for byte in ask {
+        let is_unit = *byte == b'0' && !is_named;
+        to.push(if is_unit { b'0'.saturating_add(unit.0) } else { *byte })?;
+        is_named = (is_named || is_unit) && *byte != b'\n';
+    }
+    Ok(())
+}
+
+/// The rows of a table through the one that has the next reply behind so many.
+fn rows_through(alloc: Global, table: &str, replies: usize) -> Result<String, Fail> {
+    let mut rows = String::new(alloc);
+    let mut left = replies.saturating_add(1);
+    for row in table.lines() {
+        if left == 0 {
+            break;
+        }
+        if row.split_once(" => ").is_some() {
+            left = left.saturating_sub(1);
+        }
+        rows.push_str(row)?;
+        rows.push_str("\n")?;
+    }
+    Ok(rows)
+}
+
+/// Five devices `a` to `e` of 13 blocks of zero bytes, and calls that fail.
+fn failing_host(alloc: Global, script: &[u8], calls: &[u64]) -> Result<MemHost, AllocError>
+    ensures { IfOk result (λ host. IsFree (outside_of host)) }
+{
+    let mut host = over_blank(alloc, script)?;
+    for call in calls {
+        host.fail(*call)?;
+    }
+    Ok(host)
+}
+
+/// A run of a script over five devices `a` to `e` of 13 blocks of zero bytes, which ends well though
+/// these calls fail.
+pub fn run_failing(
+    alloc: Global,
+    text: &str,
+    script: &[u8],
+    calls: &[u64],
+) -> Result<MemHost, Fail> {
+    let mut host = failing_host(alloc, script, calls)?;
+    let status = run_on(alloc, text, &mut host)?;
+    if status != Status::Ok {
+        return Err(Fail::new(format_args!("{status:?} where a device fails")));
+    }
+    Ok(host)
+}
+
+/// What a run had written when a call began.
+fn written_before(host: &MemHost, call: u64) -> &[u8]
+    requires { call < calls_of host.now }
+{
+    let end = host.output().len().min(host.out_before(call) as usize);
+    &host.output()[..end]
+}
+
+/// How often a card was thrown out in a run that wrote this.
+fn times_thrown(output: &[u8]) -> usize {
+    let mut count = 0usize;
+    for line in output.split(|byte| *byte == b'\n') {
+        if line.starts_with(b"error 50 ") {
+            count = count.saturating_add(1);
+        }
+    }
+    count
+}
+
+/// A call that fails: its unit, and what was written before it.
+#[derive(Clone, Copy)]
+struct Failing<'a> {
+    call: u64,
+    unit: Unit,
+    written: &'a [u8],
+}
+
+impl Failing<'_> {
+    /// The output behind the call: what was written before it, so often that the unit is thrown
+    /// out, and some answers.
+    fn output(&self, alloc: Global, times: usize, answers: &[u8]) -> Result<Vec<u8>, AllocError> {
+        let mut output = Vec::from_slice(alloc, self.written)?;
+        for _ in 0..times {
+            push_thrown(&mut output, self.unit)?;
+        }
+        output.extend_from_slice(answers)?;
+        Ok(output)
+    }
+
+    /// The lines of a table through the one that fails, and these behind it, of its unit.
+    fn script(&self, alloc: Global, table: &str, asks: &[&[u8]]) -> Result<Vec<u8>, Fail> {
+        let rows = rows_through(alloc, table, begun(self.written))?;
+        let (mut script, _) = lines_of(alloc, rows.as_str())?;
+        for ask in asks {
+            push_asked(&mut script, ask, self.unit)?;
+        }
+        Ok(script)
+    }
+
+    /// The whole script goes on behind the call: each line has its reply, and one alone says that
+    /// the card was thrown out. No other call of a device is made before that is written.
+    fn expect_goes_on(&self, alloc: Global, sound: &MemHost, script: &[u8]) -> Result<(), Fail> {
+        let host = run_failing(alloc, "run a b", script, &[self.call])?;
+        let first = self.output(alloc, 1, &[])?;
+        let is_next = host.unit_of(self.call.saturating_add(1)).is_some();
+        if !host.output().starts_with(&first) || is_next {
+            return Err(Fail::new(format_args!("not thrown out at call {}", self.call)));
+        }
+        if begun(host.output()) != begun(sound.output()) || times_thrown(host.output()) != 1 {
+            return Err(Fail::new(format_args!("not gone on behind call {}", self.call)));
+        }
+        Ok(())
+    }
+
+    /// A next mount tells which store the card holds, that before or after the line, and what it
+    /// says then is what another run finds on it.
+    fn expect_comes_back(
+        &self,
+        alloc: Global,
+        table: &str,
+        ask: &[u8],
+        looks: &Looks,
+    ) -> Result<Vec<u8>, Fail> {
+        let script = self.script(alloc, table, &[ask])?;
+        let host = run_failing(alloc, "run a b", &script, &[self.call])?;
+        if !has_device(&host, self.unit) {
+            return Err(Fail::new("a unit without a device"));
+        }
+        let found = look(alloc, ask, host.bytes(self.unit))?;
+        if host.output() != self.output(alloc, 1, &found)?.as_slice() {
+            return Err(Fail::new(format_args!("other answers behind call {}", self.call)));
+        }
+        if looks.lines_before(&found, begun(self.written)).is_none() {
+            return Err(Fail::new(format_args!("another store behind call {}", self.call)));
+        }
+        Ok(found)
+    }
+
+    /// The same where the first call of that mount fails as well, and another one comes behind it.
+    fn expect_comes_back_later(
+        &self,
+        alloc: Global,
+        table: &str,
+        ask: &[u8],
+        found: &[u8],
+    ) -> Result<(), Fail> {
+        let script = self.script(alloc, table, &[b"mount 0\n", ask])?;
+        let first = run_failing(alloc, "run a b", &script, &[self.call])?;
+        let Some(other) = next_of(&first, self.unit, self.call.saturating_add(1)) else {
+            return Err(Fail::new(format_args!("no call of a mount behind call {}", self.call)));
+        };
+        let host = run_failing(alloc, "run a b", &script, &[self.call, other])?;
+        if host.output() != self.output(alloc, 2, found)?.as_slice() {
+            return Err(Fail::new(format_args!("other answers behind calls {} and {other}", self.call)));
+        }
+        Ok(())
+    }
+}
+
+/// The calls on a unit that a run of a script makes behind so many replies and before the next one,
+/// where these calls fail.
+pub fn calls_behind(
+    alloc: Global,
+    text: &str,
+    script: &[u8],
+    failing: &[u64],
+    unit: Unit,
+    replies: usize,
+) -> Result<Vec<u64>, Fail> {
+    let host = run_failing(alloc, text, script, failing)?;
+    let mut calls = Vec::new(alloc);
+    for call in 0..host.calls() {
+        if host.unit_of(call) == Some(unit) && begun(written_before(&host, call)) == replies {
+            calls.push(call)?;
+        }
+    }
+    Ok(calls)
+}
+
+/// The first call on a unit from this one on.
+fn next_of(host: &MemHost, unit: Unit, from: u64) -> Option<u64> {
+    for call in from..host.calls() {
+        if host.unit_of(call) == Some(unit) {
+            return Some(call);
+        }
+    }
+    None
+}
+
+/// Runs a table over the devices `a` and `b` of 13 blocks of zero bytes, once for each call on a
+/// device, which fails. Its reply is then that the card was thrown out, and the run goes on; and
+/// where a mount and these questions stand behind it, or two mounts, whose first one fails, the
+/// card comes back with its store before or after the line. Says how many such calls there are.
+pub fn expect_thrown(alloc: Global, table: &str, ask: &[u8]) -> Result<u32, Fail> {
+    let sound = run_table(alloc, "run a b", table)?;
+    let (script, _) = lines_of(alloc, table)?;
+    let blank = blocks(alloc, 13)?;
+    let first = looks_behind(alloc, &script, [&blank, &blank], ask, Unit(0))?;
+    let second = looks_behind(alloc, &script, [&blank, &blank], ask, Unit(1))?;
+    let mut count = 0u32;
+    for call in 0..sound.calls() {
+        let Some(unit) = sound.unit_of(call) else {
+            continue;
+        };
+        let failing = Failing {
+            call,
+            unit,
+            written: written_before(&sound, call),
+        };
+        let looks = if unit == Unit(0) { &first } else { &second };
+        failing.expect_goes_on(alloc, &sound, &script)?;
+        let found = failing.expect_comes_back(alloc, table, ask, looks)?;
+        failing.expect_comes_back_later(alloc, table, ask, &found)?;
+        count = count.saturating_add(1);
+    }
+    Ok(count)
+}
