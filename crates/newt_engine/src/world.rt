@@ -69,11 +69,13 @@ impl<C: Card> World<C> {
         match self.serve(host, command) {
             Ok(reply) => Ok(reply),
             Err(StoreFault::Refused(refusal)) => Ok(Reply::Refused(refusal)),
-            Err(StoreFault::Stop(Stop::Device(unit))) => {
-                self.units.throw_out(unit);
-                Ok(Reply::Thrown(unit))
-            }
-            Err(StoreFault::Stop(Stop::Memory)) => Err(AllocError),
+            Err(StoreFault::Stop(stop)) => match stop {
+                Stop::Device(unit) => {
+                    self.units.throw_out(unit);
+                    Ok(Reply::Thrown(unit))
+                }
+                Stop::Memory => Err(AllocError),
+            },
         }
     }
 }
