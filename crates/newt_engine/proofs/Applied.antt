@@ -163,10 +163,12 @@ module _ {C : Type 0} {reads : List ℕ → Option Store} {place : C → ℕ} {s
         is t = known-then f.stands t ∙ f.world t
 
         then : Standing reads place stands told new.units new.desk p
-        then = thrown-standing (stand told p f.stands) eight (subst DeskFits (sym desk) f.desk) (λ t.
-            (settle (thrown_out (changed (stood_for reads old o) c) u (λ _. lost)), is t,
-            out-apart (changed (stood_for reads old o) c) u (row-apart (stood_for reads old o) c (begun.apart t) (all-false (checks (stood_for reads old o) c) (is-accepted (stood_for reads old o) c (f.accepted t)))),
-            settle-settles (thrown_out (changed (stood_for reads old o) c) u (λ _. lost))))
+        then = thrown-standing (stand told p f.stands) eight (subst DeskFits (sym desk) f.desk) (λ t. (
+          settle (thrown_out (changed (stood_for reads old o) c) u (λ _. lost)),
+          is t,
+          out-apart (changed (stood_for reads old o) c) u (row-apart (stood_for reads old o) c (begun.apart t) (all-false (checks (stood_for reads old o) c) (is-accepted (stood_for reads old o) c (f.accepted t)))),
+          settle-settles (thrown_out (changed (stood_for reads old o) c) u (λ _. lost)),
+        ))
 
     pub applied-thrown : Applied reads place stands told c old new o p (Ok (reply.Thrown u))
     applied-thrown = elim e.broke [ inl f ↦ thrown-fails f | inr f ↦ thrown-halfway f ]

@@ -60,9 +60,10 @@ module _ (w : World) (sure : MountedSure w) where
   move-mounted : (c : Command) (u : ℕ) → moves_away c u ≡ true → AllFalse (checks w c) → Touched w c × (is_none (mounted_store w u) ≡ false)
   unfolding checks
   move-mounted (command.Move t s uid x y) u away h =
-      let from = left-false (not_mounted w t).1 (not_mounted w x).1 h.1.0 in
-      ((sure-of (λ _. blank) w sure t from, sure-of (λ _. blank) w sure x (right-false (not_mounted w t).1 (not_mounted w x).1 h.1.0)),
-      ap (λ n. is_none (mounted_store w n)) (sym (source-is t u x away)) ∙ from)
+      let from = left-false (not_mounted w t).1 (not_mounted w x).1 h.1.0 in (
+        (sure-of (λ _. blank) w sure t from, sure-of (λ _. blank) w sure x (right-false (not_mounted w t).1 (not_mounted w x).1 h.1.0)),
+        ap (λ n. is_none (mounted_store w n)) (sym (source-is t u x away)) ∙ from,
+      )
   move-mounted c u away h = absurd (both-ways away)
 
 -- a unit that is mounted has one store
@@ -227,10 +228,12 @@ pub lift-halfway : (reads : List ℕ → Option Store) (marks : Marks) (before :
     → (w : World) → StandsFor reads marks before w
     → (v : World) × Turned reads w c before.now v (Reply.thrown u) × StandsFor reads next after v × Always (Answering reads w c v before.now) before.now after.now
 lift-halfway reads marks before c kept history after way u away ok next stays cards is v stands =
-    subst (λ (x : World). (y : World) × Turned reads x c before.now y (Reply.thrown u) × StandsFor reads next after y × Always (Answering reads x c y before.now) before.now after.now) (sym meant)
-    (world_halfway (meant_by f w0) c u, record { step = halfway {u = u} away accepted refl refl; is_plain = λ quiet. absurd (quiet u refl) },
-    halfway-stood-for reads marks before c kept history f stood after way u away passed next stays cards is (λ n due. held-holds reads marks before kept v stands n) (held-none reads marks before kept v stands),
-    halfway-moments reads marks before c kept history f stood after way u away passed)
+    subst (λ (x : World). (y : World) × Turned reads x c before.now y (Reply.thrown u) × StandsFor reads next after y × Always (Answering reads x c y before.now) before.now after.now) (sym meant) (
+      world_halfway (meant_by f w0) c u,
+      record { step = halfway {u = u} away accepted refl refl; is_plain = λ quiet. absurd (quiet u refl) },
+      halfway-stood-for reads marks before c kept history f stood after way u away passed next stays cards is (λ n due. held-holds reads marks before kept v stands n) (held-none reads marks before kept v stands),
+      halfway-moments reads marks before c kept history f stood after way u away passed,
+    )
   where
     w0 : World
     w0 = known reads marks before

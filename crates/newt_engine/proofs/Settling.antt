@@ -184,8 +184,12 @@ module _ {C : Type 0} {reads : List ℕ → Option Store} {place : C → ℕ} {s
 
   pub seen-whole : IsTrue (all_closed (seen reads (world_of reads units o) o.now c)) × Every Wf (seen reads (world_of reads units o) o.now c) × MountedApart (seen reads (world_of reads units o) o.now c)
       × IsSettled (with_cursors ks (seen reads (world_of reads units o) o.now c))
-  seen-whole = (seen-closed reads (world_of reads units o) o.now c refl, seen-formed reads (world_of reads units o) o.now c l.formed start-formed,
-      seen-apart reads (world_of reads units o) o.now c start-sure (s.apart t), seen-settled reads (world_of reads units o) o.now c start-sure ks (s.settled t))
+  seen-whole = (
+    seen-closed reads (world_of reads units o) o.now c refl,
+    seen-formed reads (world_of reads units o) o.now c l.formed start-formed,
+    seen-apart reads (world_of reads units o) o.now c start-sure (s.apart t),
+    seen-settled reads (world_of reads units o) o.now c start-sure ks (s.settled t),
+  )
 
 pub writes_with : (ks : List (Option Cursor)) (w : World) (c : Command) (u : ℕ) → writes (with_cursors ks w) c u ≡ writes w c u
 writes_with ks w (command.Addu s g) u = refl

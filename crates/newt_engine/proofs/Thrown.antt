@@ -354,10 +354,12 @@ pub lift-thrown : (reads : List ℕ → Option Store) (marks : Marks) (before : 
     → (w : World) → StandsFor reads marks before w
     → (v : World) × Turned reads w c before.now v (Reply.thrown u) × StandsFor reads next after v × Always (Answering reads w c v before.now) before.now after.now
 lift-thrown reads marks before c kept history after way u attached others same next stays cards is v stands =
-    subst (λ (x : World). (y : World) × Turned reads x c before.now y (Reply.thrown u) × StandsFor reads next after y × Always (Answering reads x c y before.now) before.now after.now) (sym meant)
-    (world_thrown (meant_by f w0) c u, record { step = thrown {u = u} refl refl; is_plain = λ quiet. absurd (quiet u refl) },
-    thrown-stood-for reads marks before c kept history f stood after way u attached others same next stays cards is (λ n due. held-holds reads marks before kept v stands n) (held-none reads marks before kept v stands),
-    thrown-moments reads marks before c kept history f stood after way u attached others same)
+    subst (λ (x : World). (y : World) × Turned reads x c before.now y (Reply.thrown u) × StandsFor reads next after y × Always (Answering reads x c y before.now) before.now after.now) (sym meant) (
+      world_thrown (meant_by f w0) c u,
+      record { step = thrown {u = u} refl refl; is_plain = λ quiet. absurd (quiet u refl) },
+      thrown-stood-for reads marks before c kept history f stood after way u attached others same next stays cards is (λ n due. held-holds reads marks before kept v stands n) (held-none reads marks before kept v stands),
+      thrown-moments reads marks before c kept history f stood after way u attached others same,
+    )
   where
     w0 : World
     w0 = known reads marks before

@@ -246,8 +246,11 @@ module _ (w : World) (u to : ℕ) (name target : List ℕ) (sig into uid : ℕ) 
           later = one-there between_answer.0 to (add k.store) (added-makes w refl was.passed)
 
           on-target : ReadsOneOf reads (stores_on added to ++ stores_on between_answer.0 to) left → ReadsOneOf reads (stores_on w to ++ stores_on between_answer.0 to) left
-          on-target r = (add k.store, among-right (stores_on w to) (stores_on between_answer.0 to) (add k.store) (subst (λ xs. Among xs (add k.store)) (sym later) (inl refl)),
-              r.2 ∙ ap {B = Option Store} (λ x. Some x) (both r.0 (subst (λ xs. Among (xs ++ stores_on between_answer.0 to) r.0) (ap stores-at there-added.device_is) r.1)))
+          on-target r = (
+            add k.store,
+            among-right (stores_on w to) (stores_on between_answer.0 to) (add k.store) (subst (λ xs. Among xs (add k.store)) (sym later) (inl refl)),
+            r.2 ∙ ap {B = Option Store} (λ x. Some x) (both r.0 (subst (λ xs. Among (xs ++ stores_on between_answer.0 to) r.0) (ap stores-at there-added.device_is) r.1)),
+          )
             where
               both : (x : Store) → (add k.store ≡ x) ⊎ Among (stores_on between_answer.0 to) x → x ≡ add k.store
               both x (inl e) = sym e

@@ -29,7 +29,11 @@ fn push_asked(to: &mut Vec<u8>, ask: &[u8], unit: Unit) -> Result<(), AllocError
     let mut is_named = false;
     for byte in ask {
         let is_unit = *byte == b'0' && !is_named;
-        to.push(if is_unit { b'0'.saturating_add(unit.0) } else { *byte })?;
+        to.push(if is_unit {
+            b'0'.saturating_add(unit.0)
+        } else {
+            *byte
+        })?;
         is_named = (is_named || is_unit) && *byte != b'\n';
     }
     Ok(())
@@ -182,7 +186,10 @@ impl Failing<'_> {
         };
         let host = run_failing(alloc, "run a b", &script, &[self.call, other])?;
         if host.output() != self.output(alloc, 2, found)?.as_slice() {
-            return Err(Fail::new(format_args!("other answers behind calls {} and {other}", self.call)));
+            return Err(Fail::new(format_args!(
+                "other answers behind calls {} and {other}",
+                self.call
+            )));
         }
         Ok(())
     }
