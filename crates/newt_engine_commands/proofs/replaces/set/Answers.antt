@@ -122,7 +122,7 @@ returns g c =
           let fits = entry-fits h.store c.args.name.now h.soup c.args.uid x h.formed h.named found in
           behind-untorn e t (subst (λ y. OnUnit y c.args.unit h.blocks h.store) (sym same) h.on) (replace-said h.blocks c.read_entry.new.self.minute c.in_ok-soup.soup h.store h.soup h.by_sig c.args.uid x found c.in_ok-made.made)
           w same (command.Set c.args.unit c.args.name.now c.args.uid c.args.path.now c.args.value.now) (eq-eqb c.args.unit c.args.unit refl) refl
-          (λ k. unrefused (λ _. Reply.done) w _ (command.Set c.args.unit c.args.name.now c.args.uid c.args.path.now c.args.value.now) tt (λ r x. cc)
+          (λ k. unrefused {T = Unit {0}} (λ _. Reply.done) w _ (command.Set c.args.unit c.args.name.now c.args.uid c.args.path.now c.args.value.now) tt (λ r x. cc)
           (set-answers w _ c.args.unit h.blocks h.store h.on refl c.args.name.now h.soup h.named h.name_is c.args.uid x found c.args.path.now c.args.value.now c.in_ok-made.made c.in_ok-made.ensures.form fits (Ok tt)
           (subst (λ (y : World). first_of (replace_tests h.blocks y.minute h.soup.name c.args.uid c.in_ok-made.made h.store) ≡ None) same k, tt, refl)))));
       no_fault = λ goes. NoFault-append (read.ends.no_fault tt) (e.no_fault (done-goes c.change.result is goes));
