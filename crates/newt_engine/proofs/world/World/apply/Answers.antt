@@ -40,7 +40,7 @@ pub throw_out-requires : goal.throw_out-requires
 throw_out-requires g c =
     let h = c.in-Err-Stop in
     let d = c.in-Device in
-    let k = broke-stands d.unit (served-as (h.field-0-is ∙ ap Stop d.field-is) h.ensures) in
+    let k = broke-stands d.unit (served-as (h.field-0-is ∙ ap Stop d.is) h.ensures) in
     slot-there d.unit (units_are g c.serve.new.host) k.0 (subst IsSome (sym (h.ensures.alone.cards.card d.unit)) k.1)
 
 pub returns-in-Device : goal.returns-in-Device
@@ -48,11 +48,11 @@ returns-in-Device g c =
     let h = c.in-Err-Stop in
     let d = c.in-Device in
     let k = c.throw_out.ensures in
-    applied-thrown (laws g) c.requires.stands (may_leave g c.args.host.now) (valid_there g c.args.host.now) (units_are g c.serve.new.host) d.unit (served-as (h.field-0-is ∙ ap Stop d.field-is) h.ensures) refl
+    applied-thrown (laws g) c.requires.stands (may_leave g c.args.host.now) (valid_there g c.args.host.now) (units_are g c.serve.new.host) d.unit (served-as (h.field-0-is ∙ ap Stop d.is) h.ensures) refl
     k.stands k.world
 
 pub returns-in-Memory : goal.returns-in-Memory
 returns-in-Memory g c =
     let h = c.in-Err-Stop in
     let d = c.in-Memory in
-    applied-memory (laws g) c.requires.stands (may_leave g c.args.host.now) (valid_there g c.args.host.now) _ (served-as (h.field-0-is ∙ ap Stop d.field-is) h.ensures)
+    applied-memory (laws g) c.requires.stands (may_leave g c.args.host.now) (valid_there g c.args.host.now) _ (served-as (h.field-0-is ∙ ap Stop d.is) h.ensures)
