@@ -50,4 +50,5 @@ has_form (command.Add u s g) = within_limits g
 has_form (command.Addx u s g) = within_limits g
 has_form (command.Addu s g) = within_limits g
 has_form (command.Change u s uid g) = within_limits g
+has_form (command.Watch s most) = nat_le 1 most && nat_le most 64
 has_form _ = true
