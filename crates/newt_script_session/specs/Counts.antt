@@ -24,5 +24,5 @@ lines_of_tally tally =
     ++ summary_line (codes "errors") tally.errors ++ summary_line (codes "bytes") tally.bytes
 
 -- the summary of the replies of a run
-unfoldable pub summary_of : List Row → List ℕ
+unfoldable pub summary_of : List (Row Whole) → List ℕ
 summary_of rows = summary (reply_texts rows)
