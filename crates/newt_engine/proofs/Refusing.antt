@@ -99,6 +99,15 @@ fields_good w v (command.Count c) = nil_good {X = Cursor} (λ k. plain.Reply.num
 fields_good w v (command.Which c) = nil_good {X = Cursor} side (cursor w c) side_good
 fields_good w v (command.Clone c) = nil_good {X = ℕ} (λ n. plain.Reply.number n) (free_cursor w) (λ x. refl)
 fields_good w v (command.Close c) = refl
+fields_good w v (command.Watch s most) = refl
+fields_good w v (command.Notes n) = refl
+fields_good w v (command.Unwatch n) = refl
+fields_good w v (command.Open u s uid) = refl
+fields_good w v (command.Draft n) = refl
+fields_good w v (command.Edit n path g) = refl
+fields_good w v (command.Save n) = refl
+fields_good w v (command.Revert n) = refl
+fields_good w v (command.Discard n) = refl
 
 pub refused_stays : (w : World) (c : Command) (r : Refusal) → (answer w c).1 ≡ plain.Reply.refused r → (answer w c).0 ≡ w
 unfolding answer

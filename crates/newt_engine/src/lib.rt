@@ -2,7 +2,7 @@
 //!
 //! It stands on `newt_engine_units` and `newt_engine_commands`, whose calls mount, change and
 //! read the stores, on `newt_engine_cursors`, whose calls move the cursors among their entries,
-//! and on `newt_script_session`, whose `Interpreter` says what a script asks of an engine. It
+//! and on no watches or working copies, which `newt_engine_whole` has beside it. It
 //! carries the promise of one command: units, cursors and devices stand for one world, or for
 //! several where a device has failed; from each of them a command that is of its form makes a step
 //! to one that is stood for then, at each moment a crash leaves each unit as in the one or in the

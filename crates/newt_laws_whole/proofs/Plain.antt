@@ -13,7 +13,7 @@ use Rattle.newt_spec_whole.specs.Events.{Event, events}
 use Rattle.newt_spec_whole.specs.Refused.{whole_checks}
 use Rattle.newt_spec_whole.specs.Answer.{whole_answer, whole_answered, whole_fields, watches_after, copies_after}
 use Rattle.newt_laws_whole.specs.Since.{if_done}
-use Rattle.newt_laws_whole.specs.Runs.{is_plain}
+use Rattle.newt_laws_world.specs.Worlds.{is_plain}
 use Rattle.newt_laws_whole.specs.Steps.{notes_of, noting}
 
 plain-checks : (h : Whole) (c : Command) → is_plain c ≡ true → whole_checks h c ≡ checks h.world c

@@ -17,7 +17,7 @@ use Rattle.newt_spec_whole.specs.Whole.{Whole, asks, in_world}
 use Rattle.newt_spec_whole.specs.Refused.{whole_checks}
 use Rattle.newt_spec_whole.specs.Answer.{whole_answer, whole_answered, world_after as world_behind_asked}
 use Rattle.newt_spec_whole.specs.Step.{WholeStep, plain, found, thrown, halfway, whole_thrown}
-use Rattle.newt_laws_whole.specs.Runs.{is_plain}
+use Rattle.newt_laws_world.specs.Worlds.{is_plain}
 use Rattle.newt_laws_whole.specs.Steps.{notes_of, noting}
 use Rattle.newt_laws_whole.proofs.Plain.{plain-answer, plain-asks}
 

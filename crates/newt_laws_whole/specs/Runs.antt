@@ -1,5 +1,5 @@
--- The commands of the whole, by what they ask of the world.
-use Rattle.std.specs.Prelude.{◌≡◌, ℕ, Bool, true, false, nat_lt, Some}
+-- What holds of worlds and of drafts while commands go on.
+use Rattle.std.specs.Prelude.{◌≡◌, ℕ, true, false, nat_lt, Some}
 use Rattle.newt_graph.specs.Graph.{RawGraph}
 use Rattle.newt_spec_graph.specs.Graph.{is_frame, object}
 use Rattle.newt_spec_graph.specs.Limits.{within_limits}
@@ -9,21 +9,6 @@ use Rattle.newt_spec_store.specs.Valid.{well_formed}
 use Rattle.newt_work.specs.Work.{Copy}
 use Rattle.newt_spec_world.specs.World.{World, mounted_store}
 use Rattle.newt_spec_whole.specs.Whole.{Whole, copy}
-use Rattle.newt_spec_world.specs.declared.command.Command.{Command}
-use Rattle.newt_spec_world.specs.declared.command.Command.TheVariants as command
-
--- the commands that are asked of the world as they are (this project's own)
-unfoldable pub is_plain : Command → Bool
-is_plain (command.Watch _ _) = false
-is_plain (command.Notes _) = false
-is_plain (command.Unwatch _) = false
-is_plain (command.Open _ _ _) = false
-is_plain (command.Draft _) = false
-is_plain (command.Edit _ _ _) = false
-is_plain (command.Save _) = false
-is_plain (command.Revert _) = false
-is_plain (command.Discard _) = false
-is_plain _ = true
 
 -- The graph can be that of an entry: its root is a frame, it is within the limits, and its skeleton
 -- is not too large. (this project's own)

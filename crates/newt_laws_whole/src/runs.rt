@@ -1,8 +1,9 @@
 //! Laws of the world in the whole: it goes through worlds of a run of its own commands.
 ghost use Rattle.std.specs.Prelude.{ℕ, ◌≡◌, true, Some, None};
-ghost use Rattle.newt_laws_whole.specs.Runs.{is_plain, CanBeEntry, AllFormed, DraftsFit};
+ghost use Rattle.newt_laws_whole.specs.Runs.{CanBeEntry, AllFormed, DraftsFit};
 ghost use Rattle.newt_laws_whole.specs.Since.{IsDone};
 ghost use Rattle.newt_laws_whole.specs.Steps.{notes_of, noting};
+ghost use Rattle.newt_laws_world.specs.Worlds.{is_plain};
 ghost use Rattle.newt_spec_whole.specs.Answer.{whole_answer};
 ghost use Rattle.newt_spec_whole.specs.Whole.{Whole, copy, living, asks, change_of};
 ghost use Rattle.newt_spec_world.specs.Alias.{Spot};

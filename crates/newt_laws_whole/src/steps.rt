@@ -1,8 +1,8 @@
 //! Laws of steps of the whole, where devices may fail.
 ghost use Rattle.std.specs.Prelude.{ℕ, ◌≡◌, true, IsTrue, List, Option, None, Some};
 ghost use Rattle.newt_laws_steps.specs.Steps.{AllSure, AreQuiet, IsQuiet};
-ghost use Rattle.newt_laws_whole.specs.Runs.{is_plain};
 ghost use Rattle.newt_laws_whole.specs.Steps.{notes_of, noting};
+ghost use Rattle.newt_laws_world.specs.Worlds.{is_plain};
 ghost use Rattle.newt_spec_script.specs.Rows.{IsRun, Row, replies_of, world_behind};
 ghost use Rattle.newt_spec_script.specs.Script.{Item as IsItem, replies_to, world_after};
 ghost use Rattle.newt_spec_store.specs.Store.{Store};

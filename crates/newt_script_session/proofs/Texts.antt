@@ -7,6 +7,7 @@ use Rattle.newt_base.proofs.Numerals.{decimal_written}
 use Rattle.newt_spec_script.specs.Generator.{begins, summary, summary_line}
 use Rattle.newt_script_session.specs.Counts.{Counts, Tallies, lines_of_tally, summary_of}
 use Rattle.newt_spec_script.specs.Rows.{Row, reply_texts}
+use Rattle.newt_spec_whole.specs.Whole.{Whole}
 use Rattle.newt_script_session.specs.declared.tally.Tally.{Tally}
 
 one_at_most : (b : Bool) → cond b 1 0 ≤ 1

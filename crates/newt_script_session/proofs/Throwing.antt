@@ -2,6 +2,7 @@
 use Rattle.std.proofs.Common.{◌≡◌, ℕ, ◌+◌, ◌≤◌, Bool, true, false, cond, List, [], ◌∷◌, ◌++◌, length, filter, refl, sym, ◌∙◌, ap, subst, arith}
 use Rattle.newt_host.specs.Outside.{Rose}
 use Rattle.newt_spec_script.specs.Rows.{Row, throws, thrown_count}
+use Rattle.newt_spec_whole.specs.Whole.{Whole}
 use Rattle.newt_spec_world.specs.Reply.{Reply}
 use Rattle.newt_laws_steps.specs.Thrown.{Failed, RoseBy, RowsFailed, RowsThrew, Threw}
 
@@ -42,7 +43,7 @@ failed_one row was is failed unit none = go (throws unit row.1) refl
 both_rose : (a b was mid is : ℕ) → was ≤ mid → mid ≤ is → RoseBy a was mid → RoseBy b mid is → RoseBy (a + b) was is
 both_rose a b was mid is low high first second = omega (arith, first, second)
 
-pub threw_none : (was is : ℕ → ℕ) → ((unit : ℕ) → is unit ≡ was unit) → RowsThrew [] was is
+pub threw_none : (was is : ℕ → ℕ) → ((unit : ℕ) → is unit ≡ was unit) → RowsThrew {Whole} [] was is
 threw_none was is same = record { later = λ unit. omega (arith, same unit); rose = λ unit. omega (arith, same unit) }
 
 pub threw_both : (a b : List (Row Whole)) (was mid is : ℕ → ℕ) → RowsThrew a was mid → RowsThrew b mid is → RowsThrew (a ++ b) was is

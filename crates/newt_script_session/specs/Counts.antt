@@ -3,6 +3,7 @@ use Rattle.std.specs.Prelude.{◌≡◌, ℕ, ◌≤◌, ◌<◌, ◌*◌, ◌^�
 use Rattle.std.specs.Prelude.{sum_by}
 use Rattle.newt_spec_script.specs.Rows.{Row, reply_texts}
 use Rattle.newt_spec_script.specs.Generator.{begins, summary, summary_line}
+use Rattle.newt_spec_whole.specs.Whole.{Whole}
 use Rattle.newt_script_session.specs.declared.tally.Tally.{Tally}
 
 -- The tally is that of these texts, each of which fits the memory.
