@@ -101,10 +101,10 @@ impl Work {
     }
 
     /// Takes another draft. It takes no memory.
-    pub fn redraft(&mut self, draft: Graph)
-        ensures { self.new ≡ edited draft self.old }
+    pub fn redraft(&mut self, graph: Graph)
+        ensures { self.new ≡ edited graph self.old }
     {
-        self.draft = draft;
+        self.draft = graph;
     }
 
     /// Begins anew from another state of the entry, whose graph is given twice. It takes no memory.
