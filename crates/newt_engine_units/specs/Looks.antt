@@ -2,7 +2,7 @@
 use Rattle.std.specs.Prelude.{◌≡◌, ℕ, ◌≤◌, nat_lt, Bool, true, false, not, ◌||◌, List, [], ◌∷◌, slice_get, Option, Some, None, is_none, option_map, option_and_then, Result, Ok, Err}
 use Rattle.newt_base.specs.declared.Refusal.TheVariants.{Unit as NoUnit, Blocks, Mounted, Notmounted, Soup as NoSoup}
 use Rattle.newt_base.specs.Refusals.{Checks}
-use Rattle.newt_spec_store.specs.Store.{Store, soup_named, soup_of}
+use Rattle.newt_spec_store.specs.Store.{Store, soup_named}
 use Rattle.newt_store_change.specs.declared.fault.StoreFault.{StoreFault}
 use Rattle.newt_store_change.specs.Faults.{RefusesBy}
 use Rattle.newt_engine_units.specs.declared.units.Slot.{Slot}
@@ -53,9 +53,12 @@ module _ {C : Type 0} (soups : C → Store) where
   soup_on units u name = known_soup units.slots.items u name
 
   -- the id that the next entry of a soup of the card that is mounted on a unit gets
-  abbrev pub next_uid_on : Units C → ℕ → ℕ → Option ℕ
-  next_uid_on units u sig = option_and_then
-      (λ card. option_map (λ p. p.next_uid) (soup_of sig (soups card))) (card_at units.slots.items u)
+  abbrev pub known_uid : List (Slot C) → ℕ → List ℕ → Option ℕ
+  known_uid slots u name = option_and_then
+      (λ card. option_map (λ p. p.next_uid) (soup_named name (soups card))) (card_at slots u)
+
+  abbrev pub next_uid_on : Units C → ℕ → List ℕ → Option ℕ
+  next_uid_on units u name = known_uid units.slots.items u name
 
   -- whether unit, card and soup are there
   abbrev pub known_checks : List (Slot C) → ℕ → List ℕ → Checks

@@ -65,11 +65,11 @@ impl<C: Card> Units<C> {
     }
 
     /// The id that the next entry of a soup on a unit gets. It takes no memory.
-    pub fn next_uid(&self, unit: Unit, soup: Sig) -> Option<u32>
-        ensures { result ≡ next_uid_on C.soups self.now unit soup }
+    pub fn next_uid(&self, unit: Unit, name: &Name) -> Option<u32>
+        ensures { result ≡ next_uid_on C.soups self.now unit name.now }
     {
         match self.card(unit) {
-            Some(card) => card.next_uid(soup),
+            Some(card) => card.next_uid(name),
             None => None,
         }
     }

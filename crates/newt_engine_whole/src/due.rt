@@ -1,12 +1,10 @@
 //! The notes that are due of a command, by what is known before it.
-ghost use Rattle.std.specs.Prelude.{◌≡◌, ℕ, true, None, IfOk};
-ghost use Rattle.newt_base.specs.Refusals.{first_of};
+ghost use Rattle.std.specs.Prelude.{◌≡◌, ℕ, true, IfOk};
 ghost use Rattle.newt_host.specs.Outside.{Outside};
-ghost use Rattle.newt_spec_whole.specs.Events.{events};
-ghost use Rattle.newt_spec_world.specs.Answer.{answer};
-ghost use Rattle.newt_spec_world.specs.Refused.{checks};
+ghost use Rattle.newt_spec_whole.specs.Events.{add_event, entry_event, events};
+ghost use Rattle.newt_spec_world.specs.Reply.{Reply};
 ghost use Rattle.newt_engine_units.specs.Stands.{Eight, Stands, world_of};
-ghost use Rattle.newt_engine_whole.specs.Told.{all_due, event_of};
+ghost use Rattle.newt_engine_whole.specs.Told.{HasSig, all_due, event_of};
 
 use newt_base::{Name, Sig, Uid};
 use newt_engine_card::Card;
@@ -34,69 +32,62 @@ pub(crate) enum Due {
     Two(Told, Told),
 }
 
-/// The notes that are due of a command, where it is done. Their room is taken here.
+/// The notes that are due of a command, where it is done. Their memory is taken here.
 pub(crate) fn due_of<C: Card>(units: &Units<C>, command: &Command) -> Result<Due, AllocError>
     ensures { (outside : Outside) → Eight outside
         → Stands C.place C.stands true units.now outside →
         let w = world_of C.reads units.now outside in
-        first_of (checks w command.now) ≡ None
-        → IfOk result (λ due. all_due due (answer w command.now).1 ≡ events w command.now) }
+        IfOk result (λ due. (reply : Reply) → HasSig w command.now reply
+        → all_due due reply ≡ events w command.now) }
 {
     match command {
         Command::Soup(unit, name) => Ok(Due::Soup(*unit, name.copy()?)),
-        Command::Drop(unit, name) => of_entry(units, Kind::Gone, *unit, name, Uid(0)),
-        Command::Add(unit, name, _) => of_add(units, *unit, name),
-        Command::Addx(unit, name, _) => of_add(units, *unit, name),
+        Command::Drop(unit, name) => {
+            Ok(Due::One(told(units, Kind::Gone, *unit, name, Uid(0))?))
+        }
+        Command::Add(unit, name, _) => Ok(Due::One(added(units, *unit, name)?)),
+        Command::Addx(unit, name, _) => Ok(Due::One(added(units, *unit, name)?)),
         Command::Addu(name, _) => match units.default_unit() {
-            Some(unit) => of_add(units, unit, name),
+            Some(unit) => Ok(Due::One(added(units, unit, name)?)),
             None => Ok(Due::Nothing),
         },
-        Command::Copy(_, _, _, to, target) => of_add(units, *to, target),
-        Command::Set(unit, name, uid, _, _) => of_entry(units, Kind::Change, *unit, name, *uid),
-        Command::Change(unit, name, uid, _) => of_entry(units, Kind::Change, *unit, name, *uid),
+        Command::Copy(_, _, _, to, target) => Ok(Due::One(added(units, *to, target)?)),
+        Command::Set(unit, name, uid, _, _) => {
+            Ok(Due::One(told(units, Kind::Change, *unit, name, *uid)?))
+        }
+        Command::Change(unit, name, uid, _) => {
+            Ok(Due::One(told(units, Kind::Change, *unit, name, *uid)?))
+        }
         Command::Vwrite(unit, name, uid, _, _, _) => {
-            of_entry(units, Kind::Change, *unit, name, *uid)
+            Ok(Due::One(told(units, Kind::Change, *unit, name, *uid)?))
         }
-        Command::Remove(unit, name, uid) => of_entry(units, Kind::Remove, *unit, name, *uid),
-        Command::Move(unit, name, uid, to, target) => {
-            both(of_add(units, *to, target)?, of_entry(units, Kind::Remove, *unit, name, *uid)?)
+        Command::Remove(unit, name, uid) => {
+            Ok(Due::One(told(units, Kind::Remove, *unit, name, *uid)?))
         }
+        Command::Move(unit, name, uid, to, target) => Ok(Due::Two(
+            added(units, *to, target)?,
+            told(units, Kind::Remove, *unit, name, *uid)?,
+        )),
         _ => Ok(Due::Nothing),
     }
 }
 
-/// That a soup, or an entry in it, is not as it was.
-fn of_entry<C: Card>(
+/// That an entry of a soup, or the soup itself, is not as it was.
+fn told<C: Card>(
     units: &Units<C>,
     kind: Kind,
     unit: Unit,
     name: &Name,
     uid: Uid,
-) -> Result<Due, AllocError>
+) -> Result<Told, AllocError>
+    ensures { (outside : Outside) → Eight outside
+        → Stands C.place C.stands true units.now outside → IfOk result (λ told.
+        event_of told ≡ entry_event (world_of C.reads units.now outside) kind unit name.now uid) }
 {
-    match units.soup_sig(unit, name) {
-        Some(soup) => Ok(Due::One(told(kind, unit, name, soup, uid)?)),
-        None => Ok(Due::Nothing),
-    }
-}
-
-/// That an entry is added to a soup, with its next id.
-fn of_add<C: Card>(units: &Units<C>, unit: Unit, name: &Name) -> Result<Due, AllocError>
-{
-    let Some(soup) = units.soup_sig(unit, name) else {
-        return Ok(Due::Nothing);
+    let soup = match units.soup_sig(unit, name) {
+        Some(soup) => soup,
+        None => Sig(0),
     };
-    match units.next_uid(unit, soup) {
-        Some(uid) => Ok(Due::One(told(Kind::Add, unit, name, soup, Uid(uid))?)),
-        None => Ok(Due::Nothing),
-    }
-}
-
-fn told(kind: Kind, unit: Unit, name: &Name, soup: Sig, uid: Uid) -> Result<Told, AllocError>
-    ensures name { IfOk result (λ told. told.name ≡ name.now) }
-    ensures note { IfOk result (λ told. told.note
-        ≡ record { kind = kind; unit = unit; soup = soup; uid = uid }) }
-{
     Ok(Told {
         name: name.copy()?,
         note: Note {
@@ -108,11 +99,15 @@ fn told(kind: Kind, unit: Unit, name: &Name, soup: Sig, uid: Uid) -> Result<Told
     })
 }
 
-/// The one note behind the other.
-fn both(first: Due, second: Due) -> Result<Due, AllocError>
+/// That an entry is added to a soup, with its next id.
+fn added<C: Card>(units: &Units<C>, unit: Unit, name: &Name) -> Result<Told, AllocError>
+    ensures { (outside : Outside) → Eight outside
+        → Stands C.place C.stands true units.now outside → IfOk result (λ told.
+        event_of told ≡ add_event (world_of C.reads units.now outside) unit name.now) }
 {
-    match (first, second) {
-        (Due::One(first), Due::One(second)) => Ok(Due::Two(first, second)),
-        _ => Ok(Due::Nothing),
-    }
+    let uid = match units.next_uid(unit, name) {
+        Some(uid) => Uid(uid),
+        None => Uid(0),
+    };
+    told(units, Kind::Add, unit, name, uid)
 }

@@ -1,15 +1,12 @@
 //! Watches: they are made, asked and taken away, and told of changes.
-ghost use Rattle.std.specs.Prelude.{◌≡◌, ◌≤◌, ℕ, List, Option, OnOk};
-ghost use Rattle.newt_host.specs.Outside.{Outside};
-ghost use Rattle.newt_laws_world.specs.Worlds.{has_form};
-ghost use Rattle.newt_laws_world.specs.Worlds.{is_plain};
-ghost use Rattle.newt_notify.specs.Watch.{Watching, kept_all};
+ghost use Rattle.std.specs.Prelude.{◌≡◌, ◌≤◌, true, [], ◌∷◌};
+ghost use Rattle.newt_laws_world.specs.Worlds.{has_form, is_plain};
 ghost use Rattle.newt_reply.specs.Said.{said};
-ghost use Rattle.newt_spec_whole.specs.Events.{note_all};
 ghost use Rattle.newt_spec_world.specs.declared.command.Command.TheVariants as asked;
 ghost use Rattle.newt_engine_whole.specs.Calls.{AnsweredApart, Applied};
 ghost use Rattle.newt_engine_whole.specs.Standing.{Standing};
-ghost use Rattle.newt_engine_whole.specs.Told.{due_told, has_added};
+ghost use Rattle.newt_engine_whole.specs.Told.{Tells, all_due, due_told, event_of, failed_due};
+ghost use Rattle.newt_engine_whole.specs.Told.{has_added, made};
 
 use crate::due::{Due, Told, due_of};
 use crate::whole::Whole;
@@ -77,35 +74,23 @@ impl<C: Card> Whole<C> {
 
     /// Tells the watches what is due behind a reply. It takes no memory.
     fn tell(&mut self, due: &Due, reply: &Reply)
-        ensures watches { (watches : List (Option Watching))
-            → self.old.watches ≡ kept_all watches
-            → self.new.watches ≡ kept_all (note_all
-            (due_told C.soups self.old.world.units due.now (said reply.now)) watches) }
-        ensures world { self.new.world ≡ self.old.world }
-        ensures works { self.new.works ≡ self.old.works }
+        ensures { Tells (due_told C.soups self.old.world.units due.now (said reply.now))
+            self.old self.new }
     {
         match reply {
             Reply::Refused(_) => {}
             Reply::Thrown(unit) => self.tell_halfway(due, *unit),
-            Reply::Number(number) => self.tell_done(due, *number),
-            _ => self.tell_done(due, 0),
+            other => self.tell_done(due, other),
         }
     }
 
-    /// Tells what is due of a command that was done, with the number in its reply.
-    fn tell_done(&mut self, due: &Due, number: u32)
+    /// Tells what is due of a command that was done.
+    fn tell_done(&mut self, due: &Due, reply: &Reply)
+        ensures { Tells (all_due due.now (said reply.now)) self.old self.new }
     {
         match due {
             Due::Nothing => {}
-            Due::Soup(unit, name) => {
-                let note = Note {
-                    kind: Kind::Make,
-                    unit: *unit,
-                    soup: Sig(number),
-                    uid: Uid(0),
-                };
-                self.watches.note(name, note);
-            }
+            Due::Soup(unit, name) => self.tell_made(*unit, name, reply),
             Due::One(told) => self.tell_one(told),
             Due::Two(first, second) => {
                 self.tell_one(first);
@@ -114,9 +99,26 @@ impl<C: Card> Whole<C> {
         }
     }
 
+    /// Tells that a soup was made, whose signature is in the reply.
+    fn tell_made(&mut self, unit: Unit, name: &Name, reply: &Reply)
+        ensures { Tells (made unit name.now (said reply.now)) self.old self.new }
+    {
+        if let Reply::Number(sig) = reply {
+            let note = Note {
+                kind: Kind::Make,
+                unit,
+                soup: Sig(*sig),
+                uid: Uid(0),
+            };
+            self.watches.note(name, note);
+        }
+    }
+
     /// Tells of the add of a move to another unit, where it was done before the device of the source
     /// failed.
     fn tell_halfway(&mut self, due: &Due, failed: Unit)
+        ensures { Tells (failed_due C.soups self.old.world.units due.now failed)
+            self.old self.new }
     {
         let Due::Two(first, second) = due else {
             return;
@@ -130,10 +132,15 @@ impl<C: Card> Whole<C> {
     fn has_added(&self, add: &Told) -> bool
         ensures { result ≡ has_added C.soups self.now.world.units add.now }
     {
-        self.world.units().next_uid(add.note.unit, add.note.soup) != Some(add.note.uid.0)
+        match self.world.units().next_uid(add.note.unit, &add.name) {
+            Some(next) => next != add.note.uid.0,
+            None => false,
+        }
     }
 
+    /// Tells one note.
     fn tell_one(&mut self, told: &Told)
+        ensures { Tells (event_of told.now ∷ []) self.old self.new }
     {
         self.watches.note(&told.name, told.note);
     }

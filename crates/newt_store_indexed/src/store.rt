@@ -145,8 +145,8 @@ impl<P: PageBook> Card for IndexedStore<P> {
         }
     }
 
-    fn next_uid(&self, soup: Sig) -> Option<u32> {
-        match self.store.directory().soup_of(soup) {
+    fn next_uid(&self, name: &Name) -> Option<u32> {
+        match self.store.directory().soup_named(name.list()) {
             Some(row) => Some(row.next_uid),
             None => None,
         }
