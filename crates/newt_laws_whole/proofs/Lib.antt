@@ -5,3 +5,4 @@ pub mod Saving
 pub mod Watched
 pub mod Fits
 pub mod Stepping
+pub mod Telling

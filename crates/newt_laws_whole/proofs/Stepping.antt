@@ -16,10 +16,10 @@ use Rattle.newt_laws_steps.proofs.Stepping.{looks-sure, row-sure}
 use Rattle.newt_spec_whole.specs.Whole.{Whole, asks, in_world}
 use Rattle.newt_spec_whole.specs.Refused.{whole_checks}
 use Rattle.newt_spec_whole.specs.Answer.{whole_answer, whole_answered, world_after as world_behind_asked}
-use Rattle.newt_spec_whole.specs.Step.{WholeStep, plain, found, thrown, halfway, whole_thrown}
+use Rattle.newt_spec_whole.specs.Step.{WholeStep, plain, found, thrown, halfway}
 use Rattle.newt_laws_world.specs.Worlds.{is_plain}
 use Rattle.newt_laws_whole.specs.Steps.{notes_of, noting}
-use Rattle.newt_laws_whole.proofs.Plain.{plain-answer, plain-asks}
+use Rattle.newt_laws_whole.proofs.Plain.{plain-answer}
 
 -- ---- without a failure
 
@@ -71,6 +71,3 @@ pub found-steps : (h : Whole) (c : Command) (u : ℕ) (v w : World) (r : Reply) 
     → answer v c ≡ (w, r) → WholeStep h c (noting h w (notes_of v c)) r
 found-steps h c u v w r p looks has is =
     found looks has (plain-answer (in_world h v) c p ∙ ap (λ (a : World × Reply). (noting h a.0 (notes_of v c), a.1)) is)
-
-pub thrown-steps : (h : Whole) (c : Command) (u : ℕ) → is_plain c ≡ true → WholeStep h c (whole_thrown h c u) (Reply.thrown u)
-thrown-steps h c u p = thrown (plain-asks h c p) refl refl

@@ -1,9 +1,13 @@
 -- The whole behind a step of its world.
-use Rattle.std.specs.Prelude.{List}
+use Rattle.std.specs.Prelude.{Bool, false, not, ◌==◌, ◌&&◌, List, [], take, if◌then◌else◌}
 use Rattle.newt_base.specs.Refusals.{first_of}
+use Rattle.newt_spec_world.specs.Answer.{new_uid}
+use Rattle.newt_spec_world.specs.Reply.{Reply}
+use Rattle.newt_spec_world.specs.Step.{moves_away}
 use Rattle.newt_spec_world.specs.World.{World}
 use Rattle.newt_spec_world.specs.Refused.{checks}
 use Rattle.newt_spec_world.specs.declared.command.Command.{Command}
+use Rattle.newt_spec_world.specs.declared.command.Command.TheVariants as command
 use Rattle.newt_spec_whole.specs.Whole.{Whole}
 use Rattle.newt_spec_whole.specs.Events.{Event, events, note_all}
 use Rattle.newt_laws_whole.specs.Since.{if_done}
@@ -15,3 +19,17 @@ notes_of w c = if_done (first_of (checks w c)) (events w c)
 -- the whole with this world, with these notes given (a word of these definitions)
 abbrev pub noting : Whole → World → List Event → Whole
 noting h w es = record h { world = w; watches = note_all es h.watches }
+
+-- the target of a move has taken an id from the one world to the other (this project's own)
+abbrev pub has_taken : World → Command → World → Bool
+has_taken w (command.Move t s uid x y) v = not (new_uid v x y == new_uid w x y)
+has_taken w c v = false
+
+-- The notes of a step, as the world behind it tells them: none of a command that is refused; where
+-- the device of a unit failed, the first of a move away from it whose target has taken an id; and
+-- else all of the command. (this project's own)
+abbrev pub notes_behind : World → Command → World → Reply → List Event
+notes_behind w c v (Reply.refused refusal) = []
+notes_behind w c v (Reply.thrown u) =
+    if moves_away c u && has_taken w c v then take 1 (events w c) else []
+notes_behind w c v reply = events w c

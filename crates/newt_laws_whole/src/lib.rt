@@ -12,5 +12,5 @@ mod watches;
 
 pub use copies::{begun, kept, saved};
 pub use runs::{drafts_stay_fit, other_commands, plain_commands, saves_are_changes};
-pub use steps::{commands_of_the_world_step_as_there, quiet_whole_steps_are_plain};
+pub use steps::{quiet_whole_steps_are_plain, steps_of_the_world_tell_their_notes};
 pub use watches::{taken, told};

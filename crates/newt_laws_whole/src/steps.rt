@@ -1,18 +1,17 @@
 //! Laws of steps of the whole, where devices may fail.
-ghost use Rattle.std.specs.Prelude.{ℕ, ◌≡◌, true, IsTrue, List, Option, None, Some};
+ghost use Rattle.std.specs.Prelude.{ℕ, ◌≡◌, true, List, Option};
 ghost use Rattle.newt_laws_steps.specs.Steps.{AllSure, AreQuiet, IsQuiet};
-ghost use Rattle.newt_laws_whole.specs.Steps.{notes_of, noting};
+ghost use Rattle.newt_laws_whole.specs.Steps.{notes_behind, noting};
 ghost use Rattle.newt_laws_world.specs.Worlds.{is_plain};
 ghost use Rattle.newt_spec_script.specs.Rows.{IsRun, Row, replies_of, world_behind};
 ghost use Rattle.newt_spec_script.specs.Script.{Item as IsItem, replies_to, world_after};
 ghost use Rattle.newt_spec_store.specs.Store.{Store};
 ghost use Rattle.newt_spec_whole.specs.Answer.{whole_answer};
 ghost use Rattle.newt_spec_whole.specs.First.{whole_of};
-ghost use Rattle.newt_spec_whole.specs.Step.{WholeStep, whole_thrown};
+ghost use Rattle.newt_spec_whole.specs.Step.{WholeStep};
 ghost use Rattle.newt_spec_whole.specs.Whole.{Whole};
-ghost use Rattle.newt_spec_world.specs.Answer.{answer};
 ghost use Rattle.newt_spec_world.specs.Reply.{Reply};
-ghost use Rattle.newt_spec_world.specs.Step.{Found, looks_anew};
+ghost use Rattle.newt_spec_world.specs.Step.{Step};
 ghost use Rattle.newt_spec_world.specs.World.{World};
 ghost use Rattle.newt_spec_world.specs.declared.command.Command.{Command as IsCommand};
 
@@ -33,16 +32,9 @@ pub fn quiet_whole_steps_are_plain()
         → world_behind h rows ≡ world_after whole_answer h items }
 {}
 
-/// Where the world answers a command that is not of watches and copies, or has found on a unit what
-/// it holds and then answers it, the whole makes a step with the notes of that command; and where
-/// the device of a unit fails, it makes one without a note.
-pub fn commands_of_the_world_step_as_there()
-    ensures plain { (h : Whole) (c : IsCommand) (w : World) (r : Reply) → is_plain c ≡ true
-        → looks_anew h.world c ≡ None → answer h.world c ≡ (w, r)
-        → WholeStep h c (noting h w (notes_of h.world c)) r }
-    ensures found { (h : Whole) (c : IsCommand) (u : ℕ) (v w : World) (r : Reply)
-        → is_plain c ≡ true → looks_anew h.world c ≡ Some u → Found h.world u v
-        → answer v c ≡ (w, r) → WholeStep h c (noting h w (notes_of v c)) r }
-    ensures thrown { (h : Whole) (c : IsCommand) (u : ℕ) → is_plain c ≡ true
-        → WholeStep h c (whole_thrown h c u) (Reply.thrown u) }
+/// Where the world makes a step by a command that is not of watches and copies, the whole makes one
+/// with the notes that the world behind it tells.
+pub fn steps_of_the_world_tell_their_notes()
+    ensures { (h : Whole) (c : IsCommand) (v : World) (r : Reply) → is_plain c ≡ true
+        → Step h.world c v r → WholeStep h c (noting h v (notes_behind h.world c v r)) r }
 {}
