@@ -27,7 +27,7 @@ use Rattle.newt_spec_whole.specs.Events.{Event, events}
 use Rattle.newt_spec_whole.specs.Step as wholes
 use Rattle.newt_spec_whole.specs.Step.{WholeStep, whole_thrown}
 use Rattle.newt_laws_whole.specs.Since.{if_done}
-use Rattle.newt_laws_whole.specs.Steps.{notes_of, noting, has_taken, notes_behind}
+use Rattle.newt_laws_whole.specs.Steps.{notes_of, noting, has_taken, is_past, notes_behind}
 use Rattle.newt_laws_whole.proofs.Plain.{plain-asks}
 use Rattle.newt_laws_whole.proofs.Stepping.{plain-steps, found-steps}
 
@@ -94,22 +94,24 @@ away t uid x u s y h = (eqb-true t u (first (t == u) h), λ e. both-ways (sym (o
 out-other : (w : World) (u x : ℕ) (change : Media → Media) → (x ≡ u → ⊥) → mounted_store (settle (thrown_out w u change)) x ≡ mounted_store w x
 out-other w u x change differs = ap on_unit (device-other w u (λ d. record d { media = change d.media; mounted = false }) x differs)
 
--- the next id goes by the store
-uid-by : (v w : World) (x : ℕ) (y : List ℕ) → mounted_store v x ≡ mounted_store w x → new_uid v x y ≡ new_uid w x y
-uid-by v w x y same = ap (λ (o : Option Store). unwrap_or (option_map (λ (p : Soup). p.next_uid) (option_and_then (soup_named y) o)) 0) same
+-- so the soups there do
+soup-by : (v w : World) (x : ℕ) (y : List ℕ) → mounted_store v x ≡ mounted_store w x → soup_in v x y ≡ soup_in w x y
+soup-by v w x y same = ap (option_and_then (soup_named y)) same
 
-same-not-taken : (w v : World) (c : Command) (u : ℕ) → ((t uid x : ℕ) (s y : List ℕ) → c ≡ command.Move t s uid x y → (x ≡ u → ⊥) → new_uid v x y ≡ new_uid w x y)
+-- a soup is not past its own next id
+own-id : (o : Option Soup) → is_past (unwrap_or (option_map (λ (p : Soup). p.next_uid) o) 0) o ≡ false
+own-id None = refl
+own-id (Some p) = ap not ((Decides-eqb p.next_uid p.next_uid).1 refl)
+
+same-not-taken : (w v : World) (c : Command) (u : ℕ) → ((t uid x : ℕ) (s y : List ℕ) → c ≡ command.Move t s uid x y → (x ≡ u → ⊥) → soup_in v x y ≡ soup_in w x y)
     → notes_behind w c v (Reply.thrown u) ≡ []
 same-not-taken w v (command.Move t s uid x y) u same = go (moves_away (command.Move t s uid x y) u) refl
   where
-    not-taken : (n m : ℕ) → n ≡ m → not (n == m) ≡ false
-    not-taken n m e = ap not ((Decides-eqb n m).1 e)
-
     go : (b : Bool) → moves_away (command.Move t s uid x y) u ≡ b
         → (if b && has_taken w (command.Move t s uid x y) v then take 1 (events w (command.Move t s uid x y)) else []) ≡ []
     go false is = refl
     go true is = ap (λ (b : Bool). if b then take 1 (events w (command.Move t s uid x y)) else [])
-        (not-taken (new_uid v x y) (new_uid w x y) (same t uid x s y refl (away t uid x u s y is).1))
+        (ap (is_past (new_uid w x y)) (same t uid x s y refl (away t uid x u s y is).1) ∙ own-id (soup_in w x y))
 same-not-taken w v _ u same = refl
 
 -- ---- a target that has the entry
@@ -190,7 +192,7 @@ module _ (w : World) (t uid x u : ℕ) (s y : List ℕ) (moves : moves_away (com
       go true e = let same : n + 1 ≡ n = (Decides-eqb (n + 1) n).0 e in absurd (omega (arith, same))
 
   pub taken : has_taken w c (world_halfway w c u) ≡ true
-  taken = ap (λ (o : Option Soup). not (unwrap_or (option_map (λ (p : Soup). p.next_uid) o) 0 == new_uid w x y)) soup-after
+  taken = ap (is_past (new_uid w x y)) soup-after
       ∙ ap (λ (o : Option Soup). not ((into.0.next_uid + 1) == unwrap_or (option_map (λ (p : Soup). p.next_uid) o) 0)) into.1
       ∙ one-more into.0.next_uid
 
@@ -224,7 +226,7 @@ steps-tell h c v r p (thrown {u} next is) =
     none : notes_behind h.world c v r ≡ []
     none = ap (notes_behind h.world c v) is
         ∙ same-not-taken h.world v c u (λ t uid x s y e differs.
-        uid-by v h.world x y (ap (λ (k : World). mounted_store k x) next ∙ out-other h.world u x (torn h.world c u) differs))
+        soup-by v h.world x y (ap (λ (k : World). mounted_store k x) next ∙ out-other h.world u x (torn h.world c u) differs))
 steps-tell h c v r p (halfway {u} moves ok next is) =
     wholes.halfway moves ok
     (ap {A = World × List Event} (λ (a : World × List Event). noting h a.0 a.1)
