@@ -48,7 +48,7 @@ module _ {C : Type 0} (soups : C → Store) where
   -- where it was done and the failed unit is the source
   abbrev pub failed_due : Units C → Due → ℕ → List Event
   failed_due units (Two first second) u =
-      if (u == second.note.unit) && not (first.note.unit == u) && has_added units first
+      if ((second.note.unit == u) && not (first.note.unit == u)) && has_added units first
       then event_of first ∷ [] else []
   failed_due units due u = []
 

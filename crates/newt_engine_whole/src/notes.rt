@@ -123,7 +123,7 @@ impl<C: Card> Whole<C> {
         let Due::Two(first, second) = due else {
             return;
         };
-        if failed == second.note.unit && first.note.unit != failed && self.has_added(first) {
+        if second.note.unit == failed && first.note.unit != failed && self.has_added(first) {
             self.tell_one(first);
         }
     }
