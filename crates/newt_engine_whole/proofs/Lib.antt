@@ -1,2 +1,3 @@
 pub mod Meant
 pub mod Telling
+pub mod Asking
