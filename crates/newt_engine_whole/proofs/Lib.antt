@@ -1,3 +1,4 @@
 pub mod Meant
 pub mod Telling
 pub mod Asking
+pub mod Apart

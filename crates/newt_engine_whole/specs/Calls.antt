@@ -19,7 +19,7 @@ use Rattle.newt_engine.specs.Bounds.{is_format, most_stepped}
 use Rattle.newt_engine.specs.Calls.{IsNotThrown}
 use Rattle.newt_engine_whole.specs.Bounds.{most_put, most_taken, whole_means_entries}
 use Rattle.newt_engine_whole.specs.Ends.{whole_takes_memory, whole_uses_device}
-use Rattle.newt_engine_whole.specs.Standing.{Means, Standing, known_whole}
+use Rattle.newt_engine_whole.specs.Standing.{AreKept, DraftsFit, Means, Standing, known_whole}
 use Rattle.newt_engine_whole.specs.declared.whole.Whole.{Whole}
 
 module _ {C : Type 0} (reads : List ℕ → Option Store) where
@@ -45,10 +45,12 @@ module _ {C : Type 0} (reads : List ℕ → Option Store) where
     pub never_thrown : whole_uses_device command ≡ false → IfOk result (λ it. IsNotThrown it)
 
   -- A command that asks nothing of the world, whatever the devices hold: it is answered as the whole
-  -- answers it that is stood for. With want of memory nothing was changed.
+  -- answers it that is stood for, and only what may take memory ends in want of it.
   pub record AnsweredApart (command : Command) (old new : Whole C)
       (result : Result Reply AllocError) : Type 0 where
     pub world : new.world ≡ old.world
+    pub watches : AreKept old.watches → AreKept new.watches
+    pub drafts : DraftsFit old.works → DraftsFit new.works
     pub answered : (outside : Outside) (h : plain.Whole) → Means reads old outside h → IfOk result
         (λ it. (next : plain.Whole) × (whole_answer h command ≡ (next, said it))
         × Means reads new outside next)

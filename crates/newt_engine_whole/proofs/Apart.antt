@@ -1,0 +1,124 @@
+-- A command that asks nothing of the world.
+use Rattle.std.proofs.Common.{◌≡◌, refl, ap, sym, ◌∙◌, subst, arith, ℕ, ◌≤◌, List, Bool, true, false, Option, Some, None, option_and_then}
+use Rattle.std.specs.declared.alloc.AllocError.{AllocError}
+use Rattle.std.specs.Prelude.{IfOk, Result, Ok, Err}
+use Rattle.newt_base.specs.Refusals.{first_of}
+use Rattle.newt_base.specs.declared.Refusal.{Refusal}
+use Rattle.newt_host.specs.Moments.{Always, here}
+use Rattle.newt_host.specs.Outside.{Outside}
+use Rattle.newt_reply.specs.Said.{said}
+use Rattle.newt_reply.specs.declared.reply.Reply.{Reply}
+use Rattle.newt_script_session.specs.Steps.{Stepped}
+use Rattle.newt_spec_graph.proofs.Lists.{among-left, both-ways}
+use Rattle.newt_spec_script.specs.Rows.{throws}
+use Rattle.newt_spec_store.specs.Store.{Store}
+use Rattle.newt_spec_whole.specs.Answer.{told, whole_answer, whole_answered, whole_fields}
+use Rattle.newt_spec_whole.specs.Refused.{whole_checks}
+use Rattle.newt_spec_whole.specs.Step.{WholeStep}
+use Rattle.newt_spec_whole.specs.Step as steps
+use Rattle.newt_spec_whole.specs.Whole as plain
+use Rattle.newt_spec_whole.specs.Whole.{copy, free_watch, watch}
+use Rattle.newt_notify.specs.Watch.{Watching}
+use Rattle.newt_work.specs.Work.{Copy}
+use Rattle.newt_spec_world.specs.Answer.{or_nil}
+use Rattle.newt_spec_world.specs.Reply as replies
+use Rattle.newt_spec_world.specs.Step.{looks_at, unsure_look}
+use Rattle.newt_spec_world.specs.World.{World, stores_on}
+use Rattle.newt_spec_world.specs.declared.command.Command.{Command}
+use Rattle.newt_spec_world.specs.declared.command.Command.TheVariants as command
+use Rattle.newt_laws_steps.specs.Answering.{Answering}
+use Rattle.newt_laws_steps.specs.StandsFor.{Marks, StandsFor}
+use Rattle.newt_laws_steps.proofs.Held.{stands-left}
+use Rattle.newt_engine.specs.Standing.{marks_of}
+use Rattle.newt_engine_whole.specs.Standing.{Means}
+use Rattle.newt_engine_whole.specs.declared.whole.Whole.{Whole}
+
+-- where nothing happens a crash leaves each unit as it was
+at-rest : (reads : List ℕ → Option Store) (marks : Marks) (o : Outside) (w : World) → StandsFor reads marks o w → (c : Command) (v : World)
+    → Always (Answering reads w c v o.now) o.now o.now
+at-rest reads marks o w m c v = here (record {
+  unread = refl;
+  quiet = refl;
+  stores = λ u s left k may. let r = stands-left reads marks o w m u s left k may in (r.0, among-left (stores_on w u) (stores_on v u) r.0 r.1, r.2);
+  images = λ u blank stays. refl;
+  others = λ u left blank stays may. may;
+})
+
+-- the command asks nothing of the world
+abbrev pub is_apart : Command → Bool
+is_apart (command.Watch s most) = true
+is_apart (command.Notes n) = true
+is_apart (command.Unwatch n) = true
+is_apart (command.Draft n) = true
+is_apart (command.Edit n path g) = true
+is_apart (command.Discard n) = true
+is_apart c = false
+
+nil_quiet : {X : Type 0} (shown : X → replies.Reply) (u : ℕ) (o : Option X) → ((x : X) → throws u (shown x) ≡ false) → throws u (or_nil shown o) ≡ false
+nil_quiet shown u None good = refl
+nil_quiet shown u (Some x) good = good x
+
+-- its reply says of no unit that its device failed
+apart-quiet : (h : plain.Whole) (c : Command) (u : ℕ) → is_apart c ≡ true → throws u (whole_answer h c).1 ≡ false
+unfolding whole_answer whole_fields
+apart-quiet h (command.Watch s most) u a = go (first_of (whole_checks h (command.Watch s most)))
+  where
+    go : (o : Option Refusal) → throws u (whole_answered h (command.Watch s most) o).1 ≡ false
+    go (Some r) = refl
+    go None = nil_quiet {X = ℕ} replies.Reply.number u (free_watch h) (λ n. refl)
+apart-quiet h (command.Notes n) u a = go (first_of (whole_checks h (command.Notes n)))
+  where
+    go : (o : Option Refusal) → throws u (whole_answered h (command.Notes n) o).1 ≡ false
+    go (Some r) = refl
+    go None = nil_quiet {X = Watching} told u (watch h n) (λ w. refl)
+apart-quiet h (command.Unwatch n) u a = go (first_of (whole_checks h (command.Unwatch n)))
+  where
+    go : (o : Option Refusal) → throws u (whole_answered h (command.Unwatch n) o).1 ≡ false
+    go (Some r) = refl
+    go None = refl
+apart-quiet h (command.Draft n) u a = go (first_of (whole_checks h (command.Draft n)))
+  where
+    go : (o : Option Refusal) → throws u (whole_answered h (command.Draft n) o).1 ≡ false
+    go (Some r) = refl
+    go None = nil_quiet {X = Copy} (λ k. replies.Reply.literal_of k.draft) u (copy h n) (λ k. refl)
+apart-quiet h (command.Edit n path g) u a = go (first_of (whole_checks h (command.Edit n path g)))
+  where
+    go : (o : Option Refusal) → throws u (whole_answered h (command.Edit n path g) o).1 ≡ false
+    go (Some r) = refl
+    go None = refl
+apart-quiet h (command.Discard n) u a = go (first_of (whole_checks h (command.Discard n)))
+  where
+    go : (o : Option Refusal) → throws u (whole_answered h (command.Discard n) o).1 ≡ false
+    go (Some r) = refl
+    go None = refl
+apart-quiet h _ u a = absurd (both-ways (sym a))
+
+apart-looks : (c : Command) → is_apart c ≡ true → looks_at c ≡ None
+apart-looks (command.Format u name sig) a = absurd (both-ways (sym a))
+apart-looks (command.Mount u) a = absurd (both-ways (sym a))
+apart-looks _ a = refl
+
+-- it makes a step, whatever became of the call
+pub apart-stepped : {C : Type 0} (reads : List ℕ → Option Store) (old new : Whole C) (o : Outside) (c : Command) (h : plain.Whole) (result : Result Reply AllocError) → is_apart c ≡ true → Means reads old o h
+    → IfOk result (λ it. (next : plain.Whole) × (whole_answer h c ≡ (next, said it)) × Means reads new o next)
+    → Stepped WholeStep reads c result h (Means reads new o) o.now o.now o.dev_faults o.dev_faults
+apart-stepped reads old new o c h result apart m answered = record {
+  next = a.0;
+  reply = a.1;
+  steps = steps.plain (ap (option_and_then (unsure_look h.world)) (apart-looks c apart)) refl;
+  threw = record { later = λ u. omega arith; rose = λ u k. absurd (both-ways (sym (apart-quiet h c u apart) ∙ k)) };
+  answered = go result answered;
+  moments = at-rest reads (marks_of old.world) o h.world m.world c a.0.world;
+}
+  where
+    a : plain.Whole × replies.Reply
+    a = whole_answer h c
+
+    go : (r : Result Reply AllocError) → IfOk r (λ it. (next : plain.Whole) × (whole_answer h c ≡ (next, said it)) × Means reads new o next)
+        → IfOk r (λ it. (said it ≡ a.1) × Means reads new o a.0 × ((unit : ℕ) → throws unit a.1 ≡ false → o.dev_faults unit ≡ o.dev_faults unit))
+    go (Ok it) (next, is, means) = (
+      sym (ap (λ (x : plain.Whole × replies.Reply). x.1) is),
+      subst (Means reads new o) (sym (ap (λ (x : plain.Whole × replies.Reply). x.0) is)) means,
+      λ unit k. refl,
+    )
+    go (Err e) x = tt
