@@ -27,7 +27,7 @@ Example = tuple[str, str]
 def of_commands() -> tuple[list[Example], list[Example]]:
     """The lines and replies before the session, and those of the session. `quit` is left out, since it ends a script."""
     before, _, session = (DOCS / "COMMANDS.md").read_text().partition("\n## Units and stores\n")
-    session = session.partition("\n## Modes\n")[0]
+    session = session.partition("\n## When a card fails\n")[0]
 
     def pairs(text: str) -> list[Example]:
         shown = re.findall(r"^    (\S.*)$", text, re.MULTILINE)
