@@ -4,3 +4,4 @@ pub mod Told
 pub mod Bounds
 pub mod Calls
 pub mod Laws
+pub mod Copies

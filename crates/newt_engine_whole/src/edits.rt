@@ -1,5 +1,10 @@
 //! Working copies apart from the store: they are shown, edited and discarded.
-ghost use Rattle.std.specs.Prelude.{◌≡◌};
+ghost use Rattle.std.specs.Prelude.{◌≡◌, IsSome, nat_lt, option_map, slice_set, if◌then◌else◌};
+ghost use Rattle.newt_base.specs.declared.Refusal.TheVariants.{Size};
+ghost use Rattle.newt_reply.specs.Said.{said};
+ghost use Rattle.newt_spec_store.specs.Cost.{skeleton_length};
+ghost use Rattle.newt_spec_world.specs.Reply as spec;
+ghost use Rattle.newt_work.specs.Work.{copy_at, edited};
 ghost use Rattle.newt_spec_world.specs.declared.command.Command.TheVariants as asked;
 ghost use Rattle.newt_engine_whole.specs.Calls.{AnsweredApart};
 
@@ -50,6 +55,13 @@ impl<C: Card> Whole<C> {
 
     /// Takes another draft, unless its skeleton is too large.
     fn put_draft(&mut self, number: u8, draft: Graph) -> Reply
+        requires { IsSome (copy_at number self.old.works) }
+        ensures world { self.new.world ≡ self.old.world }
+        ensures watches { self.new.watches ≡ self.old.watches }
+        ensures put { if nat_lt 64_000 (skeleton_length draft)
+            then (said result ≡ spec.refused Size) × (self.new.works ≡ self.old.works)
+            else (said result ≡ spec.done) × (self.new.works ≡ slice_set self.old.works number
+            (option_map (edited draft) (copy_at number self.old.works))) }
     {
         if skeleton_len(&draft) > MOST_TEXT {
             return Reply::Refused(Refusal::Size);

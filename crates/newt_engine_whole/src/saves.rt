@@ -1,7 +1,14 @@
 //! Working copies and the entries that they are of: they are opened, saved and reverted.
+ghost use Rattle.std.specs.Prelude.{◌≡◌, true, IsTrue, IsSome, IfOk, [], ◌∷◌};
+ghost use Rattle.newt_host.specs.Outside.{Outside};
+ghost use Rattle.newt_reply.specs.Said.{said};
+ghost use Rattle.newt_spec_whole.specs.Whole as plain;
 ghost use Rattle.newt_spec_world.specs.declared.command.Command.TheVariants as asked;
+ghost use Rattle.newt_work.specs.Work.{copy_at, opened};
 ghost use Rattle.newt_engine_whole.specs.Calls.{Applied};
-ghost use Rattle.newt_engine_whole.specs.Standing.{Standing};
+ghost use Rattle.newt_engine_whole.specs.Copies.{FindsLiving, IsRead, PutsCopy, saved_event};
+ghost use Rattle.newt_engine_whole.specs.Standing.{Means, Standing};
+ghost use Rattle.newt_engine_whole.specs.Told.{Tells};
 
 use crate::whole::Whole;
 use newt_base::{Name, Refusal, Sig, Uid};
@@ -60,6 +67,10 @@ impl<C: Card> Whole<C> {
         time: u32,
         graph: Graph,
     ) -> Result<Reply, AllocError>
+        ensures world { self.new.world ≡ self.old.world }
+        ensures watches { self.new.watches ≡ self.old.watches }
+        ensures put { IfOk result (λ it. PutsCopy self.old.works self.new.works
+            (opened store soup uid time graph) (said it)) }
     {
         match self.works.open(store, soup, uid, time, graph) {
             Ok(number) => Ok(Reply::Number(u32::from(number))),
@@ -71,6 +82,9 @@ impl<C: Card> Whole<C> {
     /// Where the entry of a copy is, or why it is nowhere: there is no such copy, or its entry is in
     /// no mounted store.
     fn living(&self, number: u8) -> Result<Result<Place, Refusal>, AllocError>
+        ensures { (outside : Outside) (h : plain.Whole)
+            → Standing C.reads C.place C.stands true self.now outside
+            → Means C.reads self.now outside h → IfOk result (λ found. FindsLiving h number found) }
     {
         let Some(work) = self.works.at(number) else {
             return Ok(Err(Refusal::Copy));
@@ -119,6 +133,14 @@ impl<C: Card> Whole<C> {
         time: u32,
         graph: &Graph,
     ) -> Result<Reply, AllocError>
+        requires stands { Standing C.reads C.place C.stands H.told self.old
+            (H.outside host.old) }
+        requires there { IsSome (copy_at number self.old.works) }
+        requires read { IsTrue H.told → (h : plain.Whole)
+            → Means C.reads self.old (H.outside host.old) h
+            → IsRead h number place.now time graph.now }
+        ensures { Applied C.reads C.place C.stands H.told (asked.Save number)
+            self.old self.new (H.outside host.old) (H.outside host.new) result }
     {
         let Some(work) = self.works.at(number) else {
             return Ok(Reply::Refused(Refusal::Copy));
@@ -141,6 +163,7 @@ impl<C: Card> Whole<C> {
 
     /// Tells the watches that the entry was changed.
     fn tell_saved(&mut self, place: &Place)
+        ensures { Tells (saved_event place.now ∷ []) self.old self.new }
     {
         let note = Note {
             kind: Kind::Change,
