@@ -22,10 +22,10 @@ one-of-both reads ss left r = (r.0, either ss r.0 r.1, r.2)
     either : (xs : List Store) (s : Store) → Among (xs ++ xs) s → Among xs s
     either xs s h = elim (both xs xs s h) [ inl a ↦ a | inr b ↦ b ]
 
-module _ (reads : List ℕ → Option Store) (w : World) (first then : Command) (v : World) (old mid now : Moment)
+module _ (reads : List ℕ → Option Store) (w : World) (first second : Command) (v : World) (old mid now : Moment)
     (reading : (u : ℕ) → formats w first u ≡ false) where
   -- a moment of the first is one of both
-  early : (m : Moment) → Answering reads w first w old m → Answering reads w then v old m
+  early : (m : Moment) → Answering reads w first w old m → Answering reads w second v old m
   early m a = record {
     unread = a.unread;
     quiet = a.quiet;
@@ -36,7 +36,7 @@ module _ (reads : List ℕ → Option Store) (w : World) (first then : Command) 
   }
 
   -- and so is one of the second
-  late : Answering reads w first w old mid → (m : Moment) → Answering reads w then v mid m → Answering reads w then v old m
+  late : Answering reads w first w old mid → (m : Moment) → Answering reads w second v mid m → Answering reads w second v old m
   late a m b = record {
     unread = b.unread ∙ a.unread;
     quiet = b.quiet ∙ a.quiet;
@@ -45,5 +45,5 @@ module _ (reads : List ℕ → Option Store) (w : World) (first then : Command) 
     others = λ u left blank stays may. a.others u left blank (inl (reading u)) (b.others u left blank stays may);
   }
 
-  pub in-turn : Always (Answering reads w first w old) old mid → Always (Answering reads w then v mid) mid now → Always (Answering reads w then v old) old now
+  pub in-turn : Always (Answering reads w first w old) old mid → Always (Answering reads w second v mid) mid now → Always (Answering reads w second v old) old now
   in-turn a b = Always-append (Always-map early a) (Always-map (late (Always-last a)) b)

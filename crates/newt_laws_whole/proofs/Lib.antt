@@ -6,3 +6,4 @@ pub mod Watched
 pub mod Fits
 pub mod Stepping
 pub mod Telling
+pub mod Reading
