@@ -30,13 +30,20 @@ use Rattle.newt_laws_whole.proofs.Telling.{steps-tell}
 use Rattle.newt_laws_world.specs.Worlds.{is_plain}
 use Rattle.newt_engine_units.specs.Stands.{world_of}
 use Rattle.newt_engine_units.proofs.Known.{Laws}
-use Rattle.newt_engine.specs.Standing.{Standing, marks_of, means}
+use Rattle.newt_engine.specs.Calls.{Applied as Inner}
+use Rattle.newt_engine.specs.Standing as inner
+use Rattle.newt_engine.specs.Standing.{IsStanding, marks_of, means}
 use Rattle.newt_engine.specs.declared.world.World.{World as Engine}
+use Rattle.newt_engine.proofs.Applying.{standing-told}
 use Rattle.newt_engine.proofs.Refusing.{answer_quiet}
-use Rattle.newt_engine_whole.specs.Standing.{Means}
-use Rattle.newt_engine_whole.specs.Told.{HasSig, all_due, due_told}
+use Rattle.newt_engine_whole.specs.Calls.{Applied}
+use Rattle.newt_engine_whole.specs.Ends.{whole_takes_memory}
+use Rattle.newt_engine_whole.specs.Standing.{DraftsFit, Means, Standing}
+use Rattle.newt_engine_whole.specs.Told.{HasSig, Tells, all_due, due_told}
 use Rattle.newt_engine_whole.specs.declared.due.Due.{Due}
 use Rattle.newt_engine_whole.specs.declared.whole.Whole.{Whole}
+use Rattle.newt_engine_whole.proofs.Apart.{at-rest, rest-ended}
+use Rattle.newt_engine_whole.proofs.Ending.{ended-plain}
 use Rattle.newt_engine_whole.proofs.Meant.{mounted-same, uid-on}
 use Rattle.newt_engine_whole.proofs.Telling.{step-sig, told-same}
 
@@ -81,7 +88,7 @@ module _ (w x : World) (mounted : (u : ℕ) → mounted_store w u ≡ mounted_st
 -- ---- what is told is what the world behind tells
 
 module _ {C : Type 0} {reads : List ℕ → Option Store} {place : C → ℕ} {soups : C → Store} {stands : Bool → C → Outside → Type 0} (laws : Laws reads place soups stands)
-    (old new : Engine C) (o p : Outside) (before : Standing reads place stands true old.units old.desk o) (after : Standing reads place stands true new.units new.desk p)
+    (old new : Engine C) (o p : Outside) (before : inner.Standing reads place stands true old.units old.desk o) (after : inner.Standing reads place stands true new.units new.desk p)
     (c : Command) (due : Due) (is : (r : replies.Reply) → HasSig (world_of reads old.units o) c r → all_due due r ≡ events (world_of reads old.units o) c) where
   pub told-behind : (w v : World) (r : replies.Reply) → means reads old o w → means reads new p v → Step w c v r → due_told soups new.units due r ≡ notes_behind w c v r
   told-behind w v r from to step = told-same soups new.units w v due (uid-on laws new.units new.desk p after v to) c r
@@ -129,4 +136,45 @@ asked-memory reads old o p c h error After plain m may good moments later =
       threw = record { later = later; rose = λ u k. absurd (both-ways (sym (answer_quiet (seen reads h.world o.now c) c u) ∙ k)) };
       answered = tt;
       moments = moments;
+    }
+
+-- ---- all that is promised
+
+module _ {C : Type 0} {reads : List ℕ → Option Store} {place : C → ℕ} {soups : C → Store} {stands : Bool → C → Outside → Type 0} (laws : Laws reads place soups stands) {told : Bool} {c : Command} {old : Whole C} {o : Outside}
+    (itself : is_plain c ≡ true) (begun : Standing reads place stands told old o) where
+  -- the command was answered, and the watches are told
+  pub asked-applied : {mid new : Whole C} {p : Outside} {it : Reply} (due : Due)
+      → (IsTrue told → (r : replies.Reply) → HasSig (world_of reads old.world.units o) c r → all_due due r ≡ events (world_of reads old.world.units o) c)
+      → mid.watches ≡ old.watches → mid.works ≡ old.works → Inner reads place stands told c old.world mid.world o p (Ok it) → Tells (due_told soups mid.world.units due (said it)) mid new
+      → Applied reads place stands told c old new o p (Ok it)
+  asked-applied {mid} {new} {p} {it} due is watches works a tells = record {
+    stands = record {
+      world = subst (λ (w : Engine C). IsStanding reads place stands told w p) (sym tells.world) a.stands;
+      watches = let k = begun.watches in (note_all (due_told soups mid.world.units due (said it)) k.0, tells.watches k.0 (watches ∙ k.1));
+      drafts = subst DraftsFit (sym (tells.works ∙ works)) begun.drafts;
+    };
+    stepped = λ t h m. asked-step reads old new o p c h it (due_told soups mid.world.units due (said it)) itself m
+        (subst (λ (w : Engine C). Obeys {R = Reply} {E = AllocError} reads said (means reads w p) h.world c (Ok it) o.now p.now) (sym tells.world) (a.obeyed t h.world m.world))
+        (λ v step there. told-behind laws old.world mid.world o p (standing-told begun.world t) (standing-told a.stands t) c due (is t) h.world v (said it) m.world
+        (subst (λ (w : Engine C). means reads w p v) tells.world there) step)
+        (λ ws kept. tells.watches ws (watches ∙ kept)) (tells.works ∙ works) a.finished.threw a.finished.failed;
+    ended = ended-plain itself a.finished;
+  }
+
+  module _ (may : IsTrue told → (u : ℕ) → IsSome (o.card u) → MayLeave u o.now (image u o.now))
+      (good : IsTrue told → (u : ℕ) (s : Store) → IsSome (o.card u) → reads (image u o.now) ≡ Some s → IsTrue (valid (o.blocks u) s)) where
+    -- memory was refused in the world
+    pub asked-ends : {mid new : Whole C} {p : Outside} (error : AllocError) → Inner reads place stands told c old.world mid.world o p (Err error) → Applied reads place stands told c old new o p (Err error)
+    asked-ends {mid} {new} {p} error a = record {
+      stands = tt;
+      stepped = λ t h m. asked-memory reads old o p c h error (Means reads new p) itself m (may t) (good t) (a.obeyed t h.world m.world) a.finished.later;
+      ended = ended-plain itself a.finished;
+    }
+
+    -- or before it was asked
+    pub unasked-ends : {new : Whole C} (error : AllocError) → whole_takes_memory c ≡ true → Applied reads place stands told c old new o o (Err error)
+    unasked-ends {new} error takes = record {
+      stands = tt;
+      stepped = λ t h m. asked-memory reads old o o c h error (Means reads new o) itself m (may t) (good t) (at-rest reads (marks_of old.world) o h.world m.world c _) (λ u. omega arith);
+      ended = rest-ended reads told old o c (Err error) (λ none. absurd (both-ways (sym none ∙ takes))) tt;
     }

@@ -1,5 +1,10 @@
 pub mod Meant
 pub mod Telling
-pub mod Asking
+pub mod Dues
+pub mod Told
 pub mod Apart
+pub mod Ending
+pub mod Asking
+pub mod Keeping
+pub mod Noticed
 pub mod Turns

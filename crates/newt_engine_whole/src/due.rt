@@ -1,9 +1,10 @@
 //! The notes that are due of a command, by what is known before it.
-ghost use Rattle.std.specs.Prelude.{◌≡◌, ℕ, true, IfOk};
+ghost use Rattle.std.specs.Prelude.{◌≡◌, ℕ, true, IfErr, IfOk};
 ghost use Rattle.newt_host.specs.Outside.{Outside};
 ghost use Rattle.newt_spec_whole.specs.Events.{add_event, entry_event, events};
 ghost use Rattle.newt_spec_world.specs.Reply.{Reply};
 ghost use Rattle.newt_engine_units.specs.Stands.{Eight, Stands, world_of};
+ghost use Rattle.newt_engine_whole.specs.Ends.{whole_takes_memory};
 ghost use Rattle.newt_engine_whole.specs.Told.{HasSig, all_due, event_of};
 
 use newt_base::{Name, Sig, Uid};
@@ -13,6 +14,9 @@ use newt_host::Unit;
 use newt_notify::{Kind, Note};
 use newt_script::Command;
 use std::alloc::AllocError;
+
+/// No unit has this number. It stands for none.
+const NO_UNIT: Unit = Unit(8);
 
 /// A note, with the name of its soup.
 #[derive(Drop)]
@@ -34,11 +38,12 @@ pub(crate) enum Due {
 
 /// The notes that are due of a command, where it is done. Their memory is taken here.
 pub(crate) fn due_of<C: Card>(units: &Units<C>, command: &Command) -> Result<Due, AllocError>
-    ensures { (outside : Outside) → Eight outside
+    ensures due { (outside : Outside) → Eight outside
         → Stands C.place C.stands true units.now outside →
         let w = world_of C.reads units.now outside in
         IfOk result (λ due. (reply : Reply) → HasSig w command.now reply
         → all_due due reply ≡ events w command.now) }
+    ensures only { IfErr result (λ _. whole_takes_memory command.now ≡ true) }
 {
     match command {
         Command::Soup(unit, name) => Ok(Due::Soup(*unit, name.copy()?)),
@@ -47,10 +52,10 @@ pub(crate) fn due_of<C: Card>(units: &Units<C>, command: &Command) -> Result<Due
         }
         Command::Add(unit, name, _) => Ok(Due::One(added(units, *unit, name)?)),
         Command::Addx(unit, name, _) => Ok(Due::One(added(units, *unit, name)?)),
-        Command::Addu(name, _) => match units.default_unit() {
-            Some(unit) => Ok(Due::One(added(units, unit, name)?)),
-            None => Ok(Due::Nothing),
-        },
+        Command::Addu(name, _) => {
+            let unit = units.default_unit().unwrap_or(NO_UNIT);
+            Ok(Due::One(added(units, unit, name)?))
+        }
         Command::Copy(_, _, _, to, target) => Ok(Due::One(added(units, *to, target)?)),
         Command::Set(unit, name, uid, _, _) => {
             Ok(Due::One(told(units, Kind::Change, *unit, name, *uid)?))
@@ -84,12 +89,10 @@ fn told<C: Card>(
         → Stands C.place C.stands true units.now outside → IfOk result (λ told.
         event_of told ≡ entry_event (world_of C.reads units.now outside) kind unit name.now uid) }
 {
-    let soup = match units.soup_sig(unit, name) {
-        Some(soup) => soup,
-        None => Sig(0),
-    };
+    let soup = units.soup_sig(unit, name).unwrap_or(Sig(0));
+    let name = name.copy()?;
     Ok(Told {
-        name: name.copy()?,
+        name,
         note: Note {
             kind,
             unit,
@@ -105,9 +108,6 @@ fn added<C: Card>(units: &Units<C>, unit: Unit, name: &Name) -> Result<Told, All
         → Stands C.place C.stands true units.now outside → IfOk result (λ told.
         event_of told ≡ add_event (world_of C.reads units.now outside) unit name.now) }
 {
-    let uid = match units.next_uid(unit, name) {
-        Some(uid) => Uid(uid),
-        None => Uid(0),
-    };
-    told(units, Kind::Add, unit, name, uid)
+    let uid = units.next_uid(unit, name).unwrap_or(0);
+    told(units, Kind::Add, unit, name, Uid(uid))
 }
