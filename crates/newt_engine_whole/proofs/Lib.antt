@@ -7,4 +7,5 @@ pub mod Ending
 pub mod Asking
 pub mod Keeping
 pub mod Noticed
+pub mod Drafted
 pub mod Turns

@@ -1,5 +1,5 @@
 -- The watches are told one note after another.
-use Rattle.std.proofs.Common.{◌≡◌, refl, ap, sym, ◌∙◌, subst, ℕ, List, [], ◌∷◌, Bool, true, false, not, ◌==◌, ◌&&◌, Option, if◌then◌else◌}
+use Rattle.std.proofs.Common.{◌≡◌, refl, ap, sym, ◌∙◌, subst, ℕ, List, [], ◌∷◌, Bool, true, false, if◌then◌else◌}
 use Rattle.newt_notify.specs.Watch.{kept_all}
 use Rattle.newt_reply.specs.Said.{said}
 use Rattle.newt_reply.specs.declared.reply.Reply.{Reply}
@@ -7,7 +7,7 @@ use Rattle.newt_reply.specs.declared.reply.Reply.TheVariants as reply
 use Rattle.newt_spec_store.specs.Store.{Store}
 use Rattle.newt_spec_whole.specs.Events.{Event, note_all}
 use Rattle.newt_engine_units.specs.declared.units.Units.{Units}
-use Rattle.newt_engine_whole.specs.Told.{Tells, all_due, due_told, event_of, failed_due, has_added, made}
+use Rattle.newt_engine_whole.specs.Told.{Tells, all_due, due_told, event_of, failed_due, is_halfway, made}
 use Rattle.newt_engine_whole.specs.declared.due.Due.{Due}
 use Rattle.newt_engine_whole.specs.declared.due.Due.TheVariants.{Nothing, Soup, One, Two}
 use Rattle.newt_engine_whole.specs.declared.due.Told.{Told}
@@ -47,8 +47,8 @@ module _ {C : Type 0} (soups : C → Store) (units : Units C) where
   no-two (Two a b) u other = absurd (other a b refl)
 
   -- the first of two is, or is not
-  pub first-told : (a b : Told) (u : ℕ) → ((b.note.unit == u) && not (a.note.unit == u)) && has_added soups units a ≡ true → failed_due soups units (Two a b) u ≡ event_of a ∷ []
+  pub first-told : (a b : Told) (u : ℕ) → is_halfway soups units a b u ≡ true → failed_due soups units (Two a b) u ≡ event_of a ∷ []
   first-told a b u is = ap (λ (t : Bool). if t then event_of a ∷ [] else []) is
 
-  pub none-told : (a b : Told) (u : ℕ) → ((b.note.unit == u) && not (a.note.unit == u)) && has_added soups units a ≡ false → failed_due soups units (Two a b) u ≡ []
+  pub none-told : (a b : Told) (u : ℕ) → is_halfway soups units a b u ≡ false → failed_due soups units (Two a b) u ≡ []
   none-told a b u is = ap (λ (t : Bool). if t then event_of a ∷ [] else []) is

@@ -44,12 +44,15 @@ module _ {C : Type 0} (soups : C → Store) where
   has_added units told = elim (next_uid_on soups units told.note.unit told.name)
       [ None ↦ false | Some next ↦ not (next == told.note.uid) ]
 
-  -- the notes of a command in which the device of a unit failed: that of an add to another unit,
-  -- where it was done and the failed unit is the source
+  -- a move to another unit has added its entry there, where the failed unit is the source
+  abbrev pub is_halfway : Units C → (add removal : Told) → ℕ → Bool
+  is_halfway units add removal u =
+      ((removal.note.unit == u) && not (add.note.unit == u)) && has_added units add
+
+  -- the notes of a command in which the device of a unit failed: that of such an add
   abbrev pub failed_due : Units C → Due → ℕ → List Event
   failed_due units (Two first second) u =
-      if ((second.note.unit == u) && not (first.note.unit == u)) && has_added units first
-      then event_of first ∷ [] else []
+      if is_halfway units first second u then event_of first ∷ [] else []
   failed_due units due u = []
 
   -- the notes behind a reply, by the units as they are then

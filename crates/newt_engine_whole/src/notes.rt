@@ -6,7 +6,7 @@ ghost use Rattle.newt_spec_world.specs.declared.command.Command.TheVariants as a
 ghost use Rattle.newt_engine_whole.specs.Calls.{AnsweredApart, Applied};
 ghost use Rattle.newt_engine_whole.specs.Standing.{Standing};
 ghost use Rattle.newt_engine_whole.specs.Told.{Tells, all_due, due_told, event_of, failed_due};
-ghost use Rattle.newt_engine_whole.specs.Told.{has_added, made};
+ghost use Rattle.newt_engine_whole.specs.Told.{has_added, is_halfway, made};
 
 use crate::due::{Due, Told, due_of};
 use crate::whole::Whole;
@@ -123,9 +123,17 @@ impl<C: Card> Whole<C> {
         let Due::Two(first, second) = due else {
             return;
         };
-        if second.note.unit == failed && first.note.unit != failed && self.has_added(first) {
+        if self.is_halfway(first, second, failed) {
             self.tell_one(first);
         }
+    }
+
+    /// Whether a move to another unit has added its entry there, where the device of the source
+    /// failed.
+    fn is_halfway(&self, add: &Told, removal: &Told, failed: Unit) -> bool
+        ensures { result ≡ is_halfway C.soups self.now.world.units add.now removal.now failed }
+    {
+        removal.note.unit == failed && add.note.unit != failed && self.has_added(add)
     }
 
     /// Whether the soup of an add has taken its id since.

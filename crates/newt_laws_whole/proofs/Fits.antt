@@ -54,7 +54,7 @@ found-can s name p uid e ok named found =
     entry-can e (found-good valid_entry (λ (v : Entry). v.uid == uid) p.entries e
     (is-soup p (found-good valid_soup (λ (v : Soup). equal_text v.name name) s.soups p (is-store s ok).soups_fit named)).entries_fit found)
 
-entry-in-can : (w : World) (u : ℕ) (name : List ℕ) (uid : ℕ) (e : Entry) → AllFormed w → entry_in w u name uid ≡ Some e → CanBeEntry e.graph
+pub entry-in-can : (w : World) (u : ℕ) (name : List ℕ) (uid : ℕ) (e : Entry) → AllFormed w → entry_in w u name uid ≡ Some e → CanBeEntry e.graph
 entry-in-can w u name uid e formed h = go (mounted_store w u) refl h
   where
     in-soup : (s : Store) → mounted_store w u ≡ Some s → (o : Option Soup) → soup_named name s ≡ o → option_and_then (entry_of uid) o ≡ Some e → CanBeEntry e.graph
@@ -65,7 +65,7 @@ entry-in-can w u name uid e formed h = go (mounted_store w u) refl h
     go None on k = absurd (none-some e k)
     go (Some s) on k = in-soup s on (soup_named name s) refl k
 
-living-can : (h : Whole) (k : Copy) (s : Spot) → AllFormed h.world → living h k ≡ Some s → CanBeEntry s.entry.graph
+pub living-can : (h : Whole) (k : Copy) (s : Spot) → AllFormed h.world → living h k ≡ Some s → CanBeEntry s.entry.graph
 living-can h k s formed is =
     let n : IsNamed h.world (alias_of_copy k) s = named-by h.world (alias_of_copy k) s is in
     let ok : well_formed n.on ≡ true = formed s.unit n.on n.mounted_there in
@@ -85,7 +85,7 @@ set-gone (suc m) k (x ∷ xs) h = set-gone m k xs h
 
 -- what holds of all and of what is new holds of all
 module _ (P : Copy → Type 0) (ks : List (Option Copy)) (all : (n : ℕ) (k : Copy) → flat (slice_get ks n) ≡ Some k → P k) where
-  put-all : (o : Option ℕ) (new : Copy) → P new → (n : ℕ) (k : Copy) → flat (slice_get (put_at o new ks) n) ≡ Some k → P k
+  pub put-all : (o : Option ℕ) (new : Copy) → P new → (n : ℕ) (k : Copy) → flat (slice_get (put_at o new ks) n) ≡ Some k → P k
   put-all None new p n k h = all n k h
   put-all (Some m) new p n k h = go (same-or-not n m)
     where
@@ -93,14 +93,14 @@ module _ (P : Copy → Type 0) (ks : List (Option Copy)) (all : (n : ℕ) (k : C
       go (inl e) = subst P (set-is m new k ks (subst (λ (i : ℕ). flat (slice_get (slice_set ks m (Some new)) i) ≡ Some k) e h)) p
       go (inr e) = all n k (sym (set-other m n (Some new) ks e) ∙ h)
 
-  gone-all : (m n : ℕ) (k : Copy) → flat (slice_get (slice_set ks m None) n) ≡ Some k → P k
+  pub gone-all : (m n : ℕ) (k : Copy) → flat (slice_get (slice_set ks m None) n) ≡ Some k → P k
   gone-all m n k h = go (same-or-not n m)
     where
       go : (n ≡ m) ⊎ (n ≡ m → ⊥) → P k
       go (inl e) = absurd (set-gone m k ks (subst (λ (i : ℕ). flat (slice_get (slice_set ks m None) i) ≡ Some k) e h))
       go (inr e) = all n k (sym (set-other m n None ks e) ∙ h)
 
-  change-all : (m : ℕ) (f : Copy → Copy) → ((k : Copy) → flat (slice_get ks m) ≡ Some k → P (f k)) → (n : ℕ) (k : Copy) → flat (slice_get (change_at m f ks) n) ≡ Some k → P k
+  pub change-all : (m : ℕ) (f : Copy → Copy) → ((k : Copy) → flat (slice_get ks m) ≡ Some k → P (f k)) → (n : ℕ) (k : Copy) → flat (slice_get (change_at m f ks) n) ≡ Some k → P k
   change-all m f each n k h = go (same-or-not n m)
     where
       go : (n ≡ m) ⊎ (n ≡ m → ⊥) → P k
@@ -111,7 +111,7 @@ module _ (P : Copy → Type 0) (ks : List (Option Copy)) (all : (n : ℕ) (k : C
 
 -- ---- an edit
 
-edit-can : (g value : RawGraph) (path : Path) → CanBeEntry g → is_none (put g path value) ≡ false → on_some (put g path value) (λ r. not (is_within (normal_form r))) ≡ false
+pub edit-can : (g value : RawGraph) (path : Path) → CanBeEntry g → is_none (put g path value) ≡ false → on_some (put g path value) (λ r. not (is_within (normal_form r))) ≡ false
     → nat_lt 64_000 (skeleton_length (graph_after_set path value g)) ≡ false → CanBeEntry (graph_after_set path value g)
 edit-can g value path can some limit small = go (put g path value) refl some limit
   where
