@@ -141,8 +141,8 @@ mounted-change w x f st h = ap on_unit (device-same w x (λ d. record d { media 
 
 -- the world behind such a move has given the next id
 module _ (w : World) (t uid x u : ℕ) (s y : List ℕ) (moves : moves_away (command.Move t s uid x y) u ≡ true) (fine : AllFalse (checks w (command.Move t s uid x y))) where
-  c : Command
-  c = command.Move t s uid x y
+  abbrev move : Command
+  move = command.Move t s uid x y
 
   differs : x ≡ u → ⊥
   differs = (away t uid x u s y moves).1
@@ -165,13 +165,13 @@ module _ (w : World) (t uid x u : ℕ) (s y : List ℕ) (moves : moves_away (com
       go None e k = absurd (none-some into.0 k)
       go (Some st) e k = (st, e)
 
-  added : Soup → Soup
+  abbrev added : Soup → Soup
   added = add_entry w.minute from.0.graph
 
   target : mounted_store (copy_to w x y (entry_in w t s uid)) x ≡ Some (change_soup y added on.0)
   target = ap (λ (o : Option Entry). mounted_store (copy_to w x y o) x) from.1 ∙ mounted-change w x (change_soup y added) on.0 on.1
 
-  behind : mounted_store (changed w c) x ≡ Some (change_soup y added on.0)
+  behind : mounted_store (changed w move) x ≡ Some (change_soup y added on.0)
   unfolding changed
   behind = ap on_unit (device-other (copy_to w x y (entry_in w t s uid)) t
       (λ (d : Device). record d { media = change_media (change_soup s (remove_entry uid)) d.media }) x apart) ∙ target
@@ -179,9 +179,9 @@ module _ (w : World) (t uid x u : ℕ) (s y : List ℕ) (moves : moves_away (com
   named : soup_named y on.0 ≡ Some into.0
   named = sym (ap (option_and_then (soup_named y)) on.1) ∙ into.1
 
-  soup-after : soup_in (world_halfway w c u) x y ≡ Some (added into.0)
+  soup-after : soup_in (world_halfway w move u) x y ≡ Some (added into.0)
   soup-after =
-      ap (option_and_then (soup_named y)) (out-other (changed w c) u x (either_of (store_on_unit w u)) differs ∙ behind)
+      ap (option_and_then (soup_named y)) (out-other (changed w move) u x (either_of (store_on_unit w u)) differs ∙ behind)
       ∙ find-first (λ (p : Soup). equal_text p.name y) added (λ p. refl) on.0.soups ∙ ap (option_map added) named
 
   one-more : (n : ℕ) → not ((n + 1) == n) ≡ true
@@ -191,7 +191,7 @@ module _ (w : World) (t uid x u : ℕ) (s y : List ℕ) (moves : moves_away (com
       go false e = refl
       go true e = let same : n + 1 ≡ n = (Decides-eqb (n + 1) n).0 e in absurd (omega (arith, same))
 
-  pub taken : has_taken w c (world_halfway w c u) ≡ true
+  pub taken : has_taken w move (world_halfway w move u) ≡ true
   taken = ap (is_past (new_uid w x y)) soup-after
       ∙ ap (λ (o : Option Soup). not ((into.0.next_uid + 1) == unwrap_or (option_map (λ (p : Soup). p.next_uid) o) 0)) into.1
       ∙ one-more into.0.next_uid
@@ -211,7 +211,7 @@ steps-tell h c v r p (plain none is) =
     subst (λ es. WholeStep h c (noting h v es) r)
     (sym (ap (λ (a : World × Reply). notes_behind h.world c a.0 a.1) (sym is) ∙ answer-notes h.world c))
     (plain-steps h c v r p none is)
-steps-tell h c v r p (found {u} {x} looks has is) =
+steps-tell h c v r p (found {u} {v = x} looks has is) =
     let at = looked h.world c u looks in
     subst (λ es. WholeStep h c (noting h v es) r)
     (ap (if_done (first_of (checks x c))) (looked-none x c at.0 at.1) ∙ none-done (first_of (checks x c))
