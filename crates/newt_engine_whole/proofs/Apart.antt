@@ -171,7 +171,7 @@ apart-applied {C} {reads} {place} {stands} {told} {c} {old} {new} {o} {result} a
   stands = on_ok result (record {
     world = subst (λ (w : Engine C). IsStanding reads place stands told w o) (sym a.world) s.world;
     watches = a.watches s.watches;
-    drafts = a.drafts s.drafts;
+    drafts = λ t. a.drafts (s.drafts t);
   });
   stepped = λ t h m. apart-stepped reads old new o c h result apart m (a.answered o h m);
   ended = rest-ended reads told old o c result a.memory a.quiet;

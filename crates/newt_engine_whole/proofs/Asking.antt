@@ -151,7 +151,7 @@ module _ {C : Type 0} {reads : List ℕ → Option Store} {place : C → ℕ} {s
     stands = record {
       world = subst (λ (w : Engine C). IsStanding reads place stands told w p) (sym tells.world) a.stands;
       watches = let k = begun.watches in (note_all (due_told soups mid.world.units due (said it)) k.0, tells.watches k.0 (watches ∙ k.1));
-      drafts = subst DraftsFit (sym (tells.works ∙ works)) begun.drafts;
+      drafts = λ t. subst DraftsFit (sym (tells.works ∙ works)) (begun.drafts t);
     };
     stepped = λ t h m. asked-step reads old new o p c h it (due_told soups mid.world.units due (said it)) itself m
         (subst (λ (w : Engine C). Obeys {R = Reply} {E = AllocError} reads said (means reads w p) h.world c (Ok it) o.now p.now) (sym tells.world) (a.obeyed t h.world m.world))

@@ -9,3 +9,4 @@ pub mod Keeping
 pub mod Noticed
 pub mod Drafted
 pub mod Turns
+pub mod Opened

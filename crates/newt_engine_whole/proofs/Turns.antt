@@ -47,3 +47,13 @@ module _ (reads : List ℕ → Option Store) (w : World) (first second : Command
 
   pub in-turn : Always (Answering reads w first w old) old mid → Always (Answering reads w second v mid) mid now → Always (Answering reads w second v old) old now
   in-turn a b = Always-append (Always-map early a) (Always-map (late (Always-last a)) b)
+
+-- a moment of a command that formats nothing is one of any other
+pub as-other : (reads : List ℕ → Option Store) (w v : World) (c d : Command) (old now : Moment) → ((u : ℕ) → formats w c u ≡ false) → Always (Answering reads w c v old) old now → Always (Answering reads w d v old) old now
+as-other reads w v c d old now none a = Always-map (λ m b. record {
+  unread = b.unread;
+  quiet = b.quiet;
+  stores = b.stores;
+  images = λ u blank stays. b.images u blank (inl (none u));
+  others = λ u left blank stays may. b.others u left blank (inl (none u)) may;
+}) a

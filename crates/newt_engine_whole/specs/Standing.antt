@@ -1,5 +1,5 @@
 -- What it is to stand for a whole. All of it is this project's own.
-use Rattle.std.specs.Prelude.{◌≡◌, ℕ, Bool, List, Option, Some}
+use Rattle.std.specs.Prelude.{◌≡◌, ℕ, Bool, IsTrue, List, Option, Some}
 use Rattle.newt_host.specs.Outside.{Outside}
 use Rattle.newt_notify.specs.Watch.{Watching, Kept, kept_all}
 use Rattle.newt_work.specs.Work.{Copy, copy_at}
@@ -20,11 +20,11 @@ AreKept kept = (watches : List (Option Watching)) × (kept ≡ kept_all watches)
 module _ {C : Type 0} (reads : List ℕ → Option Store) (place : C → ℕ)
     (stands : Bool → C → Outside → Type 0) where
   -- It stands for a host: its world does, its watches keep the last notes of some list, and each
-  -- draft can be the graph of an entry.
+  -- draft can be the graph of an entry, where the devices tell their faults.
   pub record Standing (told : Bool) (it : Whole C) (outside : Outside) : Type 0 where
     pub world : IsStanding reads place stands told it.world outside
     pub watches : AreKept it.watches
-    pub drafts : DraftsFit it.works
+    pub drafts : IsTrue told → DraftsFit it.works
 
 -- It and the devices stand for this whole, among others: its world stands for the world, its watches
 -- keep the last notes of the watches, and its copies are the copies.
