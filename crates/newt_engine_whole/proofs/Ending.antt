@@ -9,7 +9,7 @@ use Rattle.newt_reply.specs.declared.reply.Reply.{Reply}
 use Rattle.newt_spec_graph.proofs.Lists.{both-ways}
 use Rattle.newt_spec_store.specs.Store.{Store}
 use Rattle.newt_spec_whole.specs.Whole as plain
-use Rattle.newt_spec_whole.specs.Whole.{asks}
+use Rattle.newt_spec_whole.specs.Whole.{asked_in_turn, asks}
 use Rattle.newt_spec_world.specs.declared.command.Command.{Command}
 use Rattle.newt_spec_world.specs.declared.command.Command.TheVariants as command
 use Rattle.newt_laws_answers.specs.Bounds.{most_programmed}
@@ -19,7 +19,7 @@ use Rattle.newt_engine_card.specs.Bounds.{ProgramsAtMost}
 use Rattle.newt_engine.specs.Bounds.{most_settled}
 use Rattle.newt_engine.specs.Calls.{Finished}
 use Rattle.newt_engine.specs.Ends.{takes_memory, uses_device}
-use Rattle.newt_engine_whole.specs.Bounds.{asked_in_turn, most_put, most_taken, whole_means_entries}
+use Rattle.newt_engine_whole.specs.Bounds.{most_put, most_taken, whole_means_entries}
 use Rattle.newt_engine_whole.specs.Calls.{Ended}
 use Rattle.newt_engine_whole.specs.Ends.{whole_takes_memory, whole_uses_device}
 use Rattle.newt_engine_whole.specs.Standing.{known_whole}

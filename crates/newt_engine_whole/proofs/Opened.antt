@@ -22,7 +22,7 @@ use Rattle.newt_spec_whole.specs.Answer.{whole_answer}
 use Rattle.newt_spec_whole.specs.Step.{WholeStep, whole_thrown}
 use Rattle.newt_spec_whole.specs.Step as wholes
 use Rattle.newt_spec_whole.specs.Whole as plain
-use Rattle.newt_spec_whole.specs.Whole.{asks}
+use Rattle.newt_spec_whole.specs.Whole.{asked_in_turn, asks}
 use Rattle.newt_spec_world.specs.Answer.{answer, answered, fields, or_nil}
 use Rattle.newt_spec_world.specs.Refused.{checks}
 use Rattle.newt_spec_world.specs.Reply as replies
@@ -43,7 +43,7 @@ use Rattle.newt_engine.specs.Bounds.{is_format, most_settled}
 use Rattle.newt_engine.specs.Calls.{Applied as Inner, Finished}
 use Rattle.newt_engine.specs.Standing.{IsStanding, means}
 use Rattle.newt_engine.specs.declared.world.World.{World as Engine}
-use Rattle.newt_engine_whole.specs.Bounds.{asked_in_turn, most_put, most_taken, whole_means_entries}
+use Rattle.newt_engine_whole.specs.Bounds.{most_put, most_taken, whole_means_entries}
 use Rattle.newt_engine_whole.specs.Calls.{Applied, Ended}
 use Rattle.newt_engine_whole.specs.Copies.{PutsCopy}
 use Rattle.newt_engine_whole.specs.Ends.{whole_takes_memory, whole_uses_device}

@@ -1,23 +1,11 @@
 -- How much a command of the whole programs and fetches. All of it is this project's own.
-use Rattle.std.specs.Prelude.{ℕ, Bool, true, false, List, [], ◌∷◌, ◌++◌, sum_by, Option, Some, None}
-use Rattle.newt_spec_world.specs.World.{World}
+use Rattle.std.specs.Prelude.{ℕ, Bool, true, sum_by}
 use Rattle.newt_spec_world.specs.declared.command.Command.{Command}
 use Rattle.newt_spec_world.specs.declared.command.Command.TheVariants as command
-use Rattle.newt_spec_whole.specs.Whole.{Whole, asks, get_of, of_living}
+use Rattle.newt_spec_whole.specs.Whole.{Whole, asked_in_turn}
 use Rattle.newt_laws_answers.specs.Bounds.{most_programmed}
 use Rattle.newt_laws_answers.specs.Fetched.{means_entries}
 use Rattle.newt_engine.specs.Bounds.{most_settled}
-
--- a command, if there is one
-abbrev pub commanded : Option Command → List Command
-commanded None = []
-commanded (Some c) = c ∷ []
-
--- What a command asks of the world, one after another: a save reads the entry before it changes it.
-abbrev pub asked_in_turn : Whole → Command → List Command
-asked_in_turn h (command.Save n) =
-    commanded (of_living h n (λ k s. get_of s)) ++ commanded (asks h (command.Save n))
-asked_in_turn h c = commanded (asks h c)
 
 -- entries are read or changed
 abbrev pub whole_means_entries : Command → Bool

@@ -1,5 +1,5 @@
 -- Commands that are asked of the world as they are.
-use Rattle.std.proofs.Common.{◌≡◌, refl, ap, sym, ◌∙◌, true, false, Option, Some, None}
+use Rattle.std.proofs.Common.{◌≡◌, refl, ap, sym, ◌∙◌, [], ◌∷◌, true, false, Option, Some, None}
 use Rattle.newt_base.specs.Refusals.{first_of}
 use Rattle.newt_base.specs.declared.Refusal.{Refusal}
 use Rattle.newt_spec_world.specs.World.{World}
@@ -8,7 +8,7 @@ use Rattle.newt_spec_world.specs.Refused.{checks}
 use Rattle.newt_spec_world.specs.Answer.{answer, answered}
 use Rattle.newt_spec_world.specs.declared.command.Command.{Command}
 use Rattle.newt_spec_world.specs.declared.command.Command.TheVariants as command
-use Rattle.newt_spec_whole.specs.Whole.{Whole, asks}
+use Rattle.newt_spec_whole.specs.Whole.{Whole, asked_in_turn, asks}
 use Rattle.newt_spec_whole.specs.Events.{Event, events}
 use Rattle.newt_spec_whole.specs.Refused.{whole_checks}
 use Rattle.newt_spec_whole.specs.Answer.{whole_answer, whole_answered, whole_fields, watches_after, copies_after}
@@ -41,6 +41,19 @@ plain-asks h (command.Save _) p = cc
 plain-asks h (command.Revert _) p = cc
 plain-asks h (command.Discard _) p = cc
 plain-asks h _ p = refl
+
+pub plain-turn : (h : Whole) (c : Command) → is_plain c ≡ true → asked_in_turn h c ≡ c ∷ []
+unfolding is_plain asks
+plain-turn h (command.Watch _ _) p = cc
+plain-turn h (command.Notes _) p = cc
+plain-turn h (command.Unwatch _) p = cc
+plain-turn h (command.Open _ _ _) p = cc
+plain-turn h (command.Draft _) p = cc
+plain-turn h (command.Edit _ _ _) p = cc
+plain-turn h (command.Save _) p = cc
+plain-turn h (command.Revert _) p = cc
+plain-turn h (command.Discard _) p = cc
+plain-turn h _ p = refl
 
 -- what the whole answers to such a command, by the world's answer
 abbrev beside : Whole → Command → Option Refusal → Whole × Reply

@@ -1,11 +1,12 @@
 -- Which notes a step of the world tells, by the world behind it.
-use Rattle.std.proofs.Common.{◌≡◌, ◌≢◌, refl, ap, sym, ◌∙◌, subst, arith, ℕ, suc, ◌+◌, List, [], ◌∷◌, true, false, Bool, not, cond, ◌==◌, ◌&&◌, ◌||◌, IsTrue, Option, Some, None, option_map, option_and_then, unwrap_or, take, find, if◌then◌else◌}
+use Rattle.std.proofs.Common.{◌≡◌, ◌≢◌, inl, refl, ap, sym, ◌∙◌, subst, arith, ℕ, suc, ◌+◌, List, [], ◌∷◌, true, false, Bool, not, cond, ◌==◌, ◌&&◌, ◌||◌, IsTrue, Option, Some, None, option_map, option_and_then, unwrap_or, take, find, if◌then◌else◌}
 use Rattle.std.specs.Prelude.{is_none}
 use Rattle.std.proofs.lemmas.Bool.{eqb-true}
 use Rattle.std.proofs.lemmas.Bool.Decides.{Decides-eqb}
 use Rattle.newt_base.specs.Names.{equal_text}
 use Rattle.newt_base.specs.Refusals.{Checks, first_of}
 use Rattle.newt_base.specs.declared.Refusal.{Refusal}
+use Rattle.newt_spec_graph.specs.Lists.{Among}
 use Rattle.newt_spec_graph.proofs.Lists.{both-ways, none-some, some-same}
 use Rattle.newt_spec_store.specs.Store.{Entry, Soup, Store, add_entry, change_first, change_soup, remove_entry, soup_named}
 use Rattle.newt_spec_world.specs.World.{World, Device, Media, blank, one, two, lost, store_of, on_unit, change_media, change_device, change_store, change_soup_in, device, mounted_store, soup_in, entry_in, settle, store_on_unit}
@@ -28,7 +29,7 @@ use Rattle.newt_spec_whole.specs.Step as wholes
 use Rattle.newt_spec_whole.specs.Step.{WholeStep, whole_thrown}
 use Rattle.newt_laws_whole.specs.Since.{if_done}
 use Rattle.newt_laws_whole.specs.Steps.{notes_of, noting, has_taken, is_past, notes_behind}
-use Rattle.newt_laws_whole.proofs.Plain.{plain-asks}
+use Rattle.newt_laws_whole.proofs.Plain.{plain-turn}
 use Rattle.newt_laws_whole.proofs.Stepping.{plain-steps, found-steps}
 
 -- ---- a command that is done, or refused
@@ -218,7 +219,7 @@ steps-tell h c v r p (found {u} {v = x} looks has is) =
     ∙ sym (no-notes h.world v c r (looked-none h.world c at.0 at.1)))
     (found-steps h c u x v r p looks has is)
 steps-tell h c v r p (thrown {u} next is) =
-    wholes.thrown (plain-asks h c p)
+    wholes.thrown (subst (λ (ds : List Command). Among ds c) (sym (plain-turn h c p)) (inl refl))
     (ap {A = World × List Event} (λ (a : World × List Event). noting h a.0 a.1)
     (ap {A = List Event} {B = World × List Event} (λ es. (v, es)) none ∙ ap {A = World} {B = World × List Event} (λ x. (x, [])) next))
     is

@@ -1,13 +1,14 @@
 -- How the whole goes on from one command to the next where devices may fail. All of it is this
 -- project's own.
-use Rattle.std.specs.Prelude.{◌≡◌, ℕ, Bool, IsTrue, Option, Some, None, take}
+use Rattle.std.specs.Prelude.{◌≡◌, ℕ, Bool, IsTrue, Some, None, take}
+use Rattle.newt_spec_graph.specs.Lists.{Among}
 use Rattle.newt_spec_world.specs.World.{World}
 use Rattle.newt_spec_world.specs.Reply.{Reply}
 use Rattle.newt_spec_world.specs.Step as worlds
 use Rattle.newt_spec_world.specs.Step.{Found, looks_anew, is_accepted, moves_away}
 use Rattle.newt_spec_world.specs.Step.{world_halfway, world_thrown}
 use Rattle.newt_spec_world.specs.declared.command.Command.{Command}
-use Rattle.newt_spec_whole.specs.Whole.{Whole, asks, in_world}
+use Rattle.newt_spec_whole.specs.Whole.{Whole, asked_in_turn, in_world}
 use Rattle.newt_spec_whole.specs.Events.{events, note_all}
 use Rattle.newt_spec_whole.specs.Answer.{whole_answer}
 
@@ -35,9 +36,9 @@ pub data WholeStep (h : Whole) (c : Command) (next : Whole) (reply : Reply) : Ty
   -- no device fails; a unit is looked at anew, and is found to hold what it may hold
   found : {u : ℕ} {v : World} → looks_anew h.world c ≡ Some u → Found h.world u v
       → whole_answer (in_world h v) c ≡ (next, reply) → WholeStep h c next reply
-  -- the device of a unit fails in what is asked of the world
-  thrown : {u : ℕ} {asked : Command} → asks h c ≡ Some asked → next ≡ whole_thrown h asked u
-      → reply ≡ Reply.thrown u → WholeStep h c next reply
+  -- the device of a unit fails in a command that is asked of the world
+  thrown : {u : ℕ} {asked : Command} → Among (asked_in_turn h c) asked
+      → next ≡ whole_thrown h asked u → reply ≡ Reply.thrown u → WholeStep h c next reply
   -- the device of the source of a move fails, and the target has the entry
   halfway : {u : ℕ} → IsTrue (moves_away c u) → IsTrue (is_accepted h.world c)
       → next ≡ whole_halfway h c u → reply ≡ Reply.thrown u → WholeStep h c next reply

@@ -1,8 +1,9 @@
 -- The whole: a world of plain stores with its cursors, eight places for watches, and sixteen for
 -- working copies. Notifications of changes are Newton's (Newton Programmer's Guide 2.0, soup change
 -- notification); that a watch is asked for its notes, and working copies, are this project's own.
-use Rattle.std.specs.Prelude.{ℕ, Bool, List, Option, Some, None, option_map, option_and_then}
-use Rattle.std.specs.Prelude.{replicate, slice_get, is_none, if◌then◌else◌}
+use Rattle.std.specs.Prelude.{ℕ, Bool, List, [], ◌∷◌, Option, Some, None, option_map}
+use Rattle.std.specs.Prelude.{option_and_then, unwrap_or, replicate, slice_get, is_none}
+use Rattle.std.specs.Prelude.{if◌then◌else◌}
 use Rattle.std.specs.List.{position}
 use Rattle.newt_notify.specs.Watch.{Watching}
 use Rattle.newt_work.specs.Work.{Copy, is_based}
@@ -95,3 +96,15 @@ asks h (command.Save n) = of_living h n save_of
 asks h (command.Revert n) = of_living h n (λ k s. get_of s)
 asks h (command.Discard _) = None
 asks h c = Some c
+
+-- what a save asks, one after another: it reads the entry, and changes it where it still is as the
+-- copy's base (this project's own)
+abbrev pub save_in_turn : Copy → Spot → List Command
+save_in_turn k s =
+    get_of s ∷ (if is_based s.entry.time s.entry.graph k then change_of k s ∷ [] else [])
+
+-- what a command asks of the world, one after another (this project's own)
+abbrev pub asked_in_turn : Whole → Command → List Command
+asked_in_turn h (command.Save n) =
+    unwrap_or (option_and_then (λ k. option_map (save_in_turn k) (living h k)) (copy h n)) []
+asked_in_turn h c = elim (asks h c) [ None ↦ [] | Some d ↦ d ∷ [] ]
