@@ -58,7 +58,7 @@ nil_quiet shown u None good = refl
 nil_quiet shown u (Some x) good = good x
 
 -- its reply says of no unit that its device failed
-apart-quiet : (h : plain.Whole) (c : Command) (u : ℕ) → is_plain c ≡ false → throws u (whole_answer h c).1 ≡ false
+pub apart-quiet : (h : plain.Whole) (c : Command) (u : ℕ) → is_plain c ≡ false → throws u (whole_answer h c).1 ≡ false
 unfolding whole_answer whole_fields is_plain
 apart-quiet h (command.Watch s most) u a = go (first_of (whole_checks h (command.Watch s most)))
   where
@@ -108,7 +108,7 @@ apart-quiet h (command.Discard n) u a = go (first_of (whole_checks h (command.Di
     go None = refl
 apart-quiet h _ u a = absurd (both-ways (sym a))
 
-apart-looks : (c : Command) → is_plain c ≡ false → looks_at c ≡ None
+pub apart-looks : (c : Command) → is_plain c ≡ false → looks_at c ≡ None
 unfolding is_plain
 apart-looks (command.Format u name sig) a = absurd (both-ways (sym a))
 apart-looks (command.Mount u) a = absurd (both-ways (sym a))

@@ -10,3 +10,5 @@ pub mod Noticed
 pub mod Drafted
 pub mod Turns
 pub mod Opened
+pub mod Living
+pub mod Reverted

@@ -25,7 +25,7 @@ one-of-both reads ss left r = (r.0, either ss r.0 r.1, r.2)
 module _ (reads : List ℕ → Option Store) (w : World) (first second : Command) (v : World) (old mid now : Moment)
     (reading : (u : ℕ) → formats w first u ≡ false) where
   -- a moment of the first is one of both
-  early : (m : Moment) → Answering reads w first w old m → Answering reads w second v old m
+  pub early : (m : Moment) → Answering reads w first w old m → Answering reads w second v old m
   early m a = record {
     unread = a.unread;
     quiet = a.quiet;
