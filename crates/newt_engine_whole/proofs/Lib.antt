@@ -11,4 +11,5 @@ pub mod Drafted
 pub mod Turns
 pub mod Opened
 pub mod Living
+pub mod Unanswered
 pub mod Reverted

@@ -7,9 +7,8 @@ use Rattle.newt_base.specs.Refusals.{first_of}
 use Rattle.newt_base.specs.declared.Refusal.{Refusal}
 use Rattle.newt_base.specs.declared.Refusal.TheVariants.{Limit}
 use Rattle.newt_graph.specs.Graph.{RawGraph}
-use Rattle.newt_host.specs.Moments.{Always, image}
+use Rattle.newt_host.specs.Moments.{Always}
 use Rattle.newt_host.specs.Outside.{Outside}
-use Rattle.newt_pagebook.specs.Book.{IsOpenFor}
 use Rattle.newt_reply.specs.Said.{said}
 use Rattle.newt_reply.specs.declared.reply.Reply.{Reply}
 use Rattle.newt_reply.specs.declared.reply.Reply.TheVariants as reply
@@ -37,13 +36,14 @@ use Rattle.newt_laws_steps.specs.StandsFor.{Obeys}
 use Rattle.newt_laws_whole.specs.Runs.{AllFormed, CanBeEntry}
 use Rattle.newt_laws_whole.proofs.Fits.{entry-in-can, put-all}
 use Rattle.newt_laws_whole.proofs.Reading.{GetsOr, entry_tests, gets, open-done, open-full, open-refused, open-thrown}
-use Rattle.newt_engine_card.specs.Bounds.{IsOpenOrSame, ProgramsAtMost}
+use Rattle.newt_engine_card.specs.Bounds.{IsOpenOrSame}
+use Rattle.newt_engine_units.proofs.Costs.{room-for-less, widened}
 use Rattle.newt_engine_cursors.specs.Unread.{steps_unread}
 use Rattle.newt_engine.specs.Bounds.{is_format, most_settled}
 use Rattle.newt_engine.specs.Calls.{Applied as Inner, Finished}
 use Rattle.newt_engine.specs.Standing.{IsStanding, means}
 use Rattle.newt_engine.specs.declared.world.World.{World as Engine}
-use Rattle.newt_engine_whole.specs.Bounds.{most_put, most_taken, whole_means_entries}
+use Rattle.newt_engine_whole.specs.Bounds.{most_put, most_taken}
 use Rattle.newt_engine_whole.specs.Calls.{Applied, Ended}
 use Rattle.newt_engine_whole.specs.Copies.{PutsCopy}
 use Rattle.newt_engine_whole.specs.Ends.{whole_takes_memory, whole_uses_device}
@@ -52,24 +52,26 @@ use Rattle.newt_engine_whole.specs.declared.whole.Whole.{Whole}
 use Rattle.newt_engine_whole.proofs.Drafted.{flat-is}
 use Rattle.newt_engine_whole.proofs.Turns.{as-other}
 
--- ---- how a command ends that asks to read one entry
+-- ---- how a command ends that asks to read one entry, and nothing more was done
 
-alone : (f : Command → ℕ) (c : Command) → sum_by f (c ∷ []) ≡ f c
-alone f c = omega arith
+least : (a b : ℕ) → a ≤ a + b
+least a b = omega arith
 
 pub reading-ended : {C : Type 0} {reads : List ℕ → Option Store} {told : Bool} {c : Command} {old : Whole C} {o p : Outside} {inner result : Result Reply AllocError} (u uid : ℕ) (s : List ℕ)
     → is_format c ≡ false → ((w : World) → steps_unread w c ≡ false) → whole_takes_memory c ≡ true → whole_uses_device c ≡ true
-    → (IsTrue told → asked_in_turn (known_whole reads old o) c ≡ command.Get u s uid ∷ [])
+    → (IsTrue told → (rest : List Command) × (asked_in_turn (known_whole reads old o) c ≡ command.Get u s uid ∷ rest))
     → Finished reads told (command.Get u s uid) old.world o p inner → (IsTrue told → IfOk result (λ it. (x : ℕ) → (it ≡ reply.Thrown x → ⊥) → IsOpenOrSame x o.now p.now)) → Ended reads told c old o p result
 reading-ended {C} {reads} {told} {c} {old} {o} {p} {inner} {result} u uid s formats unread memory device turn f opens =
     let h = known_whole reads old o in
     let get = command.Get u s uid in
-    let put : IsTrue told → (x : ℕ) → most_put h c x ≡ most_programmed h.world get x = λ t x. ap (sum_by (λ d. most_programmed h.world d x)) (turn t) ∙ alone (λ d. most_programmed h.world d x) get in
-    let taken : IsTrue told → (x : ℕ) → most_taken h c x ≡ most_settled h.world get x = λ t x. ap (sum_by (λ d. most_settled h.world d x)) (turn t) ∙ alone (λ d. most_settled h.world d x) get in
+    let put : IsTrue told → (x : ℕ) → most_programmed h.world get x ≤ most_put h c x = λ t x.
+        subst (λ n. most_programmed h.world get x ≤ n) (sym (ap (sum_by (λ d. most_programmed h.world d x)) (turn t).1)) (least (most_programmed h.world get x) (sum_by (λ d. most_programmed h.world d x) (turn t).0)) in
+    let taken : IsTrue told → (x : ℕ) → most_settled h.world get x ≤ most_taken h c x = λ t x.
+        subst (λ n. most_settled h.world get x ≤ n) (sym (ap (sum_by (λ d. most_settled h.world d x)) (turn t).1)) (least (most_settled h.world get x) (sum_by (λ d. most_settled h.world d x) (turn t).0)) in
     record {
       alone = f.alone;
-      bound = λ t other x. subst (λ n. ProgramsAtMost n x o p) (sym (put t x)) (f.bound t refl x);
-      fetched = λ t entries x room. subst (λ n. p.fetched x ≤ o.fetched x + n) (sym (taken t x)) (f.settling t refl x (subst (λ n. IsOpenFor n (image x o.now)) (put t x) room));
+      bound = λ t other x. widened (put t x) (f.bound t refl x);
+      fetched = λ t entries x room. let k = f.settling t refl x (room-for-less (put t x) room) in let more = taken t x in omega (arith, k, more);
       step = λ t steps. absurd (both-ways (sym (unread h.world) ∙ steps));
       open_after = opens;
       never_memory = λ none. absurd (both-ways (sym none ∙ memory));
@@ -123,7 +125,7 @@ module _ {C : Type 0} {reads : List ℕ → Option Store} {place : C → ℕ} {s
   open-handed {it} other a = record {
     stands = record { world = a.stands; watches = begun.watches; drafts = begun.drafts };
     stepped = λ t h m. go h m (a.obeyed t h.world m.world);
-    ended = reading-ended u uid s refl (λ w. refl) refl refl (λ t. open-turn (known_whole reads old o) u uid s) a.finished a.finished.open_after;
+    ended = reading-ended u uid s refl (λ w. refl) refl refl (λ t. ([], open-turn (known_whole reads old o) u uid s)) a.finished a.finished.open_after;
   }
     where
       go : (h : plain.Whole) → Means reads old o h → Obeys {R = Reply} {E = AllocError} reads said (means reads mid p) h.world (command.Get u s uid) (Ok it) o.now p.now
@@ -194,7 +196,7 @@ module _ {C : Type 0} {reads : List ℕ → Option Store} {place : C → ℕ} {s
       }
 
       ended : Ended reads told (command.Open u s uid) old o p (Ok it)
-      ended = reading-ended u uid s refl (λ w. refl) refl refl (λ t. open-turn (known_whole reads old o) u uid s) a.finished (λ t x other. a.finished.open_after t x (λ k. cc))
+      ended = reading-ended u uid s refl (λ w. refl) refl refl (λ t. ([], open-turn (known_whole reads old o) u uid s)) a.finished (λ t x other. a.finished.open_after t x (λ k. cc))
 
       pub open-put : (IsTrue told → (h : plain.Whole) × Means reads old o h × AllFormed h.world) → Applied reads place stands told (command.Open u s uid) old new o p (Ok it)
       open-put has = go (position is_none old.works) refl put
