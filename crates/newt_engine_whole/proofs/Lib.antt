@@ -13,3 +13,4 @@ pub mod Opened
 pub mod Living
 pub mod Unanswered
 pub mod Reverted
+pub mod Saved

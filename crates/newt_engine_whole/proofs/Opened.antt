@@ -39,7 +39,7 @@ use Rattle.newt_laws_whole.proofs.Reading.{GetsOr, entry_tests, gets, open-done,
 use Rattle.newt_engine_card.specs.Bounds.{IsOpenOrSame}
 use Rattle.newt_engine_units.proofs.Costs.{room-for-less, widened}
 use Rattle.newt_engine_cursors.specs.Unread.{steps_unread}
-use Rattle.newt_engine.specs.Bounds.{is_format, most_settled}
+use Rattle.newt_engine.specs.Bounds.{most_settled}
 use Rattle.newt_engine.specs.Calls.{Applied as Inner, Finished}
 use Rattle.newt_engine.specs.Standing.{IsStanding, means}
 use Rattle.newt_engine.specs.declared.world.World.{World as Engine}
@@ -58,10 +58,10 @@ least : (a b : ℕ) → a ≤ a + b
 least a b = omega arith
 
 pub reading-ended : {C : Type 0} {reads : List ℕ → Option Store} {told : Bool} {c : Command} {old : Whole C} {o p : Outside} {inner result : Result Reply AllocError} (u uid : ℕ) (s : List ℕ)
-    → is_format c ≡ false → ((w : World) → steps_unread w c ≡ false) → whole_takes_memory c ≡ true → whole_uses_device c ≡ true
+    → ((w : World) → steps_unread w c ≡ false) → whole_takes_memory c ≡ true → whole_uses_device c ≡ true
     → (IsTrue told → (rest : List Command) × (asked_in_turn (known_whole reads old o) c ≡ command.Get u s uid ∷ rest))
     → Finished reads told (command.Get u s uid) old.world o p inner → (IsTrue told → IfOk result (λ it. (x : ℕ) → (it ≡ reply.Thrown x → ⊥) → IsOpenOrSame x o.now p.now)) → Ended reads told c old o p result
-reading-ended {C} {reads} {told} {c} {old} {o} {p} {inner} {result} u uid s formats unread memory device turn f opens =
+reading-ended {C} {reads} {told} {c} {old} {o} {p} {inner} {result} u uid s unread memory device turn f opens =
     let h = known_whole reads old o in
     let get = command.Get u s uid in
     let put : IsTrue told → (x : ℕ) → most_programmed h.world get x ≤ most_put h c x = λ t x.
@@ -125,7 +125,7 @@ module _ {C : Type 0} {reads : List ℕ → Option Store} {place : C → ℕ} {s
   open-handed {it} other a = record {
     stands = record { world = a.stands; watches = begun.watches; drafts = begun.drafts };
     stepped = λ t h m. go h m (a.obeyed t h.world m.world);
-    ended = reading-ended u uid s refl (λ w. refl) refl refl (λ t. ([], open-turn (known_whole reads old o) u uid s)) a.finished a.finished.open_after;
+    ended = reading-ended u uid s (λ w. refl) refl refl (λ t. ([], open-turn (known_whole reads old o) u uid s)) a.finished a.finished.open_after;
   }
     where
       go : (h : plain.Whole) → Means reads old o h → Obeys {R = Reply} {E = AllocError} reads said (means reads mid p) h.world (command.Get u s uid) (Ok it) o.now p.now
@@ -196,7 +196,7 @@ module _ {C : Type 0} {reads : List ℕ → Option Store} {place : C → ℕ} {s
       }
 
       ended : Ended reads told (command.Open u s uid) old o p (Ok it)
-      ended = reading-ended u uid s refl (λ w. refl) refl refl (λ t. ([], open-turn (known_whole reads old o) u uid s)) a.finished (λ t x other. a.finished.open_after t x (λ k. cc))
+      ended = reading-ended u uid s (λ w. refl) refl refl (λ t. ([], open-turn (known_whole reads old o) u uid s)) a.finished (λ t x other. a.finished.open_after t x (λ k. cc))
 
       pub open-put : (IsTrue told → (h : plain.Whole) × Means reads old o h × AllFormed h.world) → Applied reads place stands told (command.Open u s uid) old new o p (Ok it)
       open-put has = go (position is_none old.works) refl put

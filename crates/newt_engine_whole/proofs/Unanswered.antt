@@ -29,7 +29,6 @@ use Rattle.newt_laws_steps.specs.StandsFor.{Obeys}
 use Rattle.newt_laws_world.specs.Worlds.{is_plain}
 use Rattle.newt_laws_whole.proofs.Reading.{GetsOr, gets}
 use Rattle.newt_engine_cursors.specs.Unread.{steps_unread}
-use Rattle.newt_engine.specs.Bounds.{is_format}
 use Rattle.newt_engine.specs.Calls.{Applied as Inner}
 use Rattle.newt_engine.specs.Standing.{means}
 use Rattle.newt_engine.specs.declared.world.World.{World as Engine}
@@ -81,11 +80,11 @@ module _ {C : Type 0} {reads : List ℕ → Option Store} {place : C → ℕ} {s
             subst (λ (w : World). Always (Answering reads h.world (command.Get u s uid) w o.now) o.now p.now) (same t h m v it e (gets h.world u s uid v (said it) m.world.settled turned.step)) moments
         go (Err error) e moments = subst (λ (w : World). Always (Answering reads h.world (command.Get u s uid) w o.now) o.now p.now) (get-stays h.world u uid s m.world.settled) moments
 
-    pub read-memory : {new : Whole C} (error : AllocError) → is_format c ≡ false → ((w : World) → steps_unread w c ≡ false) → whole_takes_memory c ≡ true → whole_uses_device c ≡ true
+    pub read-memory : {new : Whole C} (error : AllocError) → ((w : World) → steps_unread w c ≡ false) → whole_takes_memory c ≡ true → whole_uses_device c ≡ true
         → (IsTrue told → (rest : List Command) × (asked_in_turn (known_whole reads old o) c ≡ command.Get u s uid ∷ rest))
         → (IsTrue told → (h : plain.Whole) → Means reads old o h → Always (Answering reads h.world (command.Get u s uid) h.world o.now) o.now p.now)
         → Applied reads place stands told c old new o p (Err error)
-    read-memory {new} error formats unread memory device turn moments = record {
+    read-memory {new} error unread memory device turn moments = record {
       stands = tt;
       stepped = λ t h m.
           let w = whole_answer h c in record {
@@ -96,5 +95,5 @@ module _ {C : Type 0} {reads : List ℕ → Option Store} {place : C → ℕ} {s
             answered = tt;
             moments = Always-map (early reads h.world (command.Get u s uid) c w.0.world o.now o.now p.now (λ x. refl)) (moments t h m);
           };
-      ended = reading-ended u uid s formats unread memory device turn a.finished (λ t. tt);
+      ended = reading-ended u uid s unread memory device turn a.finished (λ t. tt);
     }

@@ -1,16 +1,21 @@
 -- How much a command of the whole programs and fetches. All of it is this project's own.
-use Rattle.std.specs.Prelude.{ℕ, Bool, true, sum_by}
+use Rattle.std.specs.Prelude.{ℕ, Bool, true, false, not, sum_by}
 use Rattle.newt_spec_world.specs.declared.command.Command.{Command}
 use Rattle.newt_spec_world.specs.declared.command.Command.TheVariants as command
 use Rattle.newt_spec_whole.specs.Whole.{Whole, asked_in_turn}
 use Rattle.newt_laws_answers.specs.Bounds.{most_programmed}
 use Rattle.newt_laws_answers.specs.Fetched.{means_entries}
-use Rattle.newt_engine.specs.Bounds.{most_settled}
+use Rattle.newt_engine.specs.Bounds.{is_format, most_settled}
 
--- entries are read or changed
+-- What it programs is bounded. A save reads an entry and changes it, and of the two together
+-- nothing is said.
+abbrev pub has_bound : Command → Bool
+has_bound (command.Save n) = false
+has_bound c = not (is_format c)
+
+-- entries are read or changed, by one command that is asked
 abbrev pub whole_means_entries : Command → Bool
 whole_means_entries (command.Open u s uid) = true
-whole_means_entries (command.Save n) = true
 whole_means_entries (command.Revert n) = true
 whole_means_entries c = means_entries c
 

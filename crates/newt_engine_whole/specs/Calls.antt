@@ -15,24 +15,24 @@ use Rattle.newt_script_session.specs.Steps.{Stepped}
 use Rattle.newt_engine_card.specs.Bounds.{FetchesAtMost, FetchesWithin, IsOpenOrSame}
 use Rattle.newt_engine_card.specs.Bounds.{ProgramsAtMost}
 use Rattle.newt_engine_cursors.specs.Unread.{steps_unread}
-use Rattle.newt_engine.specs.Bounds.{is_format, most_stepped}
+use Rattle.newt_engine.specs.Bounds.{most_stepped}
 use Rattle.newt_engine.specs.Calls.{IsNotThrown}
-use Rattle.newt_engine_whole.specs.Bounds.{most_put, most_taken, whole_means_entries}
+use Rattle.newt_engine_whole.specs.Bounds.{has_bound, most_put, most_taken, whole_means_entries}
 use Rattle.newt_engine_whole.specs.Ends.{whole_takes_memory, whole_uses_device}
 use Rattle.newt_engine_whole.specs.Standing.{AreKept, DraftsFit, Means, Standing, known_whole}
 use Rattle.newt_engine_whole.specs.declared.whole.Whole.{Whole}
 
 module _ {C : Type 0} (reads : List ℕ → Option Store) where
   -- How a command ends. What is attached, the input and the output are as they were. But for a
-  -- format each unit that has room is programmed by no more than what is asked of the world may;
-  -- where the command is one of entries, no more is fetched there than by that; one that opens,
-  -- shows, moves or counts a cursor fetches no more than it does in the world. After a reply each
-  -- bank is not closed or is as it was, but for a unit that was thrown out. Only what may take
+  -- format and a save each unit that has room is programmed by no more than what is asked of the
+  -- world may; where that is a command of entries, no more is fetched there than by it; one that
+  -- opens, shows, moves or counts a cursor fetches no more than it does in the world. After a reply
+  -- each bank is not closed or is as it was, but for a unit that was thrown out. Only what may take
   -- memory ends in want of it, and only what uses a device throws a unit out.
   pub record Ended (told : Bool) (command : Command) (old : Whole C) (before after : Outside)
       (result : Result Reply AllocError) : Type 0 where
     pub alone : OnDevices before after
-    pub bound : IsTrue told → is_format command ≡ false → let h = known_whole reads old before in
+    pub bound : IsTrue told → has_bound command ≡ true → let h = known_whole reads old before in
         (u : ℕ) → ProgramsAtMost (most_put h command u) u before after
     pub fetched : IsTrue told → whole_means_entries command ≡ true →
         let h = known_whole reads old before in
