@@ -35,15 +35,15 @@ record Same (h : plain.Whole) (c : Command) : Type 0 where
 
 same : (h : plain.Whole) (c : Command) → is_plain c ≡ true → Same h c
 unfolding asks is_plain
-same h (command.Watch s most) p = absurd (both-ways (sym p))
-same h (command.Notes n) p = absurd (both-ways (sym p))
-same h (command.Unwatch n) p = absurd (both-ways (sym p))
-same h (command.Open u s uid) p = absurd (both-ways (sym p))
-same h (command.Draft n) p = absurd (both-ways (sym p))
-same h (command.Edit n path g) p = absurd (both-ways (sym p))
-same h (command.Save n) p = absurd (both-ways (sym p))
-same h (command.Revert n) p = absurd (both-ways (sym p))
-same h (command.Discard n) p = absurd (both-ways (sym p))
+same h (command.Watch s most) p = absurd (both-ways p)
+same h (command.Notes n) p = absurd (both-ways p)
+same h (command.Unwatch n) p = absurd (both-ways p)
+same h (command.Open u s uid) p = absurd (both-ways p)
+same h (command.Draft n) p = absurd (both-ways p)
+same h (command.Edit n path g) p = absurd (both-ways p)
+same h (command.Save n) p = absurd (both-ways p)
+same h (command.Revert n) p = absurd (both-ways p)
+same h (command.Discard n) p = absurd (both-ways p)
 same h _ p = record { turn = refl; entries = refl; memory = refl; device = refl; bound = refl }
 
 is-false : (b : Bool) → not b ≡ true → b ≡ false

@@ -1,5 +1,6 @@
 -- What is mounted is the same in each world that is stood for, and is what the cards have.
 use Rattle.std.proofs.Common.{◌≡◌, refl, ap, sym, ◌∙◌, subst, ℕ, List, Bool, true, Option, option_map, option_and_then}
+use Rattle.newt_base.specs.Refusals.{first_of}
 use Rattle.newt_host.specs.Outside.{Outside}
 use Rattle.newt_spec_query.specs.Cursor.{Cursor}
 use Rattle.newt_spec_store.specs.Store.{Soup, Store, soup_named}
@@ -8,12 +9,15 @@ use Rattle.newt_spec_world.specs.World.{Media, World, mounted_store, soup_in}
 use Rattle.newt_laws_world.specs.Worlds.{OnMedia}
 use Rattle.newt_laws_world.proofs.Kept.{Wf}
 use Rattle.newt_laws_world.proofs.Units.{has-mounted}
+use Rattle.newt_spec_world.specs.Refused.{checks}
+use Rattle.newt_spec_world.specs.declared.command.Command.TheVariants as command
 use Rattle.newt_laws_whole.specs.Runs.{AllFormed}
+use Rattle.newt_laws_whole.proofs.Reading.{entry_tests}
 use Rattle.newt_laws_steps.specs.Meant.{MountedSure, media_on, meant_by}
 use Rattle.newt_laws_steps.specs.StandsFor.{StandsFor, known}
 use Rattle.newt_laws_steps.proofs.Held.{stands-sure}
 use Rattle.newt_laws_steps.proofs.Meant.{store-m}
-use Rattle.newt_laws_steps.proofs.MeantRows.{resolved-m}
+use Rattle.newt_laws_steps.proofs.MeantRows.{first-m, resolved-m}
 use Rattle.newt_laws_steps.proofs.StoodFor.{known-stands, stood-for-meant}
 use Rattle.newt_engine_units.specs.Looks.{next_uid_on, soup_on}
 use Rattle.newt_engine_units.specs.Stands.{world_of}
@@ -56,3 +60,9 @@ module _ {C : Type 0} {reads : List ℕ → Option Store} {place : C → ℕ} {s
     -- an alias is resolved as it is there
     pub resolved-same : (a : Alias) → resolved w a ≡ resolved (world_of reads units o) a
     resolved-same a = ap (λ (x : World). resolved x a) (stood-for-meant reads (marks_with units cursors) o w means) ∙ resolved-m (media_on w) known_world known_sure a
+
+    -- and an entry is refused for the same
+    pub tests-same : (u uid : ℕ) (name : List ℕ) → first_of (entry_tests w u name uid) ≡ first_of (entry_tests (world_of reads units o) u name uid)
+    unfolding checks
+    tests-same u uid name = ap (λ (x : World). first_of (entry_tests x u name uid)) (stood-for-meant reads (marks_with units cursors) o w means)
+        ∙ first-m (media_on w) known_world known_sure (command.Alias u name uid) refl

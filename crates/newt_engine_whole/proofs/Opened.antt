@@ -104,6 +104,23 @@ alias-known w v u uid store soup s h = go (first_of (checks w (command.Alias u s
     go (Some r) k = cc
     go None k = outer (mounted_store w u) refl (ap (λ (a : World × replies.Reply). a.1) k)
 
+-- or it is refused, as a command that reads the entry is
+pub alias-refused : (w v : World) (u uid : ℕ) (s : List ℕ) (r : Refusal) → answer w (command.Alias u s uid) ≡ (v, replies.Reply.refused r) → first_of (entry_tests w u s uid) ≡ Some r
+unfolding answer fields checks
+alias-refused w v u uid s r h = go (first_of (entry_tests w u s uid)) refl h
+  where
+    inner : (t : Store) (o : Option Soup) → or_nil (λ p. replies.Reply.alias t.sig p.sig uid) o ≡ replies.Reply.refused r → ⊥
+    inner t None k = cc
+    inner t (Some p) k = cc
+
+    outer : (o : Option Store) → or_nil (λ t. or_nil (λ p. replies.Reply.alias t.sig p.sig uid) (soup_in w u s)) o ≡ replies.Reply.refused r → ⊥
+    outer None k = cc
+    outer (Some t) k = inner t (soup_in w u s) k
+
+    go : (o : Option Refusal) → first_of (entry_tests w u s uid) ≡ o → answered w (command.Alias u s uid) o ≡ (v, replies.Reply.refused r) → o ≡ Some r
+    go (Some x) e k = cc
+    go None e k = absurd (outer (mounted_store w u) (ap (λ (a : World × replies.Reply). a.1) k))
+
 -- an entry that is found by its id has it
 pub entry-id : (w : World) (u uid : ℕ) (s : List ℕ) (e : Entry) → entry_in w u s uid ≡ Some e → e.uid ≡ uid
 entry-id w u uid s e h = go (soup_in w u s) h
@@ -111,6 +128,16 @@ entry-id w u uid s e h = go (soup_in w u s) h
     go : (o : Option Soup) → option_and_then (entry_of uid) o ≡ Some e → e.uid ≡ uid
     go None k = absurd (none-some e k)
     go (Some q) k = eqb-true e.uid uid (find-passes (λ (x : Entry). x.uid == uid) q.entries e k).0
+
+-- ---- a copy is put at a free place
+
+pub puts-at : {old new : List (Option Copy)} {k : Copy} {r : replies.Reply} (n : ℕ) → position is_none old ≡ Some n → new ≡ slice_set old n (Some k) → r ≡ replies.Reply.number n → PutsCopy old new k r
+puts-at {old} {new} {k} {r} n free is says =
+    subst (λ (o : Option ℕ). MatchOption o ((r ≡ replies.Reply.refused Limit) × (new ≡ old)) (λ n. (r ≡ replies.Reply.number n) × (new ≡ slice_set old n (Some k)))) (sym free) (says, is)
+
+pub puts-nowhere : {old new : List (Option Copy)} {k : Copy} {r : replies.Reply} → position is_none old ≡ None → new ≡ old → r ≡ replies.Reply.refused Limit → PutsCopy old new k r
+puts-nowhere {old} {new} {k} {r} free is says =
+    subst (λ (o : Option ℕ). MatchOption o ((r ≡ replies.Reply.refused Limit) × (new ≡ old)) (λ n. (r ≡ replies.Reply.number n) × (new ≡ slice_set old n (Some k)))) (sym free) (says, is)
 
 -- ---- what is promised
 

@@ -105,7 +105,7 @@ module _ {C : Type 0} (soups : C → Store) (units : Units C) (w v : World) wher
   few-of Nothing r es h k u = refl
   few-of (Made x name) r es h k u = refl
   few-of (One a) r es h k u = refl
-  few-of (Two a b) r es h k u = absurd (both-ways (sym (ap (λ (xs : List Event). nat_le (length xs) 1) h ∙ k)))
+  few-of (Two a b) r es h k u = absurd (both-ways (ap (λ (xs : List Event). nat_le (length xs) 1) h ∙ k))
 
   past-of : (n : ℕ) (o : Option Soup) → elim (option_map (λ (p : Soup). p.next_uid) o) [ None ↦ false | Some next ↦ not (next == n) ] ≡ is_past n o
   past-of n None = refl

@@ -49,9 +49,9 @@ gets w u s uid v r settled (plain none is) = go (first_of (entry_tests w u s uid
     go None h k =
         let e = shown (entry_in w u s uid) (all-false (entry_tests w u s uid) h).1.1.1.0 in
         inr (inl (e.0, h, e.1, sym (ap (λ (a : World × Reply). a.0) k) ∙ settled, sym (ap (λ (a : World × Reply). a.1) k) ∙ e.2))
-gets w u s uid v r settled (found {x} looks has is) = absurd (none-some x looks)
-gets w u s uid v r settled (thrown {x} next is) = inr (inr (x, next, is))
-gets w u s uid v r settled (halfway {x} moves ok next is) = absurd (both-ways (sym moves))
+gets w u s uid v r settled (found {u = x} looks has is) = absurd (none-some x looks)
+gets w u s uid v r settled (thrown {u = x} next is) = inr (inr (x, next, is))
+gets w u s uid v r settled (halfway moves ok next is) = absurd (both-ways moves)
 
 -- ---- tests
 
