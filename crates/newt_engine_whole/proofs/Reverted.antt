@@ -120,7 +120,7 @@ module _ {C : Type 0} {reads : List ℕ → Option Store} {place : C → ℕ} {s
           by (failed x next says) = record {
             next = whole_thrown h (command.Get at.unit at.name at.uid) x;
             reply = said it;
-            steps = wholes.thrown (subst (λ (ds : List Command). Among ds (command.Get at.unit at.name at.uid)) (sym (revert-turn h n k.of k.there k.spot k.lives)) (inl (is-read h k))) refl says;
+            steps = wholes.thrown (command.Get at.unit at.name at.uid) (subst (λ (ds : List Command). Among ds (command.Get at.unit at.name at.uid)) (sym (revert-turn h n k.of k.there k.spot k.lives)) (inl (is-read h k))) refl says;
             threw = a.finished.threw;
             answered = (refl, record { world = subst (means reads mid p) next there; watches = m.watches; copies = m.copies }, a.finished.failed);
             moments = as-other reads h.world (whole_thrown h (command.Get at.unit at.name at.uid) x).world (command.Get at.unit at.name at.uid) (command.Revert n) o.now p.now (λ u. refl)

@@ -94,7 +94,7 @@ module _ (h : Whole) (u : ℕ) (s : List ℕ) (uid : ℕ) where
 
   pub open-thrown : (x : ℕ) → WholeStep h (command.Open u s uid) (whole_thrown h (command.Get u s uid) x) (Reply.thrown x)
   unfolding asks
-  open-thrown x = wholes.thrown (inl refl) refl refl
+  open-thrown x = wholes.thrown (command.Get u s uid) (inl refl) refl refl
 
 -- ---- a save and a revert
 

@@ -26,7 +26,7 @@ use Rattle.newt_laws_whole.proofs.Plain.{plain-answer}
 pub quiet-whole : (h : Whole) (c : Command) (v : Whole) (r : Reply) → AllSure h.world → WholeStep h c v r → IsQuiet r → whole_answer h c ≡ (v, r)
 quiet-whole h c v r sure (plain none is) quiet = is
 quiet-whole h c v r sure (found {u} looks has is) quiet = absurd (none-some u (sym (looks-sure h.world c sure) ∙ looks))
-quiet-whole h c v r sure (thrown {u} asked next is) quiet = absurd (quiet u is)
+quiet-whole h c v r sure (thrown {u} asked among next is) quiet = absurd (quiet u is)
 quiet-whole h c v r sure (halfway {u} moves ok next is) quiet = absurd (quiet u is)
 
 pub whole-sure : (h : Whole) (c : Command) → AllSure h.world → AllSure (whole_answer h c).0.world

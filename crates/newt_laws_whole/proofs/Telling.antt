@@ -219,7 +219,7 @@ steps-tell h c v r p (found {u} {v = x} looks has is) =
     ∙ sym (no-notes h.world v c r (looked-none h.world c at.0 at.1)))
     (found-steps h c u x v r p looks has is)
 steps-tell h c v r p (thrown {u} next is) =
-    wholes.thrown (subst (λ (ds : List Command). Among ds c) (sym (plain-turn h c p)) (inl refl))
+    wholes.thrown c (subst (λ (ds : List Command). Among ds c) (sym (plain-turn h c p)) (inl refl))
     (ap {A = World × List Event} (λ (a : World × List Event). noting h a.0 a.1)
     (ap {A = List Event} {B = World × List Event} (λ es. (v, es)) none ∙ ap {A = World} {B = World × List Event} (λ x. (x, [])) next))
     is

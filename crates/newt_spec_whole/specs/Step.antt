@@ -37,7 +37,7 @@ pub data WholeStep (h : Whole) (c : Command) (next : Whole) (reply : Reply) : Ty
   found : {u : ℕ} {v : World} → looks_anew h.world c ≡ Some u → Found h.world u v
       → whole_answer (in_world h v) c ≡ (next, reply) → WholeStep h c next reply
   -- the device of a unit fails in a command that is asked of the world
-  thrown : {u : ℕ} {asked : Command} → Among (asked_in_turn h c) asked
+  thrown : {u : ℕ} (asked : Command) → Among (asked_in_turn h c) asked
       → next ≡ whole_thrown h asked u → reply ≡ Reply.thrown u → WholeStep h c next reply
   -- the device of the source of a move fails, and the target has the entry
   halfway : {u : ℕ} → IsTrue (moves_away c u) → IsTrue (is_accepted h.world c)
