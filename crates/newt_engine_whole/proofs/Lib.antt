@@ -1,3 +1,5 @@
+pub mod Groups
+pub mod Starting
 pub mod Meant
 pub mod Telling
 pub mod Dues

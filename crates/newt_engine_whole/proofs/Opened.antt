@@ -129,6 +129,11 @@ entry-id w u uid s e h = go (soup_in w u s) h
     go None k = absurd (none-some e k)
     go (Some q) k = eqb-true e.uid uid (find-passes (λ (x : Entry). x.uid == uid) q.entries e k).0
 
+-- no other reply shows an entry with its time
+pub untimed : (it : Reply) → ((time : _) (graph : _) → it ≡ reply.Timed time graph → ⊥) → (time : ℕ) (graph : RawGraph) → said it ≡ replies.Reply.timed time graph → ⊥
+untimed (reply.Timed time graph) other t g says = other time graph refl
+untimed _ other t g says = cc
+
 -- ---- a copy is put at a free place
 
 pub puts-at : {old new : List (Option Copy)} {k : Copy} {r : replies.Reply} (n : ℕ) → position is_none old ≡ Some n → new ≡ slice_set old n (Some k) → r ≡ replies.Reply.number n → PutsCopy old new k r
