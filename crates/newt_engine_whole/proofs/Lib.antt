@@ -14,5 +14,7 @@ pub mod Turns
 pub mod Opened
 pub mod Living
 pub mod Unanswered
+pub mod Found
+pub mod Opening
 pub mod Reverted
 pub mod Saved
