@@ -26,10 +26,16 @@ use Rattle.newt_engine_whole.proofs.Opened.{open-put, open-turn}
 use Rattle.newt_engine_whole.proofs.Unanswered.{read-memory, still-read}
 
 -- where it was shown the world stays
-pub shown-stays : (w v : World) (u uid : ℕ) (s : List ℕ) (time : ℕ) (graph : RawGraph) → GetsOr w u s uid v (replies.Reply.timed time graph) → v ≡ w
+shown-stays : (w v : World) (u uid : ℕ) (s : List ℕ) (time : ℕ) (graph : RawGraph) → GetsOr w u s uid v (replies.Reply.timed time graph) → v ≡ w
 shown-stays w v u uid s time graph (inl (r, first, same, says)) = same
 shown-stays w v u uid s time graph (inr (inl (e, first, entry, same, says))) = same
 shown-stays w v u uid s time graph (inr (inr (x, next, says))) = cc
+
+pub timed-stays : (w v : World) (u uid : ℕ) (s : List ℕ) (time : ℕ) (graph : RawGraph) (it : Reply) → ◌≡◌ {A = Result Reply AllocError} (Ok (reply.Timed time graph)) (Ok it) → GetsOr w u s uid v (said it) → v ≡ w
+timed-stays w v u uid s time graph it e g = shown-stays w v u uid s time graph (subst (λ (r : Reply). GetsOr w u s uid v (said r)) (sym (ok-same (reply.Timed time graph) it e)) g)
+  where
+    ok-same : (x y : Reply) → ◌≡◌ {A = Result Reply AllocError} (Ok x) (Ok y) → x ≡ y
+    ok-same x y k = cc
 
 module _ {C : Type 0} {reads : List ℕ → Option Store} {place : C → ℕ} {stands : Bool → C → Outside → Type 0} {told : Bool} {old : Whole C} {mid : Engine C} {o p : Outside} (u uid : ℕ) (s : List ℕ)
     (begun : Standing reads place stands told old o) {time store soup : ℕ} {graph : RawGraph} (a : Inner reads place stands told (command.Get u s uid) old.world mid o p (Ok (reply.Timed time graph))) where
@@ -40,10 +46,4 @@ module _ {C : Type 0} {reads : List ℕ → Option Store} {place : C → ℕ} {s
   opening known has world watches (Ok it) put = open-put u uid s begun a known world watches it put has
   opening known has world watches (Err error) put =
       read-memory refl begun u uid s a error (λ w. refl) refl refl (λ t. ([], open-turn (known_whole reads old o) u uid s))
-      (still-read refl begun u uid s a (λ t h m v it e g. shown-stays h.world v u uid s time graph (timed it e g)))
-    where
-      timed : {h : World} {v : World} (it : Reply) → ◌≡◌ {A = Result Reply AllocError} (Ok (reply.Timed time graph)) (Ok it) → GetsOr h u s uid v (said it) → GetsOr h u s uid v (replies.Reply.timed time graph)
-      timed {h} {v} it e g = subst (λ (r : Reply). GetsOr h u s uid v (said r)) (sym (ok-same (reply.Timed time graph) it e)) g
-        where
-          ok-same : (x y : Reply) → ◌≡◌ {A = Result Reply AllocError} (Ok x) (Ok y) → x ≡ y
-          ok-same x y k = cc
+      (still-read refl begun u uid s a (λ t h m v it e g. timed-stays h.world v u uid s time graph it e g))
