@@ -18,3 +18,4 @@ pub mod Found
 pub mod Opening
 pub mod Reverted
 pub mod Saved
+pub mod Saving

@@ -35,10 +35,10 @@ row-none r b rest h k = ap (λ c. first_of ((r, c) ∷ rest)) h ∙ k
 -- ---- the entry is there to be read
 
 module _ (h : plain.Whole) (formed : AllFormed h.world) (k : Copy) (s : Spot) (lives : living h k ≡ Some s) where
-  named : IsNamed h.world (alias_of_copy k) s
+  pub named : IsNamed h.world (alias_of_copy k) s
   named = named-by h.world (alias_of_copy k) s lives
 
-  soup-there : soup_in h.world s.unit s.soup.name ≡ Some s.soup
+  pub soup-there : soup_in h.world s.unit s.soup.name ≡ Some s.soup
   soup-there = soup-has h.world s.unit named.on s.soup.name named.mounted_there ∙ there-named named.on s.soup (formed s.unit named.on named.mounted_there) named.is_soup
 
   pub entry-there : entry_in h.world s.unit s.soup.name s.entry.uid ≡ Some s.entry
