@@ -107,3 +107,88 @@ module _ {C : Type 0} {reads : List ℕ → Option Store} {told : Bool} {place :
   pub change-thrown : (x : ℕ) → WholeStep h (command.Save n) (whole_thrown h asked x) (replies.Reply.thrown x)
   change-thrown x = wholes.thrown asked (subst (λ (ds : List Command). Among ds asked)
       (sym (save-turn h n i.of i.there i.spot i.lives ∙ ap {A = Bool} {B = List Command} (λ b. get_of i.spot ∷ (if b then asked ∷ [] else [])) based)) (inr (inl refl))) refl refl
+
+-- The entry of the copy is at the place and as the base, and this is the draft.
+pub record IsBase (h : plain.Whole) (n : ℕ) (at : Place) (draft : RawGraph) : Type 0 where
+  pub formed : AllFormed h.world
+  pub is : IsAt h n at
+  pub can : CanBeEntry is.of.draft
+  pub drafted : draft ≡ is.of.draft
+  pub based : is_based is.spot.entry.time is.spot.entry.graph is.of ≡ true
+
+module _ {C : Type 0} {reads : List ℕ → Option Store} {place : C → ℕ} {stands : Bool → C → Outside → Type 0} {told : Bool} {old : Whole C} {mid : Engine C} {o p : Outside} (n : ℕ) (at : Place) (draft : RawGraph)
+    (base : IsTrue told → (h : plain.Whole) → Means reads old o h → IsBase h n at draft) where
+  -- it was refused, or a device failed: the copy and the watches stay
+  pub change-handed : {it : Reply} → (said it ≡ replies.Reply.done → ⊥) → (a : Inner reads place stands told (command.Change at.unit at.name at.uid draft) old.world mid o p (Ok it))
+      → IsTrue told → (h : plain.Whole) → Means reads old o h → Stepped {E = AllocError} WholeStep reads (command.Save n) (Ok it) h (Means reads (record old { world = mid }) p) o.now p.now o.dev_faults p.dev_faults
+  change-handed {it} other a t h m =
+      let b = base t h m in
+      let k = turned n at draft a t h m b.formed b.is b.can b.drafted b.based in
+      go b k.0 k.1 k.2 k.3
+    where
+      go : (b : IsBase h n at draft) (v : World) → ChangesOr h.world (change_of b.is.of b.is.spot) (full h.world b.is.spot.unit (change_of b.is.of b.is.spot)).1 v (said it) → means reads mid p v
+          → Always (Answering reads h.world (command.Save n) v o.now) o.now p.now
+          → Stepped {E = AllocError} WholeStep reads (command.Save n) (Ok it) h (Means reads (record old { world = mid }) p) o.now p.now o.dev_faults p.dev_faults
+      go b v (inl (no_room, same, says)) there moments = record {
+        next = h;
+        reply = said it;
+        steps = wholes.plain refl (save-full h n b.is.of b.is.there b.is.spot b.is.lives b.based no_room ∙ ap {B = plain.Whole × replies.Reply} (λ q. (h, q)) (sym says));
+        threw = a.finished.threw;
+        answered = (refl, record { world = subst (means reads mid p) same there; watches = m.watches; copies = m.copies }, a.finished.failed);
+        moments = subst (λ (w : World). Always (Answering reads h.world (command.Save n) w o.now) o.now p.now) same moments;
+      }
+      go b v (inr (inl (room, done, says))) there moments = absurd (other says)
+      go b v (inr (inr (x, next, says))) there moments = record {
+        next = whole_thrown h (change_of b.is.of b.is.spot) x;
+        reply = said it;
+        steps = subst (WholeStep h (command.Save n) (whole_thrown h (change_of b.is.of b.is.spot) x)) (sym says) (change-thrown n at draft a t h m b.formed b.is b.can b.drafted b.based x);
+        threw = a.finished.threw;
+        answered = (refl, record { world = subst (means reads mid p) next there; watches = m.watches; copies = m.copies }, a.finished.failed);
+        moments = subst (λ (w : World). Always (Answering reads h.world (command.Save n) w o.now) o.now p.now) next moments;
+      }
+
+  -- it was done: the copy begins anew from the draft, and the change is noted
+  pub change-done : {new : Whole C} → (a : Inner reads place stands told (command.Change at.unit at.name at.uid draft) old.world mid o p (Ok reply.Done)) → new.world ≡ mid
+      → ((ws : List (Option Watching)) → old.watches ≡ kept_all ws → new.watches ≡ kept_all (note_all (saved_event at ∷ []) ws))
+      → new.works ≡ slice_set old.works n (option_map (rebased mid.units.minute draft) (copy_at n old.works))
+      → IsTrue told → (h : plain.Whole) → Means reads old o h → Stepped {E = AllocError} WholeStep reads (command.Save n) (Ok reply.Done) h (Means reads new p) o.now p.now o.dev_faults p.dev_faults
+  change-done {new} a world watches works t h m =
+      let b = base t h m in
+      let k = turned n at draft a t h m b.formed b.is b.can b.drafted b.based in
+      go b k.0 k.1 k.2 k.3
+    where
+      go : (b : IsBase h n at draft) (v : World) → ChangesOr h.world (change_of b.is.of b.is.spot) (full h.world b.is.spot.unit (change_of b.is.of b.is.spot)).1 v replies.Reply.done → means reads mid p v
+          → Always (Answering reads h.world (command.Save n) v o.now) o.now p.now
+          → Stepped {E = AllocError} WholeStep reads (command.Save n) (Ok reply.Done) h (Means reads new p) o.now p.now o.dev_faults p.dev_faults
+      go b v (inl (no_room, same, says)) there moments = cc
+      go b v (inr (inl (room, done, says))) there moments =
+          let c = change_of b.is.of b.is.spot in
+          let minute : mid.units.minute ≡ h.world.minute = sym there.minute ∙ ap (λ (w : World). w.minute) done ∙ same-minute in
+          record {
+            next = record {
+              world = settle (changed h.world c);
+              watches = note_all (events h.world c) h.watches;
+              copies = change_at n (λ k. rebased h.world.minute k.draft k) h.copies;
+            };
+            reply = replies.Reply.done;
+            steps = wholes.plain refl (save-done h n b.is.of b.is.there b.is.spot b.is.lives b.based room);
+            threw = record { later = a.finished.later; rose = λ u x. absurd (both-ways x) };
+            answered = (
+              refl,
+              record {
+                world = subst (λ (e : Engine C). means reads e p (settle (changed h.world c))) (sym world) (subst (means reads mid p) done there);
+                watches = watches h.watches m.watches
+                    ∙ ap (λ (es : List Event). kept_all (note_all es h.watches)) (save-event h b.formed b.is.of b.is.spot b.is.lives b.can n at b.is.unit b.is.name b.is.soup b.is.uid);
+                copies = works ∙ set-change (rebased mid.units.minute draft) old.works n ∙ ap (change_at n (rebased mid.units.minute draft)) m.copies
+                    ∙ change-as (rebased mid.units.minute draft) (λ k. rebased h.world.minute k.draft k) h.copies n b.is.of b.is.there (λ i. rebased (minute i) (b.drafted i) b.is.of);
+              },
+              λ u x. a.finished.failed u refl,
+            );
+            moments = subst (λ (w : World). Always (Answering reads h.world (command.Save n) w o.now) o.now p.now) done moments;
+          }
+        where
+          -- a change leaves the minute
+          same-minute : (settle (changed h.world (change_of b.is.of b.is.spot))).minute ≡ h.world.minute
+          unfolding changed
+          same-minute = refl
+      go b v (inr (inr (x, next, says))) there moments = cc
