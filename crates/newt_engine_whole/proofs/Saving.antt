@@ -1,7 +1,7 @@
 -- The change of a save: it is done, refused for room, or a device failed in it.
 use Rattle.std.proofs.Common.{◌≡◌, ◌⊎◌, inl, inr, refl, ap, sym, ◌∙◌, subst, ℕ, ◌≤◌, List, [], ◌∷◌, Bool, true, false, not, IsTrue, Option, Some, None, option_map, slice_set, drop, unwrap_or, if◌then◌else◌}
 use Rattle.std.specs.declared.alloc.AllocError.{AllocError}
-use Rattle.std.specs.Prelude.{Ok, Err, is_none, slice_get}
+use Rattle.std.specs.Prelude.{Ok, Err, Result, is_none, slice_get}
 use Rattle.newt_base.specs.Refusals.{Checks, first_of}
 use Rattle.newt_base.specs.declared.Refusal.{Refusal}
 use Rattle.newt_base.specs.declared.Refusal.TheVariants.{Full, Notframe, Size}
@@ -16,7 +16,7 @@ use Rattle.newt_reply.specs.declared.reply.Reply.TheVariants as reply
 use Rattle.newt_script_session.specs.Steps.{Stepped}
 use Rattle.newt_spec_graph.specs.Graph.{is_frame, object}
 use Rattle.newt_spec_graph.specs.Lists.{Among}
-use Rattle.newt_spec_graph.proofs.Lists.{both-ways}
+use Rattle.newt_spec_graph.proofs.Lists.{both-ways, some-same}
 use Rattle.newt_spec_store.specs.Cost.{skeleton_length}
 use Rattle.newt_spec_store.specs.Store.{Soup, Store}
 use Rattle.newt_spec_whole.specs.Answer.{whole_answer}
@@ -43,13 +43,17 @@ use Rattle.newt_laws_whole.proofs.Fits.{change-all}
 use Rattle.newt_engine.specs.Calls.{Applied as Inner}
 use Rattle.newt_engine.specs.Standing.{IsStanding, means}
 use Rattle.newt_engine.specs.declared.world.World.{World as Engine}
-use Rattle.newt_engine_whole.specs.Copies.{IsAt, saved_event}
-use Rattle.newt_engine_whole.specs.Standing.{DraftsFit, Means, Standing}
+use Rattle.newt_laws_world.specs.Worlds.{is_plain}
+use Rattle.newt_engine_whole.specs.Calls.{Applied, Ended}
+use Rattle.newt_engine_whole.specs.Copies.{IsAt, IsRead, saved_event}
+use Rattle.newt_engine_whole.specs.Standing.{Means, Standing}
+use Rattle.newt_engine_whole.specs.Told.{Tells}
+use Rattle.newt_engine_whole.proofs.Apart.{apart-stepped, rest-ended}
 use Rattle.newt_engine_whole.specs.declared.saves.Place.{Place}
 use Rattle.newt_engine_whole.specs.declared.whole.Whole.{Whole}
 use Rattle.newt_engine_whole.proofs.Drafted.{change-as, flat-is, set-change}
 use Rattle.newt_engine_whole.proofs.Living.{entry-there, named, soup-there}
-use Rattle.newt_engine_whole.proofs.Saved.{ChangesOr, changes, save-done, save-full, save-turn}
+use Rattle.newt_engine_whole.proofs.Saved.{ChangesOr, changes, save-changed, save-done, save-full, save-turn}
 use Rattle.newt_engine_whole.proofs.Turns.{as-other}
 
 -- ---- a draft that can be an entry's graph is refused for want of room alone
@@ -192,3 +196,59 @@ module _ {C : Type 0} {reads : List ℕ → Option Store} {place : C → ℕ} {s
           unfolding changed
           same-minute = refl
       go b v (inr (inr (x, next, says))) there moments = cc
+
+  -- ---- all that is promised
+
+  save-ended : {result : Result Reply AllocError} → Inner reads place stands told (command.Change at.unit at.name at.uid draft) old.world mid o p result → Ended reads told (command.Save n) old o p result
+  save-ended a = record {
+    alone = a.finished.alone;
+    bound = λ t is. absurd (both-ways is);
+    fetched = λ t is. absurd (both-ways is);
+    step = λ t is. absurd (both-ways is);
+    open_after = a.finished.open_after;
+    never_memory = λ none. absurd (both-ways (sym none));
+    never_thrown = λ none. absurd (both-ways (sym none));
+  }
+
+  module _ (begun : Standing reads place stands told old o) where
+    pub save-handed : {it : Reply} → (said it ≡ replies.Reply.done → ⊥) → Inner reads place stands told (command.Change at.unit at.name at.uid draft) old.world mid o p (Ok it)
+        → Applied reads place stands told (command.Save n) old (record old { world = mid }) o p (Ok it)
+    save-handed other a = record {
+      stands = record { world = a.stands; watches = begun.watches; drafts = begun.drafts };
+      stepped = change-handed other a;
+      ended = save-ended a;
+    }
+
+    pub save-over : {new : Whole C} (k : Copy) → Some k ≡ copy_at n old.works → draft ≡ k.draft → Inner reads place stands told (command.Change at.unit at.name at.uid draft) old.world mid o p (Ok reply.Done)
+        → Tells (saved_event at ∷ []) (record old { world = mid; works = slice_set old.works n (option_map (rebased mid.units.minute draft) (copy_at n old.works)) }) new
+        → Applied reads place stands told (command.Save n) old new o p (Ok reply.Done)
+    save-over {new} k there same a tells = record {
+      stands = record {
+        world = subst (λ (e : Engine C). IsStanding reads place stands told e p) (sym tells.world) a.stands;
+        watches = let w = begun.watches in (note_all (saved_event at ∷ []) w.0, tells.watches w.0 w.1);
+        drafts = λ t j i found. change-all (λ j. CanBeEntry j.draft) old.works (λ i j on. begun.drafts t i j (flat-is (slice_get old.works i) ∙ on)) n (rebased mid.units.minute draft)
+            (λ i on. subst CanBeEntry (sym same) (begun.drafts t n k (sym there))) j i
+            (sym (flat-is (slice_get (change_at n (rebased mid.units.minute draft) old.works) j)) ∙ ap (copy_at j) (sym (tells.works ∙ set-change (rebased mid.units.minute draft) old.works n)) ∙ found);
+      };
+      stepped = change-done a tells.world tells.watches tells.works;
+      ended = save-ended a;
+    }
+
+-- ---- the entry is not as the base
+
+pub rest-changed : {C : Type 0} {reads : List ℕ → Option Store} {place : C → ℕ} {stands : Bool → C → Outside → Type 0} {told : Bool} {old : Whole C} {o : Outside} {n time : ℕ} {graph : RawGraph} {at : Place} (k : Copy) → Some k ≡ copy_at n old.works
+    → is_based time graph k ≡ false → Standing reads place stands told old o → (IsTrue told → (h : plain.Whole) → Means reads old o h → IsRead h n at time graph)
+    → Applied reads place stands told (command.Save n) old old o o (Ok (reply.Changed time))
+unfolding is_plain
+rest-changed {C} {reads} {place} {stands} {told} {old} {o} {n} {time} {graph} {at} k there other begun read = record {
+  stands = begun;
+  stepped = λ t h m. apart-stepped reads old old o (command.Save n) h (Ok (reply.Changed time)) refl m (h, says h m (read t h m), m);
+  ended = rest-ended reads told old o (command.Save n) (Ok (reply.Changed time)) (λ none. refl) (λ u. refl);
+}
+  where
+    says : (h : plain.Whole) → Means reads old o h → IsRead h n at time graph → whole_answer h (command.Save n) ≡ (h, replies.Reply.changed time)
+    says h m r =
+        let i = r.at in
+        let same : i.of ≡ k = some-same i.of k (sym i.there ∙ sym (ap (copy_at n) m.copies ∙ flat-is (slice_get h.copies n)) ∙ sym there) in
+        save-changed h n i.of i.there i.spot i.lives ((λ j. is_based (r.time j) (r.graph j) (same j)) ∙ other)
+        ∙ ap {A = ℕ} {B = plain.Whole × replies.Reply} (λ x. (h, replies.Reply.changed x)) r.time
