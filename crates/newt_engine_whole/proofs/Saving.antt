@@ -26,6 +26,7 @@ use Rattle.newt_spec_whole.specs.Step as wholes
 use Rattle.newt_spec_whole.specs.Whole as plain
 use Rattle.newt_spec_whole.specs.Whole.{alias_of_copy, asked_in_turn, change_of, copy, get_of, living}
 use Rattle.newt_spec_world.specs.Alias.{Spot}
+use Rattle.newt_spec_world.specs.Answer.{answer, answered}
 use Rattle.newt_spec_world.specs.Changed.{changed}
 use Rattle.newt_spec_world.specs.Refused.{checks, full, no_entry, no_soup, no_unit, not_mounted}
 use Rattle.newt_spec_world.specs.Reply as replies
@@ -37,7 +38,7 @@ use Rattle.newt_work.specs.Work.{Copy, copy_at, is_based, rebased}
 use Rattle.newt_laws_world.specs.Named.{IsNamed}
 use Rattle.newt_laws_world.proofs.Units.{has-mounted}
 use Rattle.newt_laws_steps.specs.Answering.{Answering}
-use Rattle.newt_laws_steps.specs.StandsFor.{Obeys}
+use Rattle.newt_laws_steps.specs.StandsFor.{Obeys, seen}
 use Rattle.newt_laws_whole.specs.Runs.{AllFormed, CanBeEntry}
 use Rattle.newt_laws_whole.proofs.Fits.{change-all}
 use Rattle.newt_engine.specs.Calls.{Applied as Inner}
@@ -46,9 +47,9 @@ use Rattle.newt_engine.specs.declared.world.World.{World as Engine}
 use Rattle.newt_laws_world.specs.Worlds.{is_plain}
 use Rattle.newt_engine_whole.specs.Calls.{Applied, Ended}
 use Rattle.newt_engine_whole.specs.Copies.{IsAt, IsRead, saved_event}
-use Rattle.newt_engine_whole.specs.Standing.{Means, Standing}
+use Rattle.newt_engine_whole.specs.Standing.{DraftsFit, Means, Standing}
 use Rattle.newt_engine_whole.specs.Told.{Tells}
-use Rattle.newt_engine_whole.proofs.Apart.{apart-stepped, rest-ended}
+use Rattle.newt_engine_whole.proofs.Apart.{apart-quiet, apart-stepped, rest-ended}
 use Rattle.newt_engine_whole.specs.declared.saves.Place.{Place}
 use Rattle.newt_engine_whole.specs.declared.whole.Whole.{Whole}
 use Rattle.newt_engine_whole.proofs.Drafted.{change-as, flat-is, set-change}
@@ -119,6 +120,18 @@ pub record IsBase (h : plain.Whole) (n : ℕ) (at : Place) (draft : RawGraph) : 
   pub can : CanBeEntry is.of.draft
   pub drafted : draft ≡ is.of.draft
   pub based : is_based is.spot.entry.time is.spot.entry.graph is.of ≡ true
+
+-- the world behind a save is the one behind its change, done or refused
+saved-world : (h : plain.Whole) (n : ℕ) (at : Place) (draft : RawGraph) (b : IsBase h n at draft) → (answer h.world (change_of b.is.of b.is.spot)).0 ≡ (whole_answer h (command.Save n)).0.world
+unfolding answer
+saved-world h n at draft b = go (full h.world b.is.spot.unit (change_of b.is.of b.is.spot)).1 refl
+  where
+    go : (room : Bool) → (full h.world b.is.spot.unit (change_of b.is.of b.is.spot)).1 ≡ room
+        → (answer h.world (change_of b.is.of b.is.spot)).0 ≡ (whole_answer h (command.Save n)).0.world
+    go true e = ap (λ (o : Option Refusal). (answered h.world (change_of b.is.of b.is.spot) o).0) (change-tests h b.formed b.is.of b.is.spot b.is.lives b.can ∙ ap (λ x. first_of ((Full, x) ∷ [])) e)
+        ∙ sym (ap (λ (a : plain.Whole × replies.Reply). a.0.world) (save-full h n b.is.of b.is.there b.is.spot b.is.lives b.based e))
+    go false e = ap (λ (o : Option Refusal). (answered h.world (change_of b.is.of b.is.spot) o).0) (change-tests h b.formed b.is.of b.is.spot b.is.lives b.can ∙ ap (λ x. first_of ((Full, x) ∷ [])) e)
+        ∙ sym (ap (λ (a : plain.Whole × replies.Reply). a.0.world) (save-done h n b.is.of b.is.there b.is.spot b.is.lives b.based e))
 
 module _ {C : Type 0} {reads : List ℕ → Option Store} {place : C → ℕ} {stands : Bool → C → Outside → Type 0} {told : Bool} {old : Whole C} {mid : Engine C} {o p : Outside} (n : ℕ) (at : Place) (draft : RawGraph)
     (base : IsTrue told → (h : plain.Whole) → Means reads old o h → IsBase h n at draft) where
@@ -219,18 +232,39 @@ module _ {C : Type 0} {reads : List ℕ → Option Store} {place : C → ℕ} {s
       ended = save-ended a;
     }
 
-    pub save-over : {new : Whole C} (k : Copy) → Some k ≡ copy_at n old.works → draft ≡ k.draft → Inner reads place stands told (command.Change at.unit at.name at.uid draft) old.world mid o p (Ok reply.Done)
-        → Tells (saved_event at ∷ []) (record old { world = mid; works = slice_set old.works n (option_map (rebased mid.units.minute draft) (copy_at n old.works)) }) new
+    pub save-over : {then new : Whole C} (k : Copy) → Some k ≡ copy_at n old.works → draft ≡ k.draft → Inner reads place stands told (command.Change at.unit at.name at.uid draft) old.world mid o p (Ok reply.Done)
+        → then.world ≡ mid → then.watches ≡ old.watches → then.works ≡ slice_set old.works n (option_map (rebased mid.units.minute draft) (copy_at n old.works)) → Tells (saved_event at ∷ []) then new
         → Applied reads place stands told (command.Save n) old new o p (Ok reply.Done)
-    save-over {new} k there same a tells = record {
+    save-over {then} {new} k there same a world watches works tells = record {
       stands = record {
-        world = subst (λ (e : Engine C). IsStanding reads place stands told e p) (sym tells.world) a.stands;
-        watches = let w = begun.watches in (note_all (saved_event at ∷ []) w.0, tells.watches w.0 w.1);
+        world = subst (λ (e : Engine C). IsStanding reads place stands told e p) (sym (tells.world ∙ world)) a.stands;
+        watches = let w = begun.watches in (note_all (saved_event at ∷ []) w.0, tells.watches w.0 (watches ∙ w.1));
         drafts = λ t j i found. change-all (λ j. CanBeEntry j.draft) old.works (λ i j on. begun.drafts t i j (flat-is (slice_get old.works i) ∙ on)) n (rebased mid.units.minute draft)
             (λ i on. subst CanBeEntry (sym same) (begun.drafts t n k (sym there))) j i
-            (sym (flat-is (slice_get (change_at n (rebased mid.units.minute draft) old.works) j)) ∙ ap (copy_at j) (sym (tells.works ∙ set-change (rebased mid.units.minute draft) old.works n)) ∙ found);
+            (sym (flat-is (slice_get (change_at n (rebased mid.units.minute draft) old.works) j)) ∙ ap (copy_at j) (sym (tells.works ∙ works ∙ set-change (rebased mid.units.minute draft) old.works n)) ∙ found);
       };
-      stepped = change-done a tells.world tells.watches tells.works;
+      stepped = change-done a (tells.world ∙ world) (λ ws kept. tells.watches ws (watches ∙ kept)) (tells.works ∙ works);
+      ended = save-ended a;
+    }
+
+    -- memory was refused in it
+    pub change-memory : {new : Whole C} (error : AllocError) → Inner reads place stands told (command.Change at.unit at.name at.uid draft) old.world mid o p (Err error)
+        → Applied reads place stands told (command.Save n) old new o p (Err error)
+    unfolding is_plain
+    change-memory {new} error a = record {
+      stands = tt;
+      stepped = λ t h m.
+          let b = base t h m in
+          let w = whole_answer h (command.Save n) in record {
+            next = w.0;
+            reply = w.1;
+            steps = wholes.plain refl refl;
+            threw = record { later = a.finished.later; rose = λ u x. absurd (both-ways (sym (apart-quiet h (command.Save n) u refl) ∙ x)) };
+            answered = tt;
+            moments = as-other reads h.world w.0.world (change_of b.is.of b.is.spot) (command.Save n) o.now p.now (λ u. refl)
+                (subst (λ (v : World). Always (Answering reads h.world (change_of b.is.of b.is.spot) v o.now) o.now p.now) (saved-world h n at draft b)
+                (subst (λ (c : Command). Always (Answering reads h.world c (answer (seen reads h.world o.now c) c).0 o.now) o.now p.now) (λ j. command.Change (b.is.unit j) (b.is.name j) (b.is.uid j) (b.drafted j)) (a.obeyed t h.world m.world)));
+          };
       ended = save-ended a;
     }
 
@@ -252,3 +286,23 @@ rest-changed {C} {reads} {place} {stands} {told} {old} {o} {n} {time} {graph} {a
         let same : i.of ≡ k = some-same i.of k (sym i.there ∙ sym (ap (copy_at n) m.copies ∙ flat-is (slice_get h.copies n)) ∙ sym there) in
         save-changed h n i.of i.there i.spot i.lives ((λ j. is_based (r.time j) (r.graph j) (same j)) ∙ other)
         ∙ ap {A = ℕ} {B = plain.Whole × replies.Reply} (λ x. (h, replies.Reply.changed x)) r.time
+
+-- ---- the entry is as the base
+
+pub base-of : {C : Type 0} {reads : List ℕ → Option Store} {old : Whole C} {o : Outside} {h : plain.Whole} {n time : ℕ} {graph draft : RawGraph} {at : Place} → IsRead h n at time graph → (k : Copy) → Some k ≡ copy_at n old.works → is_based time graph k ≡ true
+    → draft ≡ k.draft → Means reads old o h → AllFormed h.world → DraftsFit old.works → IsBase h n at draft
+base-of {old = old} {h = h} {n} r k there same is m formed fit =
+    let i = r.at in
+    let copies : i.of ≡ k = some-same i.of k (sym i.there ∙ sym (ap (copy_at n) m.copies ∙ flat-is (slice_get h.copies n)) ∙ sym there) in
+    record {
+      formed = formed;
+      is = i;
+      can = subst (λ (c : Copy). CanBeEntry c.draft) (sym copies) (fit n k (sym there));
+      drafted = is ∙ ap (λ (c : Copy). c.draft) (sym copies);
+      based = (λ j. is_based (r.time j) (r.graph j) (copies j)) ∙ same;
+    }
+
+-- no other reply says that it was done
+pub undone : (it : Reply) → (it ≡ reply.Done → ⊥) → said it ≡ replies.Reply.done → ⊥
+undone reply.Done other says = other refl
+undone _ other says = cc

@@ -148,10 +148,15 @@ impl<C: Card> Whole<C> {
         if !work.based(time, graph) {
             return Ok(Reply::Changed(time));
         }
-        let (base, draft) = (work.draft().copy()?, work.draft().copy()?);
+        // A graph that is read is known to be within the limits, as `change` requires.
+        let _root = work.draft().root();
+        let base = work.draft().copy()?;
+        let draft = work.draft().copy()?;
         let given = work.draft().copy()?;
-        let change = Command::Change(place.unit, place.name.copy()?, place.uid, given);
-        match self.world.apply(host, change)? {
+        let name = place.name.copy()?;
+        let change = Command::Change(place.unit, name, place.uid, given);
+        let reply = self.world.apply(host, change)?;
+        match reply {
             Reply::Done => {
                 self.works.rebase(number, self.world.units().minute(), base, draft);
                 self.tell_saved(place);
