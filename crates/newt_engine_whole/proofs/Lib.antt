@@ -19,3 +19,4 @@ pub mod Opening
 pub mod Reverted
 pub mod Saved
 pub mod Saving
+pub mod Ahead

@@ -73,11 +73,9 @@ module _ (h : plain.Whole) (n : ℕ) (k : Copy) (there : copy h n ≡ Some k) (s
       ∙ ap {A = List (Option Copy)} {B = plain.Whole × replies.Reply} (λ ks. (record h { copies = ks }, replies.Reply.done))
       (change-as (reverted h) (rebased s.entry.time s.entry.graph) h.copies n k there (ap {A = Option Spot} {B = Copy} (λ o. elim o [ None ↦ k | Some s ↦ rebased s.entry.time s.entry.graph k ]) lives))
 
--- ---- what is promised
+-- ---- what is read
 
-module _ {C : Type 0} {reads : List ℕ → Option Store} {place : C → ℕ} {stands : Bool → C → Outside → Type 0} {told : Bool} {old : Whole C} {mid : Engine C} {o p : Outside} (n : ℕ) (at : Place)
-    (begun : Standing reads place stands told old o) (found : IsTrue told → (h : plain.Whole) → Means reads old o h → AllFormed h.world × IsAt h n at)
-    (known-turn : IsTrue told → asked_in_turn (known_whole reads old o) (command.Revert n) ≡ command.Get at.unit at.name at.uid ∷ []) where
+module _ (n : ℕ) (at : Place) where
   -- the command that is asked reads the entry
   is-read : (h : plain.Whole) (a : IsAt h n at) → get_of a.spot ≡ command.Get at.unit at.name at.uid
   is-read h a = λ i. command.Get (sym a.unit i) (sym a.name i) (sym a.uid i)
@@ -101,6 +99,11 @@ module _ {C : Type 0} {reads : List ℕ → Option Store} {place : C → ℕ} {s
       go (inr (inl (e, first, entry, same, says))) = shown same (says ∙ ap {A = Entry} {B = replies.Reply} (λ y. replies.Reply.timed y.time y.graph) (some-same e a.spot.entry (sym entry ∙ there)))
       go (inr (inr (x, next, says))) = failed x next says
 
+-- ---- what is promised
+
+module _ {C : Type 0} {reads : List ℕ → Option Store} {place : C → ℕ} {stands : Bool → C → Outside → Type 0} {told : Bool} {old : Whole C} {mid : Engine C} {o p : Outside} (n : ℕ) (at : Place)
+    (begun : Standing reads place stands told old o) (found : IsTrue told → (h : plain.Whole) → Means reads old o h → AllFormed h.world × IsAt h n at)
+    (known-turn : IsTrue told → asked_in_turn (known_whole reads old o) (command.Revert n) ≡ command.Get at.unit at.name at.uid ∷ []) where
   -- ---- a device failed
 
   pub revert-handed : {it : Reply} → ((time : ℕ) (graph : RawGraph) → said it ≡ replies.Reply.timed time graph → ⊥) → Inner reads place stands told (command.Get at.unit at.name at.uid) old.world mid o p (Ok it)
@@ -113,14 +116,14 @@ module _ {C : Type 0} {reads : List ℕ → Option Store} {place : C → ℕ} {s
     where
       go : (h : plain.Whole) → Means reads old o h → AllFormed h.world × IsAt h n at → Obeys {R = Reply} {E = AllocError} reads said (means reads mid p) h.world (command.Get at.unit at.name at.uid) (Ok it) o.now p.now
           → Stepped {E = AllocError} WholeStep reads (command.Revert n) (Ok it) h (Means reads (record old { world = mid }) p) o.now p.now o.dev_faults p.dev_faults
-      go h m (formed, k) (v, turned, there, moments) = by (reads-entry h formed k v (said it) (gets h.world at.unit at.name at.uid v (said it) m.world.settled turned.step))
+      go h m (formed, k) (v, turned, there, moments) = by (reads-entry n at h formed k v (said it) (gets h.world at.unit at.name at.uid v (said it) m.world.settled turned.step))
         where
-          by : Reads h k v (said it) → Stepped {E = AllocError} WholeStep reads (command.Revert n) (Ok it) h (Means reads (record old { world = mid }) p) o.now p.now o.dev_faults p.dev_faults
+          by : Reads n at h k v (said it) → Stepped {E = AllocError} WholeStep reads (command.Revert n) (Ok it) h (Means reads (record old { world = mid }) p) o.now p.now o.dev_faults p.dev_faults
           by (shown same says) = absurd (other k.spot.entry.time k.spot.entry.graph says)
           by (failed x next says) = record {
             next = whole_thrown h (command.Get at.unit at.name at.uid) x;
             reply = said it;
-            steps = wholes.thrown (command.Get at.unit at.name at.uid) (subst (λ (ds : List Command). Among ds (command.Get at.unit at.name at.uid)) (sym (revert-turn h n k.of k.there k.spot k.lives)) (inl (is-read h k))) refl says;
+            steps = wholes.thrown (command.Get at.unit at.name at.uid) (subst (λ (ds : List Command). Among ds (command.Get at.unit at.name at.uid)) (sym (revert-turn h n k.of k.there k.spot k.lives)) (inl (is-read n at h k))) refl says;
             threw = a.finished.threw;
             answered = (refl, record { world = subst (means reads mid p) next there; watches = m.watches; copies = m.copies }, a.finished.failed);
             moments = as-other reads h.world (whole_thrown h (command.Get at.unit at.name at.uid) x).world (command.Get at.unit at.name at.uid) (command.Revert n) o.now p.now (λ u. refl)
@@ -150,9 +153,9 @@ module _ {C : Type 0} {reads : List ℕ → Option Store} {place : C → ℕ} {s
         where
           go : Obeys {R = Reply} {E = AllocError} reads said (means reads mid p) h.world (command.Get at.unit at.name at.uid) (Ok (reply.Timed time graph)) o.now p.now
               → (time ≡ k.spot.entry.time) × (graph ≡ k.spot.entry.graph) × means reads mid p h.world × Always (Answering reads h.world (command.Revert n) h.world o.now) o.now p.now
-          go (v, turned, there, moments) = by (reads-entry h formed k v (replies.Reply.timed time graph) (gets h.world at.unit at.name at.uid v (replies.Reply.timed time graph) m.world.settled turned.step))
+          go (v, turned, there, moments) = by (reads-entry n at h formed k v (replies.Reply.timed time graph) (gets h.world at.unit at.name at.uid v (replies.Reply.timed time graph) m.world.settled turned.step))
             where
-              by : Reads h k v (replies.Reply.timed time graph) → (time ≡ k.spot.entry.time) × (graph ≡ k.spot.entry.graph) × means reads mid p h.world × Always (Answering reads h.world (command.Revert n) h.world o.now) o.now p.now
+              by : Reads n at h k v (replies.Reply.timed time graph) → (time ≡ k.spot.entry.time) × (graph ≡ k.spot.entry.graph) × means reads mid p h.world × Always (Answering reads h.world (command.Revert n) h.world o.now) o.now p.now
               by (shown same says) = (cc, cc, subst (means reads mid p) same there,
                 as-other reads h.world h.world (command.Get at.unit at.name at.uid) (command.Revert n) o.now p.now (λ u. refl)
                     (subst (λ (w : World). Always (Answering reads h.world (command.Get at.unit at.name at.uid) w o.now) o.now p.now) same moments))

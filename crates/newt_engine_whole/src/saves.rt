@@ -52,7 +52,8 @@ impl<C: Card> Whole<C> {
             Err(StoreFault::Refused(refusal)) => return Ok(Reply::Refused(refusal)),
             Err(StoreFault::Stop(_)) => return Err(AllocError),
         };
-        match self.world.apply(host, Command::Get(unit, name, uid))? {
+        let reply = self.world.apply(host, Command::Get(unit, name, uid))?;
+        match reply {
             Reply::Timed(time, graph) => self.open_at(store, soup, uid, time, graph),
             other => Ok(other),
         }
@@ -82,9 +83,11 @@ impl<C: Card> Whole<C> {
     /// Where the entry of a copy is, or why it is nowhere: there is no such copy, or its entry is in
     /// no mounted store.
     fn living(&self, number: u8) -> Result<Result<Place, Refusal>, AllocError>
-        ensures { (outside : Outside) (h : plain.Whole)
+        ensures found { (outside : Outside) (h : plain.Whole)
             → Standing C.reads C.place C.stands true self.now outside
             → Means C.reads self.now outside h → IfOk result (λ found. FindsLiving h number found) }
+        ensures there { IfOk result (λ found. IfOk found
+            (λ _. IsSome (copy_at number self.now.works))) }
     {
         let Some(work) = self.works.at(number) else {
             return Ok(Err(Refusal::Copy));
@@ -116,8 +119,10 @@ impl<C: Card> Whole<C> {
             Ok(place) => place,
             Err(refusal) => return Ok(Reply::Refused(refusal)),
         };
-        let read = Command::Get(place.unit, place.name.copy()?, place.uid);
-        match self.world.apply(host, read)? {
+        let name = place.name.copy()?;
+        let read = Command::Get(place.unit, name, place.uid);
+        let reply = self.world.apply(host, read)?;
+        match reply {
             Reply::Timed(time, graph) => self.save_over(host, number, &place, time, &graph),
             other => Ok(other),
         }
@@ -194,7 +199,9 @@ impl<C: Card> Whole<C> {
             Ok(place) => place,
             Err(refusal) => return Ok(Reply::Refused(refusal)),
         };
-        match self.world.apply(host, Command::Get(place.unit, place.name, place.uid))? {
+        let read = Command::Get(place.unit, place.name, place.uid);
+        let reply = self.world.apply(host, read)?;
+        match reply {
             Reply::Timed(time, graph) => {
                 let draft = graph.copy()?;
                 self.works.rebase(number, time, graph, draft);

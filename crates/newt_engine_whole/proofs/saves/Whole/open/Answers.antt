@@ -43,25 +43,25 @@ pub returns-in-Err-Stop : goal.returns-in-Err-Stop
 returns-in-Err-Stop g c = absurd (subst (λ f. IsRefusal f) c.in-Err-Stop.field-0-is c.in-Err-Stop.ensures.only)
 
 pub returns-in_default : goal.returns-in_default
-returns-in_default g c = open-handed c.args.unit c.args.uid c.args.name c.requires.stands (untimed _ c.in_default.not-Timed) c.in_ok-apply.ensures
+returns-in_default g c = open-handed c.args.unit c.args.uid c.args.name c.requires.stands (untimed _ c.in_default.not-Timed) c.in_ok-reply.ensures
 
-pub returns-in_err-apply : goal.returns-in_err-apply
+pub returns-in_err-reply : goal.returns-in_err-reply
 unfolding is_plain
-returns-in_err-apply g c =
+returns-in_err-reply g c =
     let memory = err_from_is_err_and c.from_residual.result c.from_residual.ensures.1 in
     let u = c.args.unit in
     let o = g.H.Host.outside c.args.host.now in
     subst (λ (r : Result Reply AllocError). Applied g.C.Card.reads g.C.Card.place g.C.Card.stands g.H.Host.told (command.Open u c.args.name c.args.uid) c.args.self.now (record c.args.self.now { world = c.apply.new.self }) o (g.H.Host.outside c.apply.new.host) r)
     (sym memory.1)
-    (read-memory refl c.requires.stands u c.args.uid c.args.name c.in_err-apply.ensures memory.0 (λ w. refl) refl refl (λ t. ([], open-turn (known_whole g.C.Card.reads c.args.self.now o) u c.args.uid c.args.name))
-    (still-read refl c.requires.stands u c.args.uid c.args.name c.in_err-apply.ensures (λ t h m v it e. cc)))
+    (read-memory refl c.requires.stands u c.args.uid c.args.name c.in_err-reply.ensures memory.0 (λ w. refl) refl refl (λ t. ([], open-turn (known_whole g.C.Card.reads c.args.self.now o) u c.args.uid c.args.name))
+    (still-read refl c.requires.stands u c.args.uid c.args.name c.in_err-reply.ensures (λ t h m v it e. cc)))
 
 pub returns-in-Timed : goal.returns-in-Timed
 returns-in-Timed g c =
     let o = g.H.Host.outside c.args.host.now in
     let it = c.args.self.now.world in
     let e = c.open_at.ensures in
-    opening c.args.unit c.args.uid c.args.name c.requires.stands c.in_ok-apply.ensures
+    opening c.args.unit c.args.uid c.args.name c.requires.stands c.in_ok-reply.ensures
     (λ t h m.
     let s = standing-told c.requires.stands.world t in
     let w = world_of g.C.Card.reads it.units o in

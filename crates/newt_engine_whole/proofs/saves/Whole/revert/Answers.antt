@@ -57,7 +57,7 @@ pub returns-in-Err : goal.returns-in-Err
 unfolding is_plain
 returns-in-Err g c =
     rest-refused refl c.requires.stands c.in-Err.refusal (λ t h m. revert-nowhere h c.args.number c.in-Err.refusal
-    (c.in_ok-living.ensures (g.H.Host.outside c.args.host.now) h (whole-told c.requires.stands t) m))
+    (c.in_ok-living.ensures.found (g.H.Host.outside c.args.host.now) h (whole-told c.requires.stands t) m))
 
 -- it is found
 found : (g : Over) (it : Whole g.C) (host : _) (n : _) (at : Place) (begun : Standing g.C.Card.reads g.C.Card.place g.C.Card.stands g.H.Host.told it (g.H.Host.outside host))
@@ -71,18 +71,18 @@ returns-in_default g c =
     let it = c.args.self.now in
     let host = c.args.host.now in
     let at = c.in-Ok.place in
-    let f = found g it host c.args.number at c.requires.stands (λ h s m. c.in_ok-living.ensures (g.H.Host.outside host) h s m) in
-    revert-handed c.args.number at c.requires.stands f (turn g it host c.args.number at c.requires.stands f) (untimed _ c.in_default.not-Timed) c.in_ok-apply.ensures
+    let f = found g it host c.args.number at c.requires.stands (λ h s m. c.in_ok-living.ensures.found (g.H.Host.outside host) h s m) in
+    revert-handed c.args.number at c.requires.stands f (turn g it host c.args.number at c.requires.stands f) (untimed _ c.in_default.not-Timed) c.in_ok-reply.ensures
 
 pub returns-in_ok-draft-in-Timed : goal.returns-in_ok-draft-in-Timed
 returns-in_ok-draft-in-Timed g c =
     let it = c.args.self.now in
     let host = c.args.host.now in
     let at = c.in-Ok.place in
-    let f = found g it host c.args.number at c.requires.stands (λ h s m. c.in_ok-living.ensures (g.H.Host.outside host) h s m) in
+    let f = found g it host c.args.number at c.requires.stands (λ h s m. c.in_ok-living.ensures.found (g.H.Host.outside host) h s m) in
     revert-done c.args.number at c.requires.stands f (turn g it host c.args.number at c.requires.stands f)
     (λ t. let s = whole-told c.requires.stands t in (record (known_whole g.C.Card.reads it (g.H.Host.outside host)) { watches = s.watches.0 }, known-means (laws g) it (g.H.Host.outside host) s))
-    refl refl c.rebase.ensures c.in_ok-apply.ensures
+    refl refl c.rebase.ensures c.in_ok-reply.ensures
 
 pub returns-in_err-draft-in-Timed : goal.returns-in_err-draft-in-Timed
 unfolding is_plain
@@ -91,21 +91,21 @@ returns-in_err-draft-in-Timed g c =
     let it = c.args.self.now in
     let host = c.args.host.now in
     let at = c.in-Ok.place in
-    let f = found g it host c.args.number at c.requires.stands (λ h s m. c.in_ok-living.ensures (g.H.Host.outside host) h s m) in
+    let f = found g it host c.args.number at c.requires.stands (λ h s m. c.in_ok-living.ensures.found (g.H.Host.outside host) h s m) in
     subst (λ (r : Result Reply AllocError). Applied g.C.Card.reads g.C.Card.place g.C.Card.stands g.H.Host.told (command.Revert c.args.number) it (record it { world = c.apply.new.self }) (g.H.Host.outside host) (g.H.Host.outside c.apply.new.host) r)
     (sym memory.1)
-    (read-memory refl c.requires.stands at.unit at.uid at.name c.in_ok-apply.ensures memory.0 (λ w. refl) refl refl (λ t. ([], turn g it host c.args.number at c.requires.stands f t))
-    (still-read refl c.requires.stands at.unit at.uid at.name c.in_ok-apply.ensures (λ t h m v x e r. timed-stays h.world v at.unit at.uid at.name _ _ x e r)))
+    (read-memory refl c.requires.stands at.unit at.uid at.name c.in_ok-reply.ensures memory.0 (λ w. refl) refl refl (λ t. ([], turn g it host c.args.number at c.requires.stands f t))
+    (still-read refl c.requires.stands at.unit at.uid at.name c.in_ok-reply.ensures (λ t h m v x e r. timed-stays h.world v at.unit at.uid at.name _ _ x e r)))
 
-pub returns-in_err-apply : goal.returns-in_err-apply
+pub returns-in_err-reply : goal.returns-in_err-reply
 unfolding is_plain
-returns-in_err-apply g c =
-    let memory = err_from_is_err_and c.from_residual-in_err-apply.result c.from_residual-in_err-apply.ensures.1 in
+returns-in_err-reply g c =
+    let memory = err_from_is_err_and c.from_residual-in_err-reply.result c.from_residual-in_err-reply.ensures.1 in
     let it = c.args.self.now in
     let host = c.args.host.now in
     let at = c.in-Ok.place in
-    let f = found g it host c.args.number at c.requires.stands (λ h s m. c.in_ok-living.ensures (g.H.Host.outside host) h s m) in
+    let f = found g it host c.args.number at c.requires.stands (λ h s m. c.in_ok-living.ensures.found (g.H.Host.outside host) h s m) in
     subst (λ (r : Result Reply AllocError). Applied g.C.Card.reads g.C.Card.place g.C.Card.stands g.H.Host.told (command.Revert c.args.number) it (record it { world = c.apply.new.self }) (g.H.Host.outside host) (g.H.Host.outside c.apply.new.host) r)
     (sym memory.1)
-    (read-memory refl c.requires.stands at.unit at.uid at.name c.in_err-apply.ensures memory.0 (λ w. refl) refl refl (λ t. ([], turn g it host c.args.number at c.requires.stands f t))
-    (still-read refl c.requires.stands at.unit at.uid at.name c.in_err-apply.ensures (λ t h m v x e. cc)))
+    (read-memory refl c.requires.stands at.unit at.uid at.name c.in_err-reply.ensures memory.0 (λ w. refl) refl refl (λ t. ([], turn g it host c.args.number at c.requires.stands f t))
+    (still-read refl c.requires.stands at.unit at.uid at.name c.in_err-reply.ensures (λ t h m v x e. cc)))

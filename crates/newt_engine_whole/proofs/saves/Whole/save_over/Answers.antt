@@ -1,6 +1,6 @@
 -- Where the entry is as the base it is changed, and the copy begins anew from its draft.
 use Rattle.std.proofs.Common.{◌≡◌, ap, refl, subst, sym, ◌∙◌, true, IsTrue, Some, option_map, slice_set}
-use Rattle.std.specs.Prelude.{Err, Result, is_some, ⊤}
+use Rattle.std.specs.Prelude.{Err, Result, is_some}
 use Rattle.std.specs.declared.alloc.AllocError.{AllocError}
 use Rattle.std.proofs.lemmas.Result.{err_from_is_err_and}
 use Rattle.newt_graph.specs.Graph.{IsGraph, RawGraph}
@@ -29,7 +29,7 @@ abbrev laws : (g : Over) → Laws g.C.Card.reads g.C.Card.place g.C.Card.soups g
 laws g = laws_of g.met.C.Card.formed g.met.C.Card.plain g.met.C.Card.durable g.met.C.Card.banks g.met.C.Card.kept
 
 -- before the world is asked
-ends : (g : Over) {it : Whole g.C} {host : _} {n : _} → Standing g.C.Card.reads g.C.Card.place g.C.Card.stands g.H.Host.told it (g.H.Host.outside host) → (r : Result Reply AllocError) → (e : AllocError) × (r ≡ Err e) × ⊤
+ends : (g : Over) {it : Whole g.C} {host : _} {n : _} {Q : AllocError → Type 0} → Standing g.C.Card.reads g.C.Card.place g.C.Card.stands g.H.Host.told it (g.H.Host.outside host) → (r : Result Reply AllocError) → (e : AllocError) × (r ≡ Err e) × Q e
     → Applied g.C.Card.reads g.C.Card.place g.C.Card.stands g.H.Host.told (command.Save n) it it (g.H.Host.outside host) (g.H.Host.outside host) r
 unfolding is_plain
 ends g {it} {host} {n} begun r memory =
