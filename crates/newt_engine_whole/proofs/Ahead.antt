@@ -14,7 +14,8 @@ use Rattle.newt_spec_store.specs.Store.{Store}
 use Rattle.newt_spec_whole.specs.Step.{WholeStep, whole_thrown}
 use Rattle.newt_spec_whole.specs.Step as wholes
 use Rattle.newt_spec_whole.specs.Whole as plain
-use Rattle.newt_spec_whole.specs.Whole.{alias_of_copy, asked_in_turn, copy, get_of}
+use Rattle.newt_spec_whole.specs.Whole.{alias_of_copy, asked_in_turn, change_of, copy}
+use Rattle.newt_work.specs.Work.{is_based}
 use Rattle.newt_spec_world.specs.Reply as replies
 use Rattle.newt_spec_world.specs.World.{World}
 use Rattle.newt_spec_world.specs.declared.command.Command.{Command}
@@ -60,10 +61,11 @@ read-same laws it p s h v mh mv copies {n} r =
 
 -- what a save asks first
 pub first-turn : (n : ℕ) (at : Place) (h : plain.Whole) (i : IsAt h n at) → (rest : List Command) × (asked_in_turn h (command.Save n) ≡ command.Get at.unit at.name at.uid ∷ rest)
-first-turn n at h i = (
-  _,
-  save-turn h n i.of i.there i.spot i.lives ∙ ap (λ (d : Command). d ∷ _) (λ j. command.Get (sym i.unit j) (sym i.name j) (sym i.uid j)),
-)
+first-turn n at h i =
+    let rest = if is_based i.spot.entry.time i.spot.entry.graph i.of then change_of i.of i.spot ∷ [] else [] in (
+      rest,
+      save-turn h n i.of i.there i.spot i.lives ∙ ap (λ (d : Command). d ∷ rest) (λ j. command.Get (sym i.unit j) (sym i.name j) (sym i.uid j)),
+    )
 
 module _ {C : Type 0} {reads : List ℕ → Option Store} {place : C → ℕ} {stands : Bool → C → Outside → Type 0} {told : Bool} {old : Whole C} {mid : Engine C} {o p : Outside} (n : ℕ) (at : Place)
     (begun : Standing reads place stands told old o) (found : IsTrue told → (h : plain.Whole) → Means reads old o h → AllFormed h.world × IsAt h n at) where
