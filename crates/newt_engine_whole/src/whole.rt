@@ -58,8 +58,8 @@ impl<C: Card> Whole<C> {
 
     /// Answers a command. A refusal is a reply, and leaves all as it was. A device that fails costs
     /// its own command: its unit is thrown out, and the reply says so. Copies outlive the store of
-    /// their entry. The error is that memory was refused; after it the whole is spent, and no further
-    /// command may be given.
+    /// their entry. The error is that memory was refused; after it the whole is spent, and no
+    /// further command may be given.
     pub fn apply<H: Host>(&mut self, host: &mut H, command: Command) -> Result<Reply, AllocError>
         requires stands { Standing C.reads C.place C.stands H.told self.old
             (H.outside host.old) }
