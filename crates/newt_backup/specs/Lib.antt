@@ -1,0 +1,5 @@
+pub mod Backup
+pub mod Texts
+pub mod Together
+pub mod Contents
+pub mod Checks

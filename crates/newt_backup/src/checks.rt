@@ -1,0 +1,160 @@
+//! Whether a directory and entries are a store.
+ghost use Rattle.std.specs.Prelude.{◌≡◌, ◌≤◌, ◌<◌, ◌+◌, ◌^◌, nat_le, length, map, flat_map, sum};
+ghost use Rattle.std.specs.Prelude.{All, option_map};
+ghost use Rattle.std.specs.List.{sum_by};
+ghost use Rattle.newt_graph.specs.Graph.{IsGraph, payload};
+ghost use Rattle.newt_spec_image.specs.Objects.{pages_for};
+ghost use Rattle.newt_soupdir.specs.Bare.{bare_soup};
+ghost use Rattle.newt_spec_store.specs.Cost.{large_length, entry_pages, skeleton_length};
+ghost use Rattle.newt_spec_store.specs.Valid.{valid_entry};
+ghost use Rattle.newt_backup.specs.Checks.{behind, are_of};
+ghost use Rattle.newt_backup.specs.Contents.{told, as_entry};
+
+use crate::entry::FullEntry;
+use newt_entries::MOST_TEXT;
+use newt_graph::{Graph, Node};
+use newt_nsof_flat::is_frame;
+use newt_nsof_write::skeleton_len;
+use newt_soupdir::SoupRow;
+
+/// The most pages of a store: those that the largest unit takes.
+const MOST_PAGES: u64 = 15_978;
+
+/// Whether a graph may be an entry's.
+fn is_entry(entry: &FullEntry) -> bool
+    ensures { result ≡ valid_entry (as_entry entry.now) }
+{
+    is_frame(&entry.graph) && skeleton_len(&entry.graph) <= MOST_TEXT
+}
+
+/// The entries behind those of a soup at the front, where these may be its entries.
+fn behind<'a>(row: &SoupRow, entries: &'a [FullEntry]) -> Option<&'a [FullEntry]>
+    ensures { option_map (λ rest. map told rest.now) result
+        ≡ behind row.now.sig row.now.next_uid 0 (map told entries.now) }
+{
+    let mut low = 0;
+    let mut left = entries;
+    while let [entry, rest @ ..] = left {
+        if entry.soup != row.sig {
+            return Some(left);
+        }
+        let uid = entry.uid.0;
+        if uid < low || row.next_uid <= uid || !is_entry(entry) {
+            return None;
+        }
+        low = uid + 1;
+        left = rest;
+    }
+    Some(left)
+}
+
+/// Whether the entries are those of the soups, in their order.
+pub(crate) fn are_of(rows: &[SoupRow], entries: &[FullEntry]) -> bool
+    ensures { result ≡ are_of (map bare_soup rows.now) (map told entries.now) }
+{
+    let mut left = entries;
+    let mut soups = rows;
+    while let [row, others @ ..] = soups {
+        match behind(row, left) {
+            Some(rest) => left = rest,
+            None => return false,
+        }
+        soups = others;
+    }
+    left.is_empty()
+}
+
+/// How many pages so many bytes take.
+fn pages_for(length: u64) -> u64
+    requires { length < 2 ^ 63 }
+    ensures { result ≡ pages_for length }
+{
+    ((length + 499) / 500).max(1)
+}
+
+/// How many large binaries there are among nodes.
+fn count(nodes: &[Node]) -> u64
+    requires { length nodes.now ≤ 65535 }
+    ensures count { result ≡ length (flat_map large_length nodes.now) }
+    ensures few { result ≤ 65535 }
+{
+    let mut count = 0;
+    let mut left = nodes;
+    while let [node, rest @ ..] = left {
+        if let Node::Large(_, _) = node {
+            count += 1;
+        }
+        left = rest;
+    }
+    count
+}
+
+/// How many pages a node takes beside the record: those of a large binary.
+fn node_pages(node: &Node) -> u64
+    requires { payload node.now ≤ 1000000 }
+    ensures pages { result ≡ sum (map pages_for (large_length node.now)) }
+    ensures few { result ≤ 2001 }
+{
+    match node {
+        Node::Large(_, bytes) => pages_for(bytes.list().len() as u64),
+        Node::Symbol(_)
+        | Node::Str(_)
+        | Node::Binary(_, _)
+        | Node::Array(_, _)
+        | Node::Frame(_, _) => 0,
+    }
+}
+
+/// How many pages the large binaries among nodes take.
+fn large_pages(nodes: &[Node]) -> u64
+    requires few { length nodes.now ≤ 65535 }
+    requires short { All (λ node. payload node ≤ 1000000) nodes.now }
+    ensures pages { result ≡ sum (map pages_for (flat_map large_length nodes.now)) }
+    ensures few { result ≤ 131135535 }
+{
+    let mut pages = 0;
+    let mut left = nodes;
+    while let [node, rest @ ..] = left {
+        pages += node_pages(node);
+        left = rest;
+    }
+    pages
+}
+
+/// How many bytes the flat text of a graph has without those of its large binaries.
+#[tactic(auto, using(crate::proofs::Pages::skeleton_few))]
+fn skeleton_size(graph: &Graph) -> u64
+    ensures size { result ≡ skeleton_length graph.now }
+    ensures few { result ≤ 140000000000 }
+{
+    let _nodes = graph.nodes();
+    skeleton_len(graph)
+}
+
+/// How many pages an entry takes.
+fn entry_pages(entry: &FullEntry) -> u64
+    ensures pages { result ≡ entry_pages (as_entry entry.now) }
+    ensures few { result ≤ 1000000000000 }
+{
+    let nodes = entry.graph.nodes();
+    let record = 12 + skeleton_size(&entry.graph) + 12 * count(nodes);
+    pages_for(record) + large_pages(nodes)
+}
+
+/// Whether a directory of so many bytes and entries fit on the largest unit.
+pub(crate) fn fit(size: usize, entries: &[FullEntry]) -> bool
+    requires { size < 2 ^ 63 }
+    ensures { result ≡ nat_le (pages_for size + sum_by (λ e. entry_pages (as_entry e)) entries.now)
+        15978 }
+{
+    let mut pages = pages_for(size as u64);
+    let mut left = entries;
+    while let [entry, rest @ ..] = left {
+        if pages > MOST_PAGES {
+            return false;
+        }
+        pages += entry_pages(entry);
+        left = rest;
+    }
+    pages <= MOST_PAGES
+}
