@@ -1,30 +1,30 @@
 -- A backup is read back as its store, and what is not read is no backup.
-use Rattle.std.proofs.Common.{◌≡◌, refl, sym, ◌∙◌, ap, subst, ℕ, ◌+◌, ◌<◌, ◌≤◌, Bool, true, List, [], ◌∷◌, ◌++◌, map, length, All, Option, Some, None, arith, append_assoc, nat_le}
+use Rattle.std.proofs.Common.{◌≡◌, refl, sym, ◌∙◌, ap, subst, ℕ, ◌+◌, ◌-◌, ◌<◌, ◌≤◌, Bool, true, List, [], ◌∷◌, ◌++◌, map, length, take, drop, All, Option, Some, None, arith, append_assoc, nat_le}
 use Rattle.std.specs.Prelude.{option_map, ◌&&◌, IfSome}
 use Rattle.std.specs.List.{list_all, sum_by}
 use Rattle.std.proofs.lemmas.Bool.{and_parts}
 use Rattle.std.proofs.lemmas.List.{map-append}
-use Rattle.std.proofs.lemmas.List.Elements.{All-tail}
+use Rattle.std.proofs.lemmas.List.Elements.{All-nil, All-cons, All-tail}
 use Rattle.std.proofs.lemmas.List.Sums.{sum_by-cons}
 use Rattle.newt_graph.specs.Graph.{RawGraph, IsGraph}
 use Rattle.newt_spec_image.specs.Objects.{pages_for}
 use Rattle.newt_spec_nsof.specs.Flat.{flat}
 use Rattle.newt_spec_graph.specs.Graph.{every}
 use Rattle.newt_spec_graph.specs.Lists.{Each, all_apart, rises}
-use Rattle.newt_spec_graph.proofs.Lists.{each-from}
 use Rattle.newt_base.specs.Names.{equal_text}
 use Rattle.newt_backup.specs.declared.entry.FullEntry.{FullEntry}
 use Rattle.newt_nsof_flat.specs.Stream.{stream_graph}
 use Rattle.newt_nsof_flat.proofs.Streams.{reads_graphs}
 use Rattle.newt_soupdir.specs.declared.rows.Directory.{Directory}
-use Rattle.newt_soupdir.specs.Bare.{bare_store}
+use Rattle.newt_soupdir.specs.declared.rows.SoupRow.{SoupRow}
+use Rattle.newt_soupdir.specs.Bare.{bare_store, bare_soup as row_soup}
 use Rattle.newt_spec_store.specs.Store.{Entry, Soup, Store}
 use Rattle.newt_spec_store.specs.Cost.{directory_bytes, entry_pages, soup_pages, cost}
 use Rattle.newt_spec_store.specs.Image.{all_entries}
-use Rattle.newt_spec_store.specs.Laid.{bare}
+use Rattle.newt_spec_store.specs.Laid.{bare, bare_soup as emptied}
 use Rattle.newt_spec_store.specs.Lies.{directory_read}
 use Rattle.newt_spec_store.specs.Valid.{valid_soup, well_formed, fits, valid}
-use Rattle.newt_laws_images.proofs.Directories.{directory-parts, directory-infos}
+use Rattle.newt_laws_images.proofs.Directories.{directory-parts}
 use Rattle.newt_laws_images.proofs.Stores.{is-store, store-is}
 use Rattle.newt_laws_images.proofs.Totals.{total, sum-total}
 use Rattle.newt_backup.specs.Backup.{fulls, backup, IsKept, Unbacked}
@@ -156,15 +156,43 @@ store-kept n s es h v infos e sound = record {
   graphs = subst (λ xs. Each (λ (x : ℕ × Entry). IsGraph x.1.graph × (x.1.time < 4294967296)) xs) (sym e) (sound-each es sound);
 }
 
--- the store that has a backup is that of the directory and the entries that are read
+-- the store that has a backup has the directory and the entries that are read
 pub the-store : (g : RawGraph) (d : Directory) (es : List FullEntry) (s : Store) → contents_read (texts_from [] g.nodes) ≡ Some (bare_store d, map told es) → IsKept s → backup s ≡ g
-    → AreKept d es × (store_in d es ≡ s)
+    → (bare s ≡ bare_store d) × (all_entries s ≡ map told es)
 the-store g d es s h k e =
     let same : ◌≡◌ {A = Store × List (ℕ × Entry)} (bare s, all_entries s) (bare_store d, map told es) = some-one (bare s, all_entries s) (bare_store d, map told es)
     (sym (contents-kept s k) ∙ ap (λ g. contents_read (texts_from [] g.nodes)) e ∙ h) in
-    let b : bare s ≡ bare_store d = ap {A = Store × List (ℕ × Entry)} {B = Store} (λ x. x.0) same in
-    let xs : all_entries s ≡ map told es = ap {A = Store × List (ℕ × Entry)} {B = List (ℕ × Entry)} (λ x. x.1) same in
-    found-store s d es k b xs
+    (ap {A = Store × List (ℕ × Entry)} {B = Store} (λ x. x.0) same, ap {A = Store × List (ℕ × Entry)} {B = List (ℕ × Entry)} (λ x. x.1) same)
+
+-- ---- what types say, one after another
+
+pub infos-none : (rows : List SoupRow) → length rows < 1 → Each (λ (p : Soup). IfSome p.info IsGraph) (map row_soup rows)
+infos-none [] low = tt
+infos-none (r ∷ rows) low = absurd (omega (arith, low))
+
+pub infos-more : (r : SoupRow) (left : List SoupRow) → left ≡ r ∷ take (length left - 1) (drop 1 left) → IfSome r.info IsGraph
+    → Each (λ (p : Soup). IfSome p.info IsGraph) (map row_soup (take (length left - 1) (drop 1 left))) → Each (λ (p : Soup). IfSome p.info IsGraph) (map row_soup left)
+infos-more r left o is h = subst (λ (l : List SoupRow). Each (λ (p : Soup). IfSome p.info IsGraph) (map row_soup l)) (sym o) (is, h)
+
+pub sound-none : (es : List FullEntry) → length es < 1 → All IsSound es
+sound-none [] low = All-nil IsSound
+sound-none (e ∷ es) low = absurd (omega (arith, low))
+
+pub sound-more : (e : FullEntry) (left : List FullEntry) → left ≡ e ∷ take (length left - 1) (drop 1 left) → IsSound e → All IsSound (take (length left - 1) (drop 1 left)) → All IsSound left
+sound-more e left o is h = subst (λ (l : List FullEntry). All IsSound l) (sym o) (All-cons IsSound e (take (length left - 1) (drop 1 left)) is h)
+
+-- ---- a store that has them
+
+infos-of : (ps : List Soup) → Each (λ (p : Soup). IfSome p.info IsGraph) (map emptied ps) → Each (λ (p : Soup). IfSome p.info IsGraph) ps
+infos-of [] h = tt
+infos-of (p ∷ ps) h = (h.0, infos-of ps h.1)
+
+-- a store with this directory and these entries is what they are
+pub store-theirs : (d : Directory) (es : List FullEntry) (s : Store) → Each (λ (p : Soup). IfSome p.info IsGraph) (bare_store d).soups → All IsSound es → valid 4099 s ≡ true
+    → bare s ≡ bare_store d → all_entries s ≡ map told es → AreKept d es
+store-theirs d es s infos sound v b xs =
+    let its = infos-of s.soups (subst (λ (t : Store). Each (λ (p : Soup). IfSome p.info IsGraph) t.soups) (sym b) infos) in
+    (found-store s d es (store-kept 4099 s es (omega arith) v its xs sound) b xs).0
 
 -- a directory is read from the bytes of a text
 the-directory : (texts : List (List ℕ)) (d : Store) (xs : List (ℕ × Entry)) → contents_read texts ≡ Some (d, xs) → (bytes : List ℕ) × (directory_read stream_graph 2 bytes ≡ Some d)
@@ -184,14 +212,3 @@ the-directory (a ∷ b ∷ z ∷ texts) d xs h = go (directory_read stream_graph
 -- it is well formed
 pub read-formed : (texts : List (List ℕ)) (d : Store) (xs : List (ℕ × Entry)) → contents_read texts ≡ Some (d, xs) → well_formed d ≡ true
 read-formed texts d xs h = let r = the-directory texts d xs h in (directory-parts stream_graph 2 r.0 d r.1).2
-
--- and its info frames are graphs
-pub read-infos : (texts : List (List ℕ)) (d : Store) (xs : List (ℕ × Entry)) → contents_read texts ≡ Some (d, xs) → Each (λ (p : Soup). IfSome p.info IsGraph) d.soups
-read-infos texts d xs h =
-    let r = the-directory texts d xs h in
-    let whole = (directory-parts stream_graph 2 r.0 d r.1).0 in
-    each-from (λ (p : Soup). IfSome p.info IsGraph) d.soups (λ p m. one p.info (λ g e. let k = directory-infos stream_graph r.0 d whole p g m e in reads_graphs.graphs k.0 g k.1))
-  where
-    one : (o : Option RawGraph) → ((g : RawGraph) → o ≡ Some g → IsGraph g) → IfSome o IsGraph
-    one None f = tt
-    one (Some g) f = f g refl

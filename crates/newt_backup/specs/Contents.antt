@@ -1,7 +1,10 @@
 -- A directory and entries as a program has them, and the store that they are.
-use Rattle.std.specs.Prelude.{◌≡◌, ◌<◌, ◌≤◌, ℕ, List, [], length, map}
+use Rattle.std.specs.Prelude.{◌≡◌, ◌<◌, ◌≤◌, ℕ, true, List, [], length, map}
 use Rattle.newt_graph.specs.Graph.{IsGraph}
 use Rattle.newt_spec_store.specs.Store.{Entry, Store}
+use Rattle.newt_spec_store.specs.Image.{all_entries}
+use Rattle.newt_spec_store.specs.Laid.{bare}
+use Rattle.newt_spec_store.specs.Valid.{valid}
 use Rattle.newt_soupdir.specs.declared.rows.Directory.{Directory}
 use Rattle.newt_soupdir.specs.Bare.{bare_store}
 use Rattle.newt_backup.specs.declared.entry.FullEntry.{FullEntry}
@@ -36,3 +39,7 @@ IsSmall e = (e.soup < 65536) × (length (text_of e) ≤ 7_989_000)
 pub record AreKept (d : Directory) (es : List FullEntry) : Type 0 where
   pub kept : IsKept (store_in d es)
   pub in_order : left_over (bare_store d).soups (map told es) ≡ []
+
+-- No store of any unit has this directory and these entries.
+abbrev pub IsNoStore : Directory → List FullEntry → Type 0
+IsNoStore d es = (s : Store) → valid 4099 s ≡ true → bare s ≡ bare_store d → all_entries s ≡ map told es → ⊥

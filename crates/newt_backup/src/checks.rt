@@ -1,21 +1,23 @@
 //! Whether a directory and entries are a store.
 ghost use Rattle.std.specs.Prelude.{◌≡◌, ◌≤◌, ◌<◌, ◌+◌, ◌^◌, nat_le, length, map, flat_map, sum};
-ghost use Rattle.std.specs.Prelude.{All, option_map};
+ghost use Rattle.std.specs.Prelude.{true, false, IsTrue, IfOk, IfSome, All, option_map};
 ghost use Rattle.std.specs.List.{sum_by};
 ghost use Rattle.newt_graph.specs.Graph.{IsGraph, payload};
 ghost use Rattle.newt_spec_image.specs.Objects.{pages_for};
-ghost use Rattle.newt_soupdir.specs.Bare.{bare_soup};
+ghost use Rattle.newt_soupdir.specs.Bare.{bare_soup, bare_store};
+ghost use Rattle.newt_spec_graph.specs.Lists.{Each};
 ghost use Rattle.newt_spec_store.specs.Cost.{large_length, entry_pages, skeleton_length};
-ghost use Rattle.newt_spec_store.specs.Valid.{valid_entry};
+ghost use Rattle.newt_spec_store.specs.Valid.{valid_entry, well_formed};
 ghost use Rattle.newt_backup.specs.Checks.{behind, are_of};
-ghost use Rattle.newt_backup.specs.Contents.{told, as_entry};
+ghost use Rattle.newt_backup.specs.Contents.{told, as_entry, AreKept, IsNoStore, IsSound};
 
 use crate::entry::FullEntry;
 use newt_entries::MOST_TEXT;
 use newt_graph::{Graph, Node};
 use newt_nsof_flat::is_frame;
 use newt_nsof_write::skeleton_len;
-use newt_soupdir::SoupRow;
+use newt_soupdir::{Directory, SoupRow, write_directory};
+use std::alloc::{AllocError, Global};
 
 /// The most pages of a store: those that the largest unit takes.
 const MOST_PAGES: u64 = 15_978;
@@ -49,7 +51,7 @@ fn behind<'a>(row: &SoupRow, entries: &'a [FullEntry]) -> Option<&'a [FullEntry]
 }
 
 /// Whether the entries are those of the soups, in their order.
-pub(crate) fn are_of(rows: &[SoupRow], entries: &[FullEntry]) -> bool
+fn are_of(rows: &[SoupRow], entries: &[FullEntry]) -> bool
     ensures { result ≡ are_of (map bare_soup rows.now) (map told entries.now) }
 {
     let mut left = entries;
@@ -142,7 +144,7 @@ fn entry_pages(entry: &FullEntry) -> u64
 }
 
 /// Whether a directory of so many bytes and entries fit on the largest unit.
-pub(crate) fn fit(size: usize, entries: &[FullEntry]) -> bool
+fn fit(size: usize, entries: &[FullEntry]) -> bool
     requires { size < 2 ^ 63 }
     ensures { result ≡ nat_le (pages_for size + sum_by (λ e. entry_pages (as_entry e)) entries.now)
         15978 }
@@ -157,4 +159,62 @@ pub(crate) fn fit(size: usize, entries: &[FullEntry]) -> bool
         left = rest;
     }
     pages <= MOST_PAGES
+}
+
+/// An info frame is a graph in normal form, as its type says.
+fn know_info(row: &SoupRow)
+    ensures { IfSome row.now.info IsGraph }
+{
+    if let Some(graph) = &row.info {
+        let _nodes = graph.nodes();
+    }
+}
+
+/// The same of all soups.
+fn know_infos(rows: &[SoupRow])
+    ensures { Each (λ p. IfSome p.info IsGraph) (map bare_soup rows.now) }
+{
+    let mut left = rows;
+    while let [row, rest @ ..] = left {
+        know_info(row);
+        left = rest;
+    }
+}
+
+/// An entry's graph is in normal form and its minute fits in four bytes, as their types say.
+fn know_entry(entry: &FullEntry)
+    ensures { IsSound entry.now }
+{
+    let _nodes = entry.graph.nodes();
+    let _time = entry.time;
+}
+
+/// The same of all entries.
+fn know_entries(entries: &[FullEntry])
+    ensures { All IsSound entries.now }
+{
+    let mut left = entries;
+    while let [entry, rest @ ..] = left {
+        know_entry(entry);
+        left = rest;
+    }
+}
+
+/// Whether a directory that is well formed and entries are a store of some unit, in its order.
+pub fn is_store(
+    alloc: Global,
+    directory: &Directory,
+    entries: &[FullEntry],
+) -> Result<bool, AllocError>
+    requires { IsTrue (well_formed (bare_store directory.now)) }
+    ensures yes { IfOk result (λ yes. yes ≡ true → AreKept directory.now entries.now) }
+    ensures no { IfOk result (λ yes. yes ≡ false → IsNoStore directory.now entries.now) }
+{
+    know_infos(directory.soups.list());
+    know_entries(entries);
+    if !are_of(directory.soups.list(), entries) {
+        return Ok(false);
+    }
+    let bytes = write_directory(alloc, directory)?;
+    Ok(fit(bytes.len(), entries))
 }

@@ -22,6 +22,7 @@ mod nodes;
 mod pack;
 mod read;
 
+pub use checks::is_store;
 pub use entry::FullEntry;
 pub use fault::BackupFault;
 pub use laws::{backups_are_graphs, backups_are_of_one_store};

@@ -1,18 +1,14 @@
 //! A store read from its backup.
-ghost use Rattle.std.specs.Prelude.{◌≡◌, [], true, false, IsTrue, map, All, Some, None, IfOk};
-ghost use Rattle.std.specs.Prelude.{IfSome, IsErrOf};
-ghost use Rattle.newt_graph.specs.Graph.{IsGraph};
+ghost use Rattle.std.specs.Prelude.{◌≡◌, [], true, false, map, Some, None, IfOk, IsErrOf};
 ghost use Rattle.newt_nsof_flat.specs.Stream.{stream_graph};
 ghost use Rattle.newt_soupdir.specs.Bare.{bare_store};
 ghost use Rattle.newt_spec_graph.specs.Graph.{every};
-ghost use Rattle.newt_spec_graph.specs.Lists.{Each};
-ghost use Rattle.newt_spec_store.specs.Valid.{well_formed};
 ghost use Rattle.newt_backup.specs.Backup.{backup, Unbacked};
 ghost use Rattle.newt_spec_store.specs.Lies.{directory_read};
 ghost use Rattle.newt_backup.specs.Texts.{texts_from, full_read, contents_read};
-ghost use Rattle.newt_backup.specs.Contents.{told, IsSound, AreKept, store_in};
+ghost use Rattle.newt_backup.specs.Contents.{told, AreKept, store_in};
 
-use crate::checks::{are_of, fit};
+use crate::checks::is_store;
 use crate::entry::FullEntry;
 use crate::fault::BackupFault;
 use crate::nodes::HEAD;
@@ -21,7 +17,7 @@ use newt_base::{Sig, Uid, be16, be32};
 use newt_graph::{Graph, Node};
 use newt_nsof_read::{NsofFault, decode};
 use newt_nsof_write::encode_flat;
-use newt_soupdir::{DirFault, Directory, read_directory, write_directory};
+use newt_soupdir::{DirFault, Directory, read_directory};
 use std::alloc::{AllocError, Global};
 use std::mem;
 
@@ -52,7 +48,6 @@ pub(crate) fn texts(alloc: Global, nodes: &[Node]) -> Result<Vec<Vec<u8>>, Alloc
 #[tactic(auto, unfolding(crate::specs::Texts::full_read))]
 pub(crate) fn read_full(alloc: Global, text: &[u8]) -> Result<FullEntry, BackupFault>
     ensures found { IfOk result (λ e. full_read text.now ≡ Some (told e)) }
-    ensures sound { IfOk result IsSound }
     ensures bad { IsErrOf result BackupFault.Bad → full_read text.now ≡ None }
 {
     if text.len() < HEAD {
@@ -75,7 +70,6 @@ pub(crate) fn read_full(alloc: Global, text: &[u8]) -> Result<FullEntry, BackupF
 fn read_fulls(alloc: Global, texts: &[Vec<u8>]) -> Result<Vec<FullEntry>, BackupFault>
     ensures found { IfOk result (λ v. every (map full_read (map (λ text. text.items) texts.now))
         ≡ Some (map told v.items)) }
-    ensures sound { IfOk result (λ v. All IsSound v.items) }
     ensures bad { IsErrOf result BackupFault.Bad
         → every (map full_read (map (λ text. text.items) texts.now)) ≡ None }
 {
@@ -105,7 +99,6 @@ fn read_first(alloc: Global, bytes: &[u8]) -> Result<Directory, BackupFault>
 fn contents(alloc: Global, texts: &[Vec<u8>]) -> Result<(Directory, Vec<FullEntry>), BackupFault>
     ensures found { IfOk result (λ x. contents_read (map (λ text. text.items) texts.now)
         ≡ Some (bare_store x.0, map told x.1.items)) }
-    ensures sound { IfOk result (λ x. All IsSound x.1.items) }
     ensures bad { IsErrOf result BackupFault.Bad
         → contents_read (map (λ text. text.items) texts.now) ≡ None }
 {
@@ -121,26 +114,10 @@ fn contents(alloc: Global, texts: &[Vec<u8>]) -> Result<(Directory, Vec<FullEntr
 fn store_of(alloc: Global, graph: &Graph) -> Result<(Directory, Vec<FullEntry>), BackupFault>
     ensures found { IfOk result (λ x. contents_read (texts_from [] graph.now.nodes)
         ≡ Some (bare_store x.0, map told x.1.items)) }
-    ensures sound { IfOk result (λ x. All IsSound x.1.items) }
     ensures bad { IsErrOf result BackupFault.Bad → Unbacked graph.now }
 {
     let texts = texts(alloc, graph.nodes())?;
     contents(alloc, &texts)
-}
-
-/// Whether a directory and entries are a store of some unit.
-fn are_kept(alloc: Global, directory: &Directory, entries: &[FullEntry]) -> Result<bool, AllocError>
-    requires formed { IsTrue (well_formed (bare_store directory.now)) }
-    requires infos { Each (λ p. IfSome p.info IsGraph) (bare_store directory.now).soups }
-    requires sound { All IsSound entries.now }
-    ensures yes { IfOk result (λ yes. yes ≡ true → AreKept directory.now entries.now) }
-    ensures no { IfOk result (λ yes. yes ≡ false → AreKept directory.now entries.now → ⊥) }
-{
-    if !are_of(directory.soups.list(), entries) {
-        return Ok(false);
-    }
-    let bytes = write_directory(alloc, directory)?;
-    Ok(fit(bytes.len(), entries))
 }
 
 /// Whether two graphs are one: they have the same text.
@@ -163,7 +140,7 @@ pub fn read_backup(alloc: Global, graph: &Graph) -> Result<(Directory, Vec<FullE
     ensures bad { IsErrOf result BackupFault.Bad → Unbacked graph.now }
 {
     let (directory, entries) = store_of(alloc, graph)?;
-    if !are_kept(alloc, &directory, &entries)? {
+    if !is_store(alloc, &directory, &entries)? {
         return Err(BackupFault::Bad);
     }
     let again = pack_backup(alloc, &directory, &entries)?;

@@ -8,11 +8,12 @@ use Rattle.newt_spec_store.specs.Cost.{directory_bytes, entry_pages}
 use Rattle.newt_spec_store.specs.Valid.{well_formed}
 use Rattle.newt_backup.specs.Checks.{are_of}
 use Rattle.newt_backup.specs.Contents.{told, as_entry}
-use Rattle.newt_backup.proofs.Back.{kept-yes, kept-passes, kept-fits}
-use Rattle.newt_backup.proofs.read.are_kept.Goals as goal
+use Rattle.newt_backup.proofs.Back.{kept-yes, kept-passes, kept-fits, store-theirs}
+use Rattle.newt_backup.proofs.checks.is_store.Goals as goal
 
 pub returns-then-not-are_of-clause-no : goal.returns-then-not-are_of-clause-no
-returns-then-not-are_of-clause-no c = λ no k.
+returns-then-not-are_of-clause-no c = λ no s v b xs.
+    let k = store-theirs c.args.directory.now c.args.entries.now s c.know_infos.ensures c.know_entries.ensures v b xs in
     let passes = kept-passes c.args.directory.now c.args.entries.now k in
     let fails : are_of (bare_store c.args.directory.now).soups (map told c.args.entries.now) ≡ false = search rules in
     false≢true (sym fails ∙ passes)
@@ -23,10 +24,11 @@ returns-clause-yes c = λ yes.
     let passes : are_of (bare_store c.args.directory.now).soups (map told c.args.entries.now) ≡ true = search rules in
     let size : c.len.result ≡ length (directory_bytes (bare_store c.args.directory.now)) = search rules in
     let fits = ap (λ n. nat_le (pages_for n + sum_by (λ (e : FullEntry). entry_pages (as_entry e)) c.args.entries.now) 15978) (sym size) ∙ sym c.fit.ensures ∙ yes in
-    kept-yes c.args.directory.now c.args.entries.now formed c.requires.infos c.requires.sound passes fits
+    kept-yes c.args.directory.now c.args.entries.now formed c.know_infos.ensures c.know_entries.ensures passes fits
 
 pub returns-clause-no : goal.returns-clause-no
-returns-clause-no c = λ no k.
+returns-clause-no c = λ no s v b xs.
+    let k = store-theirs c.args.directory.now c.args.entries.now s c.know_infos.ensures c.know_entries.ensures v b xs in
     let size : c.len.result ≡ length (directory_bytes (bare_store c.args.directory.now)) = search rules in
     let fits = kept-fits c.args.directory.now c.args.entries.now k in
     let fails = ap (λ n. nat_le (pages_for n + sum_by (λ (e : FullEntry). entry_pages (as_entry e)) c.args.entries.now) 15978) (sym size) ∙ sym c.fit.ensures ∙ no in
