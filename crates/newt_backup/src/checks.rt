@@ -161,22 +161,30 @@ fn fit(size: usize, entries: &[FullEntry]) -> bool
     pages <= MOST_PAGES
 }
 
-/// An info frame is a graph in normal form, as its type says.
-fn know_info(row: &SoupRow)
-    ensures { IfSome row.now.info IsGraph }
+/// A graph is in normal form, as its type says.
+fn know_graph(graph: &Graph)
+    ensures { IsGraph graph.now }
 {
-    if let Some(graph) = &row.info {
-        let _nodes = graph.nodes();
+    let _nodes = graph.nodes();
+}
+
+/// So is an info frame.
+fn know_info(info: &Option<Graph>)
+    ensures { IfSome info.now IsGraph }
+{
+    match info {
+        Some(graph) => know_graph(graph),
+        None => {}
     }
 }
 
-/// The same of all soups.
+/// So are those of all soups.
 fn know_infos(rows: &[SoupRow])
     ensures { Each (λ p. IfSome p.info IsGraph) (map bare_soup rows.now) }
 {
     let mut left = rows;
     while let [row, rest @ ..] = left {
-        know_info(row);
+        know_info(&row.info);
         left = rest;
     }
 }
@@ -185,7 +193,7 @@ fn know_infos(rows: &[SoupRow])
 fn know_entry(entry: &FullEntry)
     ensures { IsSound entry.now }
 {
-    let _nodes = entry.graph.nodes();
+    know_graph(&entry.graph);
     let _time = entry.time;
 }
 

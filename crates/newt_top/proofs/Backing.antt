@@ -44,7 +44,7 @@ module _ (names : List (List ℕ)) (old mid : Outside) (a : AreAttached true nam
   still text new always = Always-map (λ m some unit. last m some unit) always
     where
       last : (m : Moment) → PrintsSome text mid.now m → (unit : ℕ) → changes unit m ≡ changes unit mid.now
-      last m some unit = ?last
+      last m some unit = ap (λ (n : Moment). changes unit n) some.moment ∙ changes-printed unit some.done mid.now
 
   -- so a crash leaves it as it was held
   pub crash-held : (new : Outside) → Always (λ m. (unit : ℕ) → changes unit m ≡ changes unit mid.now) mid.now new.now
