@@ -1,7 +1,21 @@
 -- One more of a list is put.
-use Rattle.std.proofs.Common.{◌≡◌, ◌≤◌, ◌<◌, ◌+◌, ◌-◌, refl, sym, ◌∙◌, ap, ℕ, List, [], ◌∷◌, ◌++◌, length, take, drop, get_or, arith, append_assoc}
-use Rattle.std.proofs.lemmas.List.{append-nil}
+use Rattle.std.proofs.Common.{◌≡◌, ◌≤◌, ◌<◌, ◌-◌, sym, ◌∙◌, ap, ℕ, List, [], ◌∷◌, ◌++◌, map, length, take, drop, get_or, Option, Some, None, arith, append_assoc}
+use Rattle.std.proofs.lemmas.List.{append-nil, map-append}
 use Rattle.std.proofs.lemmas.Grind.{common_steps}
+use Rattle.newt_spec_store.specs.Store.{Entry}
+use Rattle.newt_backup.specs.declared.entry.FullEntry.{FullEntry}
+use Rattle.newt_backup.specs.Contents.{as_entry, told}
+use Rattle.newt_store_backup.specs.Listed.{entry_row}
+
+-- an entry that was found is put
+pub row-put : (old new : List FullEntry) (e : FullEntry) (sig : ℕ) (found : Option Entry) → new ≡ old ++ e ∷ [] → e.soup ≡ sig → Some (as_entry e) ≡ found → map told new ≡ map told old ++ entry_row sig found
+row-put old new e sig found n s f =
+    ap (λ (l : List FullEntry). map told l) n ∙ map-append told old (e ∷ []) ∙ ap (λ (k : ℕ). map told old ++ (k, as_entry e) ∷ []) s
+    ∙ ap (λ (o : Option Entry). map told old ++ entry_row sig o) f
+
+-- and where there is none, none
+pub row-none : (old : List FullEntry) (sig : ℕ) (found : Option Entry) → None ≡ found → map told old ≡ map told old ++ entry_row sig found
+row-none old sig found f = sym (append-nil (map told old)) ∙ ap (λ (o : Option Entry). map told old ++ entry_row sig o) f
 
 -- what a list of ids or signatures lists, where each adds its own
 module _ {X : Type 0} (own : ℕ → List X) (listed : List ℕ → List X) (none : listed [] ≡ []) (more : (n : ℕ) (ns : List ℕ) → listed (n ∷ ns) ≡ own n ++ listed ns) where
