@@ -53,7 +53,6 @@ module _ (mode : Option Mode) (old new : Outside) where
   faults_quiet status cause free later = record { later = later; cause = cause; no_fault = free; complete = complete_of status cause }
 
 module _ (mode : Mode) (old new : Outside) where
-
   pub ends_ok : {T E : Type 0} {Cause : E → (old new : Outside) → Type 0} {x : T} → Faults Cause (Ok x) old new → RunEnds mode statuses.Ok old new
   ends_ok f = record { faults = faults_quiet (Some mode) old new statuses.Ok tt f.no_fault f.later; not_usage = λ same. absurd (cc) }
 

@@ -21,7 +21,6 @@ use Rattle.newt_store_backup.proofs.backup.backup_of.Goals as goal
 pub is_store-requires : goal.is_store-requires
 is_store-requires g c = subst (λ (d : Directory). well_formed (bare_store d) ≡ true) (sym c.directory.ensures) c.in-Ok.ensures.reads.is_open.sound.formed
 
-
 pub returns-in_err-store : goal.returns-in_err-store
 returns-in_err-store g c =
     let o = g.H.Host.outside in
