@@ -144,7 +144,7 @@ module _ (names : List (List ℕ)) (old mid new : Outside) (a : AreAttached true
   ]
 
   -- at each moment since a unit was attached, by what holds of every host
-  seen_named : (Q : Moment → Type 0) → Always Q mid.now new.now
+  pub seen_named : (Q : Moment → Type 0) → Always Q mid.now new.now
       → ((unit : ℕ) → new.card unit ≡ mid.card unit) → ((unit : ℕ) → changes unit old.now ≡ []) → ((unit : ℕ) → new.card unit ≡ None → changes unit new.now ≡ [])
       → ((unit : ℕ) → IsSome (new.card unit) → IsHistory (new.blocks unit * 4096) (changes unit new.now))
       → (unit t : ℕ) (left shown : List ℕ) → since new unit ≡ Some t → left_since new t unit left shown → Seen Q unit left shown
