@@ -1,0 +1,89 @@
+-- How often a number stands among others: once for each exactly where no two are the same.
+use Rattle.std.proofs.Common.{arith, ◌≡◌, ◌≢◌, refl, ap, sym, ◌∙◌, subst, ℕ, suc, ◌+◌, ◌≤◌, ◌==◌, List, [], ◌∷◌, ◌++◌, true, false, Bool, ◌⊎◌, inl, inr, cond, length, filter, flat_map}
+use Rattle.std.proofs.lemmas.Bool.{eq-eqb, eqb-true, cases_eq}
+use Rattle.newt_spec_graph.specs.Lists.{Each, Pairs, Among}
+use Rattle.newt_spec_graph.proofs.Lists.{each-at, each-from, among-left, among-right, flat_map-among, both-ways}
+use Rattle.newt_spec_check.specs.Damage.{count_of}
+
+count-step : (n m : ℕ) (ns : List ℕ) (b : Bool) → (n == m) ≡ b → count_of n (m ∷ ns) ≡ length (cond b (m ∷ filter (λ m. n == m) ns) (filter (λ m. n == m) ns))
+count-step n m ns b e = ap (λ b. length (cond b (m ∷ filter (λ m. n == m) ns) (filter (λ m. n == m) ns))) e
+
+count-here : (n : ℕ) (ns : List ℕ) → count_of n (n ∷ ns) ≡ suc (count_of n ns)
+count-here n ns = count-step n n ns true (eq-eqb n n refl)
+
+not-same : (n m : ℕ) → n ≢ m → (n == m) ≡ false
+not-same n m h = go (n == m) refl
+  where
+    go : (b : Bool) → (n == m) ≡ b → b ≡ false
+    go true e = absurd (h (eqb-true n m e))
+    go false e = refl
+
+count-other : (n m : ℕ) (ns : List ℕ) → n ≢ m → count_of n (m ∷ ns) ≡ count_of n ns
+count-other n m ns h = count-step n m ns false (not-same n m h)
+
+pub count-some : (n : ℕ) (ns : List ℕ) → Among ns n → 1 ≤ count_of n ns
+count-some n [] m = absurd m
+count-some n (x ∷ ns) (inl e) = subst (λ x. 1 ≤ count_of n (x ∷ ns)) (sym e) (omega (arith, count-here n ns))
+count-some n (x ∷ ns) (inr m) = go (cases_eq n x) (count-some n ns m)
+  where
+    go : (n ≡ x) ⊎ (n ≡ x → ⊥) → 1 ≤ count_of n ns → 1 ≤ count_of n (x ∷ ns)
+    go (inl e) h = subst (λ x. 1 ≤ count_of n (x ∷ ns)) e (omega (arith, count-here n ns))
+    go (inr k) h = omega (arith, h, count-other n x ns k)
+
+pub count-none : (n : ℕ) (ns : List ℕ) → (Among ns n → ⊥) → count_of n ns ≡ 0
+count-none n [] h = refl
+count-none n (x ∷ ns) h = count-other n x ns (λ e. h (inl (sym e))) ∙ count-none n ns (λ m. h (inr m))
+
+pub count-among : (n : ℕ) (ns : List ℕ) → count_of n ns ≡ 1 → Among ns n
+count-among n [] h = absurd (omega (arith, h))
+count-among n (x ∷ ns) h = go (cases_eq n x) (count-among n ns)
+  where
+    go : (n ≡ x) ⊎ (n ≡ x → ⊥) → (count_of n ns ≡ 1 → Among ns n) → Among (x ∷ ns) n
+    go (inl e) more = inl (sym e)
+    go (inr k) more = inr (more (sym (count-other n x ns k) ∙ h))
+
+-- where no two are the same, each stands once
+pub apart-count : (n : ℕ) (ns : List ℕ) → Pairs (λ a b. a ≢ b) ns → Among ns n → count_of n ns ≡ 1
+apart-count n [] h m = absurd m
+apart-count n (x ∷ ns) h (inl e) = subst (λ n. count_of n (x ∷ ns) ≡ 1) e (count-here x ns ∙ ap suc (count-none x ns (λ m. each-at (λ b. x ≢ b) ns x h.0 m refl)))
+apart-count n (x ∷ ns) h (inr m) = count-other n x ns (λ e. each-at (λ b. x ≢ b) ns n h.0 m (sym e)) ∙ apart-count n ns h.1 m
+
+-- and where each stands once, no two are the same
+pub count-apart : (ns : List ℕ) → ((n : ℕ) → Among ns n → count_of n ns ≡ 1) → Pairs (λ a b. a ≢ b) ns
+count-apart [] h = tt
+count-apart (x ∷ ns) h = (
+  each-from (λ b. x ≢ b) ns (λ z m e. other z m e),
+  count-apart ns (λ n m. sym (count-other n x ns (λ e. other n m (sym e))) ∙ h n (inr m)),
+)
+  where
+    other : (z : ℕ) → Among ns z → x ≡ z → ⊥
+    other z m e =
+        let one = h x (inl refl) in
+        let some = count-some x ns (subst (Among ns) (sym e) m) in
+        omega (arith, one, some, count-here x ns)
+
+-- ---- numbers of lists that are joined
+
+pairs-parts : {X : Type 0} (R : X → X → Type 0) (xs ys : List X) → Pairs R (xs ++ ys) → Pairs R xs × Pairs R ys × ((a b : X) → Among xs a → Among ys b → R a b)
+pairs-parts R [] ys h = (tt, h, λ a b m n. absurd m)
+pairs-parts {X} R (x ∷ xs) ys h =
+    let r = pairs-parts R xs ys h.1 in
+    ((each-from (R x) xs (λ z m. each-at (R x) (xs ++ ys) z h.0 (among-left xs ys z m)), r.0), r.1, across r.2)
+  where
+    across : ((a b : X) → Among xs a → Among ys b → R a b) → (a b : X) → Among (x ∷ xs) a → Among ys b → R a b
+    across more a b (inl e) n = subst (λ v. R v b) e (each-at (R x) (xs ++ ys) b h.0 (among-right xs ys b n))
+    across more a b (inr m) n = more a b m n
+
+pub flat-pairs : {X Y : Type 0} (R : Y → Y → Type 0) (f : X → List Y) (xs : List X) (x : X) → Pairs R (flat_map f xs) → Among xs x → Pairs R (f x)
+flat-pairs R f [] x h m = absurd m
+flat-pairs R f (y ∷ xs) x h (inl e) = subst (λ v. Pairs R (f v)) e (pairs-parts R (f y) (flat_map f xs) h).0
+flat-pairs R f (y ∷ xs) x h (inr m) = flat-pairs R f xs x (pairs-parts R (f y) (flat_map f xs) h).1 m
+
+pub flat-once : {X Y : Type 0} (f : X → List Y) (xs : List X) (x y : X) (z : Y) → Pairs (λ a b. a ≢ b) (flat_map f xs) → Among xs x → Among xs y → Among (f x) z → Among (f y) z → x ≡ y
+flat-once f [] x y z h m n k l = absurd m
+flat-once f (v ∷ xs) x y z h (inl e) (inl g) k l = sym e ∙ g
+flat-once f (v ∷ xs) x y z h (inl e) (inr n) k l =
+    absurd ((pairs-parts (λ a b. a ≢ b) (f v) (flat_map f xs) h).2 z z (subst (λ u. Among (f u) z) (sym e) k) (flat_map-among f xs y z n l) refl)
+flat-once f (v ∷ xs) x y z h (inr m) (inl g) k l =
+    absurd ((pairs-parts (λ a b. a ≢ b) (f v) (flat_map f xs) h).2 z z (subst (λ u. Among (f u) z) (sym g) l) (flat_map-among f xs x z m k) refl)
+flat-once f (v ∷ xs) x y z h (inr m) (inr n) k l = flat-once f xs x y z (pairs-parts (λ a b. a ≢ b) (f v) (flat_map f xs) h).1 m n k l
