@@ -111,9 +111,11 @@ some-pages start (Some bank) found v h r p = go (found bank) h r p
     go None h r p = absurd (none-some (start bank) (sym h))
     go (Some (version, all)) h r p =
         let gs = gates_after (start bank + 16) 0 all in
-        let f = pages-formed gs map.empty (map-none (λ (g : Gate). g.0) (bad_in gs) p) in
-        (f.0, ap (λ o. and_then o (λ payloads. pages_after payloads map.empty))
-        (payloads-gates (start bank + 16) 0 all ∙ ap (λ o. unless o (map payload_of gs)) (map-none (λ (g : Gate). g.0) (long_in gs) r)) ∙ f.1)
+        let f = pages-formed gs map.empty (map-none (λ (g : Gate). g.0) (bad_in gs) p) in (
+          f.0,
+          ap (λ o. and_then o (λ payloads. pages_after payloads map.empty))
+              (payloads-gates (start bank + 16) 0 all ∙ ap (λ o. unless o (map payload_of gs)) (map-none (λ (g : Gate). g.0) (long_in gs) r)) ∙ f.1,
+        )
 
 has-body : (image : List ℕ) → has_banks image ≡ true → body image ≡ bytes_of (and_then (chosen_bank image) (behind image))
 has-body image h = ap (λ b. bytes_of (cond b (and_then (chosen_bank image) (behind image)) None)) h
@@ -143,8 +145,8 @@ pub whole-pages : (image : List ℕ) → has_banks image ≡ true → IsWhole im
 whole-pages image h w =
     let b = has-body image h in
     let r = some-pages (start_of image) (chosen_bank image) (behind image) w.votes w.header_is
-        (ap (λ o. first_gate leaves_bank (gates_of (start_of image) (chosen_bank image) o)) (sym b) ∙ w.record_is)
-        (ap (λ o. first_gate is_unformed (gates_of (start_of image) (chosen_bank image) o)) (sym b) ∙ w.payload) in
+    (ap (λ o. first_gate leaves_bank (gates_of (start_of image) (chosen_bank image) o)) (sym b) ∙ w.record_is)
+    (ap (λ o. first_gate is_unformed (gates_of (start_of image) (chosen_bank image) o)) (sym b) ∙ w.payload) in
     (r.0, ap (λ o. and_then (and_then o (payloads_after 0)) (λ payloads. pages_after payloads map.empty)) b ∙ r.1)
 
 -- and where it has pages, none of them holds

@@ -92,6 +92,8 @@ module _ (graph_of : List ℕ → Option RawGraph) (image : List ℕ) (reads : R
       (sym (row-at image p.0 o.0 (no_directory graph_of (version image)) p.1 o.1) ∙ r.directory)
       (sym (row-at image p.0 o.0 (bad_entry graph_of (version image)) p.1 o.1) ∙ r.entry)
       (sym (row-at image p.0 o.0 bad_large p.1 o.1) ∙ r.large)
-      (sym (row-at image p.0 o.0 (too_costly (blocks_of image)) p.1 o.1) ∙ r.cost) in
-      (s.0, ap (option_and_then (λ live. option_and_then (λ (objects : Objects). store_of graph_of (version image) (map.entries objects) (blocks_of image)) (objects_of live))) p.1
-      ∙ ap (option_and_then (λ (objects : Objects). store_of graph_of (version image) (map.entries objects) (blocks_of image))) o.1 ∙ s.1)
+      (sym (row-at image p.0 o.0 (too_costly (blocks_of image)) p.1 o.1) ∙ r.cost) in (
+        s.0,
+        ap (option_and_then (λ live. option_and_then (λ (objects : Objects). store_of graph_of (version image) (map.entries objects) (blocks_of image)) (objects_of live))) p.1
+            ∙ ap (option_and_then (λ (objects : Objects). store_of graph_of (version image) (map.entries objects) (blocks_of image))) o.1 ∙ s.1,
+      )

@@ -82,8 +82,8 @@ module _ (graph_of : List ℕ → Option RawGraph) (version : ℕ) (objects : Ob
       let above = ltb-true 0 o.0 p.1 in
       let r = has-names graph_of version objects blocks s h o.0 o.1 (entry-get objects o.0 o.1 m) (λ k. omega (arith, above, k)) (even o.0 p.0) in
       let named = flat_map-among (λ (o : ℕ × List ℕ). ids_named o.1) (filter is_odd (map.entries objects)) (r.0, r.1) o.0
-          (filter-among is_odd (map.entries objects) (r.0, r.1) (among r.0 r.1 r.2) (eq-eqb (r.0 % 2) 1 r.3)) r.4 in
-      ap not (eq-eqb _ 1 (apart-count o.0 (all_named (map.entries objects)) (names-apart graph_of objects blocks s (reading graph_of version (map.entries objects) blocks s h)) named)))
+      (filter-among is_odd (map.entries objects) (r.0, r.1) (among r.0 r.1 r.2) (eq-eqb (r.0 % 2) 1 r.3)) r.4 in
+      ap not (eq-eqb _ 1 (apart-count o.0 (all_named (map.entries objects)) (names-apart graph_of version objects blocks s (reading graph_of version (map.entries objects) blocks s h)) named)))
     where
       even : (n : ℕ) → not (n % 2 == 1) ≡ true → n % 2 ≡ 0
       even n e = grind (arith, e)
