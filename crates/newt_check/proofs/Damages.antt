@@ -2,10 +2,11 @@
 use Rattle.std.proofs.Common.{arith, ◌≡◌, refl, sym, ◌∙◌, ap, subst, ℕ, ◌%◌, ◌<◌, ◌≤◌, ◌⊎◌, inl, inr, Bool, true, false, List, [], ◌∷◌, length, cond, nat_le, map as list_map, Option, Some, None, option_and_then}
 use Rattle.std.specs.FinMap as map
 use Rattle.std.proofs.lemmas.Bool.{le-leb, leb-true, and_parts}
-use Rattle.newt_entries.specs.Entry.{stream_graph}
-use Rattle.newt_entries.proofs.Streams.{reads_graphs}
+use Rattle.newt_nsof_flat.specs.Stream.{stream_graph}
+use Rattle.newt_nsof_flat.proofs.Streams.{reads_graphs}
 use Rattle.newt_spec_image.specs.Objects.{Objects}
 use Rattle.newt_spec_image.specs.Pages.{Pages, pages, cap}
+use Rattle.newt_spec_image.specs.Records.{version}
 use Rattle.newt_laws_images.proofs.Again.{read-lies}
 use Rattle.newt_laws_images.proofs.Finite.{object-get}
 use Rattle.newt_laws_images.proofs.Gathering.{objects-complete}
@@ -48,25 +49,25 @@ module _ (image : List ℕ) (texts : Objects) (h : HoldsObjects image texts) whe
   object-none : broken_object image ≡ None
   object-none = ap (option_and_then (λ live. least (broken_ids live))) h.of_image ∙ objects-whole h.live texts its
 
-  pub at-directory : directory_in (map.entries texts) ≡ None → damage stream_graph image ≡ Some (record { layer = layer.Directory; place = 0 })
+  pub at-directory : directory_in stream_graph (version image) (map.entries texts) ≡ None → damage stream_graph image ≡ Some (record { layer = layer.Directory; place = 0 })
   at-directory k =
       let w = pages-whole image h.live h.of_image in
       skip layer.Votes _ _ w.votes ∙ skip layer.Header _ _ w.header_is ∙ skip layer.RecordPlace _ _ w.record_is ∙ skip layer.Payload _ _ w.payload ∙ skip layer.Object _ _ object-none
-      ∙ hit layer.Directory _ 0 _ (row-at no_directory ∙ ap (if_missing 0) k)
+      ∙ hit layer.Directory _ 0 _ (row-at (no_directory stream_graph (version image)) ∙ ap (if_missing 0) k)
 
-  module _ (d : Store) (root : directory_in (map.entries texts) ≡ Some d) where
-    pub at-entry : (id : ℕ) → bad_entry stream_graph (map.entries texts) ≡ Some id → damage stream_graph image ≡ Some (record { layer = layer.Entry; place = id })
+  module _ (d : Store) (root : directory_in stream_graph (version image) (map.entries texts) ≡ Some d) where
+    pub at-entry : (id : ℕ) → bad_entry stream_graph (version image) (map.entries texts) ≡ Some id → damage stream_graph image ≡ Some (record { layer = layer.Entry; place = id })
     at-entry id k =
         let w = pages-whole image h.live h.of_image in
         skip layer.Votes _ _ w.votes ∙ skip layer.Header _ _ w.header_is ∙ skip layer.RecordPlace _ _ w.record_is ∙ skip layer.Payload _ _ w.payload ∙ skip layer.Object _ _ object-none
-        ∙ skip layer.Directory _ _ (row-at no_directory ∙ ap (if_missing 0) root) ∙ hit layer.Entry _ id _ (row-at (bad_entry stream_graph) ∙ k)
+        ∙ skip layer.Directory _ _ (row-at (no_directory stream_graph (version image)) ∙ ap (if_missing 0) root) ∙ hit layer.Entry _ id _ (row-at (bad_entry stream_graph (version image)) ∙ k)
 
-    module _ (entries : bad_entry stream_graph (map.entries texts) ≡ None) where
+    module _ (entries : bad_entry stream_graph (version image) (map.entries texts) ≡ None) where
       pub at-large : (id : ℕ) → bad_large (map.entries texts) ≡ Some id → damage stream_graph image ≡ Some (record { layer = layer.Large; place = id })
       at-large id k =
           let w = pages-whole image h.live h.of_image in
           skip layer.Votes _ _ w.votes ∙ skip layer.Header _ _ w.header_is ∙ skip layer.RecordPlace _ _ w.record_is ∙ skip layer.Payload _ _ w.payload ∙ skip layer.Object _ _ object-none
-          ∙ skip layer.Directory _ _ (row-at no_directory ∙ ap (if_missing 0) root) ∙ skip layer.Entry _ _ (row-at (bad_entry stream_graph) ∙ entries) ∙ hit layer.Large _ id _ (row-at bad_large ∙ k)
+          ∙ skip layer.Directory _ _ (row-at (no_directory stream_graph (version image)) ∙ ap (if_missing 0) root) ∙ skip layer.Entry _ _ (row-at (bad_entry stream_graph (version image)) ∙ entries) ∙ hit layer.Large _ id _ (row-at bad_large ∙ k)
 
       module _ (larges : bad_large (map.entries texts) ≡ None) where
         above : (most n : ℕ) → most < n → if_above most n ≡ Some n
@@ -80,19 +81,19 @@ module _ (image : List ℕ) (texts : Objects) (h : HoldsObjects image texts) whe
         at-cost more =
             let w = pages-whole image h.live h.of_image in
             skip layer.Votes _ _ w.votes ∙ skip layer.Header _ _ w.header_is ∙ skip layer.RecordPlace _ _ w.record_is ∙ skip layer.Payload _ _ w.payload ∙ skip layer.Object _ _ object-none
-            ∙ skip layer.Directory _ _ (row-at no_directory ∙ ap (if_missing 0) root) ∙ skip layer.Entry _ _ (row-at (bad_entry stream_graph) ∙ entries) ∙ skip layer.Large _ _ (row-at bad_large ∙ larges)
+            ∙ skip layer.Directory _ _ (row-at (no_directory stream_graph (version image)) ∙ ap (if_missing 0) root) ∙ skip layer.Entry _ _ (row-at (bad_entry stream_graph (version image)) ∙ entries) ∙ skip layer.Large _ _ (row-at bad_large ∙ larges)
             ∙ hit layer.Cost _ (pages_taken (map.entries texts)) _ (row-at (too_costly (blocks_of image)) ∙ above (cap (blocks_of image)) (pages_taken (map.entries texts)) more)
 
         -- where no row holds, the image is a store of this directory, which costs the pages that its objects take
         pub at-store : ((id : ℕ) (bytes : List ℕ) → map.get texts id ≡ Some bytes → (id ≡ 0) ⊎ (id % 2 ≡ 1) → AreBytes bytes) → pages_taken (map.entries texts) ≤ cap (blocks_of image)
-            → (s : Store) × (store_of_image stream_graph image ≡ Some s) × (directory_in (map.entries texts) ≡ Some (bare s)) × (cost s ≡ pages_taken (map.entries texts))
+            → (s : Store) × (store_of_image stream_graph image ≡ Some s) × (directory_in stream_graph (version image) (map.entries texts) ≡ Some (bare s)) × (cost s ≡ pages_taken (map.entries texts))
         at-store are_bytes few =
-            let s = complete stream_graph texts (blocks_of image) reads_graphs are_bytes (ap (if_missing 0) root) entries larges
+            let s = complete stream_graph (version image) texts (blocks_of image) reads_graphs are_bytes (ap (if_missing 0) root) entries larges
             (ap (λ b. cond b None (Some (pages_taken (map.entries texts)))) (le-leb (pages_taken (map.entries texts)) (cap (blocks_of image)) few)) in
-            let lies = read-lies stream_graph texts (blocks_of image) s.0 reads_graphs are_bytes s.1 in (
+            let lies = read-lies stream_graph (version image) texts (blocks_of image) s.0 reads_graphs are_bytes s.1 in (
               s.0,
-              ap (option_and_then (λ live. option_and_then (λ (objects : Objects). store_of stream_graph (map.entries objects) (blocks_of image)) (objects_of live))) h.of_image
-                  ∙ ap (option_and_then (λ (objects : Objects). store_of stream_graph (map.entries objects) (blocks_of image))) its ∙ s.1,
-              ap (option_and_then directory_read) (object-get texts 0 ∙ (has-directory stream_graph texts (blocks_of image) s.0 s.1).1) ∙ (has-directory stream_graph texts (blocks_of image) s.0 s.1).2,
-              sym (lies-total texts lies.0 s.0 lies.1 (and_parts (well_formed s.0) (fits (blocks_of image) s.0) (read-valid stream_graph (map.entries texts) (blocks_of image) s.0 s.1)).0),
+              ap (option_and_then (λ live. option_and_then (λ (objects : Objects). store_of stream_graph (version image) (map.entries objects) (blocks_of image)) (objects_of live))) h.of_image
+                  ∙ ap (option_and_then (λ (objects : Objects). store_of stream_graph (version image) (map.entries objects) (blocks_of image))) its ∙ s.1,
+              ap (option_and_then (directory_read stream_graph (version image))) (object-get texts 0 ∙ (has-directory stream_graph (version image) texts (blocks_of image) s.0 s.1).1) ∙ (has-directory stream_graph (version image) texts (blocks_of image) s.0 s.1).2,
+              sym (lies-total texts lies.0 s.0 lies.1 (and_parts (well_formed s.0) (fits (blocks_of image) s.0) (read-valid stream_graph (version image) (map.entries texts) (blocks_of image) s.0 s.1)).0),
             )

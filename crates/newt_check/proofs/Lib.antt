@@ -1,5 +1,6 @@
 pub mod Gates
 pub mod Voted
-pub mod Kept
 pub mod Damages
-pub mod Counting
+pub mod Listed
+pub mod Records
+pub mod Parts

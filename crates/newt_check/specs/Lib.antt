@@ -1,2 +1,4 @@
 pub mod Reports
-pub mod Named
+pub mod Gates
+pub mod Parts
+pub mod Seen

@@ -1,32 +1,48 @@
 // The row of objects.
-ghost use Rattle.std.specs.Prelude.{IsTrue, ◌≡◌, ◌≤◌, ℕ, Some, IfOk, IsErrOf};
-ghost use Rattle.newt_host.specs.Moments.{image};
-ghost use Rattle.newt_host.specs.Outside.{Touches, Rose};
-ghost use Rattle.newt_spec_check.specs.Damage.{broken_object};
+ghost use Rattle.std.specs.Prelude.{◌≡◌, ◌++◌, ◌∷◌, [], ℕ, List, Some, IfOk, OnOk};
+ghost use Rattle.newt_spec_check.specs.Damage.{least as least_of};
+ghost use Rattle.newt_objects.specs.declared.header.Header.{Header as Said};
+ghost use Rattle.newt_check.specs.Parts.{first_of, kept_first, has_parts, length_of, is_own};
+ghost use Rattle.newt_check.specs.Parts.{AreLengths, broken_in};
 
-use crate::fault::Fault;
-use newt_host::Host;
-use newt_objects::{Header, pages_for, read_headers};
-use newt_pagebook::{PageBook, Stop};
+use newt_objects::{Header, pages_for};
 use std::alloc::{AllocError, Global};
 use std::collections::BTreeMap;
 
-/// The first page of each part.
+/// Keeps a page, where none is kept of its part.
+fn keep_first(
+    parts: &mut BTreeMap<(u32, u32), Header>,
+    header: &Header,
+) -> Result<(), AllocError>
+    ensures { OnOk result ((headers : List Said)
+        → ((o p : ℕ) → kept_first parts.old o p ≡ first_of headers o p)
+        → (o p : ℕ) → kept_first parts.new o p ≡ first_of (headers ++ header.now ∷ []) o p) }
+{
+    let key = (header.object, header.part);
+    if !parts.contains_key(&key) {
+        parts.insert(key, *header)?;
+    }
+    Ok(())
+}
+
+/// The first page of each part of an object.
 fn index_first(
     alloc: Global,
     headers: &[Header],
-) -> Result<BTreeMap<(u32, u32), Header>, AllocError> {
+) -> Result<BTreeMap<(u32, u32), Header>, AllocError>
+    ensures { IfOk result (λ parts. (o p : ℕ) → kept_first parts o p ≡ first_of headers.now o p) }
+{
     let mut parts = BTreeMap::new(alloc);
     for header in headers {
-        if !parts.contains_key(&(header.object, header.part)) {
-            parts.insert((header.object, header.part), *header)?;
-        }
+        keep_first(&mut parts, header)?;
     }
     Ok(parts)
 }
 
-/// Whether an object has a page for each of so many parts.
-fn has_parts(parts: &BTreeMap<(u32, u32), Header>, object: u32, count: u32) -> bool {
+/// Whether an object has a page for each of its first so many parts.
+fn has_all(parts: &BTreeMap<(u32, u32), Header>, object: u32, count: u32) -> bool
+    ensures { result ≡ has_parts (kept_first parts.now) object count }
+{
     for part in 0..count {
         if !parts.contains_key(&(object, part)) {
             return false;
@@ -35,52 +51,69 @@ fn has_parts(parts: &BTreeMap<(u32, u32), Header>, object: u32, count: u32) -> b
     true
 }
 
-/// Whether a page is the first one of its part, and its object is as long as it says and has all its parts.
-fn is_whole(parts: &BTreeMap<(u32, u32), Header>, header: &Header) -> bool {
-    let count = pages_for(header.length);
+/// How long an object is, or none where it lacks a part. Each part is looked for once.
+fn length_by(parts: &BTreeMap<(u32, u32), Header>, object: u32) -> Option<u32>
+    ensures { result ≡ length_of (kept_first parts.now) object }
+{
+    match parts.get(&(object, 0)) {
+        Some(first) if has_all(parts, object, pages_for(first.length)) => Some(first.length),
+        _ => None,
+    }
+}
+
+/// How long an object is, as it is kept; it is looked for where it is not.
+fn known_length(
+    parts: &BTreeMap<(u32, u32), Header>,
+    lengths: &mut BTreeMap<u32, Option<u32>>,
+    object: u32,
+) -> Result<Option<u32>, AllocError>
+    requires { AreLengths (kept_first parts.now) lengths.old }
+    ensures length { IfOk result (λ length. length ≡ length_of (kept_first parts.now) object) }
+    ensures kept { OnOk result (AreLengths (kept_first parts.now) lengths.new) }
+{
+    if let Some(length) = lengths.get(&object) {
+        return Ok(*length);
+    }
+    let length = length_by(parts, object);
+    lengths.insert(object, length)?;
+    Ok(length)
+}
+
+/// Whether a page is the one of its part of an object of this length.
+fn is_page(parts: &BTreeMap<(u32, u32), Header>, length: Option<u32>, header: &Header) -> bool
+    ensures { result ≡ is_own (kept_first parts.now) length header.now }
+{
+    let Some(length) = length else {
+        return false;
+    };
     let is_first = match parts.get(&(header.object, header.part)) {
         Some(first) => first.number == header.number,
         None => false,
     };
-    let is_alike = match parts.get(&(header.object, 0)) {
-        Some(first) => first.length == header.length,
-        None => false,
-    };
-    is_first && is_alike && header.part < count && has_parts(parts, header.object, count)
+    header.length == length && header.part < pages_for(length) && is_first
 }
 
 /// The least of two ids, of which one may be missing.
-fn lesser(least: Option<u32>, id: u32) -> u32 {
+fn lesser(least: Option<u32>, id: u32) -> u32
+    ensures { (ids : List ℕ) → least ≡ least_of ids → Some result ≡ least_of (ids ++ id ∷ []) }
+{
     match least {
         Some(other) => other.min(id),
         None => id,
     }
 }
 
-/// The least id of an object that is not whole.
-pub(crate) fn broken_object<P: PageBook, H: Host>(
-    alloc: Global,
-    host: &mut H,
-    book: &mut P,
-) -> Result<Option<u32>, Fault>
-    requires stands { P.stands H.told book.old (H.outside host.old) }
-    ensures row { IsTrue H.told → IfOk result (λ found. found ≡ broken_object (image (P.place book.old) (H.outside host.old).now)) }
-    ensures stands { P.stands H.told book.new (H.outside host.new) }
-    ensures same { (P.place book.new ≡ P.place book.old) × (P.numbers book.new ≡ P.numbers book.old) }
-    ensures moment { (H.outside host.new).now ≡ (H.outside host.old).now }
-    ensures programs_nothing { (H.outside host.new).programmed (P.place book.old) ≤ (H.outside host.old).programmed (P.place book.old) }
-    ensures alone { Touches (P.place book.old) (H.outside host.old) (H.outside host.new) }
-    ensures cause { IsErrOf result Fault.Device → Rose ((H.outside host.old).dev_faults (P.place book.old)) ((H.outside host.new).dev_faults (P.place book.old)) }
+/// The least id of an object that is not whole: a part is missing, doubled, too high, or says
+/// another length.
+pub(crate) fn broken_object(alloc: Global, headers: &[Header]) -> Result<Option<u32>, AllocError>
+    ensures { IfOk result (λ found. found ≡ broken_in headers.now) }
 {
-    let headers = match read_headers(alloc, host, book) {
-        Ok(headers) => headers,
-        Err(Stop::Memory) => return Err(Fault::Memory),
-        Err(Stop::Device(_)) => return Err(Fault::Device),
-    };
-    let parts = index_first(alloc, &headers)?;
+    let parts = index_first(alloc, headers)?;
+    let mut lengths = BTreeMap::new(alloc);
     let mut least = None;
-    for header in &headers {
-        if !is_whole(&parts, header) {
+    for header in headers {
+        let length = known_length(&parts, &mut lengths, header.object)?;
+        if !is_page(&parts, length, header) {
             least = Some(lesser(least, header.object));
         }
     }

@@ -36,7 +36,7 @@ mapped : {A B : Type 0} (f : A → B) (o : Option A) (b : B) → option_map f o 
 mapped f None b h = absurd (none-some b h)
 mapped f (Some a) b h = (a, refl, some-same (f a) b h)
 
-true-given : (d : Store) (x : ℕ × Entry) → is_given d x ≡ true → HasGiven d x.0 x.1.uid
+pub true-given : (d : Store) (x : ℕ × Entry) → is_given d x ≡ true → HasGiven d x.0 x.1.uid
 true-given d x h =
     let r = any-true (λ (p : Soup). (p.sig == x.0) && nat_lt x.1.uid p.next_uid) d.soups h in
     let p = and_parts (r.0.sig == x.0) (nat_lt x.1.uid r.0.next_uid) r.2 in

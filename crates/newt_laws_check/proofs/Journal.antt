@@ -140,6 +140,25 @@ some-none start (Some bank) found live h = go (found bank) h
         let f = pages-unformed gs map.empty live (ap (λ payloads. pages_after payloads map.empty) u.1 ∙ t.2) in
         (refl, refl, ap (option_map (λ (g : Gate). g.0)) u.0, ap (option_map (λ (g : Gate). g.0)) f)
 
+some-records : (start : ℕ → ℕ) (bank : Option ℕ) (found : ℕ → Option (ℕ × List ℕ)) → if_missing 0 bank ≡ None → option_and_then (λ bank. if_missing (start bank) (found bank)) bank ≡ None
+    → first_gate leaves_bank (gates_of start bank (bytes_of (and_then bank found))) ≡ None → (ps : List (List ℕ)) × (and_then (bytes_of (and_then bank found)) (payloads_after 0) ≡ Some ps)
+some-records start None found v h r = absurd (none-some 0 (sym v))
+some-records start (Some bank) found v h r = go (found bank) h r
+  where
+    go : (o : Option (ℕ × List ℕ)) → if_missing (start bank) o ≡ None → first_gate leaves_bank (gates_of start (Some bank) (bytes_of o)) ≡ None
+        → (ps : List (List ℕ)) × (and_then (bytes_of o) (payloads_after 0) ≡ Some ps)
+    go None h r = absurd (none-some (start bank) (sym h))
+    go (Some (version, all)) h r =
+        let gs = gates_after (start bank + 16) 0 all in
+        (map payload_of gs, payloads-gates (start bank + 16) 0 all ∙ ap (λ o. unless o (map payload_of gs)) (map-none (λ (g : Gate). g.0) (long_in gs) r))
+
+-- where none of the first three rows holds, the image has records
+pub whole-records : (image : List ℕ) → has_banks image ≡ true → no_bank image ≡ None → no_header image ≡ None → long_record image ≡ None → (ps : List (List ℕ)) × (records image ≡ Some ps)
+whole-records image h v k r =
+    let b = has-body image h in
+    let s = some-records (start_of image) (chosen_bank image) (behind image) v k (ap (λ o. first_gate leaves_bank (gates_of (start_of image) (chosen_bank image) o)) (sym b) ∙ r) in
+    (s.0, ap (λ o. and_then o (payloads_after 0)) b ∙ s.1)
+
 -- where none of the first four rows holds, the image has pages
 pub whole-pages : (image : List ℕ) → has_banks image ≡ true → IsWhole image → (live : Pages) × (pages image ≡ Some live)
 whole-pages image h w =

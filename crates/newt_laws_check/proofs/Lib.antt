@@ -6,3 +6,4 @@ pub mod Sound
 pub mod Complete
 pub mod Bytes
 pub mod Law
+pub mod Entries
