@@ -1,5 +1,5 @@
 -- The rows of objects of an image, by the objects that it holds.
-use Rattle.std.proofs.Common.{arith, ◌≡◌, refl, sym, ◌∙◌, ap, subst, ℕ, ◌%◌, ◌<◌, ◌≤◌, ◌⊎◌, inl, inr, Bool, true, false, List, [], ◌∷◌, length, cond, nat_le, map as list_map, Option, Some, None, option_and_then}
+use Rattle.std.proofs.Common.{arith, ◌≡◌, refl, sym, ◌∙◌, ap, subst, ℕ, ◌%◌, ◌<◌, ◌≤◌, ◌⊎◌, inl, inr, Bool, true, false, List, [], ◌∷◌, length, cond, nat_le, filter, Option, Some, None, option_and_then}
 use Rattle.std.specs.FinMap as map
 use Rattle.std.proofs.lemmas.Bool.{le-leb, leb-true, and_parts}
 use Rattle.newt_nsof_flat.specs.Stream.{stream_graph}
@@ -17,7 +17,7 @@ use Rattle.newt_spec_nsof.specs.Text.{AreBytes}
 use Rattle.newt_objects.specs.Changing.{HoldsObjects}
 use Rattle.newt_spec_graph.proofs.Lists.{some-same, none-some}
 use Rattle.newt_spec_store.specs.Cost.{cost}
-use Rattle.newt_spec_store.specs.Image.{Objects as Rows}
+use Rattle.newt_spec_store.specs.Image.{Objects as Rows, all_entries}
 use Rattle.newt_spec_store.specs.ImageStore.{objects_of, store_of_image}
 use Rattle.newt_spec_store.specs.Laid.{bare}
 use Rattle.newt_spec_store.specs.Lies.{directory_read}
@@ -26,8 +26,9 @@ use Rattle.newt_spec_store.specs.Store.{Store}
 use Rattle.newt_spec_store.specs.StoreOf.{store_of}
 use Rattle.newt_spec_store.specs.Valid.{well_formed, valid, fits}
 use Rattle.newt_spec_check.specs.declared.Layer.TheVariants as layer
-use Rattle.newt_spec_check.specs.Damage.{Damage, damage, if_missing, if_above, broken_object, least, broken_ids, of_objects, directory_in, no_directory, bad_entry, bad_large, too_costly, pages_taken}
+use Rattle.newt_spec_check.specs.Damage.{Damage, damage, if_missing, if_above, broken_object, least, broken_ids, of_objects, directory_in, no_directory, bad_entry, bad_large, too_costly, pages_taken, is_odd}
 use Rattle.newt_laws_check.proofs.Complete.{complete}
+use Rattle.newt_laws_check.proofs.Entries.{entries-count}
 use Rattle.newt_laws_check.proofs.Journal.{IsWhole, pages-whole}
 use Rattle.newt_laws_check.proofs.Objects.{objects-whole}
 use Rattle.newt_check.proofs.Voted.{skip, hit}
@@ -86,14 +87,16 @@ module _ (image : List ℕ) (texts : Objects) (h : HoldsObjects image texts) whe
 
         -- where no row holds, the image is a store of this directory, which costs the pages that its objects take
         pub at-store : ((id : ℕ) (bytes : List ℕ) → map.get texts id ≡ Some bytes → (id ≡ 0) ⊎ (id % 2 ≡ 1) → AreBytes bytes) → pages_taken (map.entries texts) ≤ cap (blocks_of image)
-            → (s : Store) × (store_of_image stream_graph image ≡ Some s) × (directory_in stream_graph (version image) (map.entries texts) ≡ Some (bare s)) × (cost s ≡ pages_taken (map.entries texts))
+            → (s : Store) × (store_of_image stream_graph image ≡ Some s) × (directory_in stream_graph (version image) (map.entries texts) ≡ Some (bare s)) × (cost s ≡ pages_taken (map.entries texts)) × (length (all_entries s) ≡ length (filter is_odd (map.entries texts)))
         at-store are_bytes few =
             let s = complete stream_graph (version image) texts (blocks_of image) reads_graphs are_bytes (ap (if_missing 0) root) entries larges
             (ap (λ b. cond b None (Some (pages_taken (map.entries texts)))) (le-leb (pages_taken (map.entries texts)) (cap (blocks_of image)) few)) in
-            let lies = read-lies stream_graph (version image) texts (blocks_of image) s.0 reads_graphs are_bytes s.1 in (
+            let lies = read-lies stream_graph (version image) texts (blocks_of image) s.0 reads_graphs are_bytes s.1 in
+            let good = (and_parts (well_formed s.0) (fits (blocks_of image) s.0) (read-valid stream_graph (version image) (map.entries texts) (blocks_of image) s.0 s.1)).0 in (
               s.0,
               ap (option_and_then (λ live. option_and_then (λ (objects : Objects). store_of stream_graph (version image) (map.entries objects) (blocks_of image)) (objects_of live))) h.of_image
                   ∙ ap (option_and_then (λ (objects : Objects). store_of stream_graph (version image) (map.entries objects) (blocks_of image))) its ∙ s.1,
               ap (option_and_then (directory_read stream_graph (version image))) (object-get texts 0 ∙ (has-directory stream_graph (version image) texts (blocks_of image) s.0 s.1).1) ∙ (has-directory stream_graph (version image) texts (blocks_of image) s.0 s.1).2,
-              sym (lies-total texts lies.0 s.0 lies.1 (and_parts (well_formed s.0) (fits (blocks_of image) s.0) (read-valid stream_graph (version image) (map.entries texts) (blocks_of image) s.0 s.1)).0),
+              sym (lies-total texts lies.0 s.0 lies.1 good),
+              entries-count texts lies.0 s.0 lies.1 good,
             )

@@ -3,4 +3,7 @@ pub mod Voted
 pub mod Damages
 pub mod Listed
 pub mod Records
-pub mod Parts
+pub mod Whole
+pub mod Stores
+pub mod Loops
+pub mod Walked

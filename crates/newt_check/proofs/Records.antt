@@ -1,5 +1,5 @@
 -- The rows of the directory and of the records of entries, by what is seen of them.
-use Rattle.std.proofs.Common.{arith, ◌≡◌, ◌≢◌, refl, ap, sym, ◌∙◌, subst, ℕ, ◌+◌, ◌%◌, ◌<◌, ◌≤◌, ◌==◌, ◌&&◌, nat_lt, ◌⊎◌, inl, inr, Bool, true, false, not, cond, List, [], ◌∷◌, ◌++◌, length, find, Option, Some, None, IsTrue, option_map, option_and_then, Result, Ok, Err, IfOk, map as list_map}
+use Rattle.std.proofs.Common.{arith, ◌≡◌, ◌≢◌, refl, ap, sym, ◌∙◌, subst, ℕ, ◌+◌, ◌%◌, ◌<◌, ◌≤◌, ◌==◌, ◌&&◌, nat_lt, ◌⊎◌, inl, inr, Bool, true, false, not, cond, List, [], ◌∷◌, ◌++◌, length, find, Option, Some, None, IsTrue, option_map, option_and_then, MatchOption, map as list_map}
 use Rattle.std.specs.List.{list_any, list_all}
 use Rattle.std.specs.FinMap as map
 use Rattle.std.specs.BTreeMap.{BTreeMap}
@@ -24,17 +24,19 @@ use Rattle.newt_spec_graph.specs.Lists.{Each, Pairs, Among}
 use Rattle.newt_spec_graph.proofs.Lists.{each-at, each-from, none-some, some-same, both-ways}
 use Rattle.newt_spec_store.specs.Lies.{Places, directory_read, entry_read, record_read}
 use Rattle.newt_spec_store.specs.Store.{Entry, Store}
-use Rattle.newt_spec_store.specs.StoreOf.{large_object}
+use Rattle.newt_spec_graph.specs.Graph.{every}
+use Rattle.newt_spec_store.specs.StoreOf.{LargeRow, large_object}
 use Rattle.newt_laws_images.specs.Found.{HasGiven}
-use Rattle.newt_laws_images.proofs.Alone.{missing, bad-alone}
+use Rattle.newt_laws_images.proofs.Alone.{missing, bad-alone, among, entry_with}
 use Rattle.newt_laws_images.proofs.Finite.{object-get, entries-rising, entry-get, get-entry}
 use Rattle.newt_laws_images.proofs.Rows.{large-parts}
 use Rattle.newt_laws_check.proofs.Complete.{true-given}
 use Rattle.newt_laws_check.proofs.Finds.{none-find, any-true, among-any}
 use Rattle.newt_laws_check.proofs.Sound.{both, given-true, again-some}
 use Rattle.newt_spec_check.specs.Damage.{directory_in, first_object, is_odd, is_again, is_given, is_named_before, is_sound, is_bad_record, entry_of, bad_entry, all_named}
+use Rattle.newt_store_catalog.specs.Calls.{IsDirectory}
 use Rattle.newt_store_catalog.specs.Opening.{AreFoundTo, HasObject, IsRoot, IsRow, OfObjects, objects_named, has_length}
-use Rattle.newt_store_catalog.proofs.Opening.{kept-none, kept-length, read-among, every-none, among-rows, bytes_of, names-are, even-rows}
+use Rattle.newt_store_catalog.proofs.Opening.{kept-none, kept-length, names-are, even-rows, now-formed}
 use Rattle.newt_store_catalog.proofs.OpeningPlaces.{even-next, row-next, found-none}
 use Rattle.newt_store_catalog.proofs.Owning.{all-there, not-there}
 use Rattle.newt_check.specs.Seen.{AreCounts, AreRecordBytes, HasSeen, IsBadRow, KeepsRow, names_in, names_at, named_to}
@@ -58,6 +60,37 @@ first-is test texts id bytes at holds fails = first-among test (map.entries text
 -- no object passes
 first-none : (test : ℕ × List ℕ → Bool) (texts : Objects) → ((id : ℕ) (bytes : List ℕ) → map.get texts id ≡ Some bytes → test (id, bytes) ≡ false) → first_object test (map.entries texts) ≡ None
 first-none test texts fails = ap (option_map (λ (o : ℕ × List ℕ). o.0)) (none-find test (map.entries texts) (each-from (λ o. test o ≡ false) (map.entries texts) (λ o m. fails o.0 o.1 (entry-get texts o.0 o.1 m))))
+
+-- ---- a record among objects
+
+every-none : {X Y : Type 0} (f : X → Option Y) (xs : List X) (ys : List Y) (x : X) → every (list_map f xs) ≡ Some ys → Among xs x → f x ≡ None → ⊥
+every-none f [] ys x e m lacks = m
+every-none {X} {Y} f (z ∷ xs) ys x e m lacks = go (λ zs k n. every-none f xs zs x k n lacks) (f z) refl (every (list_map f xs)) refl e m
+  where
+    go : ((zs : List Y) → every (list_map f xs) ≡ Some zs → Among xs x → ⊥) → (o : Option Y) → f z ≡ o → (os : Option (List Y)) → every (list_map f xs) ≡ os → every (o ∷ list_map f xs) ≡ Some ys → Among (z ∷ xs) x → ⊥
+    go more None is os rest k m = none-some ys k
+    go more (Some y) is None rest k m = none-some ys (sym (ap (option_map (λ zs. y ∷ zs)) rest) ∙ k)
+    go more (Some y) is (Some zs) rest k (inl same) = none-some y (sym lacks ∙ ap f (sym same) ∙ is)
+    go more (Some y) is (Some zs) rest k (inr n) = more zs rest n
+
+among-rows : (rows : List LargeAt) (l : LargeAt) → Among rows l → Among (list_map row_at rows) (row_at l)
+among-rows [] l m = m
+among-rows (x ∷ rows) l (inl same) = inl (ap row_at same)
+among-rows (x ∷ rows) l (inr m) = inr (among-rows rows l m)
+
+-- the bytes of the rows' objects, none where one is missing
+abbrev bytes_of : Objects → EntryRow → Option (List (List ℕ))
+bytes_of texts row = every (list_map (large_object (map.entries texts)) (list_map row_at row.larges))
+
+-- a record is read among objects as its entry, or not at all
+read-among : (texts : Objects) (bytes : List ℕ) (row : EntryRow) → record_read stream_graph bytes ≡ Some (said row)
+    → (entry_read stream_graph texts bytes ≡ None) ⊎ ((e : Entry) × (entry_read stream_graph texts bytes ≡ Some (row.soup, e)) × (e.uid ≡ row.uid))
+read-among texts bytes row h = go (bytes_of texts row) refl
+  where
+    go : (o : Option (List (List ℕ))) → bytes_of texts row ≡ o
+        → (entry_read stream_graph texts bytes ≡ None) ⊎ ((e : Entry) × (entry_read stream_graph texts bytes ≡ Some (row.soup, e)) × (e.uid ≡ row.uid))
+    go None e = inl (missing stream_graph texts bytes (said row).0 (said row).1 h e)
+    go (Some bs) e = inr ((entry_with (said row).0 (said row).1 bs).1, among stream_graph texts bytes (said row).0 (said row).1 bs h e, refl)
 
 -- ---- the directory
 
@@ -264,3 +297,27 @@ seen-all told now d last place counts seen tells texts h none = (
     | inr high ↦ absurd (none-some bytes (sym (none id high) ∙ at))
   ]),
 )
+
+-- where no object is left, no record breaks a rule
+pub none-found : (told : Bool) (objects : Held) (numbers : Numbers) (unit : ℕ) (outside : Outside) (kept : AreKept told objects numbers unit outside) (d : Directory) (last : ℕ) (place : Places) (counts : BTreeMap ℕ Bool)
+    → HasSeen told (image unit outside.now) last (bare_store d) place counts → OfObjects told (image unit outside.now) (IsRoot (version (image unit outside.now)) d) → ((q : ℕ) → last + 1 ≤ q → held objects q ≡ None)
+    → OfObjects told (image unit outside.now) (λ texts. None ≡ bad_entry stream_graph (version (image unit outside.now)) (map.entries texts))
+none-found told objects numbers unit outside kept d last place counts seen root end = λ tells texts h.
+    sym (none-bad (version (image unit outside.now)) texts (bare_store d) last place seen.below (seen.found tells texts h) (root-is (image unit outside.now) d texts (root tells texts h))
+    (λ q from. kept-none told objects numbers unit outside kept tells texts h q (end q from)))
+
+-- what is read of the bytes of object 0 is the directory of the image, or it has none
+pub root-by : (told : Bool) (now bytes text : List ℕ) (number : ℕ) (found : Option Directory) → OfObjects told now (HasObject 0 bytes) → text ≡ bytes → (IsTrue told → number ≡ version now)
+    → MatchOption found (directory_read stream_graph number text ≡ None) (λ d. directory_read stream_graph number text ≡ Some (bare_store d)) → AreBytes text
+    → MatchOption found (OfObjects told now (λ texts. directory_in stream_graph (version now) (map.entries texts) ≡ None)) (IsDirectory told now)
+root-by told now bytes text number None has same is read are = λ tells texts h.
+    root-bad now texts bytes (has tells texts h) ((λ i. directory_read stream_graph (sym (is tells) i) (sym same i)) ∙ read)
+root-by told now bytes text number (Some d) has same is read are = record {
+  root = λ tells texts h. record {
+    bytes = bytes;
+    object = has tells texts h;
+    read = (λ i. directory_read stream_graph (sym (is tells) i) (sym same i)) ∙ read;
+    are_bytes = subst AreBytes same are;
+  };
+  formed = now-formed number text (bare_store d) read;
+}

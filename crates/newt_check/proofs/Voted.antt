@@ -1,5 +1,5 @@
 -- The first four rows of an image, by its chosen bank.
-use Rattle.std.proofs.Common.{◌≡◌, ◌≢◌, ◌⊎◌, inl, inr, ℕ, ◌+◌, ◌-◌, ◌*◌, ◌/◌, ◌<◌, ◌≤◌, ◌==◌, if◌then◌else◌, Bool, true, List, [], ◌∷◌, ◌++◌, length, take, drop, Option, Some, None, option_map, option_and_then, refl, sym, ◌∙◌, ap, subst, arith, IsTrue, append_assoc, length-append, length-drop, length-take}
+use Rattle.std.proofs.Common.{◌≡◌, ◌≢◌, ◌⊎◌, inl, inr, ℕ, zero, suc, ◌+◌, ◌-◌, ◌*◌, ◌/◌, ◌<◌, ◌≤◌, ◌==◌, if◌then◌else◌, Bool, true, List, [], ◌∷◌, ◌++◌, length, take, drop, Option, Some, None, option_map, option_and_then, refl, sym, ◌∙◌, ap, subst, arith, IsTrue, append_assoc, length-append, length-drop, length-take}
 use Rattle.std.proofs.lemmas.List.{take_at, drop-drop, drop-take}
 use Rattle.std.proofs.Math.Seq.{take-add}
 use Rattle.std.proofs.lemmas.Bool.{cases_eq}
@@ -15,6 +15,7 @@ use Rattle.newt_journal.specs.Journal.{Holds, HeldBy, Stands, written, records_b
 use Rattle.newt_journal.specs.Places.{first_place}
 use Rattle.newt_journal.specs.Scan.{between}
 use Rattle.newt_journal.specs.declared.bank.Bank.{Bank}
+use Rattle.newt_journal.specs.declared.bank.Bank.TheVariants.{First, Second}
 use Rattle.newt_journal.specs.declared.journal.Journal.{Journal}
 use Rattle.newt_journal.proofs.Steps.{bank-fits, holds-body, version-2}
 use Rattle.newt_spec_graph.proofs.Lists.{none-some}
@@ -131,6 +132,12 @@ module _ (image : List ℕ) (blocks : ℕ) (size : length image ≡ blocks * 409
         header_is = header-none version rest is-body;
         record_is = ap (first_gate leaves_bank) (gates-are version rest is-body) ∙ h;
       }
+
+-- a bank by its number
+pub bank-of : (n : ℕ) → n ≤ 1 → (bank : Bank) × (bank_number bank ≡ n)
+bank-of zero h = (First, refl)
+bank-of (suc zero) h = (Second, refl)
+bank-of (suc (suc n)) h = absurd (omega (arith, h))
 
 -- ---- an image that has records
 

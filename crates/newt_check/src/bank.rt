@@ -1,23 +1,25 @@
 // The rows of votes, header, records and payloads: one of them holds of an image without pages.
-ghost use Rattle.std.specs.Prelude.{IsTrue, ◌≡◌, ◌≤◌, ◌*◌, ◌+◌, None, IfOk, IsSome, MatchOption};
+ghost use Rattle.std.specs.Prelude.{IsTrue, ◌≡◌, ◌≤◌, ◌+◌, ◌-◌, ◌*◌, None, IfOk, IsSome, MatchOption};
 ghost use Rattle.newt_host.specs.Moments.{image};
 ghost use Rattle.newt_host.specs.Outside.{OnlyReads};
 ghost use Rattle.newt_spec_image.specs.Pages.{pages};
-ghost use Rattle.newt_journal.specs.Calls.{MayHold};
+ghost use Rattle.newt_spec_image.specs.Records.{bank_size};
+ghost use Rattle.newt_journal.specs.Calls.{MayHold, Reads};
 ghost use Rattle.newt_journal.specs.Journal.{Stands, unit_under};
 ghost use Rattle.newt_pagelog.specs.Placed.{ReadsUnit};
 ghost use Rattle.newt_store_catalog.specs.Reading.{ReadEnds};
 ghost use Rattle.newt_spec_check.specs.Damage.{leaves_bank};
 ghost use Rattle.newt_check.specs.Gates.{first_from, unformed_in};
-ghost use Rattle.newt_check.specs.Reports.{HasRecords, IsReport, LooksAt};
+ghost use Rattle.newt_check.specs.Reports.{HasRecords, IsReport};
 
+use crate::lies::lies;
+use crate::look::{read_byte, read_number, read_version, read_votes, start_of};
 use crate::report::Report;
-use newt_host::{Failed, Host, Unit};
-use newt_journal::{Journal, read_byte, read_length, read_version, read_votes};
+use newt_host::{BLOCK, Failed, Host, Unit};
+use newt_journal::{Journal, JournalFault};
 use newt_pagebook::{BookFault, Stop};
-use newt_pagelog::{open_journal, replay_record};
+use newt_pagelog::replay_record;
 use newt_spec_check::Layer;
-use newt_store_catalog::lies;
 use std::alloc::Global;
 use std::collections::HashMap;
 
@@ -33,7 +35,7 @@ fn long_record<H: Host>(
     requires order { first ≤ limit }
     ensures row { IsTrue H.told → IfOk result (λ found. found ≡ first_from leaves_bank first limit
         (image unit (H.outside host.old).now)) }
-    ensures looks { LooksAt unit result (H.outside host.old) (H.outside host.new) }
+    ensures reads { Reads unit (limit - first) result (H.outside host.old) (H.outside host.new) }
 {
     let mut at = first;
     while at < limit {
@@ -43,7 +45,7 @@ fn long_record<H: Host>(
         if limit - at < 5 {
             return Ok(Some(at));
         }
-        let length = read_length(host, unit, at + 1)?;
+        let length = read_number(host, unit, at + 1)?;
         if length > limit - at - 5 {
             return Ok(Some(at));
         }
@@ -59,14 +61,15 @@ fn report_of_records<H: Host>(host: &mut H, unit: Unit) -> Result<Option<Report>
     ensures report { IsTrue H.told → IfOk result (λ found. MatchOption found
         (HasRecords (image unit (H.outside host.old).now))
         (λ report. IsReport report (image unit (H.outside host.old).now))) }
-    ensures looks { LooksAt unit result (H.outside host.old) (H.outside host.new) }
+    ensures reads { Reads unit (19 + bank_size ((H.outside host.old).blocks unit)) result
+        (H.outside host.old) (H.outside host.new) }
 {
     let blocks = host.blocks(unit);
-    let Some(bank) = read_votes(host, unit, blocks)? else {
+    let Some(bank) = read_votes(host, unit)? else {
         return Ok(Some(Report::Damaged(Layer::Votes, 0)));
     };
-    let start = bank.start(blocks);
-    let limit = bank.limit(blocks);
+    let start = start_of(blocks, bank);
+    let limit = start + (blocks - 3) / 2 * BLOCK;
     if read_version(host, unit, start)?.is_none() {
         return Ok(Some(Report::Damaged(Layer::Header, start)));
     }
@@ -110,11 +113,10 @@ fn report_of_payloads<H: Host>(alloc: Global, host: &mut H, unit: Unit) -> Resul
     ensures looks { OnlyReads unit (H.outside host.old) (H.outside host.new) }
     ensures ends { ReadEnds unit (H.outside host.old) (H.outside host.new) result }
 {
-    let journal = match open_journal(host, unit) {
+    let journal = match Journal::open(host, unit) {
         Ok(journal) => journal,
-        Err(BookFault::Device) => return Err(Stop::Device(unit)),
-        Err(BookFault::NotStore) => return Err(lies::<H>()),
-        Err(BookFault::Memory) => return Err(Stop::Memory),
+        Err(JournalFault::NotStore) => return Err(lies::<H>()),
+        Err(JournalFault::Device) => return Err(Stop::Device(unit)),
     };
     match unformed_record(alloc, host, &journal) {
         Ok(Some(place)) => Ok(Report::Damaged(Layer::Payload, place)),

@@ -1,5 +1,6 @@
 // The rows of the directory and of the records of entries.
-ghost use Rattle.std.specs.Prelude.{IsTrue, ◌≡◌, ◌+◌, true, false, Some, None, IfOk, MatchOption};
+ghost use Rattle.std.specs.Prelude.{IsTrue, ◌≡◌, ◌+◌, ℕ, [], true, false, Some, None, IfOk, MatchOption};
+ghost use Rattle.std.specs.List.{list_all};
 ghost use Rattle.std.specs.FinMap as map;
 ghost use Rattle.newt_host.specs.Moments.{image};
 ghost use Rattle.newt_nsof_flat.specs.Stream.{stream_graph};
@@ -9,20 +10,23 @@ ghost use Rattle.newt_objects.specs.Listed.{AreNexts};
 ghost use Rattle.newt_objects_commit.specs.Places.{place_of};
 ghost use Rattle.newt_soupdir.specs.Bare.{bare_store};
 ghost use Rattle.newt_spec_check.specs.Damage.{all_named, bad_entry, directory_in};
-ghost use Rattle.newt_spec_image.specs.Records.{version};
+ghost use Rattle.newt_spec_image.specs.Records.{IsVersion, version};
+ghost use Rattle.newt_spec_nsof.specs.Text.{AreBytes};
+ghost use Rattle.newt_spec_store.specs.Lies.{directory_read, record_read};
+ghost use Rattle.newt_entries.specs.Entry.{said};
 ghost use Rattle.newt_spec_store.specs.Valid.{well_formed};
 ghost use Rattle.newt_store_catalog.specs.Calls.{CanRead, IsDirectory, Reads};
-ghost use Rattle.newt_store_catalog.specs.Opening.{OfObjects};
+ghost use Rattle.newt_laws_images.specs.Found.{HasGiven};
+ghost use Rattle.newt_store_catalog.specs.Opening.{OfObjects, has_length};
 ghost use Rattle.newt_check.specs.Seen.{AreCounts, AreRecordBytes, HasSeen, IsBadRow, KeepsRow};
 
 use crate::larges::count_names;
-use newt_entries::EntryRow;
+use newt_entries::{EntryFault, EntryRow, LargeAt, read_entry};
 use newt_host::Host;
 use newt_objects::Objects;
 use newt_objects_commit::PlaceTable;
-use newt_pagebook::{BookFault, PageBook, Stop};
-use newt_soupdir::Directory;
-use newt_store_catalog::{are_there, has_given, record_of, root_of};
+use newt_pagebook::{PageBook, Stop};
+use newt_soupdir::{DirFault, Directory, read_directory};
 use std::alloc::{AllocError, Global};
 use std::collections::BTreeMap;
 
@@ -33,6 +37,51 @@ pub(crate) struct Seen {
     pub places: PlaceTable,
     /// The objects that records name: true where one is named once, false where it is again.
     pub counts: BTreeMap<u32, bool>,
+}
+
+/// Nothing is seen. It takes no memory.
+pub(crate) fn nothing_seen(alloc: Global) -> Seen
+    ensures places { (sig uid : ℕ) → place_of result.places sig uid ≡ None }
+    ensures counts { AreCounts [] result.counts }
+{
+    Seen {
+        places: PlaceTable::new(alloc),
+        counts: BTreeMap::new(alloc),
+    }
+}
+
+/// The directory that bytes are read as in the form of a version, or none.
+fn directory_of(
+    alloc: Global,
+    bytes: &[u8],
+    version: u16,
+) -> Result<Option<Directory>, AllocError>
+    requires { IsVersion version }
+    ensures read { IfOk result (λ found. MatchOption found
+        (directory_read stream_graph version bytes.now ≡ None)
+        (λ directory. directory_read stream_graph version bytes.now
+        ≡ Some (bare_store directory))) }
+    ensures are_bytes { AreBytes bytes.now }
+{
+    match read_directory(alloc, bytes, version) {
+        Ok(directory) => Ok(Some(directory)),
+        Err(DirFault::Bad) => Ok(None),
+        Err(DirFault::Memory) => Err(AllocError),
+    }
+}
+
+/// The record that bytes are read as alone, or none.
+fn record_of(alloc: Global, bytes: &[u8]) -> Result<Option<EntryRow>, AllocError>
+    ensures read { IfOk result (λ found. MatchOption found
+        (record_read stream_graph bytes.now ≡ None)
+        (λ row. record_read stream_graph bytes.now ≡ Some (said row))) }
+    ensures are_bytes { AreBytes bytes.now }
+{
+    match read_entry(alloc, bytes) {
+        Ok(row) => Ok(Some(row)),
+        Err(EntryFault::Bad) => Ok(None),
+        Err(EntryFault::Memory) => Err(AllocError),
+    }
 }
 
 /// The directory, or none where there is none.
@@ -55,11 +104,37 @@ pub(crate) fn find_root<P: PageBook, H: Host>(
         return Ok(None);
     }
     let bytes = objects.read(host, book, 0)?;
-    match root_of(alloc, &bytes, book.version()) {
-        Ok(directory) => Ok(Some(directory)),
-        Err(BookFault::NotStore) => Ok(None),
-        Err(_) => Err(Stop::Memory),
+    Ok(directory_of(alloc, &bytes, book.version())?)
+}
+
+/// Whether a soup of the directory has given this id.
+fn has_given(directory: &Directory, row: &EntryRow) -> bool
+    requires { IsTrue (well_formed (bare_store directory.now)) }
+    ensures given { result ≡ true → HasGiven (bare_store directory.now) row.now.soup row.now.uid }
+    ensures not_given { result ≡ false → HasGiven (bare_store directory.now) row.now.soup
+        row.now.uid → ⊥ }
+{
+    match directory.soup_of(row.soup) {
+        Some(soup) => row.uid.0 < soup.next_uid,
+        None => false,
     }
+}
+
+/// Whether the object that a row names is there, with the row's length.
+fn is_there(objects: &Objects, row: &LargeAt) -> bool
+    ensures { result ≡ has_length (held objects.now) row.now }
+{
+    match objects.length(row.object) {
+        Some(length) => length == row.length,
+        None => false,
+    }
+}
+
+/// Whether each object that rows name is there, with the row's length.
+fn are_there(objects: &Objects, rows: &[LargeAt]) -> bool
+    ensures { result ≡ list_all (λ row. has_length (held objects.now) row) rows.now }
+{
+    rows.iter().all(|row| is_there(objects, row))
 }
 
 /// Keeps what is seen of a record. False where its id is not given, its entry has a place, or one
@@ -123,10 +198,9 @@ fn see_object<P: PageBook, H: Host>(
         return Ok(true);
     }
     let bytes = objects.read(host, book, id)?;
-    match record_of(alloc, &bytes) {
-        Ok(row) => Ok(keep_row(objects, directory, seen, &row, id)?),
-        Err(BookFault::NotStore) => Ok(false),
-        Err(_) => Err(Stop::Memory),
+    match record_of(alloc, &bytes)? {
+        Some(row) => Ok(keep_row(objects, directory, seen, &row, id)?),
+        None => Ok(false),
     }
 }
 

@@ -1,13 +1,23 @@
 // The row of objects.
 ghost use Rattle.std.specs.Prelude.{◌≡◌, ◌++◌, ◌∷◌, [], ℕ, List, Some, IfOk, OnOk};
+ghost use Rattle.std.specs.Prelude.{if◌then◌else◌};
 ghost use Rattle.newt_spec_check.specs.Damage.{least as least_of};
+ghost use Rattle.newt_spec_image.specs.Objects.{pages_for as pages_of};
 ghost use Rattle.newt_objects.specs.declared.header.Header.{Header as Said};
-ghost use Rattle.newt_check.specs.Parts.{first_of, kept_first, has_parts, length_of, is_own};
+ghost use Rattle.newt_check.specs.Parts.{first_of, kept_first, has_parts, length_of};
+ghost use Rattle.newt_check.specs.Parts.{is_own as is_own_page};
 ghost use Rattle.newt_check.specs.Parts.{AreLengths, broken_in};
 
-use newt_objects::{Header, pages_for};
+use newt_objects::Header;
 use std::alloc::{AllocError, Global};
 use std::collections::BTreeMap;
+
+/// How many pages an object of so many bytes has.
+fn pages_for(length: u32) -> u32
+    ensures { result ≡ pages_of length }
+{
+    length.div_ceil(500).max(1)
+}
 
 /// Keeps a page, where none is kept of its part.
 fn keep_first(
@@ -19,9 +29,10 @@ fn keep_first(
         → (o p : ℕ) → kept_first parts.new o p ≡ first_of (headers ++ header.now ∷ []) o p) }
 {
     let key = (header.object, header.part);
-    if !parts.contains_key(&key) {
-        parts.insert(key, *header)?;
+    if parts.contains_key(&key) {
+        return Ok(());
     }
+    parts.insert(key, *header)?;
     Ok(())
 }
 
@@ -81,7 +92,7 @@ fn known_length(
 
 /// Whether a page is the one of its part of an object of this length.
 fn is_page(parts: &BTreeMap<(u32, u32), Header>, length: Option<u32>, header: &Header) -> bool
-    ensures { result ≡ is_own (kept_first parts.now) length header.now }
+    ensures { result ≡ is_own_page (kept_first parts.now) length header.now }
 {
     let Some(length) = length else {
         return false;
@@ -93,13 +104,17 @@ fn is_page(parts: &BTreeMap<(u32, u32), Header>, length: Option<u32>, header: &H
     header.length == length && header.part < pages_for(length) && is_first
 }
 
-/// The least of two ids, of which one may be missing.
-fn lesser(least: Option<u32>, id: u32) -> u32
-    ensures { (ids : List ℕ) → least ≡ least_of ids → Some result ≡ least_of (ids ++ id ∷ []) }
+/// The least of some ids, with one more where a page is not the one of its part.
+fn with_broken(least: Option<u32>, is_own: bool, id: u32) -> Option<u32>
+    ensures { (ids : List ℕ) → least ≡ least_of ids
+        → result ≡ least_of (ids ++ (if is_own then [] else id ∷ [])) }
 {
+    if is_own {
+        return least;
+    }
     match least {
-        Some(other) => other.min(id),
-        None => id,
+        Some(other) => Some(other.min(id)),
+        None => Some(id),
     }
 }
 
@@ -113,9 +128,8 @@ pub(crate) fn broken_object(alloc: Global, headers: &[Header]) -> Result<Option<
     let mut least = None;
     for header in headers {
         let length = known_length(&parts, &mut lengths, header.object)?;
-        if !is_page(&parts, length, header) {
-            least = Some(lesser(least, header.object));
-        }
+        let is_own = is_page(&parts, length, header);
+        least = with_broken(least, is_own, header.object);
     }
     Ok(least)
 }

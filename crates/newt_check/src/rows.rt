@@ -1,23 +1,27 @@
 // All rows, one after the other.
-ghost use Rattle.std.specs.Prelude.{IsTrue, ◌≤◌, IfOk};
+ghost use Rattle.std.specs.Prelude.{IsTrue, ◌≤◌, ℕ, List, IfOk};
 ghost use Rattle.newt_host.specs.Moments.{image, IsDurable};
 ghost use Rattle.newt_host.specs.Outside.{OnlyReads};
-ghost use Rattle.newt_store_catalog.specs.Calls.{CanRead};
+ghost use Rattle.newt_soupdir.specs.Bare.{bare_store};
+ghost use Rattle.newt_spec_image.specs.Objects.{Objects as Texts};
+ghost use Rattle.newt_spec_store.specs.Valid.{well_formed};
+ghost use Rattle.newt_store_catalog.specs.Calls.{CanRead, Reads};
 ghost use Rattle.newt_store_catalog.specs.Reading.{ReadEnds};
-ghost use Rattle.newt_check.specs.Reports.{HasNoObjects, IsReport};
+ghost use Rattle.newt_check.specs.Reports.{HasNoObjects, HasSoundRecords, IsReport};
 
 use crate::bank::report_of_bank;
-use crate::entries::{Seen, bad_record, find_root};
+use crate::entries::{bad_record, find_root, nothing_seen};
+use crate::headers::read_headers;
 use crate::larges::{count_odd, first_stray};
+use crate::lies::lies;
 use crate::parts::broken_object;
 use crate::report::Report;
 use newt_host::{Host, Unit};
-use newt_objects::{Objects, ScanFault, read_headers};
-use newt_objects_commit::PlaceTable;
+use newt_objects::{Objects, ScanFault};
 use newt_pagebook::{BookFault, PageBook, Stop, cap};
 use newt_pages::DiskBook;
+use newt_soupdir::Directory;
 use newt_spec_check::Layer;
-use newt_store_catalog::lies;
 use std::alloc::Global;
 use std::collections::BTreeMap;
 
@@ -42,6 +46,31 @@ fn report_of_parts<P: PageBook, H: Host>(
     }
 }
 
+/// What is said of objects whose records are sound: of the large binaries and the cost.
+fn report_of_store(
+    directory: &Directory,
+    ids: &[u32],
+    counts: &BTreeMap<u32, bool>,
+    blocks: u32,
+    pages: u32,
+) -> Report
+    requires formed { IsTrue (well_formed (bare_store directory.now)) }
+    requires enough { 13 ≤ blocks }
+    requires few { blocks ≤ 4099 }
+    ensures { (now : List ℕ) (texts : Texts)
+        → HasSoundRecords now texts directory.now ids.now counts.now blocks pages
+        → IsReport result now }
+{
+    if let Some(id) = first_stray(ids, counts) {
+        return Report::Damaged(Layer::Large, id);
+    }
+    if pages > cap(blocks) {
+        return Report::Damaged(Layer::Cost, pages);
+    }
+    let soups = directory.soups.list().len() as u32;
+    Report::Clean(soups, count_odd(ids), pages)
+}
+
 /// What is said of the directory, the records of entries, the large binaries and the cost.
 fn report_of_objects<P: PageBook, H: Host>(
     alloc: Global,
@@ -53,29 +82,25 @@ fn report_of_objects<P: PageBook, H: Host>(
         (H.outside host.old) }
     ensures report { IsTrue H.told → IfOk result
         (λ report. IsReport report (image (P.place book.old) (H.outside host.old).now)) }
-    ensures looks { OnlyReads (P.place book.old) (H.outside host.old) (H.outside host.new) }
-    ensures ends { ReadEnds (P.place book.old) (H.outside host.old) (H.outside host.new) result }
+    ensures reads { Reads P.place P.numbers P.stands H.told objects.now book.old book.new
+        (H.outside host.old) (H.outside host.new) result }
 {
     let Some(directory) = find_root(alloc, host, book, objects)? else {
         return Ok(Report::Damaged(Layer::Directory, 0));
     };
     let ids = objects.ids_after(alloc, 0)?;
-    let mut seen = Seen {
-        places: PlaceTable::new(alloc),
-        counts: BTreeMap::new(alloc),
-    };
+    let mut seen = nothing_seen(alloc);
     if let Some(id) = bad_record(alloc, host, book, objects, &directory, &ids, &mut seen)? {
         return Ok(Report::Damaged(Layer::Entry, id));
     }
-    if let Some(id) = first_stray(&ids, &seen.counts) {
-        return Ok(Report::Damaged(Layer::Large, id));
-    }
-    let pages = book.live();
-    if pages > cap(host.blocks(book.unit())) {
-        return Ok(Report::Damaged(Layer::Cost, pages));
-    }
-    let soups = directory.soups.list().len() as u32;
-    Ok(Report::Clean(soups, count_odd(&ids), pages))
+    let blocks = host.blocks(book.unit());
+    Ok(report_of_store(
+        &directory,
+        &ids,
+        &seen.counts,
+        blocks,
+        book.live(),
+    ))
 }
 
 /// What is said of an image that has pages.

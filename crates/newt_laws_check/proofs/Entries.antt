@@ -55,9 +55,9 @@ differ xs apart = pairs-more ApartIds (λ a b. a ≡ b → ⊥) xs (λ a b _ _ k
 pub entries-count : (objects : Objects) (place : Places) (s : Store) → LiesIn objects place s → well_formed s ≡ true → length (all_entries s) ≡ length (filter is_odd (map.entries objects))
 entries-count objects place s lies w =
     let layout = its-layout objects place s lies w in
-    let es = map (λ (x : Laid). (x.soup, x.entry)) layout.laid in
+    let es : List (ℕ × Entry) = map (λ (x : Laid). (x.soup, x.entry)) layout.laid in
     let few = no-longer (all_entries s) es (differ (all_entries s) (entries-apart s w)) layout.are.complete in
     let many = no-longer es (all_entries s) (differ es layout.are.once) layout.are.sound in
-    let laid = map-length (λ (x : Laid). (x.soup, x.entry)) layout.laid in
+    let laid = map-length {Y = ℕ × Entry} (λ (x : Laid). (x.soup, x.entry)) layout.laid in
     let odd = ap length layout.records ∙ map-length record_of layout.laid in
     omega (arith, few, many, laid, odd)

@@ -140,7 +140,7 @@ module _ (told : Bool) (objects : Held) (numbers : Numbers) (unit : ℕ) (outsid
 
 -- ---- a record among objects
 
-pub every-none : {X Y : Type 0} (f : X → Option Y) (xs : List X) (ys : List Y) (x : X) → every (map_list f xs) ≡ Some ys → Among xs x → f x ≡ None → ⊥
+every-none : {X Y : Type 0} (f : X → Option Y) (xs : List X) (ys : List Y) (x : X) → every (map_list f xs) ≡ Some ys → Among xs x → f x ≡ None → ⊥
 every-none f [] ys x e m lacks = m
 every-none {X} {Y} f (z ∷ xs) ys x e m lacks = go (λ zs k n. every-none f xs zs x k n lacks) (f z) refl (every (map_list f xs)) refl e m
   where
@@ -157,7 +157,7 @@ every-some f (x ∷ xs) each =
     let rest = every-some f xs (λ z m. each z (inr m)) in
     (first.0 ∷ rest.0, ap (λ o. every (o ∷ map_list f xs)) first.1 ∙ ap (option_map (λ zs. first.0 ∷ zs)) rest.1)
 
-pub among-rows : (rows : List LargeAt) (l : LargeAt) → Among rows l → Among (map_list row_at rows) (row_at l)
+among-rows : (rows : List LargeAt) (l : LargeAt) → Among rows l → Among (map_list row_at rows) (row_at l)
 among-rows [] l m = m
 among-rows (x ∷ rows) l (inl same) = inl (ap row_at same)
 among-rows (x ∷ rows) l (inr m) = inr (among-rows rows l m)
@@ -202,11 +202,11 @@ even-by bytes (Ok row) h = even-rows bytes row h
 even-by bytes (Err e) h = tt
 
 -- the bytes of the rows' objects, none where one is missing
-abbrev pub bytes_of : Objects → EntryRow → Option (List (List ℕ))
+abbrev bytes_of : Objects → EntryRow → Option (List (List ℕ))
 bytes_of texts row = every (map_list (large_object (map.entries texts)) (map_list row_at row.larges))
 
 -- a record is read among objects as its entry, or not at all
-pub read-among : (texts : Objects) (bytes : List ℕ) (row : EntryRow) → record_read stream_graph bytes ≡ Some (said row)
+read-among : (texts : Objects) (bytes : List ℕ) (row : EntryRow) → record_read stream_graph bytes ≡ Some (said row)
     → (entry_read stream_graph texts bytes ≡ None) ⊎ ((e : Entry) × (entry_read stream_graph texts bytes ≡ Some (row.soup, e)) × (e.uid ≡ row.uid))
 read-among texts bytes row h = go (bytes_of texts row) refl
   where

@@ -85,7 +85,7 @@ fn read_object<P: PageBook, H: Host>(
 }
 
 /// The directory that an object's bytes are read as, in the form of this version.
-pub fn root_of(alloc: Global, bytes: &[u8], version: u16) -> Result<Directory, BookFault>
+fn root_of(alloc: Global, bytes: &[u8], version: u16) -> Result<Directory, BookFault>
     requires { IsVersion version }
     ensures read { IfOk result (λ directory. directory_read stream_graph version bytes.now ≡ Some
         (bare_store directory)) }
@@ -123,7 +123,7 @@ fn read_root<P: PageBook, H: Host>(
 }
 
 /// The record that an object's bytes are read as alone.
-pub fn record_of(alloc: Global, bytes: &[u8]) -> Result<EntryRow, BookFault>
+fn record_of(alloc: Global, bytes: &[u8]) -> Result<EntryRow, BookFault>
     ensures read { IfOk result (λ row. record_read stream_graph bytes.now ≡ Some (said row)) }
     ensures are_bytes { OnOk result (AreBytes bytes.now) }
     ensures bad { IsErrOf result BookFault.NotStore → record_read stream_graph bytes.now ≡ None }
@@ -160,7 +160,7 @@ fn read_record<P: PageBook, H: Host>(
 }
 
 /// Whether a soup of the directory has given this id.
-pub fn has_given(directory: &Directory, row: &EntryRow) -> bool
+fn has_given(directory: &Directory, row: &EntryRow) -> bool
     requires { IsTrue (well_formed (bare_store directory.now)) }
     ensures given { result ≡ true → HasGiven (bare_store directory.now) row.now.soup row.now.uid }
     ensures not_given { result ≡ false → HasGiven (bare_store directory.now) row.now.soup
@@ -183,7 +183,7 @@ fn is_there(objects: &Objects, row: &LargeAt) -> bool
 }
 
 /// Whether each object that rows name is there, with the row's length.
-pub fn are_there(objects: &Objects, rows: &[LargeAt]) -> bool
+pub(crate) fn are_there(objects: &Objects, rows: &[LargeAt]) -> bool
     ensures { result ≡ list_all (λ row. has_length (held objects.now) row) rows.now }
 {
     rows.iter().all(|row| is_there(objects, row))

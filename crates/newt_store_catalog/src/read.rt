@@ -19,7 +19,7 @@ use std::alloc::Global;
 
 /// The device gave other bytes than were written. Over a host that tells its bytes this is never
 /// called; over another the run ends out of memory, since no fault was counted.
-pub fn lies<H: Host>() -> Stop
+fn lies<H: Host>() -> Stop
     requires { IsTrue H.told → ⊥ }
     ensures { result ≡ Stop.Memory }
 {

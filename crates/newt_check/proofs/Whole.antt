@@ -3,10 +3,17 @@ use Rattle.std.proofs.Common.{arith, ◌≡◌, ◌≢◌, refl, ap, sym, ◌∙
 use Rattle.std.specs.List.{list_all, range_with_len}
 use Rattle.std.specs.Option.{unwrap_or}
 use Rattle.std.specs.FinMap as map
-use Rattle.std.proofs.lemmas.Bool.{eq-eqb, eqb-true, lt-ltb, ltb-true, and_parts, cases_order, cases_lt}
+use Rattle.std.proofs.lemmas.Bool.{eq-eqb, eqb-true, lt-ltb, ltb-true, and_parts, and_from, cases_order, cases_lt}
 use Rattle.newt_spec_image.specs.Objects.{Extent, pages_for}
 use Rattle.newt_spec_image.specs.Pages.{Pages, object_id, part_number, object_length}
-use Rattle.newt_objects.specs.Headers.{AreHeadersOf, AreRising, IsHeader}
+use Rattle.std.specs.BTreeMap as tree
+use Rattle.std.specs.BTreeMap.{is_at}
+use Rattle.std.specs.Map.{lookup}
+use Rattle.std.specs.Ordering.{is_eq, nat_cmp}
+use Rattle.std.proofs.lemmas.Map.Lookups.{exact_unsigned}
+use Rattle.newt_pagebook.proofs.Tests.{is_equal}
+use Rattle.newt_objects.specs.Headers.{AreHeadersOf, AreRising, IsHeader, part_cmp}
+use Rattle.newt_objects.proofs.Indexing.{same_part, itself}
 use Rattle.newt_objects.specs.declared.header.Header.{Header}
 use Rattle.newt_laws_images.proofs.Again.{found-test}
 use Rattle.newt_laws_images.proofs.Both.{Both}
@@ -16,7 +23,7 @@ use Rattle.newt_spec_graph.specs.Lists.{Each, Pairs, Among}
 use Rattle.newt_spec_graph.proofs.Lists.{each-at, each-from, get-among, none-some, some-same, both-ways}
 use Rattle.newt_spec_store.specs.ImageStore.{page_of, extent_by, table_of, is_number, is_page_of}
 use Rattle.newt_spec_check.specs.Damage.{broken_ids, is_astray, least}
-use Rattle.newt_check.specs.Parts.{broken_by, broken_in, first_of, has_parts, is_at, is_own, length_of, long_by, passes}
+use Rattle.newt_check.specs.Parts.{AreLengths, Firsts, broken_by, broken_in, first_of, kept_first, has_parts, is_at, is_own, length_of, long_by, passes}
 
 -- the header is that of an entry of the pages
 abbrev pub Says : Header → ℕ × List ℕ → Type 0
@@ -282,3 +289,110 @@ broken-more first hs h b e = ap (list_map (λ (h : Header). h.object)) (filter-l
     one : (b : Bool) → list_map (λ (h : Header). h.object) (cond (not b) (h ∷ []) []) ≡ cond b [] (h.object ∷ [])
     one true = refl
     one false = refl
+
+-- ---- the first page of each part, as it is kept
+
+abbrev at_part : ℕ → ℕ → Header → Bool
+at_part o p h = (h.object == o) && (h.part == p)
+
+not-true : (b : Bool) → (b ≡ true → ⊥) → b ≡ false
+not-true true h = absurd (h refl)
+not-true false h = refl
+
+some-is-some : {X : Type 0} (x : X) (o : Option X) → o ≡ Some x → is_some o ≡ true
+some-is-some x o e = ap is_some e
+
+none-not-some : {X : Type 0} (o : Option X) → o ≡ None → is_some o ≡ true → ⊥
+none-not-some o e h = both-ways (sym (ap is_some e) ∙ h)
+
+-- a page of the part is kept already
+pub first-kept : (parts : Firsts) (headers : List Header) (h : Header) → ((o p : ℕ) → kept_first parts o p ≡ first_of headers o p) → is_some (kept_first parts h.object h.part) ≡ true
+    → (o p : ℕ) → kept_first parts o p ≡ first_of (headers ++ h ∷ []) o p
+first-kept parts headers h are some o p = are o p ∙ go (first_of headers o p) refl
+  where
+    go : (f : Option Header) → first_of headers o p ≡ f → first_of headers o p ≡ first_of (headers ++ h ∷ []) o p
+    go (Some k) e = e ∙ sym (find-more (at_part o p) headers h k e)
+    go None e =
+        let no : at_part o p h ≡ false = not-true (at_part o p h) (λ t.
+            let k = and_parts (h.object == o) (h.part == p) t in
+            none-not-some (kept_first parts h.object h.part)
+            (are h.object h.part ∙ (λ i. first_of headers (eqb-true h.object o k.0 i) (eqb-true h.part p k.1 i)) ∙ e) some) in
+        e ∙ sym (find-last (at_part o p) headers h e ∙ ap (λ b. cond b (Some h) None) no)
+
+-- none is kept, and this one is now
+pub first-new : (old new : Firsts) (headers : List Header) (h : Header) → ((o p : ℕ) → kept_first old o p ≡ first_of headers o p) → is_some (kept_first old h.object h.part) ≡ false
+    → ((q : ℕ × ℕ) → tree.get part_cmp new q ≡ cond (is_eq (part_cmp (h.object, h.part) q)) (Some h) (tree.get part_cmp old q))
+    → (o p : ℕ) → kept_first new o p ≡ first_of (headers ++ h ∷ []) o p
+first-new old new headers h are none now o p = now (o, p) ∙ go (is_eq (part_cmp (h.object, h.part) (o, p))) refl
+  where
+    empty : first_of headers h.object h.part ≡ None
+    empty = sym (are h.object h.part) ∙ no-some (kept_first old h.object h.part) none
+      where
+        no-some : (f : Option Header) → is_some f ≡ false → f ≡ None
+        no-some None e = refl
+        no-some (Some k) e = absurd (both-ways (sym e))
+
+    go : (b : Bool) → is_eq (part_cmp (h.object, h.part) (o, p)) ≡ b → cond b (Some h) (kept_first old o p) ≡ first_of (headers ++ h ∷ []) o p
+    go true e =
+        let key : ◌≡◌ {A = ℕ × ℕ} (h.object, h.part) (o, p) = same_part (h.object, h.part) (o, p) e in
+        let a : h.object ≡ o = ap {A = ℕ × ℕ} {B = ℕ} (λ q. q.0) key in
+        let b : h.part ≡ p = ap {A = ℕ × ℕ} {B = ℕ} (λ q. q.1) key in
+        let none-here : first_of headers o p ≡ None = sym (λ i. first_of headers (a i) (b i)) ∙ empty in
+        sym (find-last (at_part o p) headers h none-here ∙ ap (λ c. cond c (Some h) None) (and_from (h.object == o) (h.part == p) (eq-eqb h.object o a) (eq-eqb h.part p b)))
+    go false e = are o p ∙ rest (first_of headers o p) refl
+      where
+        rest : (f : Option Header) → first_of headers o p ≡ f → first_of headers o p ≡ first_of (headers ++ h ∷ []) o p
+        rest (Some k) d = d ∙ sym (find-more (at_part o p) headers h k d)
+        rest None d =
+            let no : at_part o p h ≡ false = not-true (at_part o p h) (λ t.
+                let k = and_parts (h.object == o) (h.part == p) t in
+                both-ways (sym e ∙ (λ i. is_eq (part_cmp (h.object, h.part) (sym (eqb-true h.object o k.0) i, sym (eqb-true h.part p k.1) i))) ∙ itself (h.object, h.part))) in
+            d ∙ sym (find-last (at_part o p) headers h d ∙ ap (λ b. cond b (Some h) None) no)
+
+-- ---- all parts
+
+all-more : (f : ℕ → Bool) (a n : ℕ) → list_all f (range_with_len a (n + 1)) ≡ (list_all f (range_with_len a n) && f (a + n))
+all-more f a n = ap (λ m. list_all f (range_with_len a m)) (let e : n + 1 ≡ suc n = omega arith in e) ∙ go a n
+  where
+    go : (a n : ℕ) → list_all f (range_with_len a (suc n)) ≡ (list_all f (range_with_len a n) && f (a + n))
+    go a zero = last (f a) ∙ ap f (let e : a ≡ a + 0 = omega arith in e)
+      where
+        last : (b : Bool) → (b && true) ≡ b
+        last true = refl
+        last false = refl
+    go a (suc n) = ap (λ b. f a && b) (go (a + 1) n) ∙ ap (λ m. f a && (list_all f (range_with_len (a + 1) n) && f m)) (let e : a + 1 + n ≡ a + suc n = omega arith in e)
+        ∙ sym (and-assoc' (f a) (list_all f (range_with_len (a + 1) n)) (f (a + suc n)))
+      where
+        and-assoc' : (a b c : Bool) → ((a && b) && c) ≡ (a && (b && c))
+        and-assoc' true b c = refl
+        and-assoc' false b c = refl
+
+pub parts-more : (first : ℕ → ℕ → Option Header) (object n : ℕ) → has_parts first object n ≡ true → is_some (first object n) ≡ true → has_parts first object (n + 1) ≡ true
+parts-more first object n h k = all-more (λ part. is_some (first object part)) 0 n ∙ and_from (has_parts first object n) (is_some (first object n)) h k
+
+pub parts-lack : (first : ℕ → ℕ → Option Header) (object n count : ℕ) → n < count → is_some (first object n) ≡ false → has_parts first object count ≡ false
+parts-lack first object n count low h = go 0 count n low h
+  where
+    and-false : (b : Bool) → (b && false) ≡ false
+    and-false true = refl
+    and-false false = refl
+
+    go : (a count n : ℕ) → n < count → is_some (first object (a + n)) ≡ false → list_all (λ part. is_some (first object part)) (range_with_len a count) ≡ false
+    go a zero n low h = absurd (omega (arith, low))
+    go a (suc count) zero low h =
+        ap (λ b. b && list_all (λ part. is_some (first object part)) (range_with_len (a + 1) count)) (ap (λ m. is_some (first object m)) (let e : a ≡ a + 0 = omega arith in e) ∙ h)
+    go a (suc count) (suc n) low h =
+        ap (λ b. is_some (first object a) && b) (go (a + 1) count n (omega (arith, low)) (ap (λ m. is_some (first object m)) (let e : a + 1 + n ≡ a + suc n = omega arith in e) ∙ h)) ∙ and-false (is_some (first object a))
+
+-- ---- the lengths of objects, as they are kept
+
+pub no-lengths : (first : ℕ → ℕ → Option Header) (lengths : tree.BTreeMap ℕ (Option ℕ)) → lengths.entries ≡ [] → AreLengths first lengths
+no-lengths first lengths empty object length at = absurd (none-some length (sym (ap (λ (es : List (ℕ × Option ℕ)). lookup (is_at (nat_cmp object)) es) empty) ∙ at))
+
+pub lengths-more : (first : ℕ → ℕ → Option Header) (old new : tree.BTreeMap ℕ (Option ℕ)) (object : ℕ) (length : Option ℕ) → AreLengths first old → length ≡ length_of first object
+    → ((q : ℕ) → tree.get nat_cmp new q ≡ cond (is_eq (nat_cmp object q)) (Some length) (tree.get nat_cmp old q)) → AreLengths first new
+lengths-more first old new object length are is now q l at = go (is_eq (nat_cmp object q)) refl (sym (now q) ∙ at)
+  where
+    go : (b : Bool) → is_eq (nat_cmp object q) ≡ b → cond b (Some length) (tree.get nat_cmp old q) ≡ Some l → l ≡ length_of first q
+    go true e k = sym (some-same length l k) ∙ is ∙ ap (length_of first) (exact_unsigned object q (is_equal _ e))
+    go false e k = are q l k
