@@ -4,12 +4,12 @@ use Rattle.std.specs.FinMap as map
 use Rattle.std.proofs.lemmas.Bool.{le-leb, leb-true, and_parts}
 use Rattle.newt_nsof_flat.specs.Stream.{stream_graph}
 use Rattle.newt_nsof_flat.proofs.Streams.{reads_graphs}
-use Rattle.newt_spec_image.specs.Objects.{Objects}
+use Rattle.newt_spec_image.specs.Objects.{Objects, Table, IsTableOf}
 use Rattle.newt_spec_image.specs.Pages.{Pages, pages, cap}
 use Rattle.newt_spec_image.specs.Records.{version}
 use Rattle.newt_laws_images.proofs.Again.{read-lies}
 use Rattle.newt_laws_images.proofs.Finite.{object-get}
-use Rattle.newt_laws_images.proofs.Gathering.{objects-complete}
+use Rattle.newt_laws_images.proofs.Gathering.{objects-complete, objects-sound}
 use Rattle.newt_laws_images.proofs.Refused.{has-directory}
 use Rattle.newt_laws_images.proofs.Totals.{lies-total}
 use Rattle.newt_laws_images.proofs.Assembled.{read-valid}
@@ -30,7 +30,7 @@ use Rattle.newt_spec_check.specs.Damage.{Damage, damage, if_missing, if_above, b
 use Rattle.newt_laws_check.proofs.Complete.{complete}
 use Rattle.newt_laws_check.proofs.Entries.{entries-count}
 use Rattle.newt_laws_check.proofs.Journal.{IsWhole, pages-whole}
-use Rattle.newt_laws_check.proofs.Objects.{objects-whole}
+use Rattle.newt_laws_check.proofs.Objects.{objects-whole, whole-objects}
 use Rattle.newt_check.proofs.Voted.{skip, hit}
 
 -- an image that has pages is damaged in an object where one is not whole
@@ -100,3 +100,13 @@ module _ (image : List ℕ) (texts : Objects) (h : HoldsObjects image texts) whe
               sym (lies-total texts lies.0 s.0 lies.1 good),
               entries-count texts lies.0 s.0 lies.1 good,
             )
+
+-- the pages of an image of which the headers name a broken object, or none
+pub at-parts : (image : List ℕ) (live : Pages) → pages image ≡ Some live → (id : ℕ) → least (broken_ids live) ≡ Some id → damage stream_graph image ≡ Some (record { layer = layer.Object; place = id })
+at-parts image live h id k = at-object image live id h (ap (option_and_then (λ live. least (broken_ids live))) h ∙ k)
+
+pub some-parts : (image : List ℕ) (live : Pages) → pages image ≡ Some live → ((live : Pages) (table : Table) → pages image ≡ Some live → IsTableOf live table → ⊥) → least (broken_ids live) ≡ None → ⊥
+some-parts image live h none k =
+    let o = whole-objects live k in
+    let are = objects-sound live o.0 o.1 in
+    none live are.table h are.is_table

@@ -134,7 +134,8 @@ first-of at (gate ∷ rest) payload payloads h = go (gate == 0) refl (nat_le (4 
           rest = rest;
           are = ap (λ b. cond b ((at, rest) ∷ gates_after (suc at) (4 + length_at rest) rest) []) e
               ∙ ap (λ (gs : List Gate). (at, rest) ∷ gs) (gates-skip (suc at) (4 + length_at rest) rest ∙ ap (λ m. gates_after m 0 (drop (4 + length_at rest) rest)) a
-              ∙ ap (λ m. gates_after (at + (5 + length payload)) 0 (drop (4 + m) rest)) (sym size));
+              ∙ ap (λ m. gates_after (at + (5 + length payload)) 0 (drop (4 + m) rest)) (sym size)
+              ∙ ap (λ m. gates_after (at + (5 + length payload)) 0 (drop m (gate ∷ rest))) (let more : suc (4 + length payload) ≡ 5 + length payload = omega arith in more));
           payload_is = is;
           long = omega (arith, size, fits);
         }

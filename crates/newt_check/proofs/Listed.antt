@@ -1,10 +1,12 @@
 -- The ids of objects above 0, listed, and the objects in the order of their ids.
-use Rattle.std.proofs.Common.{arith, ◌≡◌, ◌≢◌, refl, ap, sym, ◌∙◌, subst, ℕ, zero, suc, ◌+◌, ◌%◌, ◌<◌, ◌≤◌, ◌==◌, ◌&&◌, nat_lt, ◌⊎◌, inl, inr, Bool, true, false, not, cond, List, [], ◌∷◌, ◌++◌, length, find, filter, flat_map, map as list_map, Option, Some, None, IsSome, option_map, append_assoc, append_nil}
+use Rattle.std.proofs.Common.{arith, ◌≡◌, ◌≢◌, refl, ap, sym, ◌∙◌, subst, ℕ, zero, suc, ◌+◌, ◌%◌, ◌<◌, ◌≤◌, ◌==◌, ◌&&◌, nat_lt, ◌⊎◌, inl, inr, Bool, true, false, not, cond, List, [], ◌∷◌, ◌++◌, length, find, filter, flat_map, map as list_map, Option, Some, None, IsSome, option_map, append_assoc}
 use Rattle.std.specs.FinMap as map
+use Rattle.std.proofs.lemmas.List.{append-nil}
 use Rattle.std.proofs.lemmas.Bool.{eq-eqb, eqb-true, lt-ltb, ltb-true, cases_lt, cases_order}
 use Rattle.newt_spec_image.specs.Objects.{Objects, Extent, Table, pages_for}
 use Rattle.newt_objects.specs.Extents.{IsNextIn}
 use Rattle.newt_objects.specs.Listed.{AreNexts}
+use Rattle.newt_laws_images.proofs.Made.{even-or-odd}
 use Rattle.newt_laws_images.proofs.Finite.{entries-rising, entry-get, get-entry}
 use Rattle.newt_spec_graph.specs.Lists.{Each, Pairs, Among}
 use Rattle.newt_spec_graph.proofs.Lists.{each-at, each-from, among-filter, filter-among, pairs-filter, both-ways, none-some}
@@ -74,7 +76,17 @@ strays-are names [] = refl
 strays-are names (e ∷ es) = go (nat_lt 0 e.0) refl (is_stray_id names e.0) refl (strays-are names es)
   where
     parity : (n : ℕ) → not (n % 2 == 1) ≡ (n % 2 == 0)
-    parity n = grind arith
+    parity n = elim (even-or-odd n) [
+      | inl even ↦ ap not (differ (n % 2) 1 (λ k. omega (arith, even, k))) ∙ sym (eq-eqb (n % 2) 0 even)
+      | inr odd ↦ ap not (eq-eqb (n % 2) 1 odd) ∙ sym (differ (n % 2) 0 (λ k. omega (arith, odd, k)))
+    ]
+      where
+        differ : (a b : ℕ) → a ≢ b → (a == b) ≡ false
+        differ a b h = go (a == b) refl
+          where
+            go : (c : Bool) → (a == b) ≡ c → c ≡ false
+            go true e = absurd (h (eqb-true a b e))
+            go false e = refl
 
     all : (a b c d : Bool) → a ≡ d → b ≡ true → (a && b && c) ≡ (d && c)
     all a b c d h k = grind (arith, h, k)
@@ -154,7 +166,7 @@ to-next (e ∷ es) o last rising (inr m) odd low none =
     go false h = h
 
 flat-last : (f : ℕ × List ℕ → List ℕ) (es : List (ℕ × List ℕ)) (o : ℕ × List ℕ) → flat_map f (es ++ o ∷ []) ≡ flat_map f es ++ f o
-flat-last f [] o = append_nil (f o)
+flat-last f [] o = append-nil (f o)
 flat-last f (e ∷ es) o = ap (λ (l : List ℕ). f e ++ l) (flat-last f es o) ∙ sym (append_assoc (f e) (flat_map f es) (f o))
 
 -- the names of the records up to the next one

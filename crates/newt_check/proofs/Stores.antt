@@ -1,5 +1,5 @@
 -- What is said of an image whose records are sound.
-use Rattle.std.proofs.Common.{arith, ◌≡◌, refl, ap, sym, ◌∙◌, subst, ℕ, ◌+◌, ◌%◌, ◌^◌, ◌<◌, ◌≤◌, ◌==◌, nat_lt, ◌⊎◌, inl, inr, Bool, true, false, cond, List, [], ◌∷◌, length, find, filter, map as list_map, sum_by, max, Option, Some, None, IsTrue, option_map, option_and_then}
+use Rattle.std.proofs.Common.{arith, ◌≡◌, refl, ap, sym, ◌∙◌, subst, ℕ, ◌+◌, ◌*◌, ◌%◌, ◌^◌, ◌<◌, ◌≤◌, ◌==◌, nat_lt, ◌⊎◌, inl, inr, Bool, true, false, cond, List, [], ◌∷◌, length, find, filter, map as list_map, sum_by, max, Option, Some, None, IsTrue, option_map, option_and_then}
 use Rattle.std.specs.FinMap as map
 use Rattle.std.specs.BTreeMap.{BTreeMap}
 use Rattle.std.proofs.lemmas.Bool.{le-leb, leb-true, and_parts}
@@ -84,3 +84,6 @@ module _ (now : List ℕ) (texts : Objects) (d : Directory) (ids : List ℕ) (co
           entries_are = r.4 ∙ sym (odds-are (map.entries texts)) ∙ ap (λ (l : List ℕ). length (filter (λ id. id % 2 == 1) l)) (sym s.ids_are) ∙ sym entries_are;
           pages_are = r.3 ∙ sym s.pages_are;
         }
+
+pub blocks-are : (image : List ℕ) (blocks : ℕ) → length image ≡ blocks * 4096 → blocks_of image ≡ blocks
+blocks-are image blocks h = omega (arith, h)

@@ -155,6 +155,14 @@ module _ (image : List ℕ) (banks : has_banks image ≡ true) (h : HasRecords i
 
 -- ---- a journal that stands for a unit
 
+header-long : (version : ℕ) → length (header version) ≡ 16
+unfolding header
+header-long version = refl
+
+drop-front : (front bytes : List ℕ) (n : ℕ) → length front ≡ n → drop n (front ++ bytes) ≡ bytes
+drop-front [] bytes n e = ap (λ m. drop m bytes) (sym e)
+drop-front (x ∷ front) bytes n e = ap (λ m. drop m (x ∷ (front ++ bytes))) (sym e) ∙ drop-front front bytes (length front) refl
+
 -- what a journal finds of payloads is the row of the image
 pub journal-payload : (told : Bool) (j : Journal) (outside : Outside) → Stands told j outside → IsTrue told → bad_payload (image_of j.unit outside.now) ≡ unformed_in j (image_of j.unit outside.now)
 unfolding written
@@ -174,11 +182,15 @@ journal-payload told j outside stands tells =
         ∙ ap (take (limit_of j.blocks j.bank - first_place j)) (drop-drop 16 (start_of j.blocks j.bank) image) in
     ap (first_gate is_unformed) (gates-are image j.blocks holds.size j.enough j.not_too_many j.bank holds.votes j.version rest body
     ∙ ap (gates_after (first_place j) 0) same)
-  where
-    header-long : (version : ℕ) → length (header version) ≡ 16
-    unfolding header
-    header-long version = refl
 
-    drop-front : (front bytes : List ℕ) (n : ℕ) → length front ≡ n → drop n (front ++ bytes) ≡ bytes
-    drop-front [] bytes n e = ap (λ m. drop m bytes) (sym e)
-    drop-front (x ∷ front) bytes n e = ap (λ m. drop m (x ∷ front ++ bytes)) (sym e) ∙ drop-front front bytes (length front) refl
+-- what is found over a journal is said of its unit
+module _ (told : Bool) (j : Journal) (outside : Outside) (unit : ℕ) (of_unit : j.unit ≡ unit) (stands : Stands told j outside) (tells : IsTrue told) (banks : has_banks (image_of unit outside.now) ≡ true)
+    (whole : HasRecords (image_of unit outside.now)) where
+  row-is : bad_payload (image_of unit outside.now) ≡ unformed_in j (image_of j.unit outside.now)
+  row-is = ap (λ (u : ℕ). bad_payload (image_of u outside.now)) (sym of_unit) ∙ journal-payload told j outside stands tells
+
+  pub found-bad : (place : ℕ) → unformed_in j (image_of j.unit outside.now) ≡ Some place → damage stream_graph (image_of unit outside.now) ≡ Some (record { layer = layer.Payload; place = place })
+  found-bad place k = bad (image_of unit outside.now) banks whole place (row-is ∙ k)
+
+  pub found-none : unformed_in j (image_of j.unit outside.now) ≡ None → pages (image_of unit outside.now) ≡ None → ⊥
+  found-none k none = some-payload (image_of unit outside.now) banks whole (row-is ∙ k) none

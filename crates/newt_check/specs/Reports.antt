@@ -38,6 +38,11 @@ pub record HasRecords (image : List ℕ) : Type 0 where
   pub header_is : no_header image ≡ None
   pub record_is : long_record image ≡ None
 
+-- it has records, and yet no pages: a payload has not its form
+pub record IsUnformed (image : List ℕ) : Type 0 where
+  pub whole : HasRecords image
+  pub no_pages : pages image ≡ None
+
 -- the pages of the image are no objects
 abbrev pub HasNoObjects : List ℕ → Type 0
 HasNoObjects image = (live : Pages) (table : Table) → pages image ≡ Some live → IsTableOf live table → ⊥

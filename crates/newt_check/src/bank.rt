@@ -10,7 +10,7 @@ ghost use Rattle.newt_pagelog.specs.Placed.{ReadsUnit};
 ghost use Rattle.newt_store_catalog.specs.Reading.{ReadEnds};
 ghost use Rattle.newt_spec_check.specs.Damage.{leaves_bank};
 ghost use Rattle.newt_check.specs.Gates.{first_from, unformed_in};
-ghost use Rattle.newt_check.specs.Reports.{HasRecords, IsReport};
+ghost use Rattle.newt_check.specs.Reports.{HasRecords, IsReport, IsUnformed};
 
 use crate::lies::lies;
 use crate::look::{read_byte, read_number, read_version, read_votes, start_of};
@@ -103,26 +103,44 @@ fn unformed_record<H: Host>(
     Ok(None)
 }
 
-/// What is said of the payloads, one of which has not its form.
-fn report_of_payloads<H: Host>(alloc: Global, host: &mut H, unit: Unit) -> Result<Report, Stop>
-    requires may_hold { MayHold H.told unit (H.outside host.old) }
-    requires no_pages { IsTrue H.told → pages (image unit (H.outside host.old).now) ≡ None }
-    requires records { IsTrue H.told → HasRecords (image unit (H.outside host.old).now) }
+/// What is said of the payloads of an open journal, one of which has not its form.
+fn report_of_journal<H: Host>(
+    alloc: Global,
+    host: &mut H,
+    unit: Unit,
+    journal: &Journal,
+) -> Result<Report, Stop>
+    requires stands { Stands H.told journal.now (H.outside host.old) }
+    requires of_unit { unit_under journal.now ≡ unit }
+    requires enough { 13 ≤ (H.outside host.old).blocks unit }
+    requires few { (H.outside host.old).blocks unit ≤ 4099 }
+    requires unformed { IsTrue H.told → IsUnformed (image unit (H.outside host.old).now) }
     ensures report { IsTrue H.told → IfOk result
         (λ report. IsReport report (image unit (H.outside host.old).now)) }
     ensures looks { OnlyReads unit (H.outside host.old) (H.outside host.new) }
     ensures ends { ReadEnds unit (H.outside host.old) (H.outside host.new) result }
 {
-    let journal = match Journal::open(host, unit) {
-        Ok(journal) => journal,
-        Err(JournalFault::NotStore) => return Err(lies::<H>()),
-        Err(JournalFault::Device) => return Err(Stop::Device(unit)),
-    };
-    match unformed_record(alloc, host, &journal) {
+    match unformed_record(alloc, host, journal) {
         Ok(Some(place)) => Ok(Report::Damaged(Layer::Payload, place)),
         Ok(None) => Err(lies::<H>()),
         Err(BookFault::Device) => Err(Stop::Device(unit)),
         Err(_) => Err(Stop::Memory),
+    }
+}
+
+/// What is said of the payloads, one of which has not its form.
+fn report_of_payloads<H: Host>(alloc: Global, host: &mut H, unit: Unit) -> Result<Report, Stop>
+    requires may_hold { MayHold H.told unit (H.outside host.old) }
+    requires unformed { IsTrue H.told → IsUnformed (image unit (H.outside host.old).now) }
+    ensures report { IsTrue H.told → IfOk result
+        (λ report. IsReport report (image unit (H.outside host.old).now)) }
+    ensures looks { OnlyReads unit (H.outside host.old) (H.outside host.new) }
+    ensures ends { ReadEnds unit (H.outside host.old) (H.outside host.new) result }
+{
+    match Journal::open(host, unit) {
+        Ok(journal) => report_of_journal(alloc, host, unit, &journal),
+        Err(JournalFault::NotStore) => Err(lies::<H>()),
+        Err(JournalFault::Device) => Err(Stop::Device(unit)),
     }
 }
 
