@@ -35,7 +35,7 @@ pub same-ids : (table : Table) (from : ℕ) (ids : List ℕ) (es : List (ℕ × 
 same-ids table from [] [] all rising there listed = refl
 same-ids table from [] (e ∷ es) all rising there listed = let t = there e (inl refl) in absurd (none-there table e.0 (all.none e.0 refl t.0) t.1)
 same-ids table from (id ∷ ids) [] all rising there listed = let f = all.0.found id refl in absurd (listed id f.1 f.0).1
-same-ids table from (id ∷ ids) (e ∷ es) all rising there listed = go (cases_order id e.0)
+same-ids table from (id ∷ ids) (e ∷ es) all rising there listed = go (same-ids table (id + 1) ids es all.1 rising.1) (cases_order id e.0)
   where
     its : IsSome (table id) × (from ≤ id)
     its = all.0.found id refl
@@ -43,20 +43,23 @@ same-ids table from (id ∷ ids) (e ∷ es) all rising there listed = go (cases_
     behind : (x : ℕ × List ℕ) → Among es x → e.0 < x.0
     behind x m = each-at (λ (b : ℕ × List ℕ). e.0 < b.0) es x rising.0 m
 
-    go : (id ≡ e.0) ⊎ ((id < e.0) ⊎ (e.0 < id)) → id ∷ ids ≡ e.0 ∷ ids_of es
-    go (inl same) = λ i. same i ∷ same-ids table (id + 1) ids es all.1 rising.1
-        (λ x m. (let more = behind x m in omega (arith, more, same), (there x (inr m)).1))
-        (λ q high s. let r = listed q (omega (arith, high, its.1)) s in
-        elim r.1 [
-          | inl k ↦ (let is : e.0 ≡ q = ap (λ (x : ℕ × List ℕ). x.0) k ∙ r.2 in absurd (omega (arith, high, same, is)))
-          | inr m ↦ (r.0, m, r.2)
-        ]) i
-    go (inr (inl less)) = let r = listed id its.1 its.0 in
+    go : (((x : ℕ × List ℕ) → Among es x → (id + 1 ≤ x.0) × IsSome (table x.0)) → ((q : ℕ) → id + 1 ≤ q → IsSome (table q) → (x : ℕ × List ℕ) × Among es x × (x.0 ≡ q)) → ids ≡ ids_of es)
+        → (id ≡ e.0) ⊎ ((id < e.0) ⊎ (e.0 < id)) → id ∷ ids ≡ e.0 ∷ ids_of es
+    go others (inl same) =
+        let rest = others
+            (λ x m. (let more = behind x m in omega (arith, more, same), (there x (inr m)).1))
+            (λ q high s. let r = listed q (omega (arith, high, its.1)) s in
+            elim r.1 [
+              | inl k ↦ (let is : e.0 ≡ q = ap (λ (x : ℕ × List ℕ). x.0) k ∙ r.2 in absurd (omega (arith, high, same, is)))
+              | inr m ↦ (r.0, m, r.2)
+            ]) in
+        λ i. same i ∷ rest i
+    go others (inr (inl less)) = let r = listed id its.1 its.0 in
         elim r.1 [
           | inl k ↦ (let is : e.0 ≡ id = ap (λ (x : ℕ × List ℕ). x.0) k ∙ r.2 in absurd (omega (arith, less, is)))
           | inr m ↦ (let more = behind r.0 m in let is = r.2 in absurd (omega (arith, less, more, is)))
         ]
-    go (inr (inr less)) = let t = there e (inl refl) in absurd (none-there table e.0 (all.0.least id e.0 refl t.0 less) t.1)
+    go others (inr (inr less)) = let t = there e (inl refl) in absurd (none-there table e.0 (all.0.least id e.0 refl t.0 less) t.1)
 
 -- the ids that are listed are those of the objects above 0
 pub listed-are : (table : Table) (ids : List ℕ) (texts : Objects) → AreNexts table 1 ids → ((id : ℕ) (bytes : List ℕ) → map.get texts id ≡ Some bytes → IsSome (table id))

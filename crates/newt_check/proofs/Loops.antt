@@ -30,7 +30,7 @@ abbrev pub odds : List ℕ → ℕ
 odds ids = length (filter (λ id. id % 2 == 1) ids)
 
 odds-last : (ids : List ℕ) (x : ℕ) → odds (ids ++ x ∷ []) ≡ odds ids + x % 2
-odds-last [] x = go (x % 2 == 1) refl
+odds-last [] x = go (x % 2 == 1) refl ∙ (let e : x % 2 ≡ 0 + x % 2 = omega arith in e)
   where
     go : (b : Bool) → (x % 2 == 1) ≡ b → length (cond b (x ∷ []) []) ≡ x % 2
     go true e = grind (arith, e)
@@ -64,7 +64,7 @@ pub named-more : (names : List ℕ) (rows : List LargeAt) (i : ℕ) (d : LargeAt
 named-more names rows i d h = append_assoc names (objects_named (take i rows)) ((get_or rows i d).object ∷ []) ∙ ap (λ (l : List ℕ). names ++ l) (sym (map-last (take i rows) (get_or rows i d)) ∙ ap objects_named (sym (take_more rows i d h)))
 
 count-last : (n : ℕ) (ns : List ℕ) (x : ℕ) (b : Bool) → (n == x) ≡ b → count_of n (ns ++ x ∷ []) ≡ count_of n ns + cond b 1 0
-count-last n [] x b e = go b e
+count-last n [] x b e = go b e ∙ (let k : cond b 1 0 ≡ 0 + cond b 1 0 = omega arith in k)
   where
     go : (b : Bool) → (n == x) ≡ b → length (cond (n == x) (x ∷ []) []) ≡ cond b 1 0
     go true e = ap (λ c. length (cond c (x ∷ []) [])) e

@@ -176,7 +176,7 @@ module _ (v : ℕ) (texts : Objects) (d : Store) (last : ℕ) (place : Places) (
         -- the record is of an entry that is not sound, or is read as none
         of-row : ((e : Entry) → e.uid ≡ row.uid → (is_given d (row.soup, e) && not (before id (row.soup, e))) ≡ false) → bad_entry stream_graph v (map.entries texts) ≡ Some id
         of-row h = elim (read-among texts bytes row read) [
-          | inl no ↦ no-entry no
+          | inl lack ↦ no-entry lack
           | inr r ↦ bad-is (ap (is_sound stream_graph v (map.entries texts) d id) r.1 ∙ h r.0 r.2)
         ]
 
@@ -256,7 +256,7 @@ module _ (told : Bool) (objects : Held) (numbers : Numbers) (unit : ℕ) (outsid
       seen-not bad = λ tells texts h. elim bad [
         | inl none ↦ not-given (version now) texts its last place seen.below (seen.found tells texts h) (row-of tells texts h) id bytes (has tells texts h) odd later (no-object tells texts h) row read none
         | inr (inl other) ↦ twice (version now) texts its last place seen.below (seen.found tells texts h) (row-of tells texts h) id bytes (has tells texts h) odd later (no-object tells texts h) row read other.0 other.1
-        | inr (inr no) ↦ (let l = not-there (held objects) row.larges no in
+        | inr (inr lack) ↦ (let l = not-there (held objects) row.larges lack in
             lost (version now) texts its last place seen.below (seen.found tells texts h) (row-of tells texts h) id bytes (has tells texts h) odd later (no-object tells texts h) row read (lacks tells texts h l.0 l.1 l.2))
       ]
 

@@ -7,7 +7,7 @@ use Rattle.std.proofs.lemmas.Bool.{eq-eqb, eqb-true, lt-ltb, ltb-true, and_parts
 use Rattle.newt_spec_image.specs.Objects.{Extent, pages_for}
 use Rattle.newt_spec_image.specs.Pages.{Pages, object_id, part_number, object_length}
 use Rattle.std.specs.BTreeMap as tree
-use Rattle.std.specs.BTreeMap.{is_at}
+use Rattle.std.specs.BTreeMap.{is_at as is_key}
 use Rattle.std.specs.Map.{lookup}
 use Rattle.std.specs.Ordering.{is_eq, nat_cmp}
 use Rattle.std.proofs.lemmas.Map.Lookups.{exact_unsigned}
@@ -49,7 +49,7 @@ both-rising : (hs : List Header) (es : List (ℕ × List ℕ)) → Pairs (λ (a 
 both-rising [] [] rise up real there = tt
 both-rising [] (e ∷ es) rise up real there = absurd (there e (inl refl)).1
 both-rising (h ∷ hs) [] rise up real there = absurd (real h (inl refl)).1
-both-rising (h ∷ hs) (e ∷ es) rise up real there = go (real h (inl refl)) (there e (inl refl))
+both-rising (h ∷ hs) (e ∷ es) rise up real there = go (both-rising hs es rise.1 up.1) (real h (inl refl)) (there e (inl refl))
   where
     after : (k : Header) → Among hs k → h.number < k.number
     after k m = each-at (λ (b : Header). h.number < b.number) hs k rise.0 m
@@ -57,8 +57,11 @@ both-rising (h ∷ hs) (e ∷ es) rise up real there = go (real h (inl refl)) (t
     behind : (x : ℕ × List ℕ) → Among es x → e.0 < x.0
     behind x m = each-at (λ (b : ℕ × List ℕ). e.0 < b.0) es x up.0 m
 
-    rest : h.number ≡ e.0 → Both Says hs es
-    rest same = both-rising hs es rise.1 up.1
+    abbrev More : Type 0
+    More = ((k : Header) → Among hs k → (x : ℕ × List ℕ) × Among es x × Says k x) → ((x : ℕ × List ℕ) → Among es x → (k : Header) × Among hs k × Says k x) → Both Says hs es
+
+    rest : More → h.number ≡ e.0 → Both Says hs es
+    rest others same = others
         (λ k m. let r = real k (inr m) in elim r.1 [
           | inl i ↦ (let less = after k m in let a = r.2.is_number in let b : e.0 ≡ r.0.0 = ap (λ (x : ℕ × List ℕ). x.0) i in absurd (omega (arith, less, a, b, same)))
           | inr n ↦ (r.0, n, r.2)
@@ -68,10 +71,10 @@ both-rising (h ∷ hs) (e ∷ es) rise up real there = go (real h (inl refl)) (t
           | inr n ↦ (r.0, n, r.2)
         ])
 
-    go : (x : ℕ × List ℕ) × Among (e ∷ es) x × Says h x → (k : Header) × Among (h ∷ hs) k × Says k e → Says h e × Both Says hs es
-    go (x, inl i, s) k = let t : Says h e = subst (Says h) (sym i) s in (t, rest t.is_number)
-    go (x, inr m, s) (k, inl i, t) = let u : Says h e = subst (λ (q : Header). Says q e) (sym i) t in (u, rest u.is_number)
-    go (x, inr m, s) (k, inr n, t) =
+    go : More → (x : ℕ × List ℕ) × Among (e ∷ es) x × Says h x → (k : Header) × Among (h ∷ hs) k × Says k e → Says h e × Both Says hs es
+    go others (x, inl i, s) k = let t : Says h e = subst (Says h) (sym i) s in (t, rest others t.is_number)
+    go others (x, inr m, s) (k, inl i, t) = let u : Says h e = subst (λ (q : Header). Says q e) (sym i) t in (u, rest others u.is_number)
+    go others (x, inr m, s) (k, inr n, t) =
         let a = behind x m in let b = after k n in let c = s.is_number in let d = t.is_number in absurd (omega (arith, a, b, c, d))
 
 pub headers-both : (live : Pages) (headers : List Header) → AreHeadersOf live headers → AreRising headers → Both Says headers (map.entries live)
@@ -165,21 +168,22 @@ module _ (live : Pages) (headers : List Header) (both : Both Says headers (map.e
       → is_number number (slice_get ys k) ≡ (nat_lt k n && is_number number (f (a + k)))
   every-get f a zero [] h k number = sym (ap (λ b. b && is_number number (f (a + k))) (no-less k))
   every-get f a zero (y ∷ ys) h k number = absurd (let e = some-same [] (y ∷ ys) h in cc)
-  every-get f a (suc n) ys h k number = go (f a) refl (every (list_map f (range_with_len (a + 1) n))) refl h k
+  every-get f a (suc n) ys h k number = go (λ zs d j. every-get f (a + 1) n zs d j number) (f a) refl (every (list_map f (range_with_len (a + 1) n))) refl h k
     where
-      go : (o : Option ℕ) → f a ≡ o → (os : Option (List ℕ)) → every (list_map f (range_with_len (a + 1) n)) ≡ os → every (o ∷ list_map f (range_with_len (a + 1) n)) ≡ Some ys → (k : ℕ)
+      go : ((zs : List ℕ) → every (list_map f (range_with_len (a + 1) n)) ≡ Some zs → (j : ℕ) → is_number number (slice_get zs j) ≡ (nat_lt j n && is_number number (f (a + 1 + j))))
+          → (o : Option ℕ) → f a ≡ o → (os : Option (List ℕ)) → every (list_map f (range_with_len (a + 1) n)) ≡ os → every (o ∷ list_map f (range_with_len (a + 1) n)) ≡ Some ys → (k : ℕ)
           → is_number number (slice_get ys k) ≡ (nat_lt k (suc n) && is_number number (f (a + k)))
-      go None e os d h k = absurd (none-some ys h)
-      go (Some y) e None d h k = absurd (none-some ys (sym (ap (option_map (λ (xs : List ℕ). y ∷ xs)) d) ∙ h))
-      go (Some y) e (Some zs) d h zero =
+      go more None e os d h k = absurd (none-some ys h)
+      go more (Some y) e None d h k = absurd (none-some ys (sym (ap (option_map (λ (xs : List ℕ). y ∷ xs)) d) ∙ h))
+      go more (Some y) e (Some zs) d h zero =
           let is : y ∷ zs ≡ ys = some-same (y ∷ zs) ys (sym (ap (option_map (λ (xs : List ℕ). y ∷ xs)) d) ∙ h) in
           let here : a ≡ a + 0 = omega arith in
           ap (λ (l : List ℕ). is_number number (slice_get l 0)) (sym is) ∙ ap (is_number number) (sym e ∙ ap f here)
           ∙ sym (ap (λ b. b && is_number number (f (a + 0))) (lt-ltb 0 (suc n) (omega arith)))
-      go (Some y) e (Some zs) d h (suc j) =
+      go more (Some y) e (Some zs) d h (suc j) =
           let is : y ∷ zs ≡ ys = some-same (y ∷ zs) ys (sym (ap (option_map (λ (xs : List ℕ). y ∷ xs)) d) ∙ h) in
           let there : a + 1 + j ≡ a + suc j = omega arith in
-          ap (λ (l : List ℕ). is_number number (slice_get l (suc j))) (sym is) ∙ every-get f (a + 1) n zs d j number
+          ap (λ (l : List ℕ). is_number number (slice_get l (suc j))) (sym is) ∙ more zs d j
           ∙ (λ i. sym (less-suc j n) i && is_number number (f (there i)))
 
   parts-are : (id n : ℕ) → has_parts first id n ≡ is_some (every (list_map (page_of live id) (range_with_len 0 n)))
@@ -208,7 +212,9 @@ module _ (live : Pages) (headers : List Header) (both : Both Says headers (map.e
               (λ i. is_at first (s.is_number i) (first (s.object i) (s.part i))) ∙ number-is (first id (part_number e.1)) (entry_at id (part_number e.1)) (firsts id (part_number e.1)) e.0 in
           (λ i. (s.size i == is i) && nat_lt (s.part i) (pages_for (is i)) && page i)
           ∙ and-assoc (object_length e.1 == size) (nat_lt (part_number e.1) (pages_for size)) (is_number e.0 (page_of live id (part_number e.1)))
-          ∙ ap (λ b. (object_length e.1 == size) && b) (sym (every-get (page_of live id) 0 (pages_for size) ys d (part_number e.1) e.0))
+          ∙ ap (λ b. (object_length e.1 == size) && b)
+          (ap (λ k. nat_lt (part_number e.1) (pages_for size) && is_number e.0 (page_of live id k)) (let z : part_number e.1 ≡ 0 + part_number e.1 = omega arith in z)
+          ∙ sym (every-get (page_of live id) 0 (pages_for size) ys d (part_number e.1) e.0))
 
       go : (f : Option Header) (o : Option (ℕ × List ℕ)) → entry_at id 0 ≡ o → Found f o
           → is_own first (long_by first id f) h ≡ is_page_of (option_and_then (λ n. extent_by live id (object_length (unwrap_or (map.get live n) []))) (option_map (λ (e : ℕ × List ℕ). e.0) o)) e
@@ -368,10 +374,11 @@ all-more f a n = ap (λ m. list_all f (range_with_len a m)) (let e : n + 1 ≡ s
         and-assoc' false b c = refl
 
 pub parts-more : (first : ℕ → ℕ → Option Header) (object n : ℕ) → has_parts first object n ≡ true → is_some (first object n) ≡ true → has_parts first object (n + 1) ≡ true
-parts-more first object n h k = all-more (λ part. is_some (first object part)) 0 n ∙ and_from (has_parts first object n) (is_some (first object n)) h k
+parts-more first object n h k = all-more (λ part. is_some (first object part)) 0 n
+    ∙ and_from (has_parts first object n) (is_some (first object (0 + n))) h (ap (λ m. is_some (first object m)) (let z : 0 + n ≡ n = omega arith in z) ∙ k)
 
 pub parts-lack : (first : ℕ → ℕ → Option Header) (object n count : ℕ) → n < count → is_some (first object n) ≡ false → has_parts first object count ≡ false
-parts-lack first object n count low h = go 0 count n low h
+parts-lack first object n count low h = go 0 count n low (ap (λ m. is_some (first object m)) (let z : 0 + n ≡ n = omega arith in z) ∙ h)
   where
     and-false : (b : Bool) → (b && false) ≡ false
     and-false true = refl
@@ -387,7 +394,7 @@ parts-lack first object n count low h = go 0 count n low h
 -- ---- the lengths of objects, as they are kept
 
 pub no-lengths : (first : ℕ → ℕ → Option Header) (lengths : tree.BTreeMap ℕ (Option ℕ)) → lengths.entries ≡ [] → AreLengths first lengths
-no-lengths first lengths empty object length at = absurd (none-some length (sym (ap (λ (es : List (ℕ × Option ℕ)). lookup (is_at (nat_cmp object)) es) empty) ∙ at))
+no-lengths first lengths empty object length at = absurd (none-some length (sym (ap (λ (es : List (ℕ × Option ℕ)). lookup (is_key (nat_cmp object)) es) empty) ∙ at))
 
 pub lengths-more : (first : ℕ → ℕ → Option Header) (old new : tree.BTreeMap ℕ (Option ℕ)) (object : ℕ) (length : Option ℕ) → AreLengths first old → length ≡ length_of first object
     → ((q : ℕ) → tree.get nat_cmp new q ≡ cond (is_eq (nat_cmp object q)) (Some length) (tree.get nat_cmp old q)) → AreLengths first new

@@ -59,7 +59,7 @@ returns-then-not-see_object g c =
     record {
       row = subst (λ (b : List ℕ). OfObjects g.H.Host.told b (λ texts. Some id ≡ bad_entry stream_graph (version b) (map.entries texts)))
           (same-image _ _ _ _ i.reads.same_place i.reads.looks.moment) (λ tells texts h. sym (e.bad c.if-not-see_object.true tells texts h));
-      counted = λ no. absurd (let e : Some id ≡ None = no in cc);
+      counted = λ is. absurd (let e : Some id ≡ None = is in cc);
       reads = record { book = reads-on i.reads e.reads.book; ends = record { cause = tt; no_fault = NoFault-append i.no_fault e.reads.ends.no_fault } };
     }
 

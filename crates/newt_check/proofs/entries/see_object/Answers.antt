@@ -22,7 +22,7 @@ returns-then-id-eq0 g c =
     record {
       seen = λ _. seen-even g.H.Host.told c.args.objects.now (g.P.PageBook.numbers c.args.book.now) u o c.requires.can.kept c.args.directory.now c.args.last c.args.id c.requires.next
           (place_of c.args.seen.now.places) c.args.seen.now.counts c.requires.seen c.if-id-eq0.true;
-      bad = λ no. absurd (let e : true ≡ false = no in cc);
+      bad = λ is. absurd (let e : true ≡ false = is in cc);
       reads = record {
         book = reads-none g.P.PageBook.place g.P.PageBook.numbers g.P.PageBook.stands g.H.Host.told c.args.objects.now c.args.book.now o c.requires.can;
         ends = record { cause = tt; no_fault = NoFault-refl o };
@@ -76,8 +76,8 @@ returns-in-Some g c =
     record {
       seen = λ good. seen-row g.H.Host.told objects numbers u o kept c.args.directory.now c.args.last c.args.id c.requires.next (place_of c.args.seen.now.places) c.args.seen.now.counts c.requires.seen
           odd c.requires.root.root bytes has c.in-Some.row read are (place_of c.keep_row.new.seen.places) c.keep_row.new.seen.counts (c.in_ok-keep_row.ensures.kept good);
-      bad = λ no. seen-not g.H.Host.told objects numbers u o kept c.args.directory.now c.args.last c.args.id c.requires.next (place_of c.args.seen.now.places) c.args.seen.now.counts c.requires.seen
-          odd c.requires.root.root bytes has c.in-Some.row read are (c.in_ok-keep_row.ensures.bad no);
+      bad = λ is. seen-not g.H.Host.told objects numbers u o kept c.args.directory.now c.args.last c.args.id c.requires.next (place_of c.args.seen.now.places) c.args.seen.now.counts c.requires.seen
+          odd c.requires.root.root bytes has c.in-Some.row read are (c.in_ok-keep_row.ensures.bad is);
       reads = record { book = with-kept kept c.read.ensures.reads.book; ends = record { cause = tt; no_fault = c.in_ok-bytes.ensures.reads.no_fault } };
     }
 
@@ -91,7 +91,7 @@ returns-in-None g c =
     let bytes : List ℕ = c.in_ok-bytes.bytes.items in
     let has : OfObjects g.H.Host.told (image u o.now) (HasObject c.args.id bytes) = λ tells. kept-read g.H.Host.told objects numbers u o kept tells c.args.id bytes (c.in_ok-bytes.ensures.bytes tells) in
     record {
-      seen = λ yes. absurd (let e : false ≡ true = yes in cc);
+      seen = λ is. absurd (let e : false ≡ true = is in cc);
       bad = λ _. seen-bad g.H.Host.told objects numbers u o kept c.args.directory.now c.args.last c.args.id c.requires.next (place_of c.args.seen.now.places) c.args.seen.now.counts c.requires.seen
           (odd-is c.args.id c.if-id-eq0.false) c.requires.root.root bytes has (ap (record_read stream_graph) (sym c.deref.ensures.value) ∙ at_none _ _ c.in_ok-record_of.field-0 c.in-None.is c.in_ok-record_of.ensures.read);
       reads = record { book = with-kept kept c.read.ensures.reads.book; ends = record { cause = tt; no_fault = c.in_ok-bytes.ensures.reads.no_fault } };
