@@ -43,6 +43,10 @@ pairs-get R (x ∷ xs) h = (
   pairs-get R xs (λ i j y z a b less. h (suc i) (suc j) y z a b (omega (arith, less))),
 )
 
+-- lists are related one by one, where each of one has its element in the other
+abbrev More : List Header → List (ℕ × List ℕ) → Type 0
+More hs es = ((k : Header) → Among hs k → (x : ℕ × List ℕ) × Among es x × Says k x) → ((x : ℕ × List ℕ) → Among es x → (k : Header) × Among hs k × Says k x) → Both Says hs es
+
 -- lists that rise and have the same elements, as they are related
 both-rising : (hs : List Header) (es : List (ℕ × List ℕ)) → Pairs (λ (a b : Header). a.number < b.number) hs → Pairs (λ (a b : ℕ × List ℕ). a.0 < b.0) es
     → ((h : Header) → Among hs h → (e : ℕ × List ℕ) × Among es e × Says h e) → ((e : ℕ × List ℕ) → Among es e → (h : Header) × Among hs h × Says h e) → Both Says hs es
@@ -57,10 +61,7 @@ both-rising (h ∷ hs) (e ∷ es) rise up real there = go (both-rising hs es ris
     behind : (x : ℕ × List ℕ) → Among es x → e.0 < x.0
     behind x m = each-at (λ (b : ℕ × List ℕ). e.0 < b.0) es x up.0 m
 
-    abbrev More : Type 0
-    More = ((k : Header) → Among hs k → (x : ℕ × List ℕ) × Among es x × Says k x) → ((x : ℕ × List ℕ) → Among es x → (k : Header) × Among hs k × Says k x) → Both Says hs es
-
-    rest : More → h.number ≡ e.0 → Both Says hs es
+    rest : More hs es → h.number ≡ e.0 → Both Says hs es
     rest others same = others
         (λ k m. let r = real k (inr m) in elim r.1 [
           | inl i ↦ (let less = after k m in let a = r.2.is_number in let b : e.0 ≡ r.0.0 = ap (λ (x : ℕ × List ℕ). x.0) i in absurd (omega (arith, less, a, b, same)))
@@ -71,7 +72,7 @@ both-rising (h ∷ hs) (e ∷ es) rise up real there = go (both-rising hs es ris
           | inr n ↦ (r.0, n, r.2)
         ])
 
-    go : More → (x : ℕ × List ℕ) × Among (e ∷ es) x × Says h x → (k : Header) × Among (h ∷ hs) k × Says k e → Says h e × Both Says hs es
+    go : More hs es → (x : ℕ × List ℕ) × Among (e ∷ es) x × Says h x → (k : Header) × Among (h ∷ hs) k × Says k e → Says h e × Both Says hs es
     go others (x, inl i, s) k = let t : Says h e = subst (Says h) (sym i) s in (t, rest others t.is_number)
     go others (x, inr m, s) (k, inl i, t) = let u : Says h e = subst (λ (q : Header). Says q e) (sym i) t in (u, rest others u.is_number)
     go others (x, inr m, s) (k, inr n, t) =
@@ -249,19 +250,19 @@ module _ (live : Pages) (headers : List Header) (both : Both Says headers (map.e
 
 pub find-more : (test : Header → Bool) (hs : List Header) (h k : Header) → find test hs ≡ Some k → find test (hs ++ h ∷ []) ≡ Some k
 find-more test [] h k e = absurd (none-some k e)
-find-more test (x ∷ hs) h k e = go (test x) e
+find-more test (x ∷ hs) h k e = go (find-more test hs h k) (test x) e
   where
-    go : (b : Bool) → cond b (Some x) (find test hs) ≡ Some k → cond b (Some x) (find test (hs ++ h ∷ [])) ≡ Some k
-    go true e = e
-    go false e = find-more test hs h k e
+    go : (find test hs ≡ Some k → find test (hs ++ h ∷ []) ≡ Some k) → (b : Bool) → cond b (Some x) (find test hs) ≡ Some k → cond b (Some x) (find test (hs ++ h ∷ [])) ≡ Some k
+    go more true e = e
+    go more false e = more e
 
 pub find-last : (test : Header → Bool) (hs : List Header) (h : Header) → find test hs ≡ None → find test (hs ++ h ∷ []) ≡ cond (test h) (Some h) None
 find-last test [] h e = refl
-find-last test (x ∷ hs) h e = go (test x) e
+find-last test (x ∷ hs) h e = go (find-last test hs h) (test x) e
   where
-    go : (b : Bool) → cond b (Some x) (find test hs) ≡ None → cond b (Some x) (find test (hs ++ h ∷ [])) ≡ cond (test h) (Some h) None
-    go true e = absurd (none-some x (sym e))
-    go false e = find-last test hs h e
+    go : (find test hs ≡ None → find test (hs ++ h ∷ []) ≡ cond (test h) (Some h) None) → (b : Bool) → cond b (Some x) (find test hs) ≡ None → cond b (Some x) (find test (hs ++ h ∷ [])) ≡ cond (test h) (Some h) None
+    go more true e = absurd (none-some x (sym e))
+    go more false e = more e
 
 fold-last : (m : ℕ) (ns : List ℕ) (n : ℕ) → fold min m (ns ++ n ∷ []) ≡ min (fold min m ns) n
 fold-last m [] n = refl
