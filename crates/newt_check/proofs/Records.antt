@@ -192,12 +192,12 @@ module _ (v : ℕ) (texts : Objects) (d : Store) (last : ℕ) (place : Places) (
             let f = found.places row.soup row.uid other placed in
             let low = below row.soup row.uid other placed in
             let again : is_again (row.soup, e) (entry_of stream_graph v (map.entries texts) (other, f.0)) ≡ true =
-                ap (is_again (row.soup, e)) f.4.read ∙ both (row.soup == row.soup) (e.uid == f.1.uid) (eq-eqb row.soup row.soup refl) (eq-eqb e.uid f.1.uid (uid ∙ sym f.5)) in
+            ap (is_again (row.soup, e)) f.4.read ∙ both (row.soup == row.soup) (e.uid == f.1.uid) (eq-eqb row.soup row.soup refl) (eq-eqb e.uid f.1.uid (uid ∙ sym f.5)) in
             let named : before id (row.soup, e) ≡ true =
-                among-any (λ (o : ℕ × List ℕ). is_odd o && nat_lt o.0 id && is_again (row.soup, e) (entry_of stream_graph v (map.entries texts) o)) (map.entries texts) (other, f.0)
-                (get-entry texts other f.0 f.2)
-                (both ((other % 2 == 1) && nat_lt other id) (is_again (row.soup, e) (entry_of stream_graph v (map.entries texts) (other, f.0)))
-                (both (other % 2 == 1) (nat_lt other id) (eq-eqb (other % 2) 1 f.3) (lt-ltb other id (omega (arith, low, later)))) again) in
+            among-any (λ (o : ℕ × List ℕ). is_odd o && nat_lt o.0 id && is_again (row.soup, e) (entry_of stream_graph v (map.entries texts) o)) (map.entries texts) (other, f.0)
+            (get-entry texts other f.0 f.2)
+            (both ((other % 2 == 1) && nat_lt other id) (is_again (row.soup, e) (entry_of stream_graph v (map.entries texts) (other, f.0)))
+            (both (other % 2 == 1) (nat_lt other id) (eq-eqb (other % 2) 1 f.3) (lt-ltb other id (omega (arith, low, later)))) again) in
             ap (λ b. is_given d (row.soup, e) && not b) named ∙ no (is_given d (row.soup, e)))
           where
             no : (b : Bool) → (b && false) ≡ false

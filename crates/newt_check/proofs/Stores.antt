@@ -76,7 +76,7 @@ module _ (now : List ℕ) (texts : Objects) (d : Directory) (ids : List ℕ) (co
     pub of-store : pages ≤ cap blocks → (soups entries : ℕ) → soups ≡ length d.soups → entries ≡ length (filter (λ id. id % 2 == 1) ids) → IsClean soups entries pages now
     of-store few soups entries soups_are entries_are =
         let r = at-store now texts s.holds (bare_store d) (root-is now d texts s.root) s.records larges bytes-of
-            (subst (λ n. pages_taken (map.entries texts) ≤ cap n) (sym s.blocks_are) (subst (λ n. n ≤ cap blocks) s.pages_are few)) in
+        (subst (λ n. pages_taken (map.entries texts) ≤ cap n) (sym s.blocks_are) (subst (λ n. n ≤ cap blocks) s.pages_are few)) in
         record {
           store = r.0;
           read = r.1;

@@ -110,8 +110,8 @@ module _ (image : List ℕ) (blocks : ℕ) (size : length image ≡ blocks * 409
     bad-header differ =
         let bytes = bank_bytes blocks (bank_number bank) image in
         let none : versioned bytes ≡ None =
-            ap (λ (o : Option (ℕ × List ℕ)). elim o as (λ _. Option (ℕ × List ℕ)) [ Some found ↦ Some found | None ↦ behind_header 2 bytes ]) (other_header 1 (differ 1 (omega arith, omega arith)))
-            ∙ other_header 2 (differ 2 version-2) in
+        ap (λ (o : Option (ℕ × List ℕ)). elim o as (λ _. Option (ℕ × List ℕ)) [ Some found ↦ Some found | None ↦ behind_header 2 bytes ]) (other_header 1 (differ 1 (omega arith, omega arith)))
+        ∙ other_header 2 (differ 2 version-2) in
         skip layer.Votes _ _ votes ∙ hit layer.Header _ start _ (header-row ∙ ap (if_missing start) none)
 
     module _ (version : ℕ) (is_version : IsVersion version) (headed : take 16 (drop start image) ≡ header version) where
@@ -171,15 +171,15 @@ journal-payload told j outside stands tells =
     let held = stands.held tells in
     let rest : List ℕ = records_bytes held.payloads ++ held.behind in
     let holds : Holds j.blocks (bank_number j.bank) (header j.version ++ rest) image =
-        subst (λ (l : List ℕ). Holds j.blocks (bank_number j.bank) l image) (append_assoc (header j.version) (records_bytes held.payloads) held.behind) held.bank in
+    subst (λ (l : List ℕ). Holds j.blocks (bank_number j.bank) l image) (append_assoc (header j.version) (records_bytes held.payloads) held.behind) held.bank in
     let body = holds-body j.blocks j.bank j.enough j.not_too_many j.version j.known rest image holds in
     let parts : bank_size j.blocks ≡ 16 + (limit_of j.blocks j.bank - first_place j) = omega (arith, j.low, j.high) in
     let same : rest ≡ between (first_place j) (limit_of j.blocks j.bank) image =
-        sym (drop-front (header j.version) rest 16 (header-long j.version))
-        ∙ ap (drop 16) (sym holds.bank_is)
-        ∙ ap (λ n. drop 16 (take n (drop (start_of j.blocks j.bank) image))) parts
-        ∙ drop-take 16 (limit_of j.blocks j.bank - first_place j) (drop (start_of j.blocks j.bank) image)
-        ∙ ap (take (limit_of j.blocks j.bank - first_place j)) (drop-drop 16 (start_of j.blocks j.bank) image) in
+    sym (drop-front (header j.version) rest 16 (header-long j.version))
+    ∙ ap (drop 16) (sym holds.bank_is)
+    ∙ ap (λ n. drop 16 (take n (drop (start_of j.blocks j.bank) image))) parts
+    ∙ drop-take 16 (limit_of j.blocks j.bank - first_place j) (drop (start_of j.blocks j.bank) image)
+    ∙ ap (take (limit_of j.blocks j.bank - first_place j)) (drop-drop 16 (start_of j.blocks j.bank) image) in
     ap (first_gate is_unformed) (gates-are image j.blocks holds.size j.enough j.not_too_many j.bank holds.votes j.version rest body
     ∙ ap (gates_after (first_place j) 0) same)
 

@@ -210,7 +210,7 @@ module _ (live : Pages) (headers : List Header) (both : Both Says headers (map.e
       of-all size h0 is None d = refl
       of-all size h0 is (Some ys) d =
           let page : is_at first h.number (first h.object h.part) ≡ is_number e.0 (page_of live id (part_number e.1)) =
-              (λ i. is_at first (s.is_number i) (first (s.object i) (s.part i))) ∙ number-is (first id (part_number e.1)) (entry_at id (part_number e.1)) (firsts id (part_number e.1)) e.0 in
+          (λ i. is_at first (s.is_number i) (first (s.object i) (s.part i))) ∙ number-is (first id (part_number e.1)) (entry_at id (part_number e.1)) (firsts id (part_number e.1)) e.0 in
           (λ i. (s.size i == is i) && nat_lt (s.part i) (pages_for (is i)) && page i)
           ∙ and-assoc (object_length e.1 == size) (nat_lt (part_number e.1) (pages_for size)) (is_number e.0 (page_of live id (part_number e.1)))
           ∙ ap (λ b. (object_length e.1 == size) && b)
@@ -321,9 +321,9 @@ first-kept parts headers h are some o p = are o p ∙ go (first_of headers o p) 
     go (Some k) e = e ∙ sym (find-more (at_part o p) headers h k e)
     go None e =
         let no : at_part o p h ≡ false = not-true (at_part o p h) (λ t.
-            let k = and_parts (h.object == o) (h.part == p) t in
-            none-not-some (kept_first parts h.object h.part)
-            (are h.object h.part ∙ (λ i. first_of headers (eqb-true h.object o k.0 i) (eqb-true h.part p k.1 i)) ∙ e) some) in
+        let k = and_parts (h.object == o) (h.part == p) t in
+        none-not-some (kept_first parts h.object h.part)
+        (are h.object h.part ∙ (λ i. first_of headers (eqb-true h.object o k.0 i) (eqb-true h.part p k.1 i)) ∙ e) some) in
         e ∙ sym (find-last (at_part o p) headers h e ∙ ap (λ b. cond b (Some h) None) no)
 
 -- none is kept, and this one is now
@@ -352,8 +352,8 @@ first-new old new headers h are none now o p = now (o, p) ∙ go (is_eq (part_cm
         rest (Some k) d = d ∙ sym (find-more (at_part o p) headers h k d)
         rest None d =
             let no : at_part o p h ≡ false = not-true (at_part o p h) (λ t.
-                let k = and_parts (h.object == o) (h.part == p) t in
-                both-ways (sym e ∙ (λ i. is_eq (part_cmp (h.object, h.part) (sym (eqb-true h.object o k.0) i, sym (eqb-true h.part p k.1) i))) ∙ itself (h.object, h.part))) in
+            let k = and_parts (h.object == o) (h.part == p) t in
+            both-ways (sym e ∙ (λ i. is_eq (part_cmp (h.object, h.part) (sym (eqb-true h.object o k.0) i, sym (eqb-true h.part p k.1) i))) ∙ itself (h.object, h.part))) in
             d ∙ sym (find-last (at_part o p) headers h d ∙ ap (λ b. cond b (Some h) None) no)
 
 -- ---- all parts

@@ -51,11 +51,7 @@ pub(crate) fn nothing_seen(alloc: Global) -> Seen
 }
 
 /// The directory that bytes are read as in the form of a version, or none.
-fn directory_of(
-    alloc: Global,
-    bytes: &[u8],
-    version: u16,
-) -> Result<Option<Directory>, AllocError>
+fn directory_of(alloc: Global, bytes: &[u8], version: u16) -> Result<Option<Directory>, AllocError>
     requires { IsVersion version }
     ensures read { IfOk result (λ found. MatchOption found
         (directory_read stream_graph version bytes.now ≡ None)

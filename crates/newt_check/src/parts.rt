@@ -20,10 +20,7 @@ fn pages_for(length: u32) -> u32
 }
 
 /// Keeps a page, where none is kept of its part.
-fn keep_first(
-    parts: &mut BTreeMap<(u32, u32), Header>,
-    header: &Header,
-) -> Result<(), AllocError>
+fn keep_first(parts: &mut BTreeMap<(u32, u32), Header>, header: &Header) -> Result<(), AllocError>
     ensures { OnOk result ((headers : List Said)
         → ((o p : ℕ) → kept_first parts.old o p ≡ first_of headers o p)
         → (o p : ℕ) → kept_first parts.new o p ≡ first_of (headers ++ header.now ∷ []) o p) }

@@ -94,13 +94,7 @@ fn report_of_objects<P: PageBook, H: Host>(
         return Ok(Report::Damaged(Layer::Entry, id));
     }
     let blocks = host.blocks(book.unit());
-    Ok(report_of_store(
-        &directory,
-        &ids,
-        &seen.counts,
-        blocks,
-        book.live(),
-    ))
+    Ok(report_of_store(&directory, &ids, &seen.counts, blocks, book.live()))
 }
 
 /// What is said of an image that has pages.

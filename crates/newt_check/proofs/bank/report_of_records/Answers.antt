@@ -51,7 +51,7 @@ returns-in-Some-2-clause-report g c t =
     let headed : take 16 (drop (start_of blocks k.0) img) ≡ header v.0 = sym same ∙ at_some _ _ v.1 (c.in_ok-read_version.ensures.version t) in
     let moment = c.in_ok-read_version.ensures.reads.moment ∙ c.in_ok-bank.ensures.reads.moment in
     let found : first_from leaves_bank (start_of blocks k.0 + 16) (limit_of blocks k.0) img ≡ Some c.in-Some-2.place =
-        sym (λ i. first_from leaves_bank (begin i + 16) (begin i + bank_size blocks) (image unit (moment i))) ∙ sym (c.in_ok-place.ensures.row t) ∙ c.in-Some-2.is in
+    sym (λ i. first_from leaves_bank (begin i + 16) (begin i + bank_size blocks) (image unit (moment i))) ∙ sym (c.in_ok-place.ensures.row t) ∙ c.in-Some-2.is in
     long img blocks size enough few k.0 voted v.0 known headed c.in-Some-2.place found
 
 pub returns-clause-report : goal.returns-clause-report
@@ -71,5 +71,5 @@ returns-clause-report g c t =
     let headed : take 16 (drop (start_of blocks k.0) img) ≡ header v.0 = sym same ∙ at_some _ _ v.1 (c.in_ok-read_version.ensures.version t) in
     let moment = c.in_ok-read_version.ensures.reads.moment ∙ c.in_ok-bank.ensures.reads.moment in
     let none : first_from leaves_bank (start_of blocks k.0 + 16) (limit_of blocks k.0) img ≡ None =
-        sym (λ i. first_from leaves_bank (begin i + 16) (begin i + bank_size blocks) (image unit (moment i))) ∙ sym (c.in_ok-place.ensures.row t) ∙ c.in_default-2.is in
+    sym (λ i. first_from leaves_bank (begin i + 16) (begin i + bank_size blocks) (image unit (moment i))) ∙ sym (c.in_ok-place.ensures.row t) ∙ c.in_default-2.is in
     has-records img blocks size enough few k.0 voted v.0 known headed none

@@ -55,7 +55,7 @@ returns g c =
     let after : Outside = g.H.Host.outside c.read.new.host in
     let bytes : List ℕ = c.in_ok-bytes.bytes.items in
     let is : IsTrue g.H.Host.told → c.version.result ≡ version (image u o.now) = λ tells.
-        c.version.ensures.by_image g.H.Host.told after book.stood tells ∙ ap version (same-image _ _ _ _ book.same_place book.looks.moment) in
+    c.version.ensures.by_image g.H.Host.told after book.stood tells ∙ ap version (same-image _ _ _ _ book.same_place book.looks.moment) in
     record {
       root = root-by g.H.Host.told (image u o.now) bytes c.deref.result.now c.version.result c.in_ok-directory_of.field-0
           (λ tells. kept-read g.H.Host.told c.args.objects.now (g.P.PageBook.numbers c.args.book.now) u o kept tells 0 bytes (c.in_ok-bytes.ensures.bytes tells))

@@ -108,7 +108,7 @@ returns-in-Some-2 g c =
           let k = kept-holds g.H.Host.told c.args.objects.now (g.P.PageBook.numbers c.args.book.now) u o c.requires.can.kept tells in
           let d = some-found _ _ c.in_ok-directory.field-0 c.in-Some.directory c.in-Some.is c.in_ok-directory.ensures.root in
           let row = subst (λ (b : List ℕ). OfObjects g.H.Host.told b (λ texts. c.in_ok-bad_record.field-0 ≡ bad_entry stream_graph (version b) (map.entries texts)))
-              (same-image _ _ _ _ one.same_place one.looks.moment) c.in_ok-bad_record.ensures.row in
+          (same-image _ _ _ _ one.same_place one.looks.moment) c.in_ok-bad_record.ensures.row in
           at-entry now k.0 k.1 (bare_store c.in-Some.directory) (root-is now c.in-Some.directory k.0 (d.root tells k.0 k.1)) c.in-Some-2.id (sym (row tells k.0 k.1) ∙ c.in-Some-2.is);
       reads = record {
         book = reads-on one c.bad_record.ensures.reads.book;
@@ -145,7 +145,7 @@ returns g c =
           let same = same-image _ _ _ _ one.same_place one.looks.moment in
           let then : HoldsObjects (image (place c.find_root.new.book) (o c.find_root.new.host).now) k.0 = subst (λ (b : List ℕ). HoldsObjects b k.0) (sym same) k.1 in
           let row = subst (λ (b : List ℕ). OfObjects g.H.Host.told b (λ texts. c.in_ok-bad_record.field-0 ≡ bad_entry stream_graph (version b) (map.entries texts)))
-              same c.in_ok-bad_record.ensures.row in
+          same c.in_ok-bad_record.ensures.row in
           let seen = c.in_ok-bad_record.ensures.counted c.in_default-2.is tells k.0 then in
           let v : ℕ = place c.bad_record.new.book in
           let last : image v (o c.bad_record.new.host).now ≡ now = same-image _ _ _ _ (two.same_place ∙ one.same_place) (two.looks.moment ∙ one.looks.moment) in
