@@ -1,0 +1,9 @@
+use Rattle.newt_check.proofs.Walked.{begun}
+use Rattle.newt_check.proofs.Gates.{formed}
+use Rattle.newt_check.proofs.Voted.{journal-payload}
+use Rattle.newt_check.proofs.Damages.{at-store}
+use Rattle.newt_check.proofs.Listed.{listed-are}
+use Rattle.newt_check.proofs.Records.{seen-all}
+use Rattle.newt_check.proofs.Whole.{broken-is}
+use Rattle.newt_check.proofs.Stores.{of-store}
+use Rattle.newt_check.proofs.Loops.{count-same}
