@@ -14,10 +14,10 @@ fn expect_count(count: u32, wanted: u32) -> Result<(), Fail> {
 
 #[test]
 fn ends_at_each_call_of_a_stream_that_fails(rt: HostRuntime) -> Result<(), Fail> {
-    expect_count(expect_statuses(rt.alloc(), SCRIPT)?, 59)
+    expect_count(expect_statuses(rt.alloc(), SCRIPT)?, 60)
 }
 
 #[test]
 fn goes_on_behind_each_call_of_a_device_that_fails(rt: HostRuntime) -> Result<(), Fail> {
-    expect_count(expect_thrown(rt.alloc(), SCRIPT, LISTING)?, 416)
+    expect_count(expect_thrown(rt.alloc(), SCRIPT, LISTING)?, 415)
 }
