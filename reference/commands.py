@@ -7,7 +7,7 @@ import lines
 from graphs import NIL, Array, Frame, Large, Ref, Walk, copied, integer, is_same_name, value_at, with_value
 from literals import NoLiteral, print_literal, read_literal
 from queries import Query, key_from, read_shape
-from replies import Refused, of_name, of_path, of_refusal
+from replies import Changed, Refused, of_name, of_path, of_refusal
 from stores import (
     MOST_INDEXES,
     MOST_INFO,
@@ -26,7 +26,7 @@ from stores import (
     paths_of,
 )
 from streams import Malformed, decode, encode, encode_flat
-from world import FINISH, MOST_MOUNTED, START, Cursor, World
+from world import FINISH, MOST_MOUNTED, START, Copy, Cursor, Watch, World
 
 MOST_LINE = 140_000
 COMMANDS = {}
@@ -152,6 +152,7 @@ def soup(world: World, number: int, name: bytes):
         raise Refused(35)
     new = Soup(name, store.next_soup)
     world.keep(number, replace(store, next_soup=store.next_soup + 1, soups=(*store.soups, new)))
+    world.note("make", number, new)
     return [new.sig]
 
 
@@ -164,6 +165,7 @@ def soups(world: World, number: int):
 def drop(world: World, number: int, name: bytes):
     gone, store = world.soup(number, name), world.store(number)
     world.keep(number, replace(store, soups=tuple(it for it in store.soups if it is not gone)))
+    world.note("drop", number, gone)
     return []
 
 
@@ -248,6 +250,7 @@ def added(world: World, number: int, name: bytes, graph: Ref) -> int:
     wants_id(soup)
     entry = entry_of(soup.next_uid, world.minute, graph)
     world.keep(number, world.store(number).with_soup(soup.with_entry(entry)))
+    world.note("add", number, soup, entry.uid)
     return entry.uid
 
 
@@ -283,19 +286,25 @@ def getx(world: World, number: int, name: bytes, uid: int):
 
 def put(world: World, number: int, soup: Soup, entry: Entry) -> None:
     world.keep(number, world.store(number).with_soup(soup.with_entry(entry)))
+    world.note("change", number, soup, entry.uid)
+
+
+def edited(graph: Ref, path: Path, value: Ref) -> Ref:
+    """The graph with a value put where a path leads."""
+    other = with_value(graph, path, value)
+    if other is None:
+        raise Refused(38)
+    if not Walk(other).keeps_limits():
+        raise Refused(36)
+    wants_size(other)
+    return other
 
 
 @command(lines.unit, lines.name, lines.NUMBER, lines.path, lines.literal)
 def set_(world: World, number: int, name: bytes, uid: int, path: Path, text: bytes):
     value = literal_of(text)
     soup, entry = world.entry(number, name, uid)
-    graph = with_value(entry.graph, path, value)
-    if graph is None:
-        raise Refused(38)
-    if not Walk(graph).keeps_limits():
-        raise Refused(36)
-    wants_size(graph)
-    put(world, number, soup, entry_of(uid, world.minute, graph))
+    put(world, number, soup, entry_of(uid, world.minute, edited(entry.graph, path, value)))
     return []
 
 
@@ -313,6 +322,7 @@ def change(world: World, number: int, name: bytes, uid: int, text: bytes):
 def remove(world: World, number: int, name: bytes, uid: int):
     soup, _ = world.entry(number, name, uid)
     world.keep(number, world.store(number).with_soup(soup.without_entry(uid)))
+    world.note("remove", number, soup, uid)
     return []
 
 
@@ -330,8 +340,11 @@ def carried(world: World, source: tuple, target: tuple, is_moved: bool) -> int:
     if is_moved and number == to:
         store = store.with_soup(store.soup(name).without_entry(uid))
     world.keep(to, store)
+    world.note("add", to, soup, new.uid)
     if is_moved and number != to:
         remove(world, number, name, uid)
+    elif is_moved:
+        world.note("remove", number, store.soup(name), uid)
     return new.uid
 
 
@@ -424,7 +437,7 @@ def query(world: World, number: int, name: bytes, text: bytes):
     if shape.paths is not None:
         spec = index_of(world, asked, shape.paths)
         asked = replace(asked, spec=spec, bounds={slot: key_from(it, spec) for slot, it in shape.keys.items()})
-    free = world.free_cursor()
+    free = world.free(world.cursors)
     world.cursors[free] = Cursor(asked, world.next(asked, START))
     return [free]
 
@@ -510,7 +523,7 @@ def which(world: World, number: int):
 @command(lines.CURSOR)
 def clone(world: World, number: int):
     cursor = world.cursor(number)
-    free = world.free_cursor()
+    free = world.free(world.cursors)
     world.cursors[free] = replace(cursor)
     return [free]
 
@@ -519,6 +532,81 @@ def clone(world: World, number: int):
 def close(world: World, number: int):
     world.cursor(number)
     world.cursors[number] = None
+    return []
+
+
+# Watches.
+
+
+@command(lines.name, lines.LIMIT)
+def watch(world: World, name: bytes, most: int):
+    number = world.free(world.watches)
+    world.watches[number] = Watch(name, most)
+    return [number]
+
+
+@command(lines.WATCH)
+def notes(world: World, number: int):
+    found = world.watch(number)
+    lost, told = max(0, len(found.notes) - found.most), found.notes[-found.most :]
+    found.notes = []
+    return [min(lost, 2**32 - 1), ", ".join(told)]
+
+
+@command(lines.WATCH)
+def unwatch(world: World, number: int):
+    world.watch(number)
+    world.watches[number] = None
+    return []
+
+
+# Working copies.
+
+
+@command(lines.unit, lines.name, lines.NUMBER)
+def open_(world: World, number: int, name: bytes, uid: int):
+    soup, entry = world.entry(number, name, uid)
+    free = world.free(world.copies)
+    world.copies[free] = Copy((world.store(number).sig, soup.sig, uid), entry.time, entry.graph, entry.graph)
+    return [free]
+
+
+@command(lines.COPY)
+def draft(world: World, number: int):
+    return [print_literal(world.copy(number).draft)]
+
+
+@command(lines.COPY, lines.path, lines.literal)
+def edit(world: World, number: int, path: Path, text: bytes):
+    value = literal_of(text)
+    found = world.copy(number)
+    found.draft = edited(found.draft, path, value)
+    return []
+
+
+@command(lines.COPY)
+def save(world: World, number: int):
+    found = world.copy(number)
+    unit, soup, entry = world.living(found.alias)
+    if entry.time != found.time or encode_flat(entry.graph) != encode_flat(found.base):
+        raise Changed(entry.time)
+    put(world, unit, soup, entry_of(entry.uid, world.minute, found.draft))
+    found.time, found.base = world.minute, found.draft
+    return []
+
+
+@command(lines.COPY)
+def revert(world: World, number: int):
+    found = world.copy(number)
+    _, _, entry = world.living(found.alias)
+    found.time, found.base, found.draft = entry.time, entry.graph, entry.graph
+    return []
+
+
+@command(lines.COPY)
+def discard(world: World, number: int):
+    world.copy(number)
+    world.copies[number] = None
     return []
 
 
@@ -545,10 +633,12 @@ def answer(world: World, line: bytes):
     line = line.removesuffix(b"\r")
     if line.lstrip(b" \t")[:1] in (b"", b"%"):
         return None
+    world.events = []
     try:
         fields = [str(it) for it in fields_of(world, line)]
     except Refused as refused:
         return of_refusal(refused)
+    world.tell()
     world.settle()
     return " ".join(["ok", *[it for it in fields if it]])
 

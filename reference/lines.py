@@ -46,16 +46,17 @@ class Words(Scanner):
 # Forms: each takes what it reads from the words.
 
 
-def decimal(most: int):
+def decimal(most: int, least: int = 0):
     def form(words: Words) -> int:
         word = words.word()
-        words.wants(re.fullmatch(rb"[0-9]{1,10}", word) and int(word) <= most)
+        words.wants(re.fullmatch(rb"[0-9]{1,10}", word) and least <= int(word) <= most)
         return int(word)
 
     return form
 
 
 NUMBER, SIGNATURE, LENGTH, CURSOR = decimal(2**32 - 1), decimal(536_870_911), decimal(60_000), decimal(31)
+LIMIT, WATCH, COPY = decimal(64, 1), decimal(7), decimal(15)
 
 
 def unit(words: Words) -> int:

@@ -30,6 +30,9 @@ REFUSALS = {
     41: "spec",
     42: "cursor",
     43: "key",
+    45: "changed",
+    46: "copy",
+    47: "watch",
 }
 
 
@@ -41,8 +44,17 @@ class Refused(Exception):
         self.number = number
 
 
+class Changed(Refused):
+    """A save over an entry that has changed, with its present time."""
+
+    def __init__(self, time: int):
+        super().__init__(45)
+        self.time = time
+
+
 def of_refusal(refused: Refused) -> str:
-    return f"error {refused.number} {REFUSALS[refused.number]}"
+    told = f" {refused.time}" if isinstance(refused, Changed) else ""
+    return f"error {refused.number} {REFUSALS[refused.number]}{told}"
 
 
 def of_name(name: bytes) -> str:

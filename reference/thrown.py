@@ -18,7 +18,7 @@ import sys
 import tempfile
 from collections import Counter
 from copy import copy
-from dataclasses import dataclass, field
+from dataclasses import dataclass, field, replace
 from pathlib import Path
 from random import Random
 from typing import Iterator
@@ -44,6 +44,8 @@ def copied(world: World) -> World:
     other.units = [copy(it) for it in world.units]
     other.mounted, other.default, other.minute = set(world.mounted), world.default, world.minute
     other.cursors = [copy(it) for it in world.cursors]
+    other.watches = [it and replace(it, notes=[*it.notes]) for it in world.watches]
+    other.copies = [copy(it) for it in world.copies]
     return other
 
 
@@ -58,7 +60,7 @@ def throw_out(world: World, number: int) -> World:
 
 def thrown(world: World, line: bytes, number: int) -> Iterator[World]:
     """The worlds behind a command whose device failed on this unit: its store is as it was, or as the command makes it;
-    a move to another unit has been made there before its own unit is written."""
+    a move to another unit has been made there, and is told as an add, before its own unit is written."""
     after = copied(world)
     answer(after, line)
     yield throw_out(copied(world), number)
@@ -69,6 +71,9 @@ def thrown(world: World, line: bytes, number: int) -> Iterator[World]:
         for at, (unit, other) in enumerate(zip(made.units, after.units)):
             if unit and at != number:
                 unit.store = other.store
+        for watch, told in zip(made.watches, after.watches):
+            if watch:
+                watch.notes += [it for it in told.notes[len(watch.notes) :] if it.startswith("add ")]
         yield throw_out(copied(made), number)
     made.units[number].store = after.units[number].store
     yield throw_out(made, number)

@@ -1,16 +1,17 @@
 """The world that commands are answered in: units with their stores, which are mounted, the minute, and cursors."""
 
-from dataclasses import dataclass
+from dataclasses import dataclass, field
 from functools import cmp_to_key
 from typing import Iterator, Optional, Union
 
 from queries import Hit, Query, compare, key_of, passes
 from replies import Refused
+from graphs import Ref
 from stores import Entry, Soup, Store, capacity, cost, paths_of
 
 UNITS = 8
 MOST_MOUNTED = 4
-CURSORS = 32
+CURSORS, WATCHES, COPIES = 32, 8, 16
 START, FINISH = "start", "finish"
 
 # A key and an identity, where a cursor is on one.
@@ -29,6 +30,25 @@ class Cursor:
     place: Place
 
 
+@dataclass
+class Watch:
+    """All notes of the soups of a name since they were asked for last, and how many are told."""
+
+    name: bytes
+    most: int
+    notes: list[str] = field(default_factory=list)
+
+
+@dataclass
+class Copy:
+    """An entry that is edited apart: its alias, its time and graph when it was read, and the draft."""
+
+    alias: tuple[int, int, int]
+    time: int
+    base: Ref
+    draft: Ref
+
+
 class World:
     def __init__(self, units: list[Unit]):
         self.units: list[Optional[Unit]] = [*units, *[None] * (UNITS - len(units))]
@@ -36,6 +56,9 @@ class World:
         self.default: Optional[int] = None
         self.minute = 0
         self.cursors: list[Optional[Cursor]] = [None] * CURSORS
+        self.watches: list[Optional[Watch]] = [None] * WATCHES
+        self.copies: list[Optional[Copy]] = [None] * COPIES
+        self.events: list[tuple[bytes, str]] = []
 
     # What a command speaks of, or the refusal where it is not there.
 
@@ -77,8 +100,31 @@ class World:
             raise Refused(42)
         return cursor
 
-    def free_cursor(self) -> int:
-        free = [at for at, it in enumerate(self.cursors) if it is None]
+    def watch(self, number: int) -> Watch:
+        watch = self.watches[number]
+        if watch is None:
+            raise Refused(47)
+        return watch
+
+    def copy(self, number: int) -> Copy:
+        copy = self.copies[number]
+        if copy is None:
+            raise Refused(46)
+        return copy
+
+    def living(self, alias: tuple[int, int, int]) -> tuple[int, Soup, Entry]:
+        """The entry that an alias leads to, with its unit and soup."""
+        store_sig, soup_sig, uid = alias
+        for number in sorted(self.mounted):
+            store = self.units[number].store
+            for soup in store.soups if store.sig == store_sig else ():
+                entry = soup.entry(uid) if soup.sig == soup_sig else None
+                if entry is not None:
+                    return number, soup, entry
+        raise Refused(32)
+
+    def free(self, places: list) -> int:
+        free = [at for at, it in enumerate(places) if it is None]
         if not free:
             raise Refused(36)
         return free[0]
@@ -88,6 +134,19 @@ class World:
         if cost(store) > capacity(self.units[number].blocks):
             raise Refused(33)
         self.units[number].store = store
+
+    # Notes.
+
+    def note(self, kind: str, number: int, soup: Soup, uid: Optional[int] = None) -> None:
+        """What a command has done to a soup."""
+        told = [kind, number, soup.sig] + ([] if uid is None else [uid])
+        self.events.append((soup.name, " ".join(map(str, told))))
+
+    def tell(self) -> None:
+        """Appends what was done to the watches of the soups' names."""
+        for watch in filter(None, self.watches):
+            watch.notes += [note for name, note in self.events if name == watch.name]
+        self.events = []
 
     # Hits and cursors.
 

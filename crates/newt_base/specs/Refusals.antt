@@ -2,7 +2,7 @@
 use Rattle.std.specs.Prelude.{ℕ, Bool, true, false, List, [], ◌∷◌, ◌++◌, codes, Option, Some, None}
 use Rattle.newt_base.specs.Text.{decimal_text}
 use Rattle.newt_base.specs.declared.Refusal.{Refusal}
-use Rattle.newt_base.specs.declared.Refusal.TheVariants.{Longline, Command, Line, Malformed, Compressed, Literal, Unit as NoUnit, Blocks, Mounted, Notmounted, Nostore, Store, Stores, Signature, Cursor, Soup, Exists, Entry, Notframe, Info, Path, Range, Spec, Index, Key, Limit, Size, Ids, Full}
+use Rattle.newt_base.specs.declared.Refusal.TheVariants.{Longline, Command, Line, Malformed, Compressed, Literal, Unit as NoUnit, Blocks, Mounted, Notmounted, Nostore, Store, Stores, Signature, Cursor, Watch, Copy, Soup, Exists, Entry, Changed, Notframe, Info, Path, Range, Spec, Index, Key, Limit, Size, Ids, Full}
 
 -- the one table: the number and the word of each refusal
 abbrev pub refusal_row : Refusal → ℕ × List ℕ
@@ -21,9 +21,12 @@ refusal_row Store = (26, codes "store")
 refusal_row Stores = (23, codes "stores")
 refusal_row Signature = (24, codes "signature")
 refusal_row Cursor = (42, codes "cursor")
+refusal_row Watch = (47, codes "watch")
+refusal_row Copy = (46, codes "copy")
 refusal_row Soup = (30, codes "soup")
 refusal_row Exists = (31, codes "exists")
 refusal_row Entry = (32, codes "entry")
+refusal_row Changed = (45, codes "changed")
 refusal_row Notframe = (37, codes "notframe")
 refusal_row Info = (44, codes "info")
 refusal_row Path = (38, codes "path")

@@ -5,7 +5,7 @@ use Rattle.std.specs.declared.alloc.AllocError.{AllocError}
 use Rattle.std.specs.Prelude.{IsSome, is_some, Result, Ok, Err, IfErr, IfOk}
 use Rattle.newt_base.specs.Refusals.{first_of}
 use Rattle.newt_base.specs.declared.Refusal.{Refusal}
-use Rattle.newt_host.specs.Moments.{Moment, MayLeave, Always, changes, image}
+use Rattle.newt_host.specs.Moments.{Moment, image}
 use Rattle.newt_host.specs.Outside.{Outside, NoFault, OnDevices, Rose, SameCards}
 use Rattle.newt_pagebook.specs.Stops.{HasStopCause}
 use Rattle.newt_pagebook.specs.declared.book.Stop.TheVariants as stops
@@ -16,20 +16,17 @@ use Rattle.newt_spec_graph.proofs.Lists.{both-ways, none-some, some-same}
 use Rattle.newt_spec_query.specs.Cursor.{Cursor}
 use Rattle.newt_spec_script.specs.Rows.{throws}
 use Rattle.newt_spec_store.specs.Store.{Store}
-use Rattle.newt_spec_store.specs.Valid.{valid}
 use Rattle.newt_spec_world.specs.Answer.{answer}
 use Rattle.newt_spec_world.specs.First.{media_of}
 use Rattle.newt_spec_world.specs.Reply as plain
-use Rattle.newt_script_session.specs.Steps.{Stepped}
-use Rattle.newt_spec_world.specs.Step.{Step, thrown_out}
+use Rattle.newt_spec_world.specs.Step.{thrown_out}
 use Rattle.newt_spec_world.specs.World.{World, Device, Media, change_device, lost, settle}
 use Rattle.newt_spec_world.specs.declared.command.Command.{Command}
 use Rattle.newt_laws_world.specs.Settled.{IsSettled, MountedApart}
 use Rattle.newt_laws_world.specs.Worlds.{OnMedia}
 use Rattle.newt_laws_world.proofs.Kept.{Every, Wf}
 use Rattle.newt_laws_world.proofs.Mounted.{change-sigs, sigs-apart}
-use Rattle.newt_laws_steps.specs.StandsFor.{Obeys, Turned, seen}
-use Rattle.newt_laws_steps.proofs.Seen.{seen-step}
+use Rattle.newt_laws_steps.specs.StandsFor.{Turned, seen}
 use Rattle.newt_laws_steps.specs.Thrown.{Failed, Threw}
 use Rattle.newt_engine_units.specs.Breaks.{FailsAlone}
 use Rattle.newt_engine_units.specs.Stands.{Eight, Stands, StandsBut, world_of}
@@ -37,9 +34,8 @@ use Rattle.newt_engine_units.specs.declared.units.Units.{Units}
 use Rattle.newt_engine_units.proofs.Known.{Laws, at-card, at-none}
 use Rattle.newt_engine_cursors.specs.Fits.{DeskFits}
 use Rattle.newt_engine_cursors.specs.World.{world_with}
-use Rattle.newt_engine.specs.Standing.{Standing, marks_of, means}
-use Rattle.newt_engine.specs.declared.world.World.{World as Engine}
-use Rattle.newt_engine.proofs.Refusing.{answer_quiet, refused_stays}
+use Rattle.newt_engine.specs.Standing.{Standing}
+use Rattle.newt_engine.proofs.Refusing.{refused_stays}
 use Rattle.newt_engine.proofs.Outcast.{out-settled}
 
 pub standing-told : {C : Type 0} {reads : List ℕ → Option Store} {place : C → ℕ} {stands : Bool → C → Outside → Type 0} {told : Bool} {units : Units C} {ks : List (Option Cursor)} {o : Outside}
@@ -109,28 +105,3 @@ thrown-standing stand eight desk is = record {
 pub thrown-known : {C : Type 0} {reads : List ℕ → Option Store} {place : C → ℕ} {soups : C → Store} {stands : Bool → C → Outside → Type 0} → Laws reads place soups stands → (units : Units C) (ks : List (Option Cursor)) (o : Outside)
     → Standing reads place stands true units ks o → (u : ℕ) → let v = thrown_out (world_with reads units ks o) u (λ _. lost) in MountedApart v × IsSettled v
 thrown-known {reads = reads} l units ks o s u = (out-apart (world_with reads units ks o) u (s.apart refl), out-settled (world_with reads units ks o) u (known-formed l units ks o s) (s.apart refl) (s.settled refl))
-
--- ---- what a script asks of it
-
--- it has made a step, whatever became of the call
-pub steps-once : {C : Type 0} (reads : List ℕ → Option Store) (old new : Engine C) (o p : Outside) (c : Command) (w : World) (result : Result Reply AllocError) → means reads old o w
-    → ((u : ℕ) → IsSome (o.card u) → MayLeave u o.now (image u o.now)) → ((u : ℕ) (s : Store) → IsSome (o.card u) → reads (image u o.now) ≡ Some s → IsTrue (valid (o.blocks u) s))
-    → Obeys reads said (means reads new p) w c result o.now p.now → IfOk result (λ it. Threw (said it) o.dev_faults p.dev_faults) → IfOk result (λ it. Failed (said it) o.dev_faults p.dev_faults)
-    → ((u : ℕ) → o.dev_faults u ≤ p.dev_faults u) → Stepped Step reads c result w (means reads new p) o.now p.now o.dev_faults p.dev_faults
-steps-once reads old new o p c w (Ok it) stood may good (v, turned, stands, moments) threw failed later = record {
-  next = v;
-  reply = said it;
-  steps = turned.step;
-  threw = threw;
-  answered = (refl, stands, failed);
-  moments = moments;
-}
-steps-once reads old new o p c w (Err error) stood may good moments threw failed later =
-    let a = answer (seen reads w o.now c) c in record {
-      next = a.0;
-      reply = a.1;
-      steps = seen-step reads (marks_of old) o w c stood may good;
-      threw = record { later = later; rose = λ u h. absurd (both-ways (sym (answer_quiet (seen reads w o.now c) c u) ∙ h)) };
-      answered = tt;
-      moments = moments;
-    }

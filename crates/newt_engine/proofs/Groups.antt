@@ -4,28 +4,37 @@ use Rattle.std.proofs.lemmas.Bool.{and_parts, eqb-true}
 use Rattle.newt_base.specs.Names.{is_name}
 use Rattle.newt_spec_store.specs.Keys.{Path}
 use Rattle.newt_spec_world.specs.declared.command.PartWord.{PartWord}
-use Rattle.newt_laws_world.specs.Worlds.{has_form, parts_fit, sig_fits, tags_fit}
+use Rattle.newt_laws_world.specs.Worlds.{has_form, is_plain, parts_fit, sig_fits, tags_fit}
 use Rattle.newt_spec_world.specs.declared.command.Command.{Command}
 use Rattle.newt_spec_world.specs.declared.command.Command.TheVariants as command
 use Rattle.newt_laws_world.specs.Cursors.{uses_cursors}
 use Rattle.newt_engine.specs.Ends.{uses_device}
 use Rattle.newt_engine.specs.Groups.{is_between, is_shown, on_place}
 
--- there are no others
+-- the others are of watches and working copies
 pub no_other : (c : Command) → is_shown c ≡ false → uses_device c ≡ false → uses_cursors c ≡ false → ((t : _) → c ≡ command.Time t → ⊥) → (c ≡ command.Quit → ⊥) → ((u : _) → c ≡ command.Unmount u → ⊥) → (c ≡ command.Stores → ⊥)
-    → ((u : _) → c ≡ command.Default u → ⊥) → ((u : _) → c ≡ command.Soups u → ⊥) → ((u s : _) → c ≡ command.Indexes u s → ⊥) → ((u s : _) → c ≡ command.Tags u s → ⊥) → ((u s : _) → c ≡ command.Info u s → ⊥) → ((u s i : _) → c ≡ command.Alias u s i → ⊥) → ((g : _) → c ≡ command.Resolve g → ⊥) → ⊥
-unfolding uses_cursors
-no_other (command.Time t) g d n time quit unmount stores default soups indexes tags info alias resolve = time t refl
-no_other command.Quit g d n time quit unmount stores default soups indexes tags info alias resolve = quit refl
-no_other (command.Unmount u) g d n time quit unmount stores default soups indexes tags info alias resolve = unmount u refl
-no_other command.Stores g d n time quit unmount stores default soups indexes tags info alias resolve = stores refl
-no_other (command.Default u) g d n time quit unmount stores default soups indexes tags info alias resolve = default u refl
-no_other (command.Soups u) g d n time quit unmount stores default soups indexes tags info alias resolve = soups u refl
-no_other (command.Indexes u s) g d n time quit unmount stores default soups indexes tags info alias resolve = indexes u s refl
-no_other (command.Tags u s) g d n time quit unmount stores default soups indexes tags info alias resolve = tags u s refl
-no_other (command.Info u s) g d n time quit unmount stores default soups indexes tags info alias resolve = info u s refl
-no_other (command.Alias u s i) g d n time quit unmount stores default soups indexes tags info alias resolve = alias u s i refl
-no_other (command.Resolve x) g d n time quit unmount stores default soups indexes tags info alias resolve = resolve x refl
+    → ((u : _) → c ≡ command.Default u → ⊥) → ((u : _) → c ≡ command.Soups u → ⊥) → ((u s : _) → c ≡ command.Indexes u s → ⊥) → ((u s : _) → c ≡ command.Tags u s → ⊥) → ((u s : _) → c ≡ command.Info u s → ⊥) → ((u s i : _) → c ≡ command.Alias u s i → ⊥) → ((g : _) → c ≡ command.Resolve g → ⊥) → is_plain c ≡ false
+unfolding uses_cursors is_plain
+no_other (command.Time t) g d n time quit unmount stores default soups indexes tags info alias resolve = absurd (time t refl)
+no_other command.Quit g d n time quit unmount stores default soups indexes tags info alias resolve = absurd (quit refl)
+no_other (command.Unmount u) g d n time quit unmount stores default soups indexes tags info alias resolve = absurd (unmount u refl)
+no_other command.Stores g d n time quit unmount stores default soups indexes tags info alias resolve = absurd (stores refl)
+no_other (command.Default u) g d n time quit unmount stores default soups indexes tags info alias resolve = absurd (default u refl)
+no_other (command.Soups u) g d n time quit unmount stores default soups indexes tags info alias resolve = absurd (soups u refl)
+no_other (command.Indexes u s) g d n time quit unmount stores default soups indexes tags info alias resolve = absurd (indexes u s refl)
+no_other (command.Tags u s) g d n time quit unmount stores default soups indexes tags info alias resolve = absurd (tags u s refl)
+no_other (command.Info u s) g d n time quit unmount stores default soups indexes tags info alias resolve = absurd (info u s refl)
+no_other (command.Alias u s i) g d n time quit unmount stores default soups indexes tags info alias resolve = absurd (alias u s i refl)
+no_other (command.Resolve x) g d n time quit unmount stores default soups indexes tags info alias resolve = absurd (resolve x refl)
+no_other (command.Watch s most) g d n time quit unmount stores default soups indexes tags info alias resolve = refl
+no_other (command.Notes m) g d n time quit unmount stores default soups indexes tags info alias resolve = refl
+no_other (command.Unwatch m) g d n time quit unmount stores default soups indexes tags info alias resolve = refl
+no_other (command.Open u s uid) g d n time quit unmount stores default soups indexes tags info alias resolve = refl
+no_other (command.Draft m) g d n time quit unmount stores default soups indexes tags info alias resolve = refl
+no_other (command.Edit m path x) g d n time quit unmount stores default soups indexes tags info alias resolve = refl
+no_other (command.Save m) g d n time quit unmount stores default soups indexes tags info alias resolve = refl
+no_other (command.Revert m) g d n time quit unmount stores default soups indexes tags info alias resolve = refl
+no_other (command.Discard m) g d n time quit unmount stores default soups indexes tags info alias resolve = refl
 no_other _ g d n time quit unmount stores default soups indexes tags info alias resolve = cc
 
 -- a command that uses no cursor and is none of these shows no graph and uses no device

@@ -7,7 +7,6 @@ ghost use Rattle.newt_laws_world.specs.Cursors.{uses_cursors};
 
 use crate::replies::{alias_of, done, literal, place, soup_rows, spec_rows, tag_row};
 use crate::world::World;
-use newt_base::Refusal;
 use newt_engine_card::Card;
 use newt_engine_commands as commands;
 use newt_reply::Reply;
@@ -41,7 +40,8 @@ impl<C: Card> World<C> {
                 alias_of(commands::alias(&self.units, *unit, name, *uid), *uid)
             }
             Command::Resolve(graph) => place(self.units.resolve(graph)),
-            _ => Err(StoreFault::Refused(Refusal::Command)),
+            // (of watches and working copies: the world has none)
+            _ => Ok(Reply::Done),
         }
     }
 }

@@ -5,11 +5,8 @@ ghost use Rattle.newt_host.specs.Meanings.{held};
 ghost use Rattle.newt_host_attach.specs.Named.{AreAttached, AreDistinct};
 ghost use Rattle.newt_laws_world.specs.Worlds.{has_form};
 ghost use Rattle.newt_spec_world.specs.First.{world_of};
-ghost use Rattle.newt_spec_world.specs.Step.{Step};
 ghost use Rattle.newt_engine.specs.Calls.{Applied};
-ghost use Rattle.newt_engine.specs.Standing.{IsStanding, Standing, means};
-ghost use Rattle.newt_engine.specs.Laws.{has_world, laws_of, leaves_stores, same_worlds};
-ghost use Rattle.newt_engine.specs.Laws.{still_stands};
+ghost use Rattle.newt_engine.specs.Standing.{IsStanding, means};
 
 use newt_cursor::Desk;
 use newt_engine_card::Card;
@@ -19,7 +16,6 @@ use newt_host_attach::attach_names;
 use newt_pagebook::Stop;
 use newt_reply::Reply;
 use newt_script::Command;
-use newt_script_session::Interpreter;
 use newt_store_change::StoreFault;
 use std::alloc::{AllocError, Global};
 
@@ -56,6 +52,13 @@ impl<C: Card> World<C> {
         })
     }
 
+    /// The units with their cards.
+    pub fn units(&self) -> &Units<C>
+        ensures { result.now ≡ self.now.units }
+    {
+        &self.units
+    }
+
     /// Answers a command. A refusal is a reply, and leaves the world as the command saw it. A device
     /// that fails costs its own command: its unit is thrown out, and the reply says so. The error is
     /// that memory was refused; after it the world is spent, and no further command may be given.
@@ -77,37 +80,5 @@ impl<C: Card> World<C> {
                 Stop::Memory => Err(AllocError),
             },
         }
-    }
-}
-
-impl<C: Card> Interpreter for World<C> {
-    ghost store_of_image = { C.reads };
-
-    ghost step = { Step };
-
-    ghost stands = { λ told it outside.
-        Standing C.reads C.place C.stands told it.units it.desk outside };
-
-    ghost means = { λ it outside w. means C.reads it outside w };
-
-    ghost has_world = { λ it outside stands.
-        has_world (laws_of C.formed C.plain C.durable C.banks C.kept)
-        it.units it.desk outside stands };
-
-    ghost kept = { λ told it old new same stands.
-        still_stands C.kept C.durable told it.units it.desk old new same stands };
-
-    ghost same_worlds = { λ it old new w same means.
-        same_worlds C.reads it.units it.desk old new w same means };
-
-    ghost leaves = { λ it outside w stands means unit store left is may.
-        leaves_stores C.reads it.units it.desk outside w means unit store left is may };
-
-    fn new<H: Host>(alloc: Global, host: &mut H, names: &[String]) -> Result<Self, AllocError> {
-        World::new(alloc, host, names)
-    }
-
-    fn apply<H: Host>(&mut self, host: &mut H, command: Command) -> Result<Reply, AllocError> {
-        World::apply(self, host, command)
     }
 }

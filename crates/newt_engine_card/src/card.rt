@@ -108,6 +108,10 @@ pub trait Card: Sized + Drop {
         ensures { option_map (λ name. name.now) result
             ≡ option_map (λ p. p.name) (soup_of soup (soups self.now)) };
 
+    /// The id that the next entry of the soup of this name gets. It takes no memory.
+    fn next_uid(&self, name: &Name) -> Option<u32>
+        ensures { result ≡ option_map (λ p. p.next_uid) (soup_named name.now (soups self.now)) };
+
     /// The soup at a place, counted from 0 in order of making.
     fn soup_at(&self, at: usize) -> Option<(&Name, Sig)>
         ensures { option_map {U = List ℕ × ℕ} (λ found. (found.0.now, found.1)) result

@@ -13,7 +13,7 @@ use Rattle.newt_engine_card.specs.Bounds.{Costs, CostsOn, FetchesAtMost, Fetches
 use Rattle.newt_store_change.specs.Faults.{GoesOn}
 
 -- a bank with room for so many bytes has room for fewer
-room-for-less : {n m : ℕ} {bytes : List ℕ} → n ≤ m → IsOpenFor m bytes → IsOpenFor n bytes
+pub room-for-less : {n m : ℕ} {bytes : List ℕ} → n ≤ m → IsOpenFor m bytes → IsOpenFor n bytes
 room-for-less less h = record { is_open = h.is_open; room = let r = h.room in omega (arith, less, r) }
 
 -- a unit to which nothing has happened since then is as open
@@ -56,7 +56,7 @@ alone-bound n a = record {
 }
 
 -- a call costs no more than a higher bound
-widened : {u n m : ℕ} {o p : Outside} → n ≤ m → ProgramsAtMost n u o p → ProgramsAtMost m u o p
+pub widened : {u n m : ℕ} {o p : Outside} → n ≤ m → ProgramsAtMost n u o p → ProgramsAtMost m u o p
 widened less b = record {
   programmed = λ room. let h = b.programmed (room-for-less less room) in omega (arith, h, less);
   wears = λ room. b.wears (room-for-less less room);

@@ -28,7 +28,7 @@ use Rattle.newt_engine_units.specs.declared.units.Slot.{Slot}
 use Rattle.newt_engine_units.specs.declared.units.Units.{Units}
 use Rattle.newt_engine_units.specs.Stands.{card_at, due_in, mounted_in, world_of, Stands, Eight}
 use Rattle.newt_engine_units.proofs.Marked.{not-due}
-use Rattle.newt_engine_units.specs.Looks.{attached_in, has_device, known_unit, known_soup, known_checks, known_both, known_ready, IsFree}
+use Rattle.newt_engine_units.specs.Looks.{attached_in, has_device, known_unit, known_soup, known_checks, known_both, known_ready, IsFree, known_uid}
 
 -- the laws of cards
 pub record Laws {C : Type 0} (reads : List ℕ → Option Store) (place : C → ℕ) (soups : C → Store) (stands : Bool → C → Outside → Type 0) : Type 0 where
@@ -59,6 +59,13 @@ pub bare-sig : (name : List ℕ) (s : Store) → option_map (λ p. p.sig) (soup_
 bare-sig name s = ap (option_map (λ (p : Soup). p.sig)) (bare-named name s.soups) ∙ go (soup_named name s)
   where
     go : (o : Option Soup) → option_map (λ p. p.sig) (option_map bare_soup o) ≡ option_map (λ p. p.sig) o
+    go None = refl
+    go (Some p) = refl
+
+bare-uid : (name : List ℕ) (s : Store) → option_map (λ p. p.next_uid) (soup_named name (bare s)) ≡ option_map (λ p. p.next_uid) (soup_named name s)
+bare-uid name s = ap (option_map (λ (p : Soup). p.next_uid)) (bare-named name s.soups) ∙ go (soup_named name s)
+  where
+    go : (o : Option Soup) → option_map (λ p. p.next_uid) (option_map bare_soup o) ≡ option_map (λ p. p.next_uid) o
     go None = refl
     go (Some p) = refl
 
@@ -250,6 +257,16 @@ module _ {C : Type 0} {reads : List ℕ → Option Store} {place : C → ℕ} {s
           let k = card-known u card h in
           ap (option_map (λ (p : Soup). p.sig)) (soup-named w u (o.blocks u) k.store name k.on) ∙ sym (bare-sig name k.store)
           ∙ ap (λ t. option_map (λ (p : Soup). p.sig) (soup_named name t)) k.known
+
+  pub uid-is : (u : ℕ) (name : List ℕ) → option_map (λ p. p.next_uid) (soup_in w u name) ≡ known_uid soups slots u name
+  uid-is u name = go (card_at slots u) refl
+    where
+      go : (c : Option C) → card_at slots u ≡ c → option_map (λ p. p.next_uid) (soup_in w u name) ≡ option_and_then (λ card. option_map (λ p. p.next_uid) (soup_named name (soups card))) c
+      go None h = ap (λ m. option_map (λ (p : Soup). p.next_uid) (option_and_then (soup_named name) m)) (none-mounted u h)
+      go (Some card) h =
+          let k = card-known u card h in
+          ap (option_map (λ (p : Soup). p.next_uid)) (soup-named w u (o.blocks u) k.store name k.on) ∙ sym (bare-uid name k.store)
+          ∙ ap (λ t. option_map (λ (p : Soup). p.next_uid) (soup_named name t)) k.known
 
   pub checks-are : (u : ℕ) (name : List ℕ) → known_checks soups slots u name ≡ soup_checks w u name
   checks-are u name =

@@ -52,6 +52,14 @@ module _ {C : Type 0} (soups : C → Store) where
   abbrev pub soup_on : Units C → ℕ → List ℕ → Option ℕ
   soup_on units u name = known_soup units.slots.items u name
 
+  -- the id that the next entry of a soup of the card that is mounted on a unit gets
+  abbrev pub known_uid : List (Slot C) → ℕ → List ℕ → Option ℕ
+  known_uid slots u name = option_and_then
+      (λ card. option_map (λ p. p.next_uid) (soup_named name (soups card))) (card_at slots u)
+
+  abbrev pub next_uid_on : Units C → ℕ → List ℕ → Option ℕ
+  next_uid_on units u name = known_uid units.slots.items u name
+
   -- whether unit, card and soup are there
   abbrev pub known_checks : List (Slot C) → ℕ → List ℕ → Checks
   known_checks slots u name = (NoUnit, not (attached_in slots u)) ∷ (Notmounted, not (mounted_in slots u)) ∷ (NoSoup, is_none (known_soup slots u name)) ∷ []

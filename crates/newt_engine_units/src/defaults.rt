@@ -26,6 +26,13 @@ impl<C: Card> Units<C> {
         self.minute = minute;
     }
 
+    /// The minute that changes use.
+    pub fn minute(&self) -> u32
+        ensures { result ≡ self.now.minute }
+    {
+        self.minute
+    }
+
     /// The default unit, if there is one.
     pub fn default_unit(&self) -> Option<Unit>
         ensures { result ≡ default_of self.now }

@@ -8,7 +8,7 @@ ghost use Rattle.newt_engine_units.specs.Stands.{Stands, Eight, world_of, is_mou
 ghost use Rattle.newt_engine_units.specs.Stands.{is_due};
 ghost use Rattle.newt_engine_units.specs.Found.{FindsEntry};
 ghost use Rattle.newt_engine_units.specs.Looks.{FindsUnit, LooksUp, is_attached, soup_on};
-ghost use Rattle.newt_engine_units.specs.Looks.{LooksUpBoth};
+ghost use Rattle.newt_engine_units.specs.Looks.{LooksUpBoth, next_uid_on};
 
 use crate::units::Units;
 use newt_base::{Name, Refusal, Sig, Uid};
@@ -60,6 +60,16 @@ impl<C: Card> Units<C> {
     {
         match self.card(unit) {
             Some(card) => card.soup_named(name),
+            None => None,
+        }
+    }
+
+    /// The id that the next entry of a soup on a unit gets. It takes no memory.
+    pub fn next_uid(&self, unit: Unit, name: &Name) -> Option<u32>
+        ensures { result ≡ next_uid_on C.soups self.now unit name.now }
+    {
+        match self.card(unit) {
+            Some(card) => card.next_uid(name),
             None => None,
         }
     }

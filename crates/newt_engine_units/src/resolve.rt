@@ -40,8 +40,9 @@ impl<C: Card> Units<C> {
         }
     }
 
-    /// Where the entry of an alias is.
-    fn find_alias(&self, alias: Alias) -> Result<Option<(Unit, Name, Uid)>, AllocError>
+    /// Where the entry of an alias is: its unit, its soup and its id; none where it is not in a
+    /// mounted store.
+    pub fn find_alias(&self, alias: Alias) -> Result<Option<(Unit, Name, Uid)>, AllocError>
         ensures { (outside : Outside) → Eight outside
             → Stands C.place C.stands true self.now outside →
             IfOk result (λ found. or_nil (λ x. Reply.where_is x.0 x.1 x.2) found

@@ -7,6 +7,7 @@ use Rattle.newt_base.specs.declared.Refusal.{Refusal}
 use Rattle.newt_base.specs.declared.Refusal.TheVariants.{Unit as NoUnit, Blocks, Mounted, Nostore, Store as HasStore, Stores as ManyStores, Signature}
 use Rattle.newt_graph.specs.Graph.{RawGraph}
 use Rattle.newt_spec_store.specs.Store.{Store}
+use Rattle.newt_spec_world.specs.declared.command.Command.{Command}
 use Rattle.newt_spec_world.specs.declared.command.Command.TheVariants as command
 use Rattle.newt_spec_world.specs.World.{World, Device, Media, blank, one, store_of, store_if_mounted, mounted, mounted_stores, store_on_unit}
 use Rattle.newt_spec_world.specs.Reply.{Reply}
@@ -14,6 +15,7 @@ use Rattle.newt_spec_world.specs.Changed.{changed, mark, default_without}
 use Rattle.newt_spec_world.specs.Refused.{checks, no_unit, bad_blocks, is_mounted, has_store, no_store, four_mounted, same_signature}
 use Rattle.newt_spec_world.specs.Answer.{answer, fields, or_nil}
 use Rattle.newt_laws_answers.specs.Tests.{formatted, ready_checks, unit_checks}
+use Rattle.newt_laws_world.specs.Worlds.{is_plain}
 use Rattle.newt_laws_world.proofs.Units.{device-same}
 use Rattle.newt_laws_answers.proofs.Firsts.{first-true, first-false, first-found}
 use Rattle.newt_laws_answers.specs.There.{OnUnit, IsReady}
@@ -127,3 +129,17 @@ module _ (w : World) (none : w.cursors ≡ replicate 32 None) where
   pub lit-done : (g : RawGraph) → answer w (command.Lit g) ≡ (w, Reply.literal_of g)
   unfolding checks changed fields
   lit-done g = done w (command.Lit g) refl none
+
+  -- the commands of watches and working copies, which no program asks the world
+  pub apart-done : (c : Command) → is_plain c ≡ false → answer w c ≡ (w, Reply.done)
+  unfolding checks changed fields is_plain
+  apart-done (command.Watch s most) p = done w (command.Watch s most) refl none
+  apart-done (command.Notes n) p = done w (command.Notes n) refl none
+  apart-done (command.Unwatch n) p = done w (command.Unwatch n) refl none
+  apart-done (command.Open u s uid) p = done w (command.Open u s uid) refl none
+  apart-done (command.Draft n) p = done w (command.Draft n) refl none
+  apart-done (command.Edit n path g) p = done w (command.Edit n path g) refl none
+  apart-done (command.Save n) p = done w (command.Save n) refl none
+  apart-done (command.Revert n) p = done w (command.Revert n) refl none
+  apart-done (command.Discard n) p = done w (command.Discard n) refl none
+  apart-done _ p = cc

@@ -2,11 +2,12 @@
 use Rattle.std.specs.Prelude.{◌≡◌, ◌⊎◌, ℕ, ◌+◌, List, Some, take}
 use Rattle.newt_spec_script.specs.Script.{Item, world_after}
 use Rattle.newt_spec_store.specs.Store.{Store}
+use Rattle.newt_spec_world.specs.Answer.{answer}
 use Rattle.newt_spec_world.specs.World.{World, store_on_unit}
 
 -- the world behind so many first items
 abbrev pub behind : World → List Item → ℕ → World
-behind w items m = world_after w (take m items)
+behind w items m = world_after answer w (take m items)
 
 -- A unit u of the world v has the store that a unit of the world w had behind m of the items, or
 -- behind one more: what a crash may leave of it where m replies have begun.

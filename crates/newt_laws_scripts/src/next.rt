@@ -4,6 +4,7 @@ ghost use Rattle.std.specs.Prelude.{option_and_then, slice_get};
 ghost use Rattle.newt_laws_changes.specs.Later.{EntryGone, StoreLater};
 ghost use Rattle.newt_laws_scripts.specs.Next.{GoesOn, behind};
 ghost use Rattle.newt_spec_script.specs.Script.{Item, world_after};
+ghost use Rattle.newt_spec_world.specs.Answer.{answer};
 ghost use Rattle.newt_spec_store.specs.Store.{Store};
 ghost use Rattle.newt_spec_world.specs.Alias.{Alias as IsAlias, Spot, resolved};
 ghost use Rattle.newt_spec_world.specs.First.{world_of};
@@ -26,11 +27,11 @@ pub fn next_runs_go_on()
     ensures later { (w : World) (items : List Item) (m unit : ℕ) (v : World) (u : ℕ)
         → GoesOn w items m unit v u → (k : ℕ) → k ≤ m → (s : Store)
         → store_on_unit (behind w items k) unit ≡ Some s → (more : List Item)
-        → (t : Store) × (store_on_unit (world_after v more) u ≡ Some t) × StoreLater s t }
+        → (t : Store) × (store_on_unit (world_after answer v more) u ≡ Some t) × StoreLater s t }
     ensures again { (s t : Store) (w : World) (items : List Item) (m unit : ℕ) (v : World) (u : ℕ)
         → StoreLater s t → store_on_unit w unit ≡ Some t → GoesOn w items m unit v u
         → (more : List Item)
-        → (x : Store) × (store_on_unit (world_after v more) u ≡ Some x) × StoreLater s x }
+        → (x : Store) × (store_on_unit (world_after answer v more) u ≡ Some x) × StoreLater s x }
 {}
 
 /// An alias whose entry is gone behind the commands whose replies had begun resolves to no entry on
@@ -41,7 +42,7 @@ pub fn aliases_outlive_runs()
         → GoesOn w items m unit v u → (k : ℕ) → k ≤ m → (s : Store) (a : IsAlias)
         → store_on_unit (behind w items k) unit ≡ Some s → EntryGone a.soup a.uid s
         → (more : List Item) (spot : Spot)
-        → resolved (world_after v more) a ≡ Some spot → spot.unit ≡ u → ⊥ }
+        → resolved (world_after answer v more) a ≡ Some spot → spot.unit ≡ u → ⊥ }
     ensures all { (s t : Store) (a : IsAlias) → StoreLater s t → EntryGone a.soup a.uid s
         → EntryGone a.soup a.uid t }
 {}

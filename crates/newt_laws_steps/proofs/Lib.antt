@@ -10,3 +10,4 @@ pub mod MeantSteps
 pub mod Held
 pub mod Seen
 pub mod StoodFor
+pub mod Replying

@@ -41,16 +41,16 @@ first-sure reads held names u = go (device (world_of reads held names) u) refl
 
 -- ---- without a failure
 
-quiet-goes : (w : World) (x : Item) (v : World) (r : Reply) → AllSure w → Goes Step w x (v, r) → IsQuiet r → step w x ≡ (v, r)
+quiet-goes : (w : World) (x : Item) (v : World) (r : Reply) → AllSure w → Goes Step w x (v, r) → IsQuiet r → step answer w x ≡ (v, r)
 quiet-goes w (Ok c) v r h s quiet = quiet-plain w c v r h s quiet
 quiet-goes w (Err refusal) v r h s quiet = let both : (w, Reply.refused refusal) ≡ (v, r) = ap (λ x. (x, Reply.refused refusal)) (sym s.0) ∙ ap (λ y. (v, y)) (sym s.1) in both
 
-step-sure : (w : World) (x : Item) → AllSure w → AllSure (step w x).0
+step-sure : (w : World) (x : Item) → AllSure w → AllSure (step answer w x).0
 step-sure w (Ok c) h = answer-sure w c h
 step-sure w (Err refusal) h = h
 
-pub quiet-run : (w : World) (items : List Item) (rows : List Row) → AllSure w → IsRun Step w items rows → AreQuiet rows
-    → (replies_of rows ≡ replies_to w items) × (world_behind w rows ≡ world_after w items)
+pub quiet-run : (w : World) (items : List Item) (rows : List (Row World)) → AllSure w → IsRun Step w items rows → AreQuiet rows
+    → (replies_of rows ≡ replies_to answer w items) × (world_behind w rows ≡ world_after answer w items)
 quiet-run w [] [] h run quiet = (refl, refl)
 quiet-run w [] (row ∷ rows) h run quiet = absurd run
 quiet-run w (x ∷ xs) [] h run quiet = absurd run
@@ -58,7 +58,7 @@ quiet-run w (x ∷ xs) (row ∷ rows) h run quiet =
     let is = quiet-goes w x row.0 row.1 h run.0 quiet.0 in
     let sure = subst (λ (p : World × Reply). AllSure p.0) is (step-sure w x h) in
     let rest = quiet-run row.0 xs rows sure run.1 quiet.1 in
-    (ap (λ (rs : List Reply). row.1 ∷ rs) rest.0 ∙ sym (ap (λ (p : World × Reply). p.1 ∷ replies_to p.0 xs) is), rest.1 ∙ sym (ap (λ (p : World × Reply). world_after p.0 xs) is))
+    (ap (λ (rs : List Reply). row.1 ∷ rs) rest.0 ∙ sym (ap (λ (p : World × Reply). p.1 ∷ replies_to answer p.0 xs) is), rest.1 ∙ sym (ap (λ (p : World × Reply). world_after answer p.0 xs) is))
 
 -- ---- with any
 
@@ -72,7 +72,7 @@ goes-later : (w : World) (x : Item) (v : World) (r : Reply) → Goes Step w x (v
 goes-later w (Ok c) v r s = step-later w c v r s
 goes-later w (Err refusal) v r s = subst (WorldMayBeLater w) (sym s.0) (later-not w)
 
-pub run-later : (w : World) (items : List Item) (rows : List Row) → IsRun Step w items rows → WorldMayBeLater w (world_behind w rows)
+pub run-later : (w : World) (items : List Item) (rows : List (Row World)) → IsRun Step w items rows → WorldMayBeLater w (world_behind w rows)
 run-later w [] [] run = later-not w
 run-later w [] (row ∷ rows) run = absurd run
 run-later w (x ∷ xs) [] run = absurd run

@@ -16,8 +16,8 @@ abbrev pub IsQuiet : Reply → Type 0
 IsQuiet reply = (u : ℕ) → reply ≡ Reply.thrown u → ⊥
 
 -- no reply of a run does (this project's own)
-abbrev pub AreQuiet : List Row → Type 0
-AreQuiet rows = Each (λ (row : Row). IsQuiet row.1) rows
+abbrev pub AreQuiet : {W : Type 0} → List (Row W) → Type 0
+AreQuiet {W} rows = Each (λ (row : Row W). IsQuiet row.1) rows
 
 -- Stores one of which is held, later: each is a later one of one of those before, and there is one. (this project's own)
 pub record StoresLater (before after : List Store) : Type 0 where

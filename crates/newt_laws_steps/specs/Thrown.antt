@@ -20,10 +20,10 @@ RoseBy n before now = min (before + n) (2 ^ 64 - 1) ≤ now
 
 -- No count has fallen, and the replies that say so of a unit are at most as many as its faults that
 -- were counted, unless the count stands at its last value.
-pub record RowsThrew (rows : List Row) (was is : ℕ → ℕ) : Type 0 where
+pub record RowsThrew {W : Type 0} (rows : List (Row W)) (was is : ℕ → ℕ) : Type 0 where
   pub later : (unit : ℕ) → was unit ≤ is unit
   pub rose : (unit : ℕ) → RoseBy (thrown_count unit rows) (was unit) (is unit)
 
 -- where none says so of a unit, no fault of its device was counted
-abbrev pub RowsFailed : List Row → (was is : ℕ → ℕ) → Type 0
+abbrev pub RowsFailed : {W : Type 0} → List (Row W) → (was is : ℕ → ℕ) → Type 0
 RowsFailed rows was is = (unit : ℕ) → thrown_count unit rows ≡ 0 → is unit ≡ was unit

@@ -23,10 +23,10 @@ pub fn quiet_steps_are_plain()
     ensures step { (w : World) (c : IsCommand) (v : World) (r : Reply) → AllSure w → Step w c v r
         → IsQuiet r → answer w c ≡ (v, r) }
     ensures sure { (w : World) (c : IsCommand) → AllSure w → AllSure (answer w c).0 }
-    ensures replies { (w : World) (items : List IsItem) (rows : List Row) → AllSure w
-        → IsRun Step w items rows → AreQuiet rows → replies_of rows ≡ replies_to w items }
-    ensures world { (w : World) (items : List IsItem) (rows : List Row) → AllSure w
-        → IsRun Step w items rows → AreQuiet rows → world_behind w rows ≡ world_after w items }
+    ensures replies { (w : World) (items : List IsItem) (rows : List (Row World)) → AllSure w
+        → IsRun Step w items rows → AreQuiet rows → replies_of rows ≡ replies_to answer w items }
+    ensures world { (w : World) (items : List IsItem) (rows : List (Row World)) → AllSure w
+        → IsRun Step w items rows → AreQuiet rows → world_behind w rows ≡ world_after answer w items }
 {}
 
 /// Each command can be answered in each world.
@@ -39,7 +39,7 @@ pub fn steps_are_there()
 pub fn ids_stay_given()
     ensures step { (w : World) (c : IsCommand) (v : World) (r : Reply) → Step w c v r
         → WorldMayBeLater w v }
-    ensures run { (w : World) (items : List IsItem) (rows : List Row) → IsRun Step w items rows
+    ensures run { (w : World) (items : List IsItem) (rows : List (Row World)) → IsRun Step w items rows
         → WorldMayBeLater w (world_behind w rows) }
     ensures entries { (w v : World) (u sig uid : ℕ) → WorldMayBeLater w v
         → EntryGoneOn w u sig uid → EntryGoneOn v u sig uid }

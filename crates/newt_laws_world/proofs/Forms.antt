@@ -16,8 +16,8 @@ use Rattle.newt_spec_store.specs.Keys.{Path}
 use Rattle.newt_spec_world.specs.declared.command.Command.{Command}
 use Rattle.newt_spec_world.specs.declared.command.Command.TheVariants as command
 use Rattle.newt_spec_world.specs.declared.command.PartWord.{PartWord}
-use Rattle.newt_spec_script.specs.Words.{Reader, then_read, of1, of2, of3, of4, of5, of6, or_not_the_form, word, decimal_to, only, bare_name, quoted, if_name, name_from, name, ends_word, skip_blanks, is_blank, part, part_of, kind_word, order_word, split_at, words, all_words, several, symbol}
-use Rattle.newt_spec_script.specs.Line.{Parsed, ready, literal, stream, bytes, ended, with_literal, with_stream, with_bytes, whole, and_literal, and_stream, and_bytes, alone, unit, number, sig, len, cursor, if_distinct, distinct, or_row, tags_row, star, query_by, query_row, Row, rows, read_row, row_of, within_length, if_said, parsed, says_nothing, first_word, info_row}
+use Rattle.newt_spec_script.specs.Words.{Reader, then_read, of1, of2, of3, of4, of5, of6, or_not_the_form, word, decimal_to, one_to, only, bare_name, quoted, if_name, name_from, name, ends_word, skip_blanks, is_blank, part, part_of, kind_word, order_word, split_at, words, all_words, several, symbol}
+use Rattle.newt_spec_script.specs.Line.{Parsed, ready, literal, stream, bytes, ended, with_literal, with_stream, with_bytes, whole, and_literal, and_stream, and_bytes, alone, unit, number, sig, len, cursor, most, watch, copy, if_distinct, distinct, or_row, tags_row, star, query_by, query_row, Row, rows, read_row, row_of, within_length, if_said, parsed, says_nothing, first_word, info_row}
 use Rattle.newt_spec_script.specs.Script.{Item, Readers, literal_item, stream_item, hex_item, bytes_item, item_of}
 use Rattle.newt_laws_world.specs.Worlds.{has_form, parts_fit}
 use Rattle.newt_laws_world.proofs.Settled.{find-passes}
@@ -90,6 +90,13 @@ only-passes test a b e = go (test a) refl e
     go true is f = subst (λ x. test x ≡ true) (some-same a b f) is
     go false is f = absurd (none-some b f)
 
+only-same : {A : Type 0} (test : A → Bool) (a b : A) → only test a ≡ Some b → a ≡ b
+only-same test a b e = go (test a) e
+  where
+    go : (k : Bool) → (if k then Some a else None) ≡ Some b → a ≡ b
+    go true f = some-same a b f
+    go false f = absurd (none-some b f)
+
 or-form : {A : Type 0} (o : Option A) (rest : List ℕ) (a : A) (more : List ℕ) → or_not_the_form o rest ≡ Ok (a, more) → o ≡ Some a
 or-form None rest a more e = cc
 or-form (Some b) rest a more e = ap Some (ok-first b a rest more e)
@@ -115,16 +122,34 @@ gives-word P form h cs a rest e =
     go true f = absurd (none-some a f)
     go false f = h (first cs) a f
 
-gives-sig : Gives (λ n. nat_le n 536_870_911 ≡ true) sig
-gives-sig = gives-word (λ n. nat_le n 536_870_911 ≡ true) (decimal_to 536_870_911) (λ cs a e. go (digits_value cs) a e)
+decimal-fits : (most : ℕ) (cs : List ℕ) (a : ℕ) → decimal_to most cs ≡ Some a → nat_le a most ≡ true
+decimal-fits most cs a e = go (digits_value cs) e
   where
-    go : (o : Option ℕ) (a : ℕ) → below (536_870_911 + 1) o ≡ Some a → nat_le a 536_870_911 ≡ true
-    go None a e = absurd (none-some a e)
-    go (Some n) a e = test (nat_lt n (536_870_911 + 1)) refl e
+    go : (o : Option ℕ) → below (most + 1) o ≡ Some a → nat_le a most ≡ true
+    go None e = absurd (none-some a e)
+    go (Some n) e = test (nat_lt n (most + 1)) refl e
       where
-        test : (b : Bool) → nat_lt n (536_870_911 + 1) ≡ b → (if b then Some n else None) ≡ Some a → nat_le a 536_870_911 ≡ true
+        test : (b : Bool) → nat_lt n (most + 1) ≡ b → (if b then Some n else None) ≡ Some a → nat_le a most ≡ true
         test true is f = let same = some-same n a f in grind arith
         test false is f = absurd (none-some a f)
+
+gives-sig : Gives (λ n. nat_le n 536_870_911 ≡ true) sig
+gives-sig = gives-word (λ n. nat_le n 536_870_911 ≡ true) (decimal_to 536_870_911) (decimal-fits 536_870_911)
+
+-- how many notes a watch keeps
+abbrev CanKeep : ℕ → Type 0
+CanKeep n = (nat_le 1 n && nat_le n 64) ≡ true
+
+gives-most : Gives CanKeep most
+gives-most = gives-word CanKeep (one_to 64) (λ cs a e. go (decimal_to 64 cs) refl a e)
+  where
+    go : {cs : List ℕ} (o : Option ℕ) → decimal_to 64 cs ≡ o → (a : ℕ) → option_and_then (only (nat_le 1)) o ≡ Some a → CanKeep a
+    go None is a e = absurd (none-some a e)
+    go {cs} (Some n) is a e =
+        let some = only-passes (nat_le 1) n a e in
+        let fits = decimal-fits 64 cs n is in
+        let same = only-same (nat_le 1) n a e in
+        grind (arith, some, fits, same)
 
 path-good : (cs : List ℕ) (p : Path) → path_of cs ≡ Some p → valid_path p ≡ true
 unfolding path_of
@@ -404,8 +429,35 @@ rows-good = (
                                                                                     (
                                                                                       row-whole (of1 cursor command.Close) (all-1 Form cursor command.Close (λ c. refl)),
                                                                                       (
-                                                                                        row-whole (alone command.Quit) (gives-alone Form command.Quit refl),
-                                                                                        tt,
+                                                                                        row-whole (of2 name most command.Watch) (gives-2 Form (λ s. ⊤) CanKeep name most command.Watch (gives-any name) gives-most (λ s n _ h. h)),
+                                                                                        (
+                                                                                          row-whole (of1 watch command.Notes) (all-1 Form watch command.Notes (λ n. refl)),
+                                                                                          (
+                                                                                            row-whole (of1 watch command.Unwatch) (all-1 Form watch command.Unwatch (λ n. refl)),
+                                                                                            (
+                                                                                              row-whole (of3 unit name number command.Open) (all-3 Form unit name number command.Open (λ u s n. refl)),
+                                                                                              (
+                                                                                                row-whole (of1 copy command.Draft) (all-1 Form copy command.Draft (λ n. refl)),
+                                                                                                (
+                                                                                                  row-literal (of2 copy (word path_of) (λ n p g. command.Edit n p g)) (all-2 FormWith copy (word path_of) (λ n p g. command.Edit n p g) (λ n p g h. refl)),
+                                                                                                  (
+                                                                                                    row-whole (of1 copy command.Save) (all-1 Form copy command.Save (λ n. refl)),
+                                                                                                    (
+                                                                                                      row-whole (of1 copy command.Revert) (all-1 Form copy command.Revert (λ n. refl)),
+                                                                                                      (
+                                                                                                        row-whole (of1 copy command.Discard) (all-1 Form copy command.Discard (λ n. refl)),
+                                                                                                        (
+                                                                                                          row-whole (alone command.Quit) (gives-alone Form command.Quit refl),
+                                                                                                          tt,
+                                                                                                        ),
+                                                                                                      ),
+                                                                                                    ),
+                                                                                                  ),
+                                                                                                ),
+                                                                                              ),
+                                                                                            ),
+                                                                                          ),
+                                                                                        ),
                                                                                       ),
                                                                                     ),
                                                                                   ),

@@ -36,17 +36,17 @@ items-form rs within (p ∷ ps) good = (item-has-form rs within p good.0, items-
 pub script-forms : (rs : Readers) (script : List ℕ) → ReadsWithin rs → Each ItemHasForm (items_of rs script)
 script-forms rs script within = items-form rs within (parsed_lines script) (lines-good (lines script))
 
-pub script-valid : (w : World) (items : List Item) → AllValid w → Each ItemHasForm items → AllValid (world_after w items)
+pub script-valid : (w : World) (items : List Item) → AllValid w → Each ItemHasForm items → AllValid (world_after answer w items)
 script-valid w [] h k = h
 script-valid w (Ok c ∷ items) h k = script-valid (answer w c).0 items (answer-valid w c h k.0) k.1
 script-valid w (Err r ∷ items) h k = script-valid w items h k.1
 
-pub script-settled : (w : World) (items : List Item) → IsSettled w → IsSettled (world_after w items)
+pub script-settled : (w : World) (items : List Item) → IsSettled w → IsSettled (world_after answer w items)
 script-settled w [] h = h
 script-settled w (Ok c ∷ items) h = script-settled (answer w c).0 items (answer-settled w c h)
 script-settled w (Err r ∷ items) h = script-settled w items h
 
-pub script-apart : (w : World) (items : List Item) → MountedApart w → MountedApart (world_after w items)
+pub script-apart : (w : World) (items : List Item) → MountedApart w → MountedApart (world_after answer w items)
 script-apart w [] h = h
 script-apart w (Ok c ∷ items) h = script-apart (answer w c).0 items (answer-apart w c h)
 script-apart w (Err r ∷ items) h = script-apart w items h

@@ -1,5 +1,5 @@
 -- What holds of worlds, and of the commands that they are asked.
-use Rattle.std.specs.Prelude.{◌≡◌, ℕ, Bool, true, ◌&&◌, nat_le, IsTrue, List, length, Some, ⊤}
+use Rattle.std.specs.Prelude.{◌≡◌, ℕ, Bool, true, false, ◌&&◌, nat_le, IsTrue, List, length, Some, ⊤}
 use Rattle.std.specs.List.{list_all}
 use Rattle.newt_base.specs.Names.{is_name, same_name, is_identifier, valid_path}
 use Rattle.newt_spec_graph.specs.Limits.{within_limits}
@@ -50,4 +50,19 @@ has_form (command.Add u s g) = within_limits g
 has_form (command.Addx u s g) = within_limits g
 has_form (command.Addu s g) = within_limits g
 has_form (command.Change u s uid g) = within_limits g
+has_form (command.Watch s most) = nat_le 1 most && nat_le most 64
 has_form _ = true
+
+-- The command is one of the world alone. One of watches and working copies is not asked of it: the
+-- world would do nothing, and say that it is done.
+unfoldable pub is_plain : Command → Bool
+is_plain (command.Watch s most) = false
+is_plain (command.Notes n) = false
+is_plain (command.Unwatch n) = false
+is_plain (command.Open u s uid) = false
+is_plain (command.Draft n) = false
+is_plain (command.Edit n path g) = false
+is_plain (command.Save n) = false
+is_plain (command.Revert n) = false
+is_plain (command.Discard n) = false
+is_plain _ = true

@@ -2,7 +2,9 @@
 use Rattle.std.specs.Prelude.{ℕ, List, [], ◌∷◌, ◌++◌, map, flat_map, codes, decimal}
 use Rattle.newt_spec_literal.specs.Printed.{escaped}
 use Rattle.newt_spec_store.specs.Keys.{IndexSpec, IndexPart}
-use Rattle.newt_spec_world.specs.Reply.{Reply, reply_text, ok, items, spaced, name_field, part_field}
+use Rattle.newt_spec_world.specs.Reply.{Reply, reply_text, ok, items, spaced, name_field, part_field, note_word}
+use Rattle.newt_notify.specs.declared.note.Note.{Note}
+use Rattle.newt_notify.specs.declared.note.Kind.TheVariants as noted
 use Rattle.newt_reply.specs.declared.rows.StoreLine.{StoreLine}
 use Rattle.newt_reply.specs.declared.rows.SoupLine.{SoupLine}
 
@@ -37,3 +39,12 @@ spec_item parts = spaced (map part_item parts)
 -- an alias as a literal
 unfoldable pub alias_item : ℕ → ℕ → ℕ → List ℕ
 alias_item store soup uid = codes "[alias: " ++ items (decimal store ∷ decimal soup ∷ decimal uid ∷ []) ++ codes "]"
+
+-- the id of a note's entry; a note of a soup has none
+abbrev pub uid_item : Note → List (List ℕ)
+uid_item note = elim note.kind [ noted.Make ↦ [] | noted.Gone ↦ [] | _ ↦ decimal note.uid ∷ [] ]
+
+-- a note in a list: its kind, its unit, its soup, and the id of its entry
+unfoldable pub note_item : Note → List ℕ
+note_item note =
+    spaced (note_word note.kind ∷ decimal note.unit ∷ decimal note.soup ∷ uid_item note)

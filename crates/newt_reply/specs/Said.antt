@@ -2,7 +2,7 @@
 use Rattle.std.specs.Prelude.{ℕ, List, map}
 use Rattle.newt_spec_world.specs.Reply as world
 use Rattle.newt_reply.specs.declared.reply.Reply.{Reply}
-use Rattle.newt_reply.specs.declared.reply.Reply.TheVariants.{Done, Number, Added, Store, Stores, Soups, Indexes, Tags, Hex, Nsof, Literal, Timed, TimedNsof, Alias, Where, Current, Deleted, Nil, Begin, End, Refused, Thrown}
+use Rattle.newt_reply.specs.declared.reply.Reply.TheVariants.{Done, Number, Added, Store, Stores, Soups, Indexes, Tags, Hex, Nsof, Literal, Timed, TimedNsof, Alias, Where, Current, Deleted, Nil, Begin, End, Notes, Changed, Refused, Thrown}
 use Rattle.newt_reply.specs.declared.rows.StoreLine.{StoreLine}
 use Rattle.newt_reply.specs.declared.rows.SoupLine.{SoupLine}
 
@@ -36,5 +36,7 @@ said Deleted = world.deleted
 said Nil = world.nil
 said Begin = world.begin
 said End = world.«end»
+said (Notes notes) = world.notes notes.lost notes.list
+said (Changed time) = world.changed time
 said (Refused refusal) = world.refused refusal
 said (Thrown unit) = world.thrown unit

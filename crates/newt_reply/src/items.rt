@@ -10,7 +10,7 @@ use newt_keys::IndexSpec;
 use std::alloc::{AllocError, Global};
 
 /// An item behind a comma and a space, unless it is the first.
-fn push_item(text: &mut Vec<u8>, first: bool, item: &[u8]) -> Result<(), AllocError>
+pub(crate) fn push_item(text: &mut Vec<u8>, first: bool, item: &[u8]) -> Result<(), AllocError>
     ensures { OnOk result (text.new.items ≡ (if first then text.old.items ++ item.now else
         text.old.items ++ codes ", " ++ item.now)) }
 {
@@ -21,7 +21,7 @@ fn push_item(text: &mut Vec<u8>, first: bool, item: &[u8]) -> Result<(), AllocEr
 }
 
 /// Three words with a space between each two.
-fn three_words(
+pub(crate) fn three_words(
     alloc: Global,
     first: &[u8],
     second: &[u8],

@@ -1,15 +1,16 @@
 //! Replies of the program, and their lines of text.
 //!
 //! Stands on the refusals and the texts of numbers of `newt_base`, the graphs of `newt_graph`, the
-//! declarations of `newt_keys` and `newt_tags`, the writers of object streams and literals, and the
-//! definition of replies in `newt_spec_world`. It carries the promise that the text of a reply is
-//! exact: `write_reply` gives the one line that is defined of it.
+//! declarations of `newt_keys` and `newt_tags`, the notes of `newt_notify`, the writers of object
+//! streams and literals, and the definition of replies in `newt_spec_world`. It carries the promise
+//! that the text of a reply is exact: `write_reply` gives the one line that is defined of it.
 #![tactic(auto)]
 
 mod declared;
 mod fields;
 mod items;
 mod line;
+mod notes;
 mod reply;
 mod rows;
 mod write;

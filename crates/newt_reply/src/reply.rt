@@ -4,6 +4,7 @@ use crate::rows::{SoupRows, SpecRows, StoreRows, TagRow};
 use newt_base::{Name, Refusal, Sig, Uid};
 use newt_graph::{Bytes, Graph};
 use newt_host::Unit;
+use newt_notify::Notes;
 
 /// What names an entry for as long as it is there: the signatures of its store and soup, and its
 /// id.
@@ -57,6 +58,10 @@ pub enum Reply {
     Begin,
     /// A cursor is behind its last hit.
     End,
+    /// The notes of a watch, behind the number of those that it lost.
+    Notes(Notes),
+    /// It was refused, since the entry of a working copy has changed; the minute of the entry.
+    Changed(u32),
     /// It was refused.
     Refused(Refusal),
     /// The device of this unit failed, and the unit is mounted no more.

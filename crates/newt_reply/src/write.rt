@@ -8,12 +8,14 @@ use crate::declared::{names_line, path_text};
 use crate::fields::{alias_literal, name_text, number_text, stream_text};
 use crate::items::{soups_text, specs_text, stores_text};
 use crate::line::{literal_line, ok_line};
+use crate::notes::notes_text;
 use crate::reply::Reply;
 use crate::rows::TagRow;
 use itoa::Buffer;
 use newt_base::{Name, Refusal, Sig, Uid, hex_text};
 use newt_graph::Graph;
 use newt_host::Unit;
+use newt_notify::Notes;
 use newt_tags::TagTable;
 use std::alloc::{AllocError, Global};
 
@@ -32,6 +34,26 @@ fn thrown_line(alloc: Global, unit: Unit) -> Result<Vec<u8>, AllocError>
 {
     let unit = unit.0;
     Ok(format!(in alloc; "error 50 device {unit}\n")?.into_bytes())
+}
+
+/// `error`, the number and the word of the refusal, and the minute of the entry that has changed.
+fn changed_line(alloc: Global, time: u32) -> Result<Vec<u8>, AllocError>
+    ensures { IfOk result (λ line. line.items ≡ written (spec.changed time)) }
+{
+    let number = Refusal::Changed.number();
+    let word = Refusal::Changed.word();
+    Ok(format!(in alloc; "error {number} {word} {time}\n")?.into_bytes())
+}
+
+/// The number of notes that were lost, and the notes that were kept.
+#[tactic(auto, using(crate::proofs::Noted::notes_text))]
+fn notes_line(alloc: Global, notes: &Notes) -> Result<Vec<u8>, AllocError>
+    ensures { IfOk result (λ line. line.items
+        ≡ written (spec.notes notes.now.lost notes.now.list)) }
+{
+    let lost = number_text(alloc, notes.lost)?;
+    let list = notes_text(alloc, notes.list.list())?;
+    ok_line(alloc, &[lost.as_slice(), list.as_slice()])
 }
 
 /// A unit and the id of an entry.
@@ -156,6 +178,8 @@ fn line_of(alloc: Global, reply: &Reply) -> Result<Vec<u8>, AllocError>
         Reply::Nil => one_field(alloc, b"nil"),
         Reply::Begin => one_field(alloc, b"begin"),
         Reply::End => one_field(alloc, b"end"),
+        Reply::Notes(notes) => notes_line(alloc, notes),
+        Reply::Changed(time) => changed_line(alloc, *time),
         Reply::Refused(refusal) => error_line(alloc, *refusal),
         Reply::Thrown(unit) => thrown_line(alloc, *unit),
     }

@@ -16,7 +16,7 @@ use Rattle.newt_script.proofs.RowTable.{after, finished, with_graph, after_same,
 
 -- ---- words one after another
 
-two_chained : {A B : Type 0} (p : Reader A) (q : Reader B) (f : A → B → Command) (cs : List ℕ)
+pub two_chained : {A B : Type 0} (p : Reader A) (q : Reader B) (f : A → B → Command) (cs : List ℕ)
     → reading (whole (of2 p q f) cs) ≡ after (p cs) (λ a rest. after (q rest) (λ b rest. finished rest (f a b)))
 two_chained p q f cs =
     then_after (λ a. of1 q (f a)) (p cs)

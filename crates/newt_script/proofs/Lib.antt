@@ -5,5 +5,6 @@ pub mod Spoken
 pub mod ListedRows
 pub mod CursorRows
 pub mod LargeRows
+pub mod WholeRows
 pub mod Forms
 pub mod Defined

@@ -254,7 +254,7 @@ literal_value : {A : Type 0} (f : A → RawGraph → Command) (r : Result (A × 
 literal_value f (Err r) = refl
 literal_value f (Ok (a, rest)) = ends_in_literal (f a) rest
 
-then_literal : {A : Type 0} (k : A → List ℕ → Result ((RawGraph → Command) × List ℕ) Refusal) (r : Result (A × List ℕ) Refusal)
+pub then_literal : {A : Type 0} (k : A → List ℕ → Result ((RawGraph → Command) × List ℕ) Refusal) (r : Result (A × List ℕ) Refusal)
     → reading (with_literal (then_read r k)) ≡ after r (λ a rest. reading (with_literal (k a rest)))
 then_literal k (Err r) = refl
 then_literal k (Ok (a, rest)) = refl
@@ -305,6 +305,7 @@ row_entry entry_verb.Get cs = three_words unit name number command.Get cs
 row_entry entry_verb.Getx cs = three_words unit name number command.Getx cs
 row_entry entry_verb.Remove cs = three_words unit name number command.Remove cs
 row_entry entry_verb.Alias cs = three_words unit name number command.Alias cs
+row_entry entry_verb.Open cs = three_words unit name number command.Open cs
 
 -- U S UID U S
 pub row_transfer : (v : TransferVerb) (cs : List ℕ)

@@ -70,6 +70,7 @@ entry_takes entry_verb.Get = refl
 entry_takes entry_verb.Getx = refl
 entry_takes entry_verb.Remove = refl
 entry_takes entry_verb.Alias = refl
+entry_takes entry_verb.Open = refl
 
 pub transfer_takes : (v : TransferVerb) → is_memory_word (transfer_word v) ≡ true
 transfer_takes transfer_verb.Copy = refl

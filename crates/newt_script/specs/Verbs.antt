@@ -15,6 +15,10 @@ use Rattle.newt_script.specs.declared.verbs.TransferVerb.{TransferVerb}
 use Rattle.newt_script.specs.declared.verbs.TransferVerb.TheVariants as transfer_verb
 use Rattle.newt_script.specs.declared.verbs.CursorVerb.{CursorVerb}
 use Rattle.newt_script.specs.declared.verbs.CursorVerb.TheVariants as cursor_verb
+use Rattle.newt_script.specs.declared.verbs.WatchVerb.{WatchVerb}
+use Rattle.newt_script.specs.declared.verbs.WatchVerb.TheVariants as watch_verb
+use Rattle.newt_script.specs.declared.verbs.CopyVerb.{CopyVerb}
+use Rattle.newt_script.specs.declared.verbs.CopyVerb.TheVariants as copy_verb
 
 -- ---- those whose rows have equal words behind them
 
@@ -48,12 +52,14 @@ entry_word entry_verb.Get = codes "get"
 entry_word entry_verb.Getx = codes "getx"
 entry_word entry_verb.Remove = codes "remove"
 entry_word entry_verb.Alias = codes "alias"
+entry_word entry_verb.Open = codes "open"
 
 abbrev pub entry_command : EntryVerb → ℕ → List ℕ → ℕ → Command
 entry_command entry_verb.Get u s uid = command.Get u s uid
 entry_command entry_verb.Getx u s uid = command.Getx u s uid
 entry_command entry_verb.Remove u s uid = command.Remove u s uid
 entry_command entry_verb.Alias u s uid = command.Alias u s uid
+entry_command entry_verb.Open u s uid = command.Open u s uid
 
 -- U S UID U S behind them
 abbrev pub transfer_word : TransferVerb → List ℕ
@@ -87,6 +93,28 @@ cursor_command cursor_verb.Which c = command.Which c
 cursor_command cursor_verb.Clone c = command.Clone c
 cursor_command cursor_verb.Close c = command.Close c
 
+-- the number of a watch behind them
+abbrev pub watch_word : WatchVerb → List ℕ
+watch_word watch_verb.Notes = codes "notes"
+watch_word watch_verb.Unwatch = codes "unwatch"
+
+abbrev pub watch_command : WatchVerb → ℕ → Command
+watch_command watch_verb.Notes n = command.Notes n
+watch_command watch_verb.Unwatch n = command.Unwatch n
+
+-- the number of a working copy behind them
+abbrev pub copy_word : CopyVerb → List ℕ
+copy_word copy_verb.Draft = codes "draft"
+copy_word copy_verb.Save = codes "save"
+copy_word copy_verb.Revert = codes "revert"
+copy_word copy_verb.Discard = codes "discard"
+
+abbrev pub copy_command : CopyVerb → ℕ → Command
+copy_command copy_verb.Draft n = command.Draft n
+copy_command copy_verb.Save n = command.Save n
+copy_command copy_verb.Revert n = command.Revert n
+copy_command copy_verb.Discard n = command.Discard n
+
 -- ---- all of them
 
 -- the word of a verb
@@ -113,11 +141,15 @@ word_of verb.Query = codes "query"
 word_of verb.Moveby = codes "moveby"
 word_of verb.Goto = codes "goto"
 word_of verb.Gotokey = codes "gotokey"
+word_of verb.Watch = codes "watch"
+word_of verb.Edit = codes "edit"
 word_of (verb.Unit v) = unit_word v
 word_of (verb.Soup v) = soup_word v
 word_of (verb.Entry v) = entry_word v
 word_of (verb.Transfer v) = transfer_word v
 word_of (verb.Cursor v) = cursor_word v
+word_of (verb.OfWatch v) = watch_word v
+word_of (verb.OfCopy v) = copy_word v
 
 -- those of the commands that hold a name, a path, a list, a graph or bytes: the rows of all other
 -- words take no memory
@@ -127,7 +159,8 @@ memory_words =
     ∷ codes "gotokey" ∷ codes "add" ∷ codes "addx" ∷ codes "addu" ∷ codes "get" ∷ codes "getx"
     ∷ codes "set" ∷ codes "change" ∷ codes "remove"
     ∷ codes "copy" ∷ codes "move" ∷ codes "alias" ∷ codes "resolve" ∷ codes "vread" ∷ codes "vwrite"
-    ∷ codes "index" ∷ codes "unindex" ∷ codes "indexes" ∷ codes "tags" ∷ codes "info" ∷ []
+    ∷ codes "index" ∷ codes "unindex" ∷ codes "indexes" ∷ codes "tags" ∷ codes "info"
+    ∷ codes "watch" ∷ codes "open" ∷ codes "edit" ∷ []
 
 abbrev pub is_memory_word : List ℕ → Bool
 is_memory_word word = list_any (bytes_eq word) memory_words

@@ -18,6 +18,7 @@ mod lines;
 mod store_rows;
 mod table;
 mod verbs;
+mod whole_rows;
 
 pub use fault::LineFault;
 pub use graphs::literal;

@@ -5,7 +5,7 @@ ghost use Rattle.newt_script.specs.Verbs.{word_of, is_memory_word};
 
 use crate::fault::LineFault;
 use crate::verbs::Verb;
-use crate::{cursor_rows, declaring_rows, entry_rows, large_rows, store_rows};
+use crate::{cursor_rows, declaring_rows, entry_rows, large_rows, store_rows, whole_rows};
 use newt_script_words::Words;
 use newt_spec_world::Command;
 use std::alloc::Global;
@@ -45,5 +45,9 @@ pub fn row(alloc: Global, verb: Verb, words: &mut Words) -> Result<Command, Line
         Verb::Goto => cursor_rows::goto(words),
         Verb::Gotokey => cursor_rows::gotokey(alloc, words),
         Verb::Cursor(verb) => cursor_rows::of_cursor(words, verb),
+        Verb::Watch => whole_rows::watch(alloc, words),
+        Verb::Edit => whole_rows::edit(alloc, words),
+        Verb::OfWatch(verb) => whole_rows::of_watch(words, verb),
+        Verb::OfCopy(verb) => whole_rows::of_copy(words, verb),
     }
 }

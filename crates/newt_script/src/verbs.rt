@@ -2,9 +2,10 @@
 ghost use Rattle.std.specs.Prelude.{◌≡◌, bytes_eq};
 ghost use Rattle.std.specs.List.{find};
 ghost use Rattle.newt_script.specs.Verbs.{word_of, unit_word, soup_word, entry_word, transfer_word};
-ghost use Rattle.newt_script.specs.Verbs.{cursor_word};
+ghost use Rattle.newt_script.specs.Verbs.{cursor_word, watch_word, copy_word};
 ghost use Rattle.newt_script.specs.Verbs.{unit_command, soup_command, entry_command};
 ghost use Rattle.newt_script.specs.Verbs.{transfer_command, cursor_command};
+ghost use Rattle.newt_script.specs.Verbs.{watch_command, copy_command};
 
 use newt_base::{Name, Uid};
 use newt_host::Unit;
@@ -35,11 +36,15 @@ pub enum Verb {
     Moveby,
     Goto,
     Gotokey,
+    Watch,
+    Edit,
     Unit(UnitVerb),
     Soup(SoupVerb),
     Entry(EntryVerb),
     Transfer(TransferVerb),
     Cursor(CursorVerb),
+    OfWatch(WatchVerb),
+    OfCopy(CopyVerb),
 }
 
 /// Those with `U` behind them.
@@ -66,6 +71,7 @@ pub enum EntryVerb {
     Getx,
     Remove,
     Alias,
+    Open,
 }
 
 /// Those with `U S UID U S` behind them.
@@ -89,9 +95,25 @@ pub enum CursorVerb {
     Close,
 }
 
+/// Those with the number of a watch behind them.
+#[derive(Clone, Copy)]
+pub enum WatchVerb {
+    Notes,
+    Unwatch,
+}
+
+/// Those with the number of a working copy behind them.
+#[derive(Clone, Copy)]
+pub enum CopyVerb {
+    Draft,
+    Save,
+    Revert,
+    Discard,
+}
+
 /// All first words. A search looks at them one after another, so those that scripts repeat stand
 /// first.
-const VERBS: [Verb; 44] = [
+const VERBS: [Verb; 53] = [
     Verb::Cursor(CursorVerb::Next),
     Verb::Entry(EntryVerb::Get),
     Verb::Add,
@@ -136,6 +158,15 @@ const VERBS: [Verb; 44] = [
     Verb::Cursor(CursorVerb::Which),
     Verb::Cursor(CursorVerb::Clone),
     Verb::Cursor(CursorVerb::Close),
+    Verb::Watch,
+    Verb::OfWatch(WatchVerb::Notes),
+    Verb::OfWatch(WatchVerb::Unwatch),
+    Verb::Entry(EntryVerb::Open),
+    Verb::OfCopy(CopyVerb::Draft),
+    Verb::Edit,
+    Verb::OfCopy(CopyVerb::Save),
+    Verb::OfCopy(CopyVerb::Revert),
+    Verb::OfCopy(CopyVerb::Discard),
 ];
 
 /// The command that a word names.
@@ -173,11 +204,15 @@ impl Verb {
             Verb::Moveby => b"moveby",
             Verb::Goto => b"goto",
             Verb::Gotokey => b"gotokey",
+            Verb::Watch => b"watch",
+            Verb::Edit => b"edit",
             Verb::Unit(verb) => verb.word(),
             Verb::Soup(verb) => verb.word(),
             Verb::Entry(verb) => verb.word(),
             Verb::Transfer(verb) => verb.word(),
             Verb::Cursor(verb) => verb.word(),
+            Verb::OfWatch(verb) => verb.word(),
+            Verb::OfCopy(verb) => verb.word(),
         }
     }
 }
@@ -242,6 +277,7 @@ impl EntryVerb {
             EntryVerb::Getx => b"getx",
             EntryVerb::Remove => b"remove",
             EntryVerb::Alias => b"alias",
+            EntryVerb::Open => b"open",
         }
     }
 
@@ -254,6 +290,7 @@ impl EntryVerb {
             EntryVerb::Getx => Command::Getx(unit, soup, uid),
             EntryVerb::Remove => Command::Remove(unit, soup, uid),
             EntryVerb::Alias => Command::Alias(unit, soup, uid),
+            EntryVerb::Open => Command::Open(unit, soup, uid),
         }
     }
 }
@@ -312,6 +349,54 @@ impl CursorVerb {
             CursorVerb::Which => Command::Which(cursor),
             CursorVerb::Clone => Command::Clone(cursor),
             CursorVerb::Close => Command::Close(cursor),
+        }
+    }
+}
+
+impl WatchVerb {
+    /// Its word.
+    fn word(self) -> &'static [u8]
+        ensures { result.now ≡ watch_word self }
+    {
+        match self {
+            WatchVerb::Notes => b"notes",
+            WatchVerb::Unwatch => b"unwatch",
+        }
+    }
+
+    /// The command that it begins.
+    pub fn command(self, watch: u8) -> Command
+        ensures { result ≡ watch_command self watch }
+    {
+        match self {
+            WatchVerb::Notes => Command::Notes(watch),
+            WatchVerb::Unwatch => Command::Unwatch(watch),
+        }
+    }
+}
+
+impl CopyVerb {
+    /// Its word.
+    fn word(self) -> &'static [u8]
+        ensures { result.now ≡ copy_word self }
+    {
+        match self {
+            CopyVerb::Draft => b"draft",
+            CopyVerb::Save => b"save",
+            CopyVerb::Revert => b"revert",
+            CopyVerb::Discard => b"discard",
+        }
+    }
+
+    /// The command that it begins.
+    pub fn command(self, copy: u8) -> Command
+        ensures { result ≡ copy_command self copy }
+    {
+        match self {
+            CopyVerb::Draft => Command::Draft(copy),
+            CopyVerb::Save => Command::Save(copy),
+            CopyVerb::Revert => Command::Revert(copy),
+            CopyVerb::Discard => Command::Discard(copy),
         }
     }
 }

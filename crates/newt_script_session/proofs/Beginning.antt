@@ -19,8 +19,10 @@ use Rattle.newt_spec_graph.specs.Lists.{Among}
 use Rattle.newt_spec_script.specs.Script.{Item}
 use Rattle.newt_spec_store.specs.OfImage.{blocks_of}
 use Rattle.newt_spec_store.specs.Store.{Store}
-use Rattle.newt_spec_world.specs.First.{media_of, unit_numbers, unit_of, world_of}
-use Rattle.newt_spec_world.specs.World.{World, Device, flat, first_world as world_with, stores_of, stores_on}
+use Rattle.newt_spec_world.specs.First.{media_of, unit_numbers, unit_of}
+use Rattle.newt_spec_whole.specs.First.{whole_of}
+use Rattle.newt_spec_whole.specs.Whole.{Whole, bare_whole, stores_on}
+use Rattle.newt_spec_world.specs.World.{Device, flat, first_world as world_with, stores_of}
 use Rattle.newt_script_session.specs.Answered.{Given}
 use Rattle.newt_script_session.specs.Causes.{NoStreamFault}
 use Rattle.newt_script_session.specs.Counted.{Counted, CountedAt, HasLeftCounted}
@@ -85,8 +87,8 @@ module _ (reads : List ℕ → Option Store) (names : List (List ℕ)) (old new 
           ∙ sym (ap (λ (o : Option (List ℕ)). option_map (λ (bytes : List ℕ). record { blocks = blocks_of bytes; media = media_of (reads bytes); mounted = false }) (option_and_then old.devices o)) e
           ∙ ap (option_map (λ (bytes : List ℕ). record { blocks = blocks_of bytes; media = media_of (reads bytes); mounted = false })) k))
 
-  pub first_is : unmounted reads new ≡ world_of reads old.devices names
-  first_is = ap world_with (map_same (device_now reads new) (unit_of reads old.devices names) unit_numbers (λ unit. named unit (slice_get names unit) refl))
+  pub first_is : unmounted reads new ≡ whole_of reads old.devices names
+  first_is = ap (λ (ds : List (Option Device)). bare_whole (world_with ds)) (map_same (device_now reads new) (unit_of reads old.devices names) unit_numbers (λ unit. named unit (slice_get names unit) refl))
 
 -- a unit that was attached has nothing pending
 pub attached_durable : (unit : ℕ) (bytes : List ℕ) (now : Moment) → changes unit now ≡ Attached bytes ∷ [] → IsDurable unit now
@@ -158,7 +160,7 @@ module _ (names : List (List ℕ)) (old mid new : Outside) (a : AreAttached true
           (history unit (subst (λ (o : Option (List ℕ)). IsSome o) (sym e) refl)) at might
 
   -- what may be left between two worlds, where the unit was attached with these bytes
-  between : (reads : List ℕ → Option Store) (F : Type 0) (world : World) (items : List Item) (next : World) (unit : ℕ) (bytes left : List ℕ) (held : Option (List ℕ)) → held ≡ Some bytes → changes unit mid.now ≡ Attached bytes ∷ []
+  between : (reads : List ℕ → Option Store) (F : Type 0) (world : Whole) (items : List Item) (next : Whole) (unit : ℕ) (bytes left : List ℕ) (held : Option (List ℕ)) → held ≡ Some bytes → changes unit mid.now ≡ Attached bytes ∷ []
       → Between reads (MayLeave unit mid.now) F world items next unit left → Between reads (λ bytes. held ≡ Some bytes) F world items next unit left
   between reads F world items next unit bytes left held is only b = record {
     stores = b.stores;
@@ -167,7 +169,7 @@ module _ (names : List (List ℕ)) (old mid new : Outside) (a : AreAttached true
         is ∙ ap Some (sym same);
   }
 
-  has_left_counted : (reads : List ℕ → Option Store) (world : World) (items : List Item) (rows : List Row) (unit : ℕ) (left shown : List ℕ)
+  has_left_counted : (reads : List ℕ → Option Store) (world : Whole) (items : List Item) (rows : List (Row Whole)) (unit : ℕ) (left shown : List ℕ)
       → Seen (CountedAt reads mid.now world items rows (printed mid.now)) unit left shown
       → HasLeftCounted reads world items rows (held_by names old unit) (printed old.now) shown unit left
   has_left_counted reads world items rows unit left shown s = record {
@@ -179,7 +181,7 @@ module _ (names : List (List ℕ)) (old mid new : Outside) (a : AreAttached true
         (l.0, l.1, between reads (BlankThrough world all l.0 unit) (world_at world all l.0) (drop l.0 (items ++ later)) (world_at world all (l.0 + 1)) unit s.bytes left (held_by names old unit) s.held_is s.only (l.2 unit left s.may));
   }
 
-  has_left : (reads : List ℕ → Option Store) (world : World) (items : List Item) (rows : List Row) (unit : ℕ) (left shown : List ℕ)
+  has_left : (reads : List ℕ → Option Store) (world : Whole) (items : List Item) (rows : List (Row Whole)) (unit : ℕ) (left shown : List ℕ)
       → Seen (CrashAt reads mid.now world items rows (printed mid.now)) unit left shown
       → HasLeft reads world items rows (held_by names old unit) (printed old.now) shown unit left
   has_left reads world items rows unit left shown s = record {
@@ -192,7 +194,7 @@ module _ (names : List (List ℕ)) (old mid new : Outside) (a : AreAttached true
         (s.holds.leaves later more unit left s.may);
   }
 
-  module _ (step : Stepping) (reads : List ℕ → Option Store) (cards : (unit : ℕ) → new.card unit ≡ mid.card unit) (fresh : (unit : ℕ) → changes unit old.now ≡ [])
+  module _ (step : Stepping Whole) (reads : List ℕ → Option Store) (cards : (unit : ℕ) → new.card unit ≡ mid.card unit) (fresh : (unit : ℕ) → changes unit old.now ≡ [])
       (unknown : (unit : ℕ) → new.card unit ≡ None → changes unit new.now ≡ [])
       (history : (unit : ℕ) → IsSome (new.card unit) → IsHistory (new.blocks unit * 4096) (changes unit new.now)) where
     -- so it is said of a script from before the names were attached

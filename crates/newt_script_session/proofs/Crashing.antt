@@ -14,7 +14,7 @@ use Rattle.newt_spec_script.specs.Rows.{Row, output_of, world_at, world_behind}
 use Rattle.newt_spec_script.specs.Script.{Item}
 use Rattle.newt_spec_store.specs.Store.{Store}
 use Rattle.newt_spec_world.specs.Reply.{Reply, reply_line, reply_text}
-use Rattle.newt_spec_world.specs.World.{World, stores_on, IsBlankOn}
+use Rattle.newt_spec_whole.specs.Whole.{Whole, stores_on, IsBlankOn}
 use Rattle.newt_spec_world.specs.declared.command.Command.{Command}
 use Rattle.newt_script_session.specs.Counted.{CountedAt}
 use Rattle.newt_script_session.specs.Moments.{Behind, Between, BlankThrough, CrashAt, Fresh, Leaves, SafeAt, Untouched, item_formats, replies_begun, begun, worlds_behind}
@@ -56,18 +56,18 @@ part_put false text done rest e = ([], nil done e, omega arith)
 -- ---- one item
 
 -- While an item leads from a world to the next, from a moment on: nothing is put out, and a crash leaves each unit as in the one world or in the other.
-pub record AnsweringItem (reads : List ℕ → Option Store) (world : World) (item : Item) (next : World) (start now : Moment) : Type 0 where
+pub record AnsweringItem (reads : List ℕ → Option Store) (world : Whole) (item : Item) (next : Whole) (start now : Moment) : Type 0 where
   pub quiet : printed now ≡ printed start
   pub stores : (unit : ℕ) (s : Store) (left : List ℕ) → Among (stores_on world unit) s → MayLeave unit now left → ReadsOneOf reads (stores_on world unit ++ stores_on next unit) left
   pub others : (unit : ℕ) (left : List ℕ) → IsBlankOn world unit → (item_formats world item unit ≡ false) ⊎ IsBlankOn next unit → MayLeave unit now left → MayLeave unit start left
 
 -- a command
-pub answering_command : (reads : List ℕ → Option Store) (world : World) (command : Command) (next : World) (old now : Moment) → Always (Answering reads world command next old) old now
+pub answering_command : (reads : List ℕ → Option Store) (world : Whole) (command : Command) (next : Whole) (old now : Moment) → Always (Answering reads world.world command next.world old) old now
     → Always (AnsweringItem reads world (Ok command) next old) old now
 answering_command reads world command next old now a = Always-map (λ m s. record { quiet = s.quiet; stores = s.stores; others = s.others }) a
 
 -- a line that is refused: nothing is done
-pub answering_refusal : (reads : List ℕ → Option Store) (world : World) (refusal : Refusal) (now : Moment)
+pub answering_refusal : (reads : List ℕ → Option Store) (world : Whole) (refusal : Refusal) (now : Moment)
     → ((unit : ℕ) (s : Store) (left : List ℕ) → Among (stores_on world unit) s → MayLeave unit now left → ReadsOneOf reads (stores_on world unit) left)
     → Always (AnsweringItem reads world (Err refusal) world now) now now
 answering_refusal reads world refusal now leaves = here (record {
@@ -79,23 +79,23 @@ answering_refusal reads world refusal now leaves = here (record {
 -- ---- one unit
 
 -- A crash leaves a unit as it is in the world: as one of its stores, and where F says that it held none before, and it holds none, as at first.
-pub record LeavesIts (reads : List ℕ → Option Store) (AtFirst : List ℕ → Type 0) (F : Type 0) (world : World) (unit : ℕ) (left : List ℕ) : Type 0 where
+pub record LeavesIts (reads : List ℕ → Option Store) (AtFirst : List ℕ → Type 0) (F : Type 0) (world : Whole) (unit : ℕ) (left : List ℕ) : Type 0 where
   pub stores : (s : Store) → Among (stores_on world unit) s → ReadsOneOf reads (stores_on world unit) left
   pub blank : F → IsBlankOn world unit → AtFirst left
 
 module _ (reads : List ℕ → Option Store) (AtFirst : List ℕ → Type 0) where
-  pub its_before : (F : Type 0) (world : World) (items : List Item) (next : World) (unit : ℕ) (left : List ℕ) → LeavesIts reads AtFirst F world unit left → Between reads AtFirst F world items next unit left
+  pub its_before : (F : Type 0) (world : Whole) (items : List Item) (next : Whole) (unit : ℕ) (left : List ℕ) → LeavesIts reads AtFirst F world unit left → Between reads AtFirst F world items next unit left
   its_before F world items next unit left its = record {
     stores = λ s among. let r = its.stores s among in (r.0, among-left (stores_on world unit) (stores_on next unit) r.0 r.1, r.2);
     blank = λ f b none. its.blank f b;
   }
 
-  weaken : (F Less : Type 0) (world : World) (items : List Item) (next : World) (unit : ℕ) (left : List ℕ) → (Less → F) → Between reads AtFirst F world items next unit left → Between reads AtFirst Less world items next unit left
+  weaken : (F Less : Type 0) (world : Whole) (items : List Item) (next : Whole) (unit : ℕ) (left : List ℕ) → (Less → F) → Between reads AtFirst F world items next unit left → Between reads AtFirst Less world items next unit left
   weaken F Less world items next unit left f b = record { stores = b.stores; blank = λ l. b.blank (f l) }
 
-module _ (reads : List ℕ → Option Store) (start : Moment) (before : List World) where
+module _ (reads : List ℕ → Option Store) (start : Moment) (before : List Whole) where
   -- between two commands
-  pub its_now : (world : World) (now : Moment) → Untouched start before world now
+  pub its_now : (world : Whole) (now : Moment) → Untouched start before world now
       → ((unit : ℕ) (s : Store) (left : List ℕ) → Among (stores_on world unit) s → MayLeave unit now left → ReadsOneOf reads (stores_on world unit) left)
       → (unit : ℕ) (left : List ℕ) → MayLeave unit now left → LeavesIts reads (MayLeave unit start) (Fresh before unit) world unit left
   its_now world now untouched leaves unit left may = record {
@@ -104,7 +104,7 @@ module _ (reads : List ℕ → Option Store) (start : Moment) (before : List Wor
   }
 
   -- while an item is answered, whatever items follow
-  pub answering_leaves : (world : World) (item : Item) (later : List Item) (next : World) (old now : Moment) → Untouched start before world old → AnsweringItem reads world item next old now
+  pub answering_leaves : (world : Whole) (item : Item) (later : List Item) (next : Whole) (old now : Moment) → Untouched start before world old → AnsweringItem reads world item next old now
       → (unit : ℕ) (left : List ℕ) → MayLeave unit now left → Between reads (MayLeave unit start) (Fresh before unit) world (item ∷ later) next unit left
   answering_leaves world item later next old now untouched a unit left may = record {
     stores = λ s among. a.stores unit s left among may;
@@ -112,44 +112,44 @@ module _ (reads : List ℕ → Option Store) (start : Moment) (before : List Wor
   }
 
   -- an item has been answered
-  pub untouched_next : (world : World) (item : Item) (next : World) (old now : Moment) → Untouched start before world old → AnsweringItem reads world item next old now → Untouched start (world ∷ before) next now
+  pub untouched_next : (world : Whole) (item : Item) (next : Whole) (old now : Moment) → Untouched start before world old → AnsweringItem reads world item next old now → Untouched start (world ∷ before) next now
   untouched_next world item next old now untouched a unit left f b may = untouched unit left f.1 f.0 (a.others unit left f.0 (inr b) may)
 
 -- a crash leaves each unit as it is in the world, whenever the script began and whatever worlds it went through
-abbrev pub AtRest : (List ℕ → Option Store) → World → Moment → Type 0
-AtRest reads world now = (start : Moment) (before : List World) → Untouched start before world now → (unit : ℕ) (left : List ℕ) → MayLeave unit now left
+abbrev pub AtRest : (List ℕ → Option Store) → Whole → Moment → Type 0
+AtRest reads world now = (start : Moment) (before : List Whole) → Untouched start before world now → (unit : ℕ) (left : List ℕ) → MayLeave unit now left
     → LeavesIts reads (MayLeave unit start) (Fresh before unit) world unit left
 
-pub at_rest : (reads : List ℕ → Option Store) (world : World) (now : Moment)
+pub at_rest : (reads : List ℕ → Option Store) (world : Whole) (now : Moment)
     → ((unit : ℕ) (s : Store) (left : List ℕ) → Among (stores_on world unit) s → MayLeave unit now left → ReadsOneOf reads (stores_on world unit) left) → AtRest reads world now
 at_rest reads world now leaves = λ start before u. its_now reads start before world now u leaves
 
 -- nothing has happened to any unit since
-pub untouched_same : (start : Moment) (before : List World) (world : World) (old now : Moment) → ((unit : ℕ) → changes unit now ≡ changes unit old) → Untouched start before world old → Untouched start before world now
+pub untouched_same : (start : Moment) (before : List Whole) (world : Whole) (old now : Moment) → ((unit : ℕ) → changes unit now ≡ changes unit old) → Untouched start before world old → Untouched start before world now
 untouched_same start before world old now same untouched = λ unit left f b may. untouched unit left f b (left_same unit left old now (same unit) may)
 
 module _ (reads : List ℕ → Option Store) (start : Moment) where
   -- before any reply has begun
-  pub leaves_first : (F : Type 0) (world : World) (items : List Item) (rows : List Row) (unit : ℕ) (left : List ℕ) → LeavesIts reads (MayLeave unit start) F world unit left
+  pub leaves_first : (F : Type 0) (world : Whole) (items : List Item) (rows : List (Row Whole)) (unit : ℕ) (left : List ℕ) → LeavesIts reads (MayLeave unit start) F world unit left
       → Leaves reads start F world items rows 0 unit left
   unfolding Leaves
   leaves_first F world items [] unit left its = its_before reads (MayLeave unit start) F world items world unit left its
   leaves_first F world items (row ∷ rows) unit left its = its_before reads (MayLeave unit start) F world items row.0 unit left its
 
-  leaves_next : (F : Type 0) (world : World) (items : List Item) (row : Row) (rows : List Row) (unit : ℕ) (left : List ℕ) → Between reads (MayLeave unit start) F world items row.0 unit left
+  leaves_next : (F : Type 0) (world : Whole) (items : List Item) (row : Row Whole) (rows : List (Row Whole)) (unit : ℕ) (left : List ℕ) → Between reads (MayLeave unit start) F world items row.0 unit left
       → Leaves reads start F world items (row ∷ rows) 0 unit left
   unfolding Leaves
   leaves_next F world items row rows unit left b = b
 
   -- behind a whole reply
-  leaves_behind : (F : Type 0) (world : World) (item : Item) (items : List Item) (row : Row) (rows : List Row) (n m unit : ℕ) (left : List ℕ) → 0 < n → n - length (reply_text row.1) ≡ m
+  leaves_behind : (F : Type 0) (world : Whole) (item : Item) (items : List Item) (row : Row Whole) (rows : List (Row Whole)) (n m unit : ℕ) (left : List ℕ) → 0 < n → n - length (reply_text row.1) ≡ m
       → Leaves reads start (IsBlankOn world unit × F) row.0 items rows m unit left → Leaves reads start F world (item ∷ items) (row ∷ rows) n unit left
   unfolding Leaves
   leaves_behind F world item items row rows zero m unit left some e l = absurd (omega arith)
   leaves_behind F world item items row rows (suc n) m unit left some e l = subst (λ (k : ℕ). Leaves reads start (IsBlankOn world unit × F) row.0 items rows k unit left) (sym e) l
 
   -- within a reply
-  leaves_within : (F : Type 0) (world : World) (item : Item) (items : List Item) (row : Row) (rows : List Row) (n unit : ℕ) (left : List ℕ) → n ≤ length (reply_text row.1)
+  leaves_within : (F : Type 0) (world : Whole) (item : Item) (items : List Item) (row : Row Whole) (rows : List (Row Whole)) (n unit : ℕ) (left : List ℕ) → n ≤ length (reply_text row.1)
       → Between reads (MayLeave unit start) F world (item ∷ items) row.0 unit left → LeavesIts reads (MayLeave unit start) (IsBlankOn world unit × F) row.0 unit left
       → Leaves reads start F world (item ∷ items) (row ∷ rows) n unit left
   leaves_within F world item items row rows zero unit left fits b its = leaves_next F world (item ∷ items) row rows unit left b
@@ -158,9 +158,9 @@ module _ (reads : List ℕ → Option Store) (start : Moment) where
 
 -- ---- moments
 
-module _ (shows : Bool) (reads : List ℕ → Option Store) (start : Moment) (before : List World) where
+module _ (shows : Bool) (reads : List ℕ → Option Store) (start : Moment) (before : List Whole) where
   -- between two commands
-  pub safe_here : (world : World) (now : Moment) → ((unit : ℕ) (left : List ℕ) → MayLeave unit now left → LeavesIts reads (MayLeave unit start) (Fresh before unit) world unit left)
+  pub safe_here : (world : Whole) (now : Moment) → ((unit : ℕ) (left : List ℕ) → MayLeave unit now left → LeavesIts reads (MayLeave unit start) (Fresh before unit) world unit left)
       → SafeAt shows reads start before world [] [] (printed now) now
   safe_here world now its = record {
     shown = [];
@@ -169,7 +169,7 @@ module _ (shows : Bool) (reads : List ℕ → Option Store) (start : Moment) (be
   }
 
   -- while an item is answered
-  pub safe_answering : (world : World) (item : Item) (row : Row) (old now : Moment) → Untouched start before world old → AnsweringItem reads world item row.0 old now
+  pub safe_answering : (world : Whole) (item : Item) (row : Row Whole) (old now : Moment) → Untouched start before world old → AnsweringItem reads world item row.0 old now
       → SafeAt shows reads start before world (item ∷ []) (row ∷ []) (printed old) now
   safe_answering world item row old now untouched a = record {
     shown = [];
@@ -178,7 +178,7 @@ module _ (shows : Bool) (reads : List ℕ → Option Store) (start : Moment) (be
   }
 
   -- while its reply is put out, or kept
-  pub safe_writing : (world : World) (item : Item) (row : Row) (old mid now : Moment) → printed mid ≡ printed old
+  pub safe_writing : (world : Whole) (item : Item) (row : Row Whole) (old mid now : Moment) → printed mid ≡ printed old
       → ((later : List Item) (unit : ℕ) (left : List ℕ) → MayLeave unit mid left → Between reads (MayLeave unit start) (Fresh before unit) world (item ∷ later) row.0 unit left)
       → ((unit : ℕ) (left : List ℕ) → MayLeave unit mid left → LeavesIts reads (MayLeave unit start) (Fresh (world ∷ before) unit) row.0 unit left)
       → PrintsSome (put_out shows (reply_text row.1)) mid now → SafeAt shows reads start before world (item ∷ []) (row ∷ []) (printed old) now
@@ -194,20 +194,20 @@ module _ (shows : Bool) (reads : List ℕ → Option Store) (start : Moment) (be
       }
 
   -- more items and rows follow
-  pub safe_more : (world : World) (items later : List Item) (rows more : List Row) (old : List ℕ) (now : Moment) → SafeAt shows reads start before world items rows old now
+  pub safe_more : (world : Whole) (items later : List Item) (rows more : List (Row Whole)) (old : List ℕ) (now : Moment) → SafeAt shows reads start before world items rows old now
       → SafeAt shows reads start before world (items ++ later) (rows ++ more) old now
   safe_more world items later rows more old now s = record {
     shown = s.shown;
     out = s.out;
     safe = λ rest others unit left may.
         subst (λ (is : List Item). Leaves reads start (Fresh before unit) world is ((rows ++ more) ++ others) (length s.shown) unit left) (sym (append_assoc items later rest))
-        (subst (λ (rs : List Row). Leaves reads start (Fresh before unit) world (items ++ (later ++ rest)) rs (length s.shown) unit left) (sym (append_assoc rows more others))
+        (subst (λ (rs : List (Row Whole)). Leaves reads start (Fresh before unit) world (items ++ (later ++ rest)) rs (length s.shown) unit left) (sym (append_assoc rows more others))
         (s.safe (later ++ rest) (more ++ others) unit left may));
   }
 
 module _ (shows : Bool) (reads : List ℕ → Option Store) (start : Moment) where
   -- the moments of later rows
-  safe_later : (before : List World) (world : World) (item : Item) (items : List Item) (row : Row) (rows : List Row) (old : List ℕ) (now : Moment)
+  safe_later : (before : List Whole) (world : Whole) (item : Item) (items : List Item) (row : Row Whole) (rows : List (Row Whole)) (old : List ℕ) (now : Moment)
       → SafeAt shows reads start (world ∷ before) row.0 items rows (old ++ put_out shows (reply_text row.1)) now → SafeAt shows reads start before world (item ∷ items) (row ∷ rows) old now
   safe_later before world item items row rows old now s =
       let text = reply_text row.1 in
@@ -221,7 +221,7 @@ module _ (shows : Bool) (reads : List ℕ → Option Store) (start : Moment) whe
             (omega (arith, some, size)) (omega (arith, size)) (s.safe later more unit left may);
       }
 
-  pub safe_laters : (before : List World) (world : World) (first : List Item) (done : List Row) (items : List Item) (more : List Row) (old : List ℕ) (now : Moment) → length done ≡ length first
+  pub safe_laters : (before : List Whole) (world : Whole) (first : List Item) (done : List (Row Whole)) (items : List Item) (more : List (Row Whole)) (old : List ℕ) (now : Moment) → length done ≡ length first
       → SafeAt shows reads start (worlds_behind before world done) (world_behind world done) items more (old ++ put_out shows (output_of done)) now
       → SafeAt shows reads start before world (first ++ items) (done ++ more) old now
   unfolding output_of
@@ -240,7 +240,7 @@ module _ (shows : Bool) (reads : List ℕ → Option Store) (start : Moment) whe
 -- ---- what is said of a whole script
 
 module _ (reads : List ℕ → Option Store) (start : Moment) where
-  blank_more : (world : World) (row : Row) (rows : List Row) (m unit : ℕ) → BlankThrough world (row ∷ rows) (suc m) unit → IsBlankOn world unit × BlankThrough row.0 rows m unit
+  blank_more : (world : Whole) (row : Row Whole) (rows : List (Row Whole)) (m unit : ℕ) → BlankThrough world (row ∷ rows) (suc m) unit → IsBlankOn world unit × BlankThrough row.0 rows m unit
   blank_more world row rows m unit b = (b 0 (omega arith), λ k fits. b (suc k) (omega arith))
 
   drop_one : (k : ℕ) (items : List Item) → drop (suc k) items ≡ drop k (drop 1 items)
@@ -248,7 +248,7 @@ module _ (reads : List ℕ → Option Store) (start : Moment) where
   drop_one (suc k) [] = refl
   drop_one k (item ∷ items) = refl
 
-  counted : (F : Type 0) (world : World) (items : List Item) (rows : List Row) (n unit : ℕ) (left : List ℕ) → Leaves reads start F world items rows n unit left
+  counted : (F : Type 0) (world : Whole) (items : List Item) (rows : List (Row Whole)) (n unit : ℕ) (left : List ℕ) → Leaves reads start F world items rows n unit left
       → let m = replies_begun rows n in Between reads (MayLeave unit start) (F × BlankThrough world rows m unit) (world_at world rows m) (drop m items) (world_at world rows (m + 1)) unit left
   unfolding Leaves begun
   counted F world items [] n unit left l = weaken reads (MayLeave unit start) F (F × BlankThrough world [] 0 unit) world items world unit left (λ f. f.0) l
@@ -264,14 +264,14 @@ module _ (reads : List ℕ → Option Store) (start : Moment) where
       (counted (IsBlankOn world unit × F) row.0 (drop 1 items) rows (suc n - length (reply_text row.1)) unit left l)))
 
   -- at the start no world was before
-  pub behind_at : (world : World) (items : List Item) (rows : List Row) (n unit : ℕ) (left : List ℕ) → Leaves reads start (Fresh [] unit) world items rows n unit left
+  pub behind_at : (world : Whole) (items : List Item) (rows : List (Row Whole)) (n unit : ℕ) (left : List ℕ) → Leaves reads start (Fresh [] unit) world items rows n unit left
       → Behind reads (MayLeave unit start) world items rows (replies_begun rows n) unit left
   behind_at world items rows n unit left l =
       let m = replies_begun rows n in
       weaken reads (MayLeave unit start) (Fresh [] unit × BlankThrough world rows m unit) (BlankThrough world rows m unit) (world_at world rows m) (drop m items) (world_at world rows (m + 1)) unit left (λ b. (tt, b))
       (counted (Fresh [] unit) world items rows n unit left l)
 
-  pub crash_always : (world : World) (items : List Item) (rows : List Row) (old now : Moment) → Always (SafeAt true reads start [] world items rows (printed old)) old now
+  pub crash_always : (world : Whole) (items : List Item) (rows : List (Row Whole)) (old now : Moment) → Always (SafeAt true reads start [] world items rows (printed old)) old now
       → Always (CrashAt reads start world items rows (printed old)) old now
   crash_always world items rows old now a = Always-map (λ m s. record {
     shown = s.shown;
@@ -280,7 +280,7 @@ module _ (reads : List ℕ → Option Store) (start : Moment) where
   }) a
 
   -- where the replies are not put out, so many of the items have been answered as have replies that have begun
-  pub counted_always : (world : World) (items first rest : List Item) → items ≡ first ++ rest → (rows : List Row) (old : List ℕ) (from now : Moment) → Always (SafeAt false reads start [] world first rows old) from now
+  pub counted_always : (world : Whole) (items first rest : List Item) → items ≡ first ++ rest → (rows : List (Row Whole)) (old : List ℕ) (from now : Moment) → Always (SafeAt false reads start [] world first rows old) from now
       → Always (CountedAt reads start world items rows old) from now
   counted_always world items first rest split rows old from now a = Always-map (λ m s. record {
     shown = [];
@@ -296,7 +296,7 @@ module _ (reads : List ℕ → Option Store) (start : Moment) where
   }) a
 
 -- behind all rows, where the unit held no store in the worlds up to there
-pub fresh_through : (world : World) (rows more : List Row) (n unit : ℕ) (before : List World) → length rows ≡ n → Fresh before unit → BlankThrough world (rows ++ more) n unit → Fresh (worlds_behind before world rows) unit
+pub fresh_through : (world : Whole) (rows more : List (Row Whole)) (n unit : ℕ) (before : List Whole) → length rows ≡ n → Fresh before unit → BlankThrough world (rows ++ more) n unit → Fresh (worlds_behind before world rows) unit
 fresh_through world [] more n unit before size fresh b = fresh
 fresh_through world (row ∷ rows) more zero unit before size fresh b = absurd (omega arith)
 fresh_through world (row ∷ rows) more (suc n) unit before size fresh b =
@@ -304,7 +304,7 @@ fresh_through world (row ∷ rows) more (suc n) unit before size fresh b =
     fresh_through row.0 rows more n unit (world ∷ before) sizes (b 0 (omega arith), fresh) (λ k fits. b (suc k) (omega arith))
 
 -- a crash leaves the unit as it is in the world, under the name that the world has in a run
-pub its_at : (reads : List ℕ → Option Store) (AtFirst : List ℕ → Type 0) (F Less : Type 0) (last world : World) (items : List Item) (next : World) (unit : ℕ) (left : List ℕ) → last ≡ world → (Less → F)
+pub its_at : (reads : List ℕ → Option Store) (AtFirst : List ℕ → Type 0) (F Less : Type 0) (last world : Whole) (items : List Item) (next : Whole) (unit : ℕ) (left : List ℕ) → last ≡ world → (Less → F)
     → LeavesIts reads AtFirst F last unit left → Between reads AtFirst Less world items next unit left
 its_at reads AtFirst F Less last world items next unit left e f its =
-    subst (λ (v : World). Between reads AtFirst Less v items next unit left) e (weaken reads AtFirst F Less last items next unit left f (its_before reads AtFirst F last items next unit left its))
+    subst (λ (v : Whole). Between reads AtFirst Less v items next unit left) e (weaken reads AtFirst F Less last items next unit left f (its_before reads AtFirst F last items next unit left its))

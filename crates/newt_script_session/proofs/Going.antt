@@ -9,7 +9,7 @@ use Rattle.newt_host.specs.Outside.{Outside}
 use Rattle.newt_host.proofs.Moments.{Always-last}
 use Rattle.newt_spec_script.specs.Script.{Item}
 use Rattle.newt_spec_store.specs.Store.{Store}
-use Rattle.newt_spec_world.specs.World.{World}
+use Rattle.newt_spec_whole.specs.Whole.{Whole}
 use Rattle.newt_script_session.specs.Answered.{Answered, Given, Ran}
 use Rattle.newt_script_session.specs.Lines.{ended_lines, unended, last_line, lines_of}
 use Rattle.newt_script_session.specs.Moments.{SafeAt, Untouched}
@@ -70,33 +70,33 @@ quits_later taken rest limit stop size =
     ∙ (ap has_quit (cut_append [] taken (take n rest)) ∙ quit_stop (ended_lines [] taken) (ended_lines (unended [] taken) (take n rest)) stop))
 
 -- the input is read in time for a run that goes on
-pub in_time_more : (step : Stepping) (world : World) (rows part : List Row) (old now : Moment) → ReadsInTime step world rows old now → ReadsInTime step world (rows ++ part) old now
+pub in_time_more : (step : Stepping Whole) (world : Whole) (rows part : List (Row Whole)) (old now : Moment) → ReadsInTime step world rows old now → ReadsInTime step world (rows ++ part) old now
 in_time_more step world rows part old now r = takes_map (λ m s. record {
   bytes = s.bytes;
   since = s.since;
   first = s.first;
   more = s.more ++ part;
-  split = ap (λ (rs : List Row). rs ++ part) s.split ∙ append_assoc s.first s.more part;
+  split = ap (λ (rs : List (Row Whole)). rs ++ part) s.split ∙ append_assoc s.first s.more part;
   run = s.run;
   out = s.out;
   no_quit = s.no_quit;
 }) r
 
 -- So far these bytes were taken, all lines that ended in them were answered, and none quits.
-pub record Going (step : Stepping) (reads : List ℕ → Option Store) (world : World) (script taken left : List ℕ) (Later : World → Type 0) (line : List ℕ) (had has : List (List ℕ) → Type 0) (old now : Moment) (was is : ℕ → ℕ) : Type 0 where
+pub record Going (step : Stepping Whole) (reads : List ℕ → Option Store) (world : Whole) (script taken left : List ℕ) (Later : Whole → Type 0) (line : List ℕ) (had has : List (List ℕ) → Type 0) (old now : Moment) (was is : ℕ → ℕ) : Type 0 where
   pub whole : script ≡ taken ++ left
   pub line_is : line ≡ unended [] taken
   pub go : quits taken ≡ false
-  pub rows : List Row
+  pub rows : List (Row Whole)
   pub run : IsRun step world (ended_items taken) rows
   pub answered : Answered true world Later rows had has old now was is
   pub threw : RowsThrew rows was is
   pub in_time : ReadsInTime step world rows old now
-  pub moments : (start : Moment) (before : List World) → Untouched start before world old → Always (SafeAt true reads start before world (ended_items taken) rows (printed old)) old now
+  pub moments : (start : Moment) (before : List Whole) → Untouched start before world old → Always (SafeAt true reads start before world (ended_items taken) rows (printed old)) old now
 
-module _ (step : Stepping) (reads : List ℕ → Option Store) where
+module _ (step : Stepping Whole) (reads : List ℕ → Option Store) where
   -- nothing was taken yet
-  pub going_start : (world : World) (Now : World → Type 0) (script line : List ℕ) (has : List (List ℕ) → Type 0) (now : Moment) (was : ℕ → ℕ) → Now world → AtRest reads world now → line ≡ [] → Going step reads world script [] script Now line has has now now was was
+  pub going_start : (world : Whole) (Now : Whole → Type 0) (script line : List ℕ) (has : List (List ℕ) → Type 0) (now : Moment) (was : ℕ → ℕ) → Now world → AtRest reads world now → line ≡ [] → Going step reads world script [] script Now line has has now now was was
   unfolding ended_lines unended
   going_start world Now script line has now was means its empty = record {
     whole = refl;
@@ -111,8 +111,8 @@ module _ (step : Stepping) (reads : List ℕ → Option Store) where
   }
 
   -- the same moment, where the same worlds are stood for
-  pub going_moved : (world : World) (script taken left : List ℕ) (Later Same : World → Type 0) (line : List ℕ) (had has : List (List ℕ) → Type 0) (old then now : Moment) (was mid is : ℕ → ℕ) → now ≡ then
-      → ((v : World) → Later v → Same v) → ((unit : ℕ) → is unit ≡ mid unit) → Going step reads world script taken left Later line had has old then was mid
+  pub going_moved : (world : Whole) (script taken left : List ℕ) (Later Same : Whole → Type 0) (line : List ℕ) (had has : List (List ℕ) → Type 0) (old then now : Moment) (was mid is : ℕ → ℕ) → now ≡ then
+      → ((v : Whole) → Later v → Same v) → ((unit : ℕ) → is unit ≡ mid unit) → Going step reads world script taken left Later line had has old then was mid
       → Going step reads world script taken left Same line had has old now was is
   going_moved world script taken left Later Same line had has old then now was mid is e f counts g =
       let a = g.answered in
@@ -128,13 +128,13 @@ module _ (step : Stepping) (reads : List ℕ → Option Store) where
         moments = g.moments;
       })
 
-  safe_took : (start : Moment) (before : List World) (world : World) (items : List Item) (rows : List Row) (old : List ℕ) (bytes : List ℕ) (then : Moment) → SafeAt true reads start before world items rows old then
+  safe_took : (start : Moment) (before : List Whole) (world : Whole) (items : List Item) (rows : List (Row Whole)) (old : List ℕ) (bytes : List ℕ) (then : Moment) → SafeAt true reads start before world items rows old then
       → SafeAt true reads start before world items rows old (Took bytes ∷ then)
   safe_took start before world items rows old bytes then s = record { shown = s.shown; out = s.out; safe = s.safe }
 
   -- bytes were read
-  pub going_took : (world : World) (script taken left : List ℕ) (Next Same : World → Type 0) (line : List ℕ) (had has : List (List ℕ) → Type 0) (old then : Moment) (bytes : List ℕ) (now : Moment) (was mid is : ℕ → ℕ)
-      → now ≡ Took bytes ∷ then → ((v : World) → Next v → Same v) → ((unit : ℕ) → is unit ≡ mid unit) → taken_by then ≡ taken_by old ++ taken
+  pub going_took : (world : Whole) (script taken left : List ℕ) (Next Same : Whole → Type 0) (line : List ℕ) (had has : List (List ℕ) → Type 0) (old then : Moment) (bytes : List ℕ) (now : Moment) (was mid is : ℕ → ℕ)
+      → now ≡ Took bytes ∷ then → ((v : Whole) → Next v → Same v) → ((unit : ℕ) → is unit ≡ mid unit) → taken_by then ≡ taken_by old ++ taken
       → Going step reads world script taken left Next line had has old then was mid → Going step reads world script taken left Same line had has old now was is
   going_took world script taken left Next Same line had has old then bytes now was mid is e f counts since g =
       let a = g.answered in
@@ -160,10 +160,10 @@ module _ (step : Stepping) (reads : List ℕ → Option Store) where
             later_moment (Took bytes) then so_far (safe_took start before world (ended_items taken) g.rows (printed old) bytes then (Always-last so_far));
       })
 
-  module _ (world : World) (script taken left : List ℕ) (Later : World → Type 0) (line : List ℕ) (had has : List (List ℕ) → Type 0) (old then : Moment) (was mid : ℕ → ℕ)
+  module _ (world : Whole) (script taken left : List ℕ) (Later : Whole → Type 0) (line : List ℕ) (had has : List (List ℕ) → Type 0) (old then : Moment) (was mid : ℕ → ℕ)
       (g : Going step reads world script taken left Later line had has old then was mid) where
     -- the world that is stood for then
-    abbrev pub then_world : World
+    abbrev pub then_world : Whole
     then_world = world_behind world g.rows
 
     -- the items of the script are those of the lines that ended, and those of what is left
@@ -182,7 +182,7 @@ module _ (step : Stepping) (reads : List ℕ → Option Store) where
     going_given = record { first = ended_items taken; rest = commands_of (lines_from line left); split = items_left; rows = g.rows; run = g.run }
 
     -- a piece more was answered
-    pub going_more : {T : Type 0} {x : T} (piece rest : List ℕ) (Next : World → Type 0) (begun : List ℕ) (more : List (List ℕ) → Type 0) (now : Moment) (is : ℕ → ℕ) → Always (λ m. taken_by m ≡ taken_by then) then now
+    pub going_more : {T : Type 0} {x : T} (piece rest : List ℕ) (Next : Whole → Type 0) (begun : List ℕ) (more : List (List ℕ) → Type 0) (now : Moment) (is : ℕ → ℕ) → Always (λ m. taken_by m ≡ taken_by then) then now
         → left ≡ piece ++ rest → has_quit (ended_lines line piece) ≡ false → begun ≡ unended line piece → Ran step true reads {T = T} (Ok x) then_world Next (commands_of (ended_lines line piece)) has more then now mid is
         → Going step reads world script (taken ++ piece) rest Next begun had more old now was is
     unfolding progress_more
@@ -249,15 +249,15 @@ module _ (step : Stepping) (reads : List ℕ → Option Store) where
 
 -- ---- what is said of the whole
 
-halted_ran : (limit : ℕ) (halt : Halt) (items : List Item) (rows : List Row) (script left old now : List ℕ) → HaltedIn halt rows old now → Halted limit halt items rows script left old now
+halted_ran : (limit : ℕ) (halt : Halt) (items : List Item) (rows : List (Row Whole)) (script left old now : List ℕ) → HaltedIn halt rows old now → Halted limit halt items rows script left old now
 halted_ran limit Memory items rows script left old now some = some
 halted_ran limit Sink items rows script left old now some = some
 halted_ran limit Source items rows script left old now some = absurd some
 halted_ran limit TooLong items rows script left old now some = absurd some
 
-module _ {T : Type 0} (step : Stepping) (reads : List ℕ → Option Store) (limit : ℕ) (result : Result T Halt) (world : World) (old new : Outside) where
+module _ {T : Type 0} (step : Stepping Whole) (reads : List ℕ → Option Store) (limit : ℕ) (result : Result T Halt) (world : Whole) (old new : Outside) where
   -- all of the script was answered, or the run was halted in it
-  pub session_ran : (Next : World → Type 0) (had has : List (List ℕ) → Type 0) → (r : Ran step true reads result world Next (script_items old.input) had has old.now new.now old.dev_faults new.dev_faults)
+  pub session_ran : (Next : Whole → Type 0) (had has : List (List ℕ) → Type 0) → (r : Ran step true reads result world Next (script_items old.input) had has old.now new.now old.dev_faults new.dev_faults)
       → OnOk result (IsReadThrough limit old.input new.input) → ReadsInTime step world r.given.rows old.now new.now → Session step reads limit result world old new
   session_ran Next had has r read in_time = record {
     played = record {
@@ -278,7 +278,7 @@ module _ {T : Type 0} (step : Stepping) (reads : List ℕ → Option Store) (lim
       lines (Err halt) some = halted_ran limit halt r.given.first r.given.rows old.input new.input (out_of old) (out_of new) some
 
   -- the run was halted between two lines
-  pub session_halted : (taken left : List ℕ) (Later : World → Type 0) (line : List ℕ) (had has : List (List ℕ) → Type 0) (g : Going step reads world old.input taken left Later line had has old.now new.now old.dev_faults new.dev_faults) (halt : Halt)
+  pub session_halted : (taken left : List ℕ) (Later : Whole → Type 0) (line : List ℕ) (had has : List (List ℕ) → Type 0) (g : Going step reads world old.input taken left Later line had has old.now new.now old.dev_faults new.dev_faults) (halt : Halt)
       → result ≡ Err halt → Halted limit halt (ended_items taken) g.rows old.input new.input (out_of old) (out_of new) → Session step reads limit result world old new
   session_halted taken left Later line had has g halt is some =
       subst (λ (v : Result T Halt). Session step reads limit v world old new) (sym is) (record {
@@ -294,13 +294,13 @@ module _ {T : Type 0} (step : Stepping) (reads : List ℕ → Option Store) (lim
         crash = crash_always reads old.now world (ended_items taken) g.rows old.now new.now (g.moments old.now [] (λ unit left f blank may. may));
       })
 
-module _ (step : Stepping) (reads : List ℕ → Option Store) (limit : ℕ) (world : World) (old new : Outside) (taken left : List ℕ) (Later : World → Type 0) (line : List ℕ) (had half : List (List ℕ) → Type 0)
+module _ (step : Stepping Whole) (reads : List ℕ → Option Store) (limit : ℕ) (world : Whole) (old new : Outside) (taken left : List ℕ) (Later : Whole → Type 0) (line : List ℕ) (had half : List (List ℕ) → Type 0)
     (then : Moment) (mid : ℕ → ℕ) (g : Going step reads world old.input taken left Later line had half old.now then old.dev_faults mid) (part more : List Item) (e : commands_of (lines_from line left) ≡ part ++ more)
-    (Next : World → Type 0) (has : List (List ℕ) → Type 0) (unread : Always (λ m. taken_by m ≡ taken_by then) then new.now) where
+    (Next : Whole → Type 0) (has : List (List ℕ) → Type 0) (unread : Always (λ m. taken_by m ≡ taken_by then) then new.now) where
   abbrev so_far : Progress step true reads world (script_items old.input) Later (commands_of (lines_from line left)) had half old.now then old.dev_faults mid
   so_far = going_progress step reads world old.input taken left Later line had half old.now then old.dev_faults mid g
 
-  in_time : (rows : List Row) → ReadsInTime step world (g.rows ++ rows) old.now new.now
+  in_time : (rows : List (Row Whole)) → ReadsInTime step world (g.rows ++ rows) old.now new.now
   in_time rows = takes_append (in_time_more step world g.rows rows old.now then g.in_time) (takes_none unread)
 
   -- the run was halted in the items that came next

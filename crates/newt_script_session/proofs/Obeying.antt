@@ -7,7 +7,7 @@ use Rattle.newt_spec_script.specs.Rows.{Goes, Row, Stepping, output_of}
 use Rattle.newt_spec_script.specs.Script.{Item}
 use Rattle.newt_spec_store.specs.Store.{Store}
 use Rattle.newt_spec_world.specs.Reply.{reply_text}
-use Rattle.newt_spec_world.specs.World.{World}
+use Rattle.newt_spec_whole.specs.Whole.{Whole}
 use Rattle.newt_script_session.specs.Answered.{Given, Ran}
 use Rattle.newt_script_session.specs.Causes.{HasSinkCause}
 use Rattle.newt_script_session.specs.Moments.{SafeAt, Untouched}
@@ -21,7 +21,7 @@ use Rattle.newt_script_session.proofs.Rows.{output_one}
 use Rattle.newt_script_session.proofs.Throwing.{failed_one, threw_one}
 use Rattle.newt_script_session.proofs.Writing.{wrote_nothing}
 
-module _ (step : Stepping) (shows : Bool) (reads : List ℕ → Option Store) (world : World) (item : Item) (row : Row) (goes : Goes step world item row) (old then : Moment) (was is : ℕ → ℕ)
+module _ (step : Stepping Whole) (shows : Bool) (reads : List ℕ → Option Store) (world : Whole) (item : Item) (row : Row Whole) (goes : Goes step world item row) (old then : Moment) (was is : ℕ → ℕ)
     (answering : Always (AnsweringItem reads world item row.0 old) old then) (threw : Threw row.1 was is) where
   abbrev text : List ℕ
   text = reply_text row.1
@@ -33,21 +33,21 @@ module _ (step : Stepping) (shows : Bool) (reads : List ℕ → Option Store) (w
   quiet : printed then ≡ printed old
   quiet = (Always-last answering).quiet
 
-  item_next : (start : Moment) (before : List World) → Untouched start before world old → Untouched start (world ∷ before) row.0 then
+  item_next : (start : Moment) (before : List Whole) → Untouched start before world old → Untouched start (world ∷ before) row.0 then
   item_next start before u = untouched_next reads start before world item row.0 old then u (Always-last answering)
 
-  item_answering : (start : Moment) (before : List World) → Untouched start before world old → Always (SafeAt shows reads start before world (item ∷ []) (row ∷ []) (printed old)) old then
+  item_answering : (start : Moment) (before : List Whole) → Untouched start before world old → Always (SafeAt shows reads start before world (item ∷ []) (row ∷ []) (printed old)) old then
   item_answering start before u = Always-map (λ m a. safe_answering shows reads start before world item row old m u a) answering
 
   item_moments : {T E : Type 0} (result : Result T E) (now : Moment) → AtRest reads row.0 then → Puts result (put_out shows text) then now
-      → (start : Moment) (before : List World) → Untouched start before world old → Always (SafeAt shows reads start before world (item ∷ []) (row ∷ []) (printed old)) old now
+      → (start : Moment) (before : List Whole) → Untouched start before world old → Always (SafeAt shows reads start before world (item ∷ []) (row ∷ []) (printed old)) old now
   item_moments result now its puts start before u =
       Always-append (item_answering start before u)
       (Always-map (λ m some. safe_writing shows reads start before world item row old then m quiet
       (λ later unit left may. answering_leaves reads start before world item later row.0 old then u (Always-last answering) unit left may)
       (its start (world ∷ before) (item_next start before u)) some) puts.moments)
 
-  pub ran_item : {T U E : Type 0} (x : T) (y : U) (After : World → Type 0) (had has : List (List ℕ) → Type 0) (now : Moment) → AtRest reads row.0 then
+  pub ran_item : {T U E : Type 0} (x : T) (y : U) (After : Whole → Type 0) (had has : List (List ℕ) → Type 0) (now : Moment) → AtRest reads row.0 then
       → Puts {T = U} {E = E} (Ok y) (put_out shows text) then now → After row.0 → ((unit : ℕ) → changes unit now ≡ changes unit then) → Failed row.1 was is
       → ((before : List (List ℕ)) → had before → has (before ++ text ∷ [])) → Ran step shows reads {T = T} (Ok x) world After (item ∷ []) had has old now was is
   ran_item {T} {U} {E} x y After had has now its puts means same failed took = record {
@@ -74,7 +74,7 @@ module _ (step : Stepping) (shows : Bool) (reads : List ℕ → Option Store) (w
   halted_item TooLong o n now cause some = absurd cause
 
   -- the reply was not taken whole
-  pub ran_untaken : {T U : Type 0} (result : Result T Halt) (halt : Halt) (After : World → Type 0) (had has : List (List ℕ) → Type 0) (now : Moment) (o n : Outside) → result ≡ Err halt
+  pub ran_untaken : {T U : Type 0} (result : Result T Halt) (halt : Halt) (After : Whole → Type 0) (had has : List (List ℕ) → Type 0) (now : Moment) (o n : Outside) → result ≡ Err halt
       → AtRest reads row.0 then → HasSinkCause halt o n → Puts {T = U} (Err halt) (put_out shows text) then now → Ran step shows reads result world After (item ∷ []) had has old now was is
   ran_untaken {T} {U} result halt After had has now o n ends its cause puts =
       subst (λ (v : Result T Halt). Ran step shows reads v world After (item ∷ []) had has old now was is) (sym ends) (record {
@@ -87,7 +87,7 @@ module _ (step : Stepping) (shows : Bool) (reads : List ℕ → Option Store) (w
       })
 
   -- it was not answered, for want of memory
-  pub ran_stopped : {T : Type 0} (After : World → Type 0) (had has : List (List ℕ) → Type 0) → Ran step shows reads {T = T} (Err Memory) world After (item ∷ []) had has old then was is
+  pub ran_stopped : {T : Type 0} (After : Whole → Type 0) (had has : List (List ℕ) → Type 0) → Ran step shows reads {T = T} (Err Memory) world After (item ∷ []) had has old then was is
   ran_stopped {T} After had has = record {
     given = one_given;
     done = tt;

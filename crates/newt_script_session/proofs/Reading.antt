@@ -8,7 +8,7 @@ use Rattle.newt_spec_world.specs.declared.command.Command.{Command}
 use Rattle.newt_script_session.specs.Steps.{Stepped}
 use Rattle.newt_spec_script.specs.Rows.{Stepping}
 use Rattle.newt_spec_store.specs.Store.{Store}
-use Rattle.newt_spec_world.specs.World.{World}
+use Rattle.newt_spec_whole.specs.Whole.{Whole}
 use Rattle.newt_script_session.specs.Calls.{Unread}
 use Rattle.newt_script_session.specs.Reading.{TakesOnlyWhere, start, goes_on}
 use Rattle.newt_script_session.proofs.Writing.{prints_always}
@@ -31,8 +31,8 @@ pub unread_printing : (bytes : List ℕ) (old new : Moment) → PrintsSome bytes
 unread_printing bytes old new some = Always-map (λ m part. ap taken part.moment ∙ taken-printed part.done old) (prints_always bytes old new some)
 
 -- a command is answered
-pub unread_stepped : {told : Bool} {E : Type 0} {step : Stepping} {reads : List ℕ → Option Store} {command : Command} {result : Result Reply E} {Before After : World → Type 0} {a b : Outside} → OnDevices a b
-    → (IsTrue told → (world : World) × Before world) → (IsTrue told → (world : World) → Before world → Stepped step reads command result world After a.now b.now a.dev_faults b.dev_faults) → Unread told a b
+pub unread_stepped : {told : Bool} {E : Type 0} {step : Stepping Whole} {reads : List ℕ → Option Store} {command : Command} {result : Result Reply E} {Before After : Whole → Type 0} {a b : Outside} → OnDevices a b
+    → (IsTrue told → (world : Whole) × Before world) → (IsTrue told → (world : Whole) → Before world → Stepped step reads command result world After a.now b.now a.dev_faults b.dev_faults) → Unread told a b
 unread_stepped on some stepped = record {
   input = on.input;
   moments = λ tells. let w = some tells in Always-map (λ m a. a.unread) (stepped tells w.0 w.1).moments;

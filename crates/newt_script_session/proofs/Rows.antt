@@ -4,46 +4,46 @@ use Rattle.std.proofs.lemmas.Grind.{flat_map-append}
 use Rattle.std.proofs.lemmas.List.{map-append}
 use Rattle.newt_spec_script.specs.Script.{Item}
 use Rattle.newt_spec_world.specs.Reply.{reply_text}
-use Rattle.newt_spec_world.specs.World.{World}
+use Rattle.newt_spec_whole.specs.Whole.{Whole}
 use Rattle.newt_script_session.specs.Moments.{worlds_behind}
 use Rattle.newt_spec_script.specs.Rows.{IsRun, output_of, reply_texts, Row, Stepping, world_behind}
 
-pub run_append : (step : Stepping) (world : World) (a b : List Item) (ra rb : List Row) → IsRun step world a ra → IsRun step (world_behind world ra) b rb → IsRun step world (a ++ b) (ra ++ rb)
+pub run_append : (step : Stepping Whole) (world : Whole) (a b : List Item) (ra rb : List (Row Whole)) → IsRun step world a ra → IsRun step (world_behind world ra) b rb → IsRun step world (a ++ b) (ra ++ rb)
 run_append step world [] b [] rb first second = second
 run_append step world [] b (row ∷ ra) rb first second = absurd first
 run_append step world (item ∷ a) b [] rb first second = absurd first
 run_append step world (item ∷ a) b (row ∷ ra) rb first second = (first.0, run_append step row.0 a b ra rb first.1 second)
 
 -- a row for each item
-pub run_length : (step : Stepping) (world : World) (items : List Item) (rows : List Row) → IsRun step world items rows → length rows ≡ length items
+pub run_length : (step : Stepping Whole) (world : Whole) (items : List Item) (rows : List (Row Whole)) → IsRun step world items rows → length rows ≡ length items
 run_length step world [] [] run = refl
 run_length step world [] (row ∷ rows) run = absurd run
 run_length step world (item ∷ items) [] run = absurd run
 run_length step world (item ∷ items) (row ∷ rows) run = ap (λ n. suc n) (run_length step row.0 items rows run.1)
 
-pub behind_append : (world : World) (a b : List Row) → world_behind world (a ++ b) ≡ world_behind (world_behind world a) b
+pub behind_append : (world : Whole) (a b : List (Row Whole)) → world_behind world (a ++ b) ≡ world_behind (world_behind world a) b
 behind_append world [] b = refl
 behind_append world (row ∷ a) b = behind_append row.0 a b
 
-pub output_append : (a b : List Row) → output_of (a ++ b) ≡ output_of a ++ output_of b
+pub output_append : (a b : List (Row Whole)) → output_of (a ++ b) ≡ output_of a ++ output_of b
 unfolding output_of
-output_append a b = flat_map-append (λ (row : Row). reply_text row.1) a b
+output_append a b = flat_map-append (λ (row : Row Whole). reply_text row.1) a b
 
-pub output_none : output_of [] ≡ []
+pub output_none : output_of {Whole} [] ≡ []
 unfolding output_of
 output_none = refl
 
-pub output_one : (row : Row) → output_of (row ∷ []) ≡ reply_text row.1
+pub output_one : (row : Row Whole) → output_of (row ∷ []) ≡ reply_text row.1
 unfolding output_of
 output_one row = append-nil (reply_text row.1)
 
-pub output_first : (row : Row) (rows : List Row) → output_of (row ∷ rows) ≡ reply_text row.1 ++ output_of rows
+pub output_first : (row : Row Whole) (rows : List (Row Whole)) → output_of (row ∷ rows) ≡ reply_text row.1 ++ output_of rows
 unfolding output_of
 output_first row rows = refl
 
-pub replies_append : (a b : List Row) → reply_texts (a ++ b) ≡ reply_texts a ++ reply_texts b
-replies_append a b = map-append (λ (row : Row). reply_text row.1) a b
+pub replies_append : (a b : List (Row Whole)) → reply_texts (a ++ b) ≡ reply_texts a ++ reply_texts b
+replies_append a b = map-append (λ (row : Row Whole). reply_text row.1) a b
 
-pub worlds_append : (before : List World) (world : World) (a b : List Row) → worlds_behind before world (a ++ b) ≡ worlds_behind (worlds_behind before world a) (world_behind world a) b
+pub worlds_append : (before : List Whole) (world : Whole) (a b : List (Row Whole)) → worlds_behind before world (a ++ b) ≡ worlds_behind (worlds_behind before world a) (world_behind world a) b
 worlds_append before world [] b = refl
 worlds_append before world (row ∷ a) b = worlds_append (world ∷ before) row.0 a b

@@ -15,7 +15,7 @@ use Rattle.newt_spec_script.specs.Script.{Item, is_quit, up_to_quit}
 use Rattle.newt_spec_store.specs.Store.{Store}
 use Rattle.newt_spec_world.specs.declared.command.Command.{Command}
 use Rattle.newt_spec_world.specs.Reply.{reply_text}
-use Rattle.newt_spec_world.specs.World.{World}
+use Rattle.newt_spec_whole.specs.Whole.{Whole}
 use Rattle.newt_script_session.specs.Answered.{Ran}
 use Rattle.newt_script_session.specs.Causes.{HasSinkCause}
 use Rattle.newt_script_session.specs.Counted.{Counted, CountedAt}
@@ -77,11 +77,11 @@ unfolding last_line
 few_last [] = omega arith
 few_last (b ∷ line) = omega arith
 
-few_replies : (step : Stepping) (world : World) (script : List ℕ) (rows : List Row) → IsRun step world (script_items script) rows → length (reply_texts rows) ≤ length script
+few_replies : (step : Stepping Whole) (world : Whole) (script : List ℕ) (rows : List (Row Whole)) → IsRun step world (script_items script) rows → length (reply_texts rows) ≤ length script
 few_replies step world script rows run =
     omega (
       arith,
-      length-map rows (λ (row : Row). reply_text row.1),
+      length-map rows (λ (row : Row Whole). reply_text row.1),
       run_length step world (script_items script) rows run,
       ap length (script_items_are script),
       fewer_commands (lines_of script),
@@ -92,17 +92,17 @@ few_replies step world script rows run =
 
 -- ---- moments
 
-module _ (step : Stepping) (reads : List ℕ → Option Store) (script : List ℕ) (world : World) (old mid : Outside) where
-  counting : {T : Type 0} (result : Result T Halt) (Last : World → Type 0) (had has : List (List ℕ) → Type 0) → (r : Ran step false reads result world Last (script_items script) had has old.now mid.now old.dev_faults mid.dev_faults)
+module _ (step : Stepping Whole) (reads : List ℕ → Option Store) (script : List ℕ) (world : Whole) (old mid : Outside) where
+  counting : {T : Type 0} (result : Result T Halt) (Last : Whole → Type 0) (had has : List (List ℕ) → Type 0) → (r : Ran step false reads result world Last (script_items script) had has old.now mid.now old.dev_faults mid.dev_faults)
       → Always (CountedAt reads old.now world (script_items script) r.given.rows (out_of old)) old.now mid.now
   counting result Last had has r = counted_always reads old.now world (script_items script) r.given.first r.given.rest r.given.split r.given.rows (out_of old) old.now mid.now
       (r.moments old.now [] (λ unit left f blank may. may))
 
-  quiet : {T : Type 0} (result : Result T Halt) (Last : World → Type 0) (had has : List (List ℕ) → Type 0) → Ran step false reads result world Last (script_items script) had has old.now mid.now old.dev_faults mid.dev_faults → out_of mid ≡ out_of old
+  quiet : {T : Type 0} (result : Result T Halt) (Last : Whole → Type 0) (had has : List (List ℕ) → Type 0) → Ran step false reads result world Last (script_items script) had has old.now mid.now old.dev_faults mid.dev_faults → out_of mid ≡ out_of old
   quiet result Last had has r = (Always-last (r.moments old.now [] (λ unit left f blank may. may))).out ∙ append-nil (out_of old)
 
   -- a command was not answered
-  pub counted_halted : {T U : Type 0} (result : Result T Halt) (halt : Halt) (Last : World → Type 0) (had has : List (List ℕ) → Type 0) → result ≡ Err halt → HasSinkCause halt old mid
+  pub counted_halted : {T U : Type 0} (result : Result T Halt) (halt : Halt) (Last : Whole → Type 0) (had has : List (List ℕ) → Type 0) → result ≡ Err halt → HasSinkCause halt old mid
       → Ran step false reads {T = U} (Err halt) world Last (script_items script) had has old.now mid.now old.dev_faults mid.dev_faults → Counted step reads script result world old mid
   counted_halted {T} {U} result halt Last had has is cause r =
       subst (λ (v : Result T Halt). Counted step reads script v world old mid) (sym is) (record {
@@ -115,9 +115,9 @@ module _ (step : Stepping) (reads : List ℕ → Option Store) (script : List �
       })
 
   -- all were, and then the summary was written
-  module _ {T : Type 0} (x : T) (Last : World → Type 0) (has : List (List ℕ) → Type 0) (first tally : Tally) (r : Ran step false reads {T = T} (Ok x) world Last (script_items script) (Tallies first) has old.now mid.now old.dev_faults mid.dev_faults)
+  module _ {T : Type 0} (x : T) (Last : Whole → Type 0) (has : List (List ℕ) → Type 0) (first tally : Tally) (r : Ran step false reads {T = T} (Ok x) world Last (script_items script) (Tallies first) has old.now mid.now old.dev_faults mid.dev_faults)
       (its : AtRest reads (world_behind world r.given.rows) mid.now) where
-    abbrev rows : List Row
+    abbrev rows : List (Row Whole)
     rows = r.given.rows
 
     none_left : script_items script ≡ r.given.first

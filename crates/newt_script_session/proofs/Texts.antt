@@ -7,6 +7,7 @@ use Rattle.newt_base.proofs.Numerals.{decimal_written}
 use Rattle.newt_spec_script.specs.Generator.{begins, summary, summary_line}
 use Rattle.newt_script_session.specs.Counts.{Counts, Tallies, lines_of_tally, summary_of}
 use Rattle.newt_spec_script.specs.Rows.{Row, reply_texts}
+use Rattle.newt_spec_whole.specs.Whole.{Whole}
 use Rattle.newt_script_session.specs.declared.tally.Tally.{Tally}
 
 one_at_most : (b : Bool) → cond b 1 0 ≤ 1
@@ -75,6 +76,6 @@ lines_pushed tally commands oks errors t0 t1 t2 t3 t4 n1 n2 n3 e0 e1 e2 e3 e4 =
     e0 (e1 ∙ ap (λ n. t0 ++ summary_line (codes "commands") n) n1) (e2 ∙ ap (λ n. t1 ++ summary_line (codes "ok") n) n2) (e3 ∙ ap (λ n. t2 ++ summary_line (codes "errors") n) n3) e4
 
 -- the lines of the tally of the replies of a run
-pub tally_summary : (rows : List Row) (tally : Tally) → Counts tally (reply_texts rows) → lines_of_tally tally ≡ summary_of rows
+pub tally_summary : (rows : List (Row Whole)) (tally : Tally) → Counts tally (reply_texts rows) → lines_of_tally tally ≡ summary_of rows
 unfolding summary_of
 tally_summary rows tally k = lines_summary tally (reply_texts rows) k

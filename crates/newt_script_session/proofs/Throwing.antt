@@ -2,18 +2,19 @@
 use Rattle.std.proofs.Common.{◌≡◌, ℕ, ◌+◌, ◌≤◌, Bool, true, false, cond, List, [], ◌∷◌, ◌++◌, length, filter, refl, sym, ◌∙◌, ap, subst, arith}
 use Rattle.newt_host.specs.Outside.{Rose}
 use Rattle.newt_spec_script.specs.Rows.{Row, throws, thrown_count}
+use Rattle.newt_spec_whole.specs.Whole.{Whole}
 use Rattle.newt_spec_world.specs.Reply.{Reply}
 use Rattle.newt_laws_steps.specs.Thrown.{Failed, RoseBy, RowsFailed, RowsThrew, Threw}
 
 -- how many there are of one row
-pub thrown_one : (unit : ℕ) (row : Row) (rows : List Row) → thrown_count unit (row ∷ rows) ≡ cond (throws unit row.1) 1 0 + thrown_count unit rows
+pub thrown_one : (unit : ℕ) (row : Row Whole) (rows : List (Row Whole)) → thrown_count unit (row ∷ rows) ≡ cond (throws unit row.1) 1 0 + thrown_count unit rows
 thrown_one unit row rows = go (throws unit row.1)
   where
-    go : (b : Bool) → length (cond b (row ∷ filter (λ (r : Row). throws unit r.1) rows) (filter (λ (r : Row). throws unit r.1) rows)) ≡ cond b 1 0 + thrown_count unit rows
+    go : (b : Bool) → length (cond b (row ∷ filter (λ (r : Row Whole). throws unit r.1) rows) (filter (λ (r : Row Whole). throws unit r.1) rows)) ≡ cond b 1 0 + thrown_count unit rows
     go true = omega arith
     go false = omega arith
 
-pub thrown_append : (unit : ℕ) (a b : List Row) → thrown_count unit (a ++ b) ≡ thrown_count unit a + thrown_count unit b
+pub thrown_append : (unit : ℕ) (a b : List (Row Whole)) → thrown_count unit (a ++ b) ≡ thrown_count unit a + thrown_count unit b
 thrown_append unit [] b = omega arith
 thrown_append unit (row ∷ a) b =
     let first = thrown_one unit row (a ++ b) in
@@ -23,14 +24,14 @@ thrown_append unit (row ∷ a) b =
 
 -- ---- one reply
 
-pub threw_one : (row : Row) (was is : ℕ → ℕ) → Threw row.1 was is → RowsThrew (row ∷ []) was is
+pub threw_one : (row : Row Whole) (was is : ℕ → ℕ) → Threw row.1 was is → RowsThrew (row ∷ []) was is
 threw_one row was is t = record { later = t.later; rose = λ unit. go unit (throws unit row.1) refl }
   where
     go : (unit : ℕ) (b : Bool) → throws unit row.1 ≡ b → RoseBy (thrown_count unit (row ∷ [])) (was unit) (is unit)
     go unit true e = subst (λ (n : ℕ). RoseBy n (was unit) (is unit)) (sym (thrown_one unit row [] ∙ ap (λ (b : Bool). cond b 1 0 + 0) e)) (t.rose unit e)
     go unit false e = subst (λ (n : ℕ). RoseBy n (was unit) (is unit)) (sym (thrown_one unit row [] ∙ ap (λ (b : Bool). cond b 1 0 + 0) e)) (omega (arith, t.later unit))
 
-pub failed_one : (row : Row) (was is : ℕ → ℕ) → Failed row.1 was is → RowsFailed (row ∷ []) was is
+pub failed_one : (row : Row Whole) (was is : ℕ → ℕ) → Failed row.1 was is → RowsFailed (row ∷ []) was is
 failed_one row was is failed unit none = go (throws unit row.1) refl
   where
     go : (b : Bool) → throws unit row.1 ≡ b → is unit ≡ was unit
@@ -42,10 +43,10 @@ failed_one row was is failed unit none = go (throws unit row.1) refl
 both_rose : (a b was mid is : ℕ) → was ≤ mid → mid ≤ is → RoseBy a was mid → RoseBy b mid is → RoseBy (a + b) was is
 both_rose a b was mid is low high first second = omega (arith, first, second)
 
-pub threw_none : (was is : ℕ → ℕ) → ((unit : ℕ) → is unit ≡ was unit) → RowsThrew [] was is
+pub threw_none : (was is : ℕ → ℕ) → ((unit : ℕ) → is unit ≡ was unit) → RowsThrew {Whole} [] was is
 threw_none was is same = record { later = λ unit. omega (arith, same unit); rose = λ unit. omega (arith, same unit) }
 
-pub threw_both : (a b : List Row) (was mid is : ℕ → ℕ) → RowsThrew a was mid → RowsThrew b mid is → RowsThrew (a ++ b) was is
+pub threw_both : (a b : List (Row Whole)) (was mid is : ℕ → ℕ) → RowsThrew a was mid → RowsThrew b mid is → RowsThrew (a ++ b) was is
 threw_both a b was mid is x y = record {
   later = λ unit. omega (arith, x.later unit, y.later unit);
   rose = λ unit.
@@ -53,7 +54,7 @@ threw_both a b was mid is x y = record {
       (both_rose (thrown_count unit a) (thrown_count unit b) (was unit) (mid unit) (is unit) (x.later unit) (y.later unit) (x.rose unit) (y.rose unit));
 }
 
-pub failed_both : (a b : List Row) (was mid is : ℕ → ℕ) → RowsFailed a was mid → RowsFailed b mid is → RowsFailed (a ++ b) was is
+pub failed_both : (a b : List (Row Whole)) (was mid is : ℕ → ℕ) → RowsFailed a was mid → RowsFailed b mid is → RowsFailed (a ++ b) was is
 failed_both a b was mid is x y unit none =
     let sum = thrown_append unit a b in
     let first : thrown_count unit a ≡ 0 = omega (arith, sum, none) in
@@ -61,13 +62,13 @@ failed_both a b was mid is x y unit none =
     y unit second ∙ x unit first
 
 -- the same counts of the end
-pub threw_same : (rows : List Row) (was mid is : ℕ → ℕ) → ((unit : ℕ) → is unit ≡ mid unit) → RowsThrew rows was mid → RowsThrew rows was is
+pub threw_same : (rows : List (Row Whole)) (was mid is : ℕ → ℕ) → ((unit : ℕ) → is unit ≡ mid unit) → RowsThrew rows was mid → RowsThrew rows was is
 threw_same rows was mid is same t = record {
   later = λ unit. omega (arith, same unit, t.later unit);
   rose = λ unit. subst (λ (n : ℕ). RoseBy (thrown_count unit rows) (was unit) n) (sym (same unit)) (t.rose unit);
 }
 
-pub failed_same : (rows : List Row) (was mid is : ℕ → ℕ) → ((unit : ℕ) → is unit ≡ mid unit) → RowsFailed rows was mid → RowsFailed rows was is
+pub failed_same : (rows : List (Row Whole)) (was mid is : ℕ → ℕ) → ((unit : ℕ) → is unit ≡ mid unit) → RowsFailed rows was mid → RowsFailed rows was is
 failed_same rows was mid is same t unit none = same unit ∙ t unit none
 
 -- a reply was put out behind the command
@@ -88,11 +89,11 @@ threw_refused reply was is none same = record { later = λ unit. omega (arith, s
     both b h k = cc
 
 -- the same counts of the start
-pub threw_from : (rows : List Row) (was mid is : ℕ → ℕ) → ((unit : ℕ) → mid unit ≡ was unit) → RowsThrew rows mid is → RowsThrew rows was is
+pub threw_from : (rows : List (Row Whole)) (was mid is : ℕ → ℕ) → ((unit : ℕ) → mid unit ≡ was unit) → RowsThrew rows mid is → RowsThrew rows was is
 threw_from rows was mid is same t = record {
   later = λ unit. omega (arith, same unit, t.later unit);
   rose = λ unit. subst (λ (n : ℕ). RoseBy (thrown_count unit rows) n (is unit)) (same unit) (t.rose unit);
 }
 
-pub failed_from : (rows : List Row) (was mid is : ℕ → ℕ) → ((unit : ℕ) → mid unit ≡ was unit) → RowsFailed rows mid is → RowsFailed rows was is
+pub failed_from : (rows : List (Row Whole)) (was mid is : ℕ → ℕ) → ((unit : ℕ) → mid unit ≡ was unit) → RowsFailed rows mid is → RowsFailed rows was is
 failed_from rows was mid is same t unit none = t unit none ∙ same unit

@@ -4,7 +4,7 @@ use Rattle.std.specs.Prelude.{◌≡◌, ℕ, Bool, IsTrue, List, [], ◌++◌, 
 use Rattle.newt_host.specs.Moments.{Moment, Always, output as printed}
 use Rattle.newt_spec_script.specs.Script.{Item}
 use Rattle.newt_spec_store.specs.Store.{Store}
-use Rattle.newt_spec_world.specs.World.{World}
+use Rattle.newt_spec_whole.specs.Whole.{Whole}
 use Rattle.newt_script_session.specs.Causes.{flow_of}
 use Rattle.newt_script_session.specs.Lines.{ended_lines, unended}
 use Rattle.newt_script_session.specs.Moments.{SafeAt, Untouched, worlds_behind}
@@ -26,29 +26,29 @@ pub record Fed (begun piece : List ℕ) (flow : Flow) (line : List ℕ) : Type 0
 module _ (shows : Bool) where
   -- The rows were answered, and the world behind them is one of those that are stood for then. Each
   -- reply was taken: the sink had some replies before and has these behind them.
-  pub record Answered (world : World) (StoodFor : World → Type 0) (rows : List Row)
+  pub record Answered (world : Whole) (StoodFor : Whole → Type 0) (rows : List (Row Whole))
       (had has : List (List ℕ) → Type 0) (old now : Moment) (was is : ℕ → ℕ) : Type 0 where
     pub stands_for : StoodFor (world_behind world rows)
     pub put : printed now ≡ printed old ++ put_out shows (output_of rows)
     pub took : (before : List (List ℕ)) → had before → has (before ++ reply_texts rows)
-    pub untouched : (start : Moment) (before : List World) → Untouched start before world old
+    pub untouched : (start : Moment) (before : List Whole) → Untouched start before world old
         → Untouched start (worlds_behind before world rows) (world_behind world rows) now
     pub failed : RowsFailed rows was is
 
-module _ (step : Stepping) where
+module _ (step : Stepping Whole) where
   -- The first of the items have been given, and these rows are a run over them.
-  pub record Given (world : World) (items : List Item) : Type 0 where
+  pub record Given (world : Whole) (items : List Item) : Type 0 where
     pub first : List Item
     pub rest : List Item
     pub split : items ≡ first ++ rest
-    pub rows : List Row
+    pub rows : List (Row Whole)
     pub run : IsRun step world first rows
 
   module _ (shows : Bool) (store_of_image : List ℕ → Option Store) where
     -- The answering of items came to a result: all were given and answered, or it was halted in the
     -- first ones, and a crash at each moment leaves what it may.
-    pub record Ran {T : Type 0} (result : Result T Halt) (world : World)
-        (StoodFor : World → Type 0) (items : List Item) (had has : List (List ℕ) → Type 0)
+    pub record Ran {T : Type 0} (result : Result T Halt) (world : Whole)
+        (StoodFor : Whole → Type 0) (items : List Item) (had has : List (List ℕ) → Type 0)
         (old now : Moment) (was is : ℕ → ℕ) : Type 0 where
       pub given : Given world items
       pub done : OnOk result
@@ -56,6 +56,6 @@ module _ (step : Stepping) where
       pub halted : IsTrue shows
           → IfErr result (λ halt. HaltedIn halt given.rows (printed old) (printed now))
       pub threw : RowsThrew given.rows was is
-      pub moments : (start : Moment) (before : List World) → Untouched start before world old
+      pub moments : (start : Moment) (before : List Whole) → Untouched start before world old
           → Always (SafeAt shows store_of_image start before world given.first given.rows
           (printed old)) old now

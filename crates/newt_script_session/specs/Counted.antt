@@ -14,17 +14,17 @@ use Rattle.newt_laws_steps.specs.Thrown.{RowsFailed, RowsThrew}
 use Rattle.newt_script_session.specs.declared.halt.Halt.{Halt}
 use Rattle.newt_spec_script.specs.Script.{Item}
 use Rattle.newt_spec_store.specs.Store.{Store}
-use Rattle.newt_spec_world.specs.World.{World}
+use Rattle.newt_spec_whole.specs.Whole.{Whole}
 
 -- A crash at this moment: the output has grown by so much, a number of the items has been answered,
 -- which is all of them where a byte is out, and the crash leaves each unit between the worlds
 -- behind the rows of these items and behind one more, whatever rows follow. Behind the last row
 -- both are one.
-pub record CountedAt (store_of_image : List ℕ → Option Store) (start : Moment) (world : World)
-    (items : List Item) (rows : List Row) (old : List ℕ) (now : Moment) : Type 0 where
+pub record CountedAt (store_of_image : List ℕ → Option Store) (start : Moment) (world : Whole)
+    (items : List Item) (rows : List (Row Whole)) (old : List ℕ) (now : Moment) : Type 0 where
   pub shown : List ℕ
   pub out : printed now ≡ old ++ shown
-  pub leaves : (later : List Item) (more : List Row) → (done : ℕ)
+  pub leaves : (later : List Item) (more : List (Row Whole)) → (done : ℕ)
       × (0 < length shown → done ≡ length items)
       × ((unit : ℕ) (left : List ℕ) → MayLeave unit now left
       → Behind store_of_image (MayLeave unit start) world (items ++ later) (rows ++ more) done unit
@@ -33,12 +33,12 @@ pub record CountedAt (store_of_image : List ℕ → Option Store) (start : Momen
 -- What a crash has left on a unit whose device was held like this before the run, while that was
 -- the output: the unit is between the worlds behind a number of the rows and behind one more,
 -- whatever rows follow, and behind those of all items where a byte was out.
-pub record HasLeftCounted (store_of_image : List ℕ → Option Store) (world : World)
-    (items : List Item) (rows : List Row) (held : Option (List ℕ)) (old out : List ℕ) (unit : ℕ)
-    (left : List ℕ) : Type 0 where
+pub record HasLeftCounted (store_of_image : List ℕ → Option Store) (world : Whole)
+    (items : List Item) (rows : List (Row Whole)) (held : Option (List ℕ))
+    (old out : List ℕ) (unit : ℕ) (left : List ℕ) : Type 0 where
   pub shown : List ℕ
   pub grown : out ≡ old ++ shown
-  pub leaves : (later : List Item) (more : List Row) → (done : ℕ)
+  pub leaves : (later : List Item) (more : List (Row Whole)) → (done : ℕ)
       × (0 < length shown → done ≡ length items)
       × Behind store_of_image (λ bytes. held ≡ Some bytes) world (items ++ later) (rows ++ more) done
       unit left
@@ -46,8 +46,8 @@ pub record HasLeftCounted (store_of_image : List ℕ → Option Store) (world : 
 -- The script was answered from this world on, by a run over its first items, and with an answer
 -- over all, and the replies counted: what was written of the summary, and what a crash leaves at
 -- each moment.
-pub record Counted {T : Type 0} (step : Stepping) (store_of_image : List ℕ → Option Store)
-    (script : List ℕ) (result : Result T Halt) (world : World) (old new : Outside) : Type 0 where
+pub record Counted {T : Type 0} (step : Stepping Whole) (store_of_image : List ℕ → Option Store)
+    (script : List ℕ) (result : Result T Halt) (world : Whole) (old new : Outside) : Type 0 where
   pub given : Given step world (script_items script)
   pub out : OnOk result ((given.rest ≡ []) × (out_of new ≡ out_of old ++ summary_of given.rows))
   pub halted : IfErr result

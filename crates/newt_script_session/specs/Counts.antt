@@ -3,6 +3,7 @@ use Rattle.std.specs.Prelude.{◌≡◌, ℕ, ◌≤◌, ◌<◌, ◌*◌, ◌^�
 use Rattle.std.specs.Prelude.{sum_by}
 use Rattle.newt_spec_script.specs.Rows.{Row, reply_texts}
 use Rattle.newt_spec_script.specs.Generator.{begins, summary, summary_line}
+use Rattle.newt_spec_whole.specs.Whole.{Whole}
 use Rattle.newt_script_session.specs.declared.tally.Tally.{Tally}
 
 -- The tally is that of these texts, each of which fits the memory.
@@ -24,5 +25,5 @@ lines_of_tally tally =
     ++ summary_line (codes "errors") tally.errors ++ summary_line (codes "bytes") tally.bytes
 
 -- the summary of the replies of a run
-unfoldable pub summary_of : List Row → List ℕ
+unfoldable pub summary_of : List (Row Whole) → List ℕ
 summary_of rows = summary (reply_texts rows)

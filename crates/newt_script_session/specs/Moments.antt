@@ -8,8 +8,8 @@ use Rattle.newt_spec_script.specs.Rows.{Row, reply_texts, world_at}
 use Rattle.newt_spec_script.specs.Script.{Item}
 use Rattle.newt_spec_store.specs.Store.{Store}
 use Rattle.newt_spec_world.specs.Reply.{reply_text}
-use Rattle.newt_spec_world.specs.Step.{formats}
-use Rattle.newt_spec_world.specs.World.{World, stores_on, IsBlankOn}
+use Rattle.newt_spec_whole.specs.Step.{formats}
+use Rattle.newt_spec_whole.specs.Whole.{Whole, stores_on, IsBlankOn}
 use Rattle.newt_script_session.specs.Stream.{put_out}
 
 -- how many of the texts have begun where so many bytes are out
@@ -19,34 +19,34 @@ begun (text ∷ texts) zero = 0
 begun (text ∷ texts) (suc n) = suc (begun texts (suc n - length text))
 
 -- how many of the replies have
-abbrev pub replies_begun : List Row → ℕ → ℕ
+abbrev pub replies_begun : List (Row Whole) → ℕ → ℕ
 replies_begun rows shown = begun (reply_texts rows) shown
 
 -- the unit holds no store in the worlds up to and with the one behind so many rows
-abbrev pub BlankThrough : World → List Row → ℕ → ℕ → Type 0
+abbrev pub BlankThrough : Whole → List (Row Whole) → ℕ → ℕ → Type 0
 BlankThrough world rows m unit = (k : ℕ) → k ≤ m → IsBlankOn (world_at world rows k) unit
 
 -- the item is a format of the unit that is not refused in this world
-abbrev pub item_formats : World → Item → ℕ → Bool
+abbrev pub item_formats : Whole → Item → ℕ → Bool
 item_formats world (Ok command) unit = formats world command unit
 item_formats world (Err refusal) unit = false
 
 -- the first of the items is one
-abbrev pub formats_next : World → List Item → ℕ → Bool
+abbrev pub formats_next : Whole → List Item → ℕ → Bool
 formats_next world [] unit = false
 formats_next world (item ∷ items) unit = item_formats world item unit
 
 -- a unit holds no store in these worlds
-abbrev pub Fresh : List World → ℕ → Type 0
+abbrev pub Fresh : List Whole → ℕ → Type 0
 Fresh worlds unit = Each (λ w. IsBlankOn w unit) worlds
 
 -- worlds, and those of a run behind them but for the last, the latest first
-abbrev pub worlds_behind : List World → World → List Row → List World
+abbrev pub worlds_behind : List Whole → Whole → List (Row Whole) → List Whole
 worlds_behind before world [] = before
 worlds_behind before world (row ∷ rows) = worlds_behind (world ∷ before) row.0 rows
 
 -- Of a unit that holds no store, nor held one in the worlds before, a crash leaves what it might have left at the start.
-abbrev pub Untouched : Moment → List World → World → Moment → Type 0
+abbrev pub Untouched : Moment → List Whole → Whole → Moment → Type 0
 Untouched start before world now = (unit : ℕ) (left : List ℕ) → Fresh before unit → IsBlankOn world unit → MayLeave unit now left → MayLeave unit start left
 
 -- What is left of a unit between two worlds, where the items go on from the first: one of its
@@ -54,7 +54,7 @@ Untouched start before world now = (unit : ℕ) (left : List ℕ) → Fresh befo
 -- that it held none before, and it holds none in the first and is not to hold one, what was left of
 -- it at first.
 pub record Between (store_of_image : List ℕ → Option Store) (AtFirst : List ℕ → Type 0)
-    (F : Type 0) (world : World) (items : List Item) (next : World) (unit : ℕ)
+    (F : Type 0) (world : Whole) (items : List Item) (next : Whole) (unit : ℕ)
     (left : List ℕ) : Type 0 where
   pub stores : (s : Store) → Among (stores_on world unit) s
       → ReadsOneOf store_of_image (stores_on world unit ++ stores_on next unit) left
@@ -62,8 +62,8 @@ pub record Between (store_of_image : List ℕ → Option Store) (AtFirst : List 
       → (formats_next world items unit ≡ false) ⊎ IsBlankOn next unit → AtFirst left
 
 -- what is left of a unit behind m of the rows, which the items gave: it held no store up to there
-abbrev pub Behind : (List ℕ → Option Store) → (AtFirst : List ℕ → Type 0) → World → List Item
-    → List Row → ℕ → ℕ → List ℕ → Type 0
+abbrev pub Behind : (List ℕ → Option Store) → (AtFirst : List ℕ → Type 0) → Whole → List Item
+    → List (Row Whole) → ℕ → ℕ → List ℕ → Type 0
 Behind store_of_image AtFirst world items rows m unit left = Between store_of_image AtFirst
     (BlankThrough world rows m unit) (world_at world rows m) (drop m items)
     (world_at world rows (m + 1)) unit left
@@ -72,16 +72,16 @@ module _ (store_of_image : List ℕ → Option Store) (start : Moment) where
   -- A crash at this moment: the output has grown by so much, so of the rows a number m has replies
   -- that have begun, and the crash leaves each unit between the worlds behind m rows and behind one
   -- more, whatever items and rows follow. Behind the last row both are one.
-  pub record CrashAt (world : World) (items : List Item) (rows : List Row) (old : List ℕ)
+  pub record CrashAt (world : Whole) (items : List Item) (rows : List (Row Whole)) (old : List ℕ)
       (now : Moment) : Type 0 where
     pub shown : List ℕ
     pub out : printed now ≡ old ++ shown
-    pub leaves : (later : List Item) (more : List Row) (unit : ℕ) (left : List ℕ)
+    pub leaves : (later : List Item) (more : List (Row Whole)) (unit : ℕ) (left : List ℕ)
         → MayLeave unit now left → Behind store_of_image (MayLeave unit start) world
         (items ++ later) (rows ++ more) (replies_begun (rows ++ more) (length shown)) unit left
 
   -- the same by recursion on the rows, where so many bytes are out
-  unfoldable pub Leaves : Type 0 → World → List Item → List Row → ℕ → ℕ → List ℕ → Type 0
+  unfoldable pub Leaves : Type 0 → Whole → List Item → List (Row Whole) → ℕ → ℕ → List ℕ → Type 0
   Leaves F world items [] shown unit left =
       Between store_of_image (MayLeave unit start) F world items world unit left
   Leaves F world items (row ∷ rows) zero unit left =
@@ -93,22 +93,22 @@ module _ (store_of_image : List ℕ → Option Store) (start : Moment) where
 -- A crash at this moment leaves what it may, whatever items and rows follow these: of the replies so
 -- many bytes were taken, and put out where the sink shows them.
 pub record SafeAt (shows : Bool) (store_of_image : List ℕ → Option Store) (start : Moment)
-    (before : List World) (world : World) (items : List Item) (rows : List Row) (old : List ℕ)
-    (now : Moment) : Type 0 where
+    (before : List Whole) (world : Whole) (items : List Item) (rows : List (Row Whole))
+    (old : List ℕ) (now : Moment) : Type 0 where
   pub shown : List ℕ
   pub out : printed now ≡ old ++ put_out shows shown
-  pub safe : (later : List Item) (more : List Row) (unit : ℕ) (left : List ℕ)
+  pub safe : (later : List Item) (more : List (Row Whole)) (unit : ℕ) (left : List ℕ)
       → MayLeave unit now left → Leaves store_of_image start (Fresh before unit) world
       (items ++ later) (rows ++ more) (length shown) unit left
 
 -- What a crash has left on a unit whose device was held like this before the run, while that was the
 -- output: of the rows a number m has replies of which a byte was out, and the unit is between the
 -- worlds behind m rows and behind one more, whatever items and rows follow.
-pub record HasLeft (store_of_image : List ℕ → Option Store) (world : World) (items : List Item)
-    (rows : List Row) (held : Option (List ℕ)) (old out : List ℕ) (unit : ℕ)
+pub record HasLeft (store_of_image : List ℕ → Option Store) (world : Whole) (items : List Item)
+    (rows : List (Row Whole)) (held : Option (List ℕ)) (old out : List ℕ) (unit : ℕ)
     (left : List ℕ) : Type 0 where
   pub shown : List ℕ
   pub grown : out ≡ old ++ shown
-  pub leaves : (later : List Item) (more : List Row)
+  pub leaves : (later : List Item) (more : List (Row Whole))
       → Behind store_of_image (λ bytes. held ≡ Some bytes) world (items ++ later) (rows ++ more)
       (replies_begun (rows ++ more) (length shown)) unit left

@@ -4,8 +4,8 @@ use Rattle.std.specs.Prelude.{Result, OnOk, IfErr}
 use Rattle.newt_host.specs.Meanings.{held, left_since, out_of, since}
 use Rattle.newt_host.specs.Outside.{Outside}
 use Rattle.newt_spec_store.specs.Store.{Store}
-use Rattle.newt_spec_world.specs.First.{world_of}
-use Rattle.newt_spec_world.specs.World.{World}
+use Rattle.newt_spec_whole.specs.First.{whole_of}
+use Rattle.newt_spec_whole.specs.Whole.{Whole}
 use Rattle.newt_script_session.specs.Answered.{Given}
 use Rattle.newt_script_session.specs.Counted.{HasLeftCounted}
 use Rattle.newt_script_session.specs.Counts.{summary_of}
@@ -18,9 +18,9 @@ use Rattle.newt_laws_steps.specs.Thrown.{RowsFailed, RowsThrew}
 use Rattle.newt_script_session.specs.declared.halt.Halt.{Halt}
 
 -- the world before the first command: the devices of the names as they are held, of which none is
--- mounted
-abbrev pub first_world : (List ℕ → Option Store) → List (List ℕ) → Outside → World
-first_world store_of_image names old = world_of store_of_image (held old) names
+-- mounted, with no watches and no working copies
+abbrev pub first_world : (List ℕ → Option Store) → List (List ℕ) → Outside → Whole
+first_world store_of_image names old = whole_of store_of_image (held old) names
 
 -- this holds of what a crash might have left on a unit at any moment since it was attached, while
 -- that was the output
@@ -34,7 +34,7 @@ held_by names old unit = option_and_then (held old) (slice_get names unit)
 
 -- The script of the input was answered, and at each moment a crash might have left on a unit what
 -- it may.
-pub record RanNamed {T : Type 0} (step : Stepping) (store_of_image : List ℕ → Option Store)
+pub record RanNamed {T : Type 0} (step : Stepping Whole) (store_of_image : List ℕ → Option Store)
     (limit : ℕ) (result : Result T Halt) (names : List (List ℕ)) (old new : Outside) : Type 0 where
   pub played : Played step limit result (first_world store_of_image names old) old new
   pub crash : AtEachMoment new (λ unit left shown.
@@ -44,8 +44,8 @@ pub record RanNamed {T : Type 0} (step : Stepping) (store_of_image : List ℕ �
 
 -- A script in memory was answered, by a run over its first items, and with an answer over all, and
 -- its replies counted: what was written is the summary, or a first part of it.
-pub record CountedNamed {T : Type 0} (step : Stepping) (store_of_image : List ℕ → Option Store)
-    (script : List ℕ) (result : Result T Halt) (names : List (List ℕ))
+pub record CountedNamed {T : Type 0} (step : Stepping Whole)
+    (store_of_image : List ℕ → Option Store) (script : List ℕ) (result : Result T Halt) (names : List (List ℕ))
     (old new : Outside) : Type 0 where
   pub given : Given step (first_world store_of_image names old) (script_items script)
   pub out : OnOk result ((given.rest ≡ []) × (out_of new ≡ out_of old ++ summary_of given.rows))

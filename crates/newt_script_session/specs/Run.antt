@@ -2,6 +2,7 @@
 use Rattle.std.specs.Prelude.{◌≡◌, ◌⊎◌, ℕ, ◌<◌, true, false, List, [], ◌++◌, length, take}
 use Rattle.newt_spec_script.specs.Script.{Item}
 use Rattle.newt_spec_script.specs.Rows.{Row, output_of}
+use Rattle.newt_spec_whole.specs.Whole.{Whole}
 use Rattle.newt_script_session.specs.Script.{ended_items, quits}
 use Rattle.newt_script_session.specs.Stream.{WroteSome}
 use Rattle.newt_script_session.specs.declared.halt.Halt.{Halt}
@@ -21,14 +22,14 @@ pub record IsReadThrough (limit : ℕ) (script left : List ℕ) : Type 0 where
   pub not_too_long : IsTooLong limit script → ⊥
 
 -- what is written of the replies of rows where the run is halted in them: a first part
-abbrev pub HaltedIn : Halt → (rows : List Row) → (old now : List ℕ) → Type 0
+abbrev pub HaltedIn : Halt → (rows : List (Row Whole)) → (old now : List ℕ) → Type 0
 HaltedIn Memory rows old now = WroteSome (output_of rows) old now
 HaltedIn Sink rows old now = WroteSome (output_of rows) old now
 HaltedIn Source rows old now = ⊥
 HaltedIn TooLong rows old now = ⊥
 
 -- All lines that ended within the bytes taken were answered, and the replies to them written.
-pub record AnsweredTaken (items : List Item) (rows : List Row)
+pub record AnsweredTaken (items : List Item) (rows : List (Row Whole))
     (script left old now : List ℕ) : Type 0 where
   pub taken : List ℕ
   pub split : script ≡ taken ++ left
@@ -36,7 +37,7 @@ pub record AnsweredTaken (items : List Item) (rows : List Row)
   pub out : now ≡ old ++ output_of rows
 
 -- what a run leaves that is halted behind these items of the script, which gave these rows
-abbrev pub Halted : ℕ → Halt → List Item → List Row → (script left old now : List ℕ) → Type 0
+abbrev pub Halted : ℕ → Halt → List Item → List (Row Whole) → (script left old now : List ℕ) → Type 0
 Halted limit Memory items rows script left old now = HaltedIn Memory rows old now
 Halted limit Sink items rows script left old now = HaltedIn Sink rows old now
 Halted limit Source items rows script left old now = AnsweredTaken items rows script left old now

@@ -4,7 +4,7 @@ use Rattle.newt_host.specs.Meanings.{out_of}
 use Rattle.newt_host.specs.Moments.{Always}
 use Rattle.newt_host.specs.Outside.{Outside}
 use Rattle.newt_spec_store.specs.Store.{Store}
-use Rattle.newt_spec_world.specs.World.{World}
+use Rattle.newt_spec_whole.specs.Whole.{Whole}
 use Rattle.newt_script_session.specs.Answered.{Given}
 use Rattle.newt_script_session.specs.Moments.{CrashAt}
 use Rattle.newt_script_session.specs.Reading.{ReadsInTime}
@@ -18,8 +18,8 @@ use Rattle.newt_script_session.specs.declared.halt.Halt.{Halt}
 -- an answer over all: what was written, what was read, how far the run came where it was halted,
 -- and, whatever the result is, that nothing was read ahead of a reply that was due, and that the
 -- replies that tell a fault of a device are at most as many as its faults that were counted.
-pub record Played {T : Type 0} (step : Stepping) (limit : ℕ) (result : Result T Halt)
-    (world : World) (old new : Outside) : Type 0 where
+pub record Played {T : Type 0} (step : Stepping Whole) (limit : ℕ) (result : Result T Halt)
+    (world : Whole) (old new : Outside) : Type 0 where
   pub given : Given step world (script_items old.input)
   pub out : OnOk result ((given.rest ≡ []) × (out_of new ≡ out_of old ++ output_of given.rows))
   pub read : OnOk result (IsReadThrough limit old.input new.input)
@@ -31,8 +31,8 @@ pub record Played {T : Type 0} (step : Stepping) (limit : ℕ) (result : Result 
 
 -- The same, and at each moment a crash leaves each unit as it is behind some first rows, every row
 -- among them whose reply has begun.
-pub record Session {T : Type 0} (step : Stepping) (store_of_image : List ℕ → Option Store)
-    (limit : ℕ) (result : Result T Halt) (world : World) (old new : Outside) : Type 0 where
+pub record Session {T : Type 0} (step : Stepping Whole) (store_of_image : List ℕ → Option Store)
+    (limit : ℕ) (result : Result T Halt) (world : Whole) (old new : Outside) : Type 0 where
   pub played : Played step limit result world old new
   pub crash : Always (CrashAt store_of_image old.now world played.given.first played.given.rows
       (out_of old)) old.now new.now

@@ -1,4 +1,4 @@
--- Steps: how a command turns one world into the next.
+-- Steps: how a command turns one world, with what is beside it, into the next.
 use Rattle.std.specs.Prelude.{◌≡◌, ℕ, List, Option, Result, IfOk}
 use Rattle.newt_host.specs.Moments.{Moment, Always}
 use Rattle.newt_laws_steps.specs.Answering.{Answering}
@@ -7,7 +7,7 @@ use Rattle.newt_reply.specs.declared.reply.Reply as given
 use Rattle.newt_spec_script.specs.Rows.{Stepping}
 use Rattle.newt_spec_store.specs.Store.{Store}
 use Rattle.newt_spec_world.specs.Reply.{Reply}
-use Rattle.newt_spec_world.specs.World.{World}
+use Rattle.newt_spec_whole.specs.Whole.{Whole}
 use Rattle.newt_spec_world.specs.declared.command.Command.{Command}
 use Rattle.newt_laws_steps.specs.Thrown.{Failed, Threw}
 
@@ -15,12 +15,12 @@ use Rattle.newt_laws_steps.specs.Thrown.{Failed, Threw}
 -- a crash leaves each unit as in the one world or in the other. The faults of devices are those that
 -- the reply tells. Where it was answered, the reply is that of the step, and the next world is one
 -- of those that are stood for then.
-pub record Stepped {E : Type 0} (step : Stepping) (store_of_image : List ℕ → Option Store)
-    (command : Command) (result : Result given.Reply E) (world : World) (StoodFor : World → Type 0)
+pub record Stepped {E : Type 0} (step : Stepping Whole) (store_of_image : List ℕ → Option Store)
+    (command : Command) (result : Result given.Reply E) (world : Whole) (StoodFor : Whole → Type 0)
     (old now : Moment) (was is : ℕ → ℕ) : Type 0 where
-  pub next : World
+  pub next : Whole
   pub reply : Reply
   pub steps : step world command next reply
   pub threw : Threw reply was is
   pub answered : IfOk result (λ it. (said it ≡ reply) × StoodFor next × Failed reply was is)
-  pub moments : Always (Answering store_of_image world command next old) old now
+  pub moments : Always (Answering store_of_image world.world command next.world old) old now

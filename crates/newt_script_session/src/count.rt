@@ -5,7 +5,7 @@ ghost use Rattle.newt_script_session.specs.Causes.{HasSinkCause};
 ghost use Rattle.newt_script_session.specs.Counted.{Counted};
 ghost use Rattle.newt_script_session.specs.Counts.{lines_of_tally};
 ghost use Rattle.newt_script_session.specs.Stream.{Puts};
-ghost use Rattle.newt_spec_world.specs.World.{World};
+ghost use Rattle.newt_spec_whole.specs.Whole.{Whole};
 
 use crate::feed::answer_text;
 use crate::halt::Halt;
@@ -39,7 +39,7 @@ pub fn tally_script<H: Host, I: Interpreter>(
     script: &[u8],
 ) -> Result<(), Halt>
     requires stands { I.stands H.told interpreter.old (H.outside host.old) }
-    ensures counted { IsTrue H.told → (world : World)
+    ensures counted { IsTrue H.told → (world : Whole)
         → I.means interpreter.old (H.outside host.old) world
         → Counted I.step I.store_of_image script.now result world
         (H.outside host.old) (H.outside host.new) }

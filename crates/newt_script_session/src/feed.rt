@@ -4,7 +4,7 @@ ghost use Rattle.newt_script_session.specs.Answered.{Fed, Ran};
 ghost use Rattle.newt_script_session.specs.Calls.{AnswerCall};
 ghost use Rattle.newt_script_session.specs.Lines.{BeginsWith, HasNoEnd, ended_lines, last_line};
 ghost use Rattle.newt_script_session.specs.Script.{commands_of, script_items};
-ghost use Rattle.newt_spec_world.specs.World.{World};
+ghost use Rattle.newt_spec_whole.specs.Whole.{Whole};
 
 use crate::halt::{Flow, Halt};
 use crate::interpreter::Interpreter;
@@ -36,7 +36,7 @@ pub fn feed<H: Host, I: Interpreter, S: Sink>(
     requires stands { I.stands H.told interpreter.old (H.outside host.old) }
     ensures stands { OnOk result (I.stands H.told interpreter.new (H.outside host.new)) }
     ensures fed { IfOk result (λ flow. Fed line.old.items piece.now flow line.new.items) }
-    ensures ran { IsTrue H.told → (world : World)
+    ensures ran { IsTrue H.told → (world : Whole)
         → I.means interpreter.old (H.outside host.old) world
         → Ran I.step S.shows I.store_of_image result world
         (I.means interpreter.new (H.outside host.new))
@@ -72,7 +72,7 @@ pub fn finish<H: Host, I: Interpreter, S: Sink>(
 ) -> Result<(), Halt>
     requires stands { I.stands H.told interpreter.old (H.outside host.old) }
     ensures stands { OnOk result (I.stands H.told interpreter.new (H.outside host.new)) }
-    ensures ran { IsTrue H.told → (world : World)
+    ensures ran { IsTrue H.told → (world : Whole)
         → I.means interpreter.old (H.outside host.old) world
         → Ran I.step S.shows I.store_of_image result world
         (I.means interpreter.new (H.outside host.new))
@@ -98,7 +98,7 @@ pub fn answer_text<H: Host, I: Interpreter, S: Sink>(
 ) -> Result<(), Halt>
     requires stands { I.stands H.told interpreter.old (H.outside host.old) }
     ensures stands { OnOk result (I.stands H.told interpreter.new (H.outside host.new)) }
-    ensures ran { IsTrue H.told → (world : World)
+    ensures ran { IsTrue H.told → (world : Whole)
         → I.means interpreter.old (H.outside host.old) world
         → Ran I.step S.shows I.store_of_image result world
         (I.means interpreter.new (H.outside host.new))

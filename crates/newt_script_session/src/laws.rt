@@ -8,8 +8,9 @@ ghost use Rattle.newt_script_session.specs.Lines.{lines_of};
 ghost use Rattle.newt_script_session.specs.Script.{commands_of};
 ghost use Rattle.newt_spec_script.specs.Rows.{IsRun, Row, replies_of, world_behind};
 ghost use Rattle.newt_spec_script.specs.Script as plain;
-ghost use Rattle.newt_spec_world.specs.Step.{Step};
-ghost use Rattle.newt_spec_world.specs.World.{World};
+ghost use Rattle.newt_spec_whole.specs.Answer.{whole_answer};
+ghost use Rattle.newt_spec_whole.specs.Step.{WholeStep};
+ghost use Rattle.newt_spec_whole.specs.Whole.{Whole};
 
 /// The lines that are answered are those of the definitions of a script, with the readings that the
 /// code has, and so are their items, up to a quit.
@@ -20,15 +21,15 @@ pub fn lines_are_spelled()
 {}
 
 /// Where it is known what each unit holds, and no count of the faults of a device rose, a run of
-/// steps whose replies tell no more than these counts is what the plain world answers to the items
-/// one after another.
+/// steps whose replies tell no more than these counts is what the plain world, with its watches and
+/// working copies, answers to the items one after another.
 pub fn faultless_runs_are_plain()
-    ensures world { (world : World) (items : List plain.Item) (rows : List Row) (was is : ℕ → ℕ)
-        → AllSure world → IsRun Step world items rows → RowsThrew rows was is
-        → ((unit : ℕ) → ¬ Rose (was unit) (is unit))
-        → world_behind world rows ≡ plain.world_after world items }
-    ensures replies { (world : World) (items : List plain.Item) (rows : List Row) (was is : ℕ → ℕ)
-        → AllSure world → IsRun Step world items rows → RowsThrew rows was is
-        → ((unit : ℕ) → ¬ Rose (was unit) (is unit))
-        → replies_of rows ≡ plain.replies_to world items }
+    ensures world { (world : Whole) (items : List plain.Item) (rows : List (Row Whole))
+        (was is : ℕ → ℕ) → AllSure world.world → IsRun WholeStep world items rows
+        → RowsThrew rows was is → ((unit : ℕ) → ¬ Rose (was unit) (is unit))
+        → world_behind world rows ≡ plain.world_after whole_answer world items }
+    ensures replies { (world : Whole) (items : List plain.Item) (rows : List (Row Whole))
+        (was is : ℕ → ℕ) → AllSure world.world → IsRun WholeStep world items rows
+        → RowsThrew rows was is → ((unit : ℕ) → ¬ Rose (was unit) (is unit))
+        → replies_of rows ≡ plain.replies_to whole_answer world items }
 {}

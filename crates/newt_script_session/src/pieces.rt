@@ -4,7 +4,7 @@ ghost use Rattle.std.specs.Prelude.{vec_len};
 ghost use Rattle.newt_host.specs.Outside.{Takes};
 ghost use Rattle.newt_script_session.specs.Calls.{ReadCall, RunCall};
 ghost use Rattle.newt_script_session.specs.Session.{Session};
-ghost use Rattle.newt_spec_world.specs.World.{World};
+ghost use Rattle.newt_spec_whole.specs.Whole.{Whole};
 
 use crate::feed::{feed, finish};
 use crate::halt::{Flow, Halt};
@@ -48,7 +48,7 @@ fn answer_pieces<H: Host, I: Interpreter>(
     requires empty { line.old.items ≡ [] }
     requires room { 0 < length buffer.old }
     requires stands { I.stands H.told interpreter.old (H.outside host.old) }
-    ensures session { IsTrue H.told → (world : World)
+    ensures session { IsTrue H.told → (world : Whole)
         → I.means interpreter.old (H.outside host.old) world
         → Session I.step I.store_of_image limit result world
         (H.outside host.old) (H.outside host.new) }
@@ -96,7 +96,7 @@ pub fn run_script<H: Host, I: Interpreter>(
     limit: usize,
 ) -> Result<(), Halt>
     requires stands { I.stands H.told interpreter.old (H.outside host.old) }
-    ensures session { IsTrue H.told → (world : World)
+    ensures session { IsTrue H.told → (world : Whole)
         → I.means interpreter.old (H.outside host.old) world
         → Session I.step I.store_of_image limit result world
         (H.outside host.old) (H.outside host.new) }

@@ -6,7 +6,7 @@ ghost use Rattle.newt_script_session.specs.Causes.{flow_of};
 ghost use Rattle.newt_script_session.specs.Script.{commands_of, has_quit};
 ghost use Rattle.newt_laws_world.specs.Worlds.{has_form};
 ghost use Rattle.newt_spec_script.specs.Script.{is_quit};
-ghost use Rattle.newt_spec_world.specs.World.{World};
+ghost use Rattle.newt_spec_whole.specs.Whole.{Whole};
 
 use crate::halt::{Flow, Halt};
 use crate::interpreter::Interpreter;
@@ -39,7 +39,7 @@ fn obey<H: Host, I: Interpreter, S: Sink>(
     requires form { IsTrue (has_form command) }
     ensures stands { OnOk result (I.stands H.told interpreter.new (H.outside host.new)) }
     ensures flow { IfOk result (λ flow. flow ≡ flow_of (is_quit (Ok command))) }
-    ensures ran { IsTrue H.told → (world : World)
+    ensures ran { IsTrue H.told → (world : Whole)
         → I.means interpreter.old (H.outside host.old) world
         → Ran I.step S.shows I.store_of_image result world
         (I.means interpreter.new (H.outside host.new))
@@ -67,7 +67,7 @@ fn refuse<H: Host, I: Interpreter, S: Sink>(
     requires stands { I.stands H.told interpreter.now (H.outside host.old) }
     ensures stands { OnOk result (I.stands H.told interpreter.now (H.outside host.new)) }
     ensures flow { IfOk result (λ flow. flow ≡ Flow.Go) }
-    ensures ran { IsTrue H.told → (world : World)
+    ensures ran { IsTrue H.told → (world : Whole)
         → I.means interpreter.now (H.outside host.old) world
         → Ran I.step S.shows I.store_of_image result world
         (I.means interpreter.now (H.outside host.new))
@@ -92,7 +92,7 @@ pub fn turn<H: Host, I: Interpreter, S: Sink>(
     requires stands { I.stands H.told interpreter.old (H.outside host.old) }
     ensures stands { OnOk result (I.stands H.told interpreter.new (H.outside host.new)) }
     ensures flow { IfOk result (λ flow. flow ≡ flow_of (has_quit (bytes.now ∷ []))) }
-    ensures ran { IsTrue H.told → (world : World)
+    ensures ran { IsTrue H.told → (world : Whole)
         → I.means interpreter.old (H.outside host.old) world
         → Ran I.step S.shows I.store_of_image result world
         (I.means interpreter.new (H.outside host.new))

@@ -3,7 +3,7 @@ use Rattle.std.specs.Prelude.{ℕ, ℤ, Bool, ◌==◌, List, length}
 use Rattle.newt_base.specs.Text.{signed_value}
 use Rattle.newt_path.specs.Names.{path_of}
 use Rattle.newt_spec_script.specs.Words.{Reader, of2, of3, word, name, trimmed}
-use Rattle.newt_spec_script.specs.Line.{unit, number, sig, len, cursor, star}
+use Rattle.newt_spec_script.specs.Line.{unit, number, sig, len, cursor, most, watch, copy, star}
 
 -- U
 unfoldable pub unit_of : Reader ℕ
@@ -24,6 +24,18 @@ length_of = len
 -- C
 unfoldable pub cursor_of : Reader ℕ
 cursor_of = cursor
+
+-- LIMIT of a watch
+unfoldable pub most_of : Reader ℕ
+most_of = most
+
+-- W of a watch
+unfoldable pub watch_of : Reader ℕ
+watch_of = watch
+
+-- W of a working copy
+unfoldable pub copy_of : Reader ℕ
+copy_of = copy
 
 -- K
 unfoldable pub steps_of : Reader ℤ

@@ -14,6 +14,15 @@ const MOST_READ: u32 = 60_000;
 /// The last cursor.
 const LAST_CURSOR: u32 = 31;
 
+/// The most notes that a watch keeps.
+const MOST_NOTES: u32 = 64;
+
+/// The last watch.
+const LAST_WATCH: u32 = 7;
+
+/// The last working copy.
+const LAST_COPY: u32 = 15;
+
 /// The value of a word that is one digit from 0 to 7.
 pub fn unit_digit(word: &[u8]) -> Option<Unit>
     ensures { result ≡ spec.unit_digit word.now }
@@ -50,6 +59,36 @@ pub fn cursor_number(word: &[u8]) -> Option<u8>
 {
     match decimal(word) {
         Some(number) if number <= LAST_CURSOR => Some(number as u8),
+        _ => None,
+    }
+}
+
+/// The value of a decimal word from 1 up to the most notes that a watch keeps.
+pub fn most_notes(word: &[u8]) -> Option<u32>
+    ensures { result ≡ spec.one_to 64 word.now }
+{
+    match decimal(word) {
+        Some(number) if number >= 1 && number <= MOST_NOTES => Some(number),
+        _ => None,
+    }
+}
+
+/// The value of a decimal word up to the last watch.
+pub fn watch_number(word: &[u8]) -> Option<u8>
+    ensures { result ≡ spec.decimal_to 7 word.now }
+{
+    match decimal(word) {
+        Some(number) if number <= LAST_WATCH => Some(number as u8),
+        _ => None,
+    }
+}
+
+/// The value of a decimal word up to the last working copy.
+pub fn copy_number(word: &[u8]) -> Option<u8>
+    ensures { result ≡ spec.decimal_to 15 word.now }
+{
+    match decimal(word) {
+        Some(number) if number <= LAST_COPY => Some(number as u8),
         _ => None,
     }
 }

@@ -5,6 +5,7 @@ ghost use Rattle.newt_spec_script.specs.Line.{first_word};
 ghost use Rattle.newt_script_words.specs.Readers.{unit_of, number_of, sig_of, length_of, cursor_of};
 ghost use Rattle.newt_script_words.specs.Readers.{steps_of, star_of, name_of, soup_of, entry_of};
 ghost use Rattle.newt_script_words.specs.Readers.{path_word, rest_of, is_ended};
+ghost use Rattle.newt_script_words.specs.Readers.{most_of, watch_of, copy_of};
 ghost use Rattle.newt_script_words.specs.Listed.{parts_in, paths_in, symbols_in};
 ghost use Rattle.newt_script_words.specs.Reads.{Reads};
 
@@ -12,7 +13,8 @@ use crate::blanks::{skip_blanks, split_word, trimmed};
 use crate::fault::WordFault;
 use crate::listed::{parts_in, paths_in, symbols_in};
 use crate::names::name_from;
-use crate::numbers::{cursor_number, read_length, signature, unit_digit};
+use crate::numbers::{copy_number, cursor_number, most_notes, read_length, signature};
+use crate::numbers::{unit_digit, watch_number};
 use newt_base::{Name, Sig, Uid, decimal, signed};
 use newt_host::Unit;
 use newt_path::{Path, PathFault};
@@ -118,6 +120,30 @@ impl<'a> Words<'a> {
         ensures no_memory { result ≢ Err WordFault.Memory }
     {
         cursor_number(self.word()).ok_or(WordFault::Form)
+    }
+
+    /// LIMIT: how many notes a watch keeps, 1 to 64.
+    pub fn most(&mut self) -> Result<u32, WordFault>
+        ensures reads { Reads (most_of self.old) result (λ most. (most, self.new)) }
+        ensures no_memory { result ≢ Err WordFault.Memory }
+    {
+        most_notes(self.word()).ok_or(WordFault::Form)
+    }
+
+    /// W: the number of a watch.
+    pub fn watch(&mut self) -> Result<u8, WordFault>
+        ensures reads { Reads (watch_of self.old) result (λ watch. (watch, self.new)) }
+        ensures no_memory { result ≢ Err WordFault.Memory }
+    {
+        watch_number(self.word()).ok_or(WordFault::Form)
+    }
+
+    /// W: the number of a working copy.
+    pub fn copy(&mut self) -> Result<u8, WordFault>
+        ensures reads { Reads (copy_of self.old) result (λ copy. (copy, self.new)) }
+        ensures no_memory { result ≢ Err WordFault.Memory }
+    {
+        copy_number(self.word()).ok_or(WordFault::Form)
     }
 
     /// K: how many steps a cursor is moved, down to the lowest and up to the highest number of 32

@@ -15,8 +15,8 @@ use Rattle.newt_path.specs.Names.{path_of}
 use Rattle.newt_spec_world.specs.declared.command.Command.{Command}
 use Rattle.newt_spec_world.specs.declared.command.Command.TheVariants as command
 use Rattle.newt_spec_script.specs.Words.{Reader, is_blank, skip_blanks, trimmed, word, of1, of2}
-use Rattle.newt_spec_script.specs.Words.{of3, of4, of5, of6, decimal_to, unit_digit, name, part}
-use Rattle.newt_spec_script.specs.Words.{symbol, several}
+use Rattle.newt_spec_script.specs.Words.{of3, of4, of5, of6, decimal_to, one_to, unit_digit, name}
+use Rattle.newt_spec_script.specs.Words.{part, symbol, several}
 
 -- ---- the forms of single words
 
@@ -39,6 +39,18 @@ len = word (decimal_to 60_000)
 -- a cursor (this project's own)
 abbrev pub cursor : Reader ℕ
 cursor = word (decimal_to 31)
+
+-- how many notes a watch keeps, from 1 to 64 (this project's own)
+abbrev pub most : Reader ℕ
+most = word (one_to 64)
+
+-- a watch (this project's own)
+abbrev pub watch : Reader ℕ
+watch = word (decimal_to 7)
+
+-- a working copy (this project's own)
+abbrev pub copy : Reader ℕ
+copy = word (decimal_to 15)
 
 -- ---- rows
 
@@ -189,6 +201,15 @@ rows =
     ∷ (codes "which", whole (of1 cursor command.Which))
     ∷ (codes "clone", whole (of1 cursor command.Clone))
     ∷ (codes "close", whole (of1 cursor command.Close))
+    ∷ (codes "watch", whole (of2 name most command.Watch))
+    ∷ (codes "notes", whole (of1 watch command.Notes))
+    ∷ (codes "unwatch", whole (of1 watch command.Unwatch))
+    ∷ (codes "open", whole (of3 unit name number command.Open))
+    ∷ (codes "draft", whole (of1 copy command.Draft))
+    ∷ (codes "edit", and_literal (of2 copy (word path_of) (λ n p g. command.Edit n p g)))
+    ∷ (codes "save", whole (of1 copy command.Save))
+    ∷ (codes "revert", whole (of1 copy command.Revert))
+    ∷ (codes "discard", whole (of1 copy command.Discard))
     ∷ (codes "quit", whole (alone command.Quit))
     ∷ []
 

@@ -9,8 +9,6 @@ use Rattle.newt_graph.specs.Graph.{RawGraph}
 use Rattle.newt_spec_world.specs.declared.command.Command.{Command}
 use Rattle.newt_spec_world.specs.declared.command.Command.TheVariants as command
 use Rattle.newt_spec_world.specs.Reply.{Reply, reply_text}
-use Rattle.newt_spec_world.specs.World.{World}
-use Rattle.newt_spec_world.specs.Answer.{answer}
 use Rattle.newt_spec_script.specs.Line.{Parsed, ready, literal, stream, bytes, parsed}
 
 -- ---- lines
@@ -83,12 +81,6 @@ module _ (Reads Spells SpellsWide : List ℕ → RawGraph → Type 0) where
 
 -- ---- the run of the items
 
--- the world after an item, and its reply; a line that is refused leaves the world
--- (this project's own)
-abbrev pub step : World → Item → World × Reply
-step w (Err refusal) = (w, Reply.refused refusal)
-step w (Ok c) = answer w c
-
 -- the command that ends a script (this project's own)
 abbrev pub is_quit : Item → Bool
 is_quit (Ok command.Quit) = true
@@ -99,19 +91,26 @@ abbrev pub up_to_quit : List Item → List Item
 up_to_quit [] = []
 up_to_quit (x ∷ xs) = elim (is_quit x) [ true ↦ x ∷ [] | false ↦ x ∷ up_to_quit xs ]
 
--- the world after items one after another (a word of these definitions)
-abbrev pub world_after : World → List Item → World
-world_after w [] = w
-world_after w (x ∷ xs) = world_after (step w x).0 xs
+module _ {W : Type 0} (answers : W → Command → W × Reply) where
+  -- the world after an item, and its reply; a line that is refused leaves the world
+  -- (this project's own)
+  abbrev pub step : W → Item → W × Reply
+  step w (Err refusal) = (w, Reply.refused refusal)
+  step w (Ok c) = answers w c
 
--- their replies (a word of these definitions)
-abbrev pub replies_to : World → List Item → List Reply
-replies_to w [] = []
-replies_to w (x ∷ xs) = let a = step w x in a.1 ∷ replies_to a.0 xs
+  -- the world after items one after another (a word of these definitions)
+  abbrev pub world_after : W → List Item → W
+  world_after w [] = w
+  world_after w (x ∷ xs) = world_after (step w x).0 xs
 
--- the output of a script in this world (this project's own)
-abbrev pub output : World → List Item → List ℕ
-output w items = flat_map reply_text (replies_to w (up_to_quit items))
+  -- their replies (a word of these definitions)
+  abbrev pub replies_to : W → List Item → List Reply
+  replies_to w [] = []
+  replies_to w (x ∷ xs) = let a = step w x in a.1 ∷ replies_to a.0 xs
+
+  -- the output of a script in this world (this project's own)
+  abbrev pub output : W → List Item → List ℕ
+  output w items = flat_map reply_text (replies_to w (up_to_quit items))
 
 -- ---- with readers that compute
 

@@ -86,16 +86,20 @@ word form cs =
 abbrev pub decimal_to : ℕ → List ℕ → Option ℕ
 decimal_to most cs = below (most + 1) (digits_value cs)
 
+-- the value where it passes the test (a word of these definitions)
+abbrev pub only : {A : Type 0} → (A → Bool) → A → Option A
+only test a = if test a then Some a else None
+
+-- one to ten digits with a value from 1 to this (this project's own)
+abbrev pub one_to : ℕ → List ℕ → Option ℕ
+one_to most cs = option_and_then (only (nat_le 1)) (decimal_to most cs)
+
 -- a unit: one digit from 0 to 7 (this project's own)
 abbrev pub unit_digit : List ℕ → Option ℕ
 unit_digit (c ∷ []) = if nat_le 48 c && nat_le c 55 then Some (c - 48) else None
 unit_digit _ = None
 
 -- ---- names
-
--- the value where it passes the test (a word of these definitions)
-abbrev pub only : {A : Type 0} → (A → Bool) → A → Option A
-only test a = if test a then Some a else None
 
 -- a name without quotes: no space, no quote and no backslash in it (this project's own)
 abbrev pub bare_name : List ℕ → Option (List ℕ)

@@ -4,10 +4,14 @@ use Rattle.std.specs.List.{list_any, join_with_byte}
 use Rattle.newt_base.specs.Names.{needs_quotes}
 use Rattle.newt_base.specs.Text.{decimal_text, hex_text}
 use Rattle.newt_base.specs.declared.Refusal.{Refusal}
+use Rattle.newt_base.specs.declared.Refusal.TheVariants.{Changed}
 use Rattle.newt_base.specs.Refusals.{refusal_text}
 use Rattle.newt_graph.specs.Graph.{RawGraph}
 use Rattle.newt_spec_nsof.specs.Written.{nsof}
 use Rattle.newt_spec_literal.specs.Printed.{literal, escaped}
+use Rattle.newt_notify.specs.declared.note.Note.{Note}
+use Rattle.newt_notify.specs.declared.note.Kind as note_kind
+use Rattle.newt_notify.specs.declared.note.Kind.TheVariants as noted
 use Rattle.newt_spec_store.specs.declared.Kind.{Kind}
 use Rattle.newt_spec_store.specs.declared.Kind.TheVariants as kind
 use Rattle.newt_spec_store.specs.declared.Order.{Order}
@@ -37,6 +41,10 @@ pub data Reply : Type 0 where
   nil : Reply
   begin : Reply
   «end» : Reply
+  -- how many notes were lost, and the last ones
+  notes : ℕ → List Note → Reply
+  -- the entry has changed, at this minute
+  changed : ℕ → Reply
   refused : Refusal → Reply
   -- the device of this unit failed, and the unit is mounted no more
   thrown : ℕ → Reply
@@ -78,6 +86,24 @@ direction_word order.Descend = codes "descend"
 abbrev pub part_field : IndexPart → List ℕ
 part_field p = path_field p.path ++ codes ":" ++ kind_word p.kind ++ codes ":" ++ direction_word p.direction
 
+-- the word of a kind of notes (this project's own)
+abbrev pub note_word : note_kind.Kind → List ℕ
+note_word noted.Make = codes "make"
+note_word noted.Gone = codes "drop"
+note_word noted.Add = codes "add"
+note_word noted.Change = codes "change"
+note_word noted.Remove = codes "remove"
+
+-- the id of a note's entry; a note of a soup has none (this project's own)
+abbrev pub note_uid : Note → List (List ℕ)
+note_uid note =
+    elim note.kind [ noted.Make ↦ [] | noted.Gone ↦ [] | _ ↦ decimal_text note.uid ∷ [] ]
+
+-- a note in a list (this project's own)
+abbrev pub note_field : Note → List ℕ
+note_field note = spaced
+    (note_word note.kind ∷ decimal_text note.unit ∷ decimal_text note.soup ∷ note_uid note)
+
 -- an alias as a literal (this project's own)
 abbrev pub alias_text : ℕ → ℕ → ℕ → List ℕ
 alias_text s p uid =
@@ -117,6 +143,8 @@ reply_line deleted = ok (codes "deleted" ∷ [])
 reply_line nil = ok (codes "nil" ∷ [])
 reply_line begin = ok (codes "begin" ∷ [])
 reply_line «end» = ok (codes "end" ∷ [])
+reply_line (notes lost list) = ok (decimal_text lost ∷ items (map note_field list) ∷ [])
+reply_line (changed time) = codes "error " ++ refusal_text Changed ++ 32 ∷ decimal_text time
 reply_line (refused r) = codes "error " ++ refusal_text r
 reply_line (thrown u) = codes "error 50 device " ++ decimal_text u
 

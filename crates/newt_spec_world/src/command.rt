@@ -66,4 +66,13 @@ pub enum Command {
     Close(u8),
     Vread(Unit, Name, Uid, Path, u32, u32),
     Vwrite(Unit, Name, Uid, Path, u32, Bytes),
+    Watch(Name, u32),
+    Notes(u8),
+    Unwatch(u8),
+    Open(Unit, Name, Uid),
+    Draft(u8),
+    Edit(u8, Path, Graph),
+    Save(u8),
+    Revert(u8),
+    Discard(u8),
 }

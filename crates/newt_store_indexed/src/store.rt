@@ -145,6 +145,13 @@ impl<P: PageBook> Card for IndexedStore<P> {
         }
     }
 
+    fn next_uid(&self, name: &Name) -> Option<u32> {
+        match self.store.directory().soup_named(name.list()) {
+            Some(row) => Some(row.next_uid),
+            None => None,
+        }
+    }
+
     fn tags(&self, soup: Sig) -> Option<&TagTable> {
         match self.store.directory().soup_of(soup) {
             Some(row) => row.tags.as_ref(),

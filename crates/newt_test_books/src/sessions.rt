@@ -4,7 +4,7 @@ ghost use Rattle.newt_laws_world.specs.Worlds.{has_form};
 ghost use Rattle.newt_memhost.specs.Outside.{outside_of};
 ghost use Rattle.newt_test_scripts.specs.Free.{IsFree};
 
-use newt_engine::World;
+use newt_engine_whole::Whole;
 use newt_memhost::MemHost;
 use newt_pageplain::PlainBook;
 use newt_pages::DiskBook;
@@ -17,10 +17,10 @@ use std::alloc::{AllocError, Global};
 use std::test::Fail;
 
 /// The engine over pages in memory.
-pub(crate) type InMemory = World<IndexedStore<PlainBook>>;
+pub(crate) type InMemory = Whole<IndexedStore<PlainBook>>;
 
 /// The engine over pages on the device.
-pub(crate) type OnDevice = World<IndexedStore<DiskBook>>;
+pub(crate) type OnDevice = Whole<IndexedStore<DiskBook>>;
 
 /// More bytes than the input of any test here.
 const LIMIT: usize = 1 << 24;

@@ -6,6 +6,8 @@
 #[cfg(test)]
 mod changes;
 #[cfg(test)]
+mod copies;
+#[cfg(test)]
 mod crashes;
 #[cfg(test)]
 mod four;
@@ -27,3 +29,5 @@ mod records;
 mod refused;
 #[cfg(test)]
 mod walks;
+#[cfg(test)]
+mod watches;

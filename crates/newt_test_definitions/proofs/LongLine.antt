@@ -5,6 +5,7 @@ use Rattle.std.proofs.lemmas.List.{length-replicate}
 use Rattle.newt_base.specs.declared.Refusal.TheVariants.{Longline}
 use Rattle.newt_spec_script.specs.Line.{ready, within_length, parsed}
 use Rattle.newt_spec_script.specs.Script.{lines, without_return, parsed_lines, item_of, output}
+use Rattle.newt_spec_world.specs.Answer.{answer}
 use Rattle.newt_test_definitions.specs.Worlds.{blank_units}
 use Rattle.newt_script.specs.Graphs.{readers}
 use Rattle.newt_test_definitions.specs.Scripts.{answers, line_of_x}
@@ -37,4 +38,4 @@ pub long-answered : (n : ℕ) → nat_lt 140_000 n ≡ true
     → answers (blank_units 1) (line_of_x n ++ codes "\nget 0 S\nquit now\nlit nil\n") ≡ codes "error 12 longline\nerror 11 line\nerror 11 line\nok nil\n"
 unfolding open_tables
 long-answered n h =
-    ap (λ ps. output (blank_units 1) (map (item_of readers) ps)) (long-lines n (codes "get 0 S\nquit now\nlit nil\n") h)
+    ap (λ ps. output answer (blank_units 1) (map (item_of readers) ps)) (long-lines n (codes "get 0 S\nquit now\nlit nil\n") h)

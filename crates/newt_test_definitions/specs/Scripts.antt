@@ -2,6 +2,7 @@
 use Prim.Native.String.{String}
 use Rattle.std.specs.Prelude.{ℕ, List, [], ◌∷◌, ◌++◌, map, flat_map, replicate, codes}
 use Rattle.newt_spec_world.specs.World.{World}
+use Rattle.newt_spec_world.specs.Answer.{answer}
 use Rattle.newt_spec_world.specs.Reply.{reply_text}
 use Rattle.newt_spec_script.specs.Script.{items_of, output, replies_to, up_to_quit}
 use Rattle.newt_spec_script.specs.Generator.{summary}
@@ -13,11 +14,11 @@ in_lines = flat_map (λ line. codes line ++ 10 ∷ [])
 
 -- the output of a script over this world
 abbrev pub answers : World → List ℕ → List ℕ
-answers w script = output w (items_of readers script)
+answers w script = output answer w (items_of readers script)
 
 -- the summary of its replies
 abbrev pub summary_of : World → List ℕ → List ℕ
-summary_of w script = summary (map reply_text (replies_to w (up_to_quit (items_of readers script))))
+summary_of w script = summary (map reply_text (replies_to answer w (up_to_quit (items_of readers script))))
 
 -- a line of so many letters x; it is not written out
 unfoldable pub line_of_x : ℕ → List ℕ

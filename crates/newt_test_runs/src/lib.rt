@@ -24,6 +24,8 @@ mod replaces;
 #[cfg(test)]
 mod thrown;
 #[cfg(test)]
+mod told;
+#[cfg(test)]
 mod trial;
 #[cfg(test)]
 mod units;

@@ -11,7 +11,7 @@ use std::test::Fail;
 
 /// One of the calls on a unit that a line makes.
 #[derive(Clone, Copy)]
-enum Place {
+pub(crate) enum Place {
     /// The first of them.
     First,
     /// So many from the last one on.
@@ -29,7 +29,7 @@ impl Place {
 
 /// Runs a table over five devices of 13 blocks of zero bytes, where this call of the line behind so
 /// many replies fails, which is on this unit, and looks for its replies.
-fn expect_failing(
+pub(crate) fn expect_failing(
     alloc: Global,
     table: &str,
     unit: Unit,

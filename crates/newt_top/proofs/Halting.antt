@@ -9,7 +9,7 @@ use Rattle.newt_script_session.specs.Script.{script_items}
 use Rattle.newt_script_session.proofs.Throwing.{threw_none}
 use Rattle.newt_script_session.specs.declared.halt.Halt.{Halt}
 use Rattle.newt_script_session.specs.declared.halt.Halt.TheVariants.{Memory, Source, Sink, TooLong}
-use Rattle.newt_spec_world.specs.Step.{Step}
+use Rattle.newt_spec_whole.specs.Step.{WholeStep}
 use Rattle.newt_store_catalog.specs.Readable.{readable}
 use Rattle.newt_top.specs.Calls.{RunEnds}
 use Rattle.newt_top.specs.Status.{HasStatusCause, IsFaultFree, IsFaultless, StatusFaults, status_of}
@@ -61,7 +61,7 @@ module _ (old new : Outside) where
   ends_counting TooLong f = absurd f.cause
 
 -- memory was refused before a device was attached
-pub counted_nothing : (script : List ℕ) (names : List (List ℕ)) (old : Outside) → ((unit : ℕ) → since old unit ≡ None) → CountedNamed {T = Unit {0}} Step readable script (Err Memory) names old old
+pub counted_nothing : (script : List ℕ) (names : List (List ℕ)) (old : Outside) → ((unit : ℕ) → since old unit ≡ None) → CountedNamed {T = Unit {0}} WholeStep readable script (Err Memory) names old old
 counted_nothing script names old never = record {
   given = record { first = []; rest = script_items script; split = refl; rows = []; run = tt };
   out = tt;

@@ -1,5 +1,5 @@
 -- A working copy.
-use Rattle.std.specs.Prelude.{◌≡◌, ℕ, Bool, ◌==◌, ◌&&◌, List, Option, IsSome, option_and_then}
+use Rattle.std.specs.Prelude.{◌≡◌, ℕ, Bool, ◌==◌, ◌&&◌, List, Option, option_and_then}
 use Rattle.std.specs.Prelude.{unwrap_or, slice_get}
 use Rattle.newt_graph.specs.Graph.{RawGraph}
 use Rattle.newt_graph.specs.Meeting.{normal_form}
@@ -46,10 +46,6 @@ IsBased time graph k = (k.time ≡ time) × (k.base ≡ graph)
 -- (this project's own)
 abbrev pub draft_with : List (List ℕ) → RawGraph → Copy → Option RawGraph
 draft_with path value k = put k.draft path value
-
--- there is a raw graph, and it has a normal form (a word of these definitions)
-abbrev pub HasForm : Option RawGraph → Type 0
-HasForm raw = IsSome (option_and_then normal_form raw)
 
 -- the copy whose draft is the normal form of the draft with a value put into it at a path; as it
 -- was where there is none (this project's own)

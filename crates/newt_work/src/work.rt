@@ -2,7 +2,7 @@
 ghost use Rattle.std.specs.Prelude.{◌≡◌, ◌↔◌, IfOk, IsErrOf, None, OnErr, OnOk, IsTrue};
 ghost use Rattle.newt_path.specs.Put.{IsFormOf, PassesALimit};
 ghost use Rattle.newt_path.specs.declared.fault.SetFault.{SetFault};
-ghost use Rattle.newt_work.specs.Work.{opened, rebased, is_based, IsBased, draft_with, drafted};
+ghost use Rattle.newt_work.specs.Work.{opened, edited, rebased, is_based, IsBased, draft_with, drafted};
 
 use crate::equal::same_graph;
 use newt_base::{Sig, Uid};
@@ -98,6 +98,13 @@ impl Work {
     {
         self.draft = set_at(self.alloc, &self.draft, path, value)?;
         Ok(())
+    }
+
+    /// Takes another draft. It takes no memory.
+    pub fn redraft(&mut self, graph: Graph)
+        ensures { self.new ≡ edited graph self.old }
+    {
+        self.draft = graph;
     }
 
     /// Begins anew from another state of the entry, whose graph is given twice. It takes no memory.

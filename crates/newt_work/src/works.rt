@@ -1,18 +1,14 @@
 //! The sixteen places for working copies.
-ghost use Rattle.std.specs.Prelude.{◌≡◌, ◌<◌, ◌↔◌, Some, None, IsSome, IfSome, IfOk, IfErr, OnOk};
-ghost use Rattle.std.specs.Prelude.{OnErr, IsErrOf, length, is_none, replicate, slice_set};
-ghost use Rattle.std.specs.Prelude.{option_map, option_and_then};
+ghost use Rattle.std.specs.Prelude.{◌≡◌, ◌<◌, ◌↔◌, Some, None, IsSome, IfSome, IfOk, IfErr, OnErr};
+ghost use Rattle.std.specs.Prelude.{IsErrOf, length, is_none, replicate, slice_set, option_map};
 ghost use Rattle.std.specs.List.{position};
-ghost use Rattle.newt_path.specs.Put.{PassesALimit};
-ghost use Rattle.newt_path.specs.declared.fault.SetFault.{SetFault};
-ghost use Rattle.newt_work.specs.Work.{copy_at, opened, rebased, draft_with, HasForm, drafted};
+ghost use Rattle.newt_work.specs.Work.{copy_at, edited, opened, rebased};
 ghost use Rattle.newt_work.specs.declared.fault.WorkFault.{WorkFault};
 
 use crate::fault::WorkFault;
 use crate::work::Work;
 use newt_base::{Sig, Uid};
 use newt_graph::Graph;
-use newt_path::{Path, SetFault};
 use std::alloc::{AllocError, Global};
 use std::marker::Model;
 
@@ -78,20 +74,13 @@ impl Works {
         }
     }
 
-    /// Puts a value at a path of a copy's draft. After a refusal it is as before.
-    pub fn edit(&mut self, number: u8, path: &Path, value: &Graph) -> Result<(), SetFault>
+    /// Gives a copy another draft. It takes no memory.
+    pub fn redraft(&mut self, number: u8, draft: Graph)
         requires { IsSome (copy_at number self.old) }
-        ensures ok { OnOk result (self.new ≡ slice_set self.old number
-            (option_map (drafted path.now value.now) (copy_at number self.old))) }
-        ensures form { OnOk result (HasForm
-            (option_and_then (draft_with path.now value.now) (copy_at number self.old))) }
-        ensures no_path { IsErrOf result SetFault.NoPath
-            ↔ (option_and_then (draft_with path.now value.now) (copy_at number self.old) ≡ None) }
-        ensures limit { IsErrOf result SetFault.Limit → PassesALimit
-            (option_and_then (draft_with path.now value.now) (copy_at number self.old)) }
-        ensures err { OnErr result (self.new ≡ self.old) }
+        ensures { self.new ≡ slice_set self.old number
+            (option_map (edited draft) (copy_at number self.old)) }
     {
-        edit_at(&mut self.places[usize::from(number)], path, value)
+        redraft_at(&mut self.places[usize::from(number)], draft);
     }
 
     /// Begins a copy anew from another state of its entry, whose graph is given twice. It takes no
@@ -146,22 +135,12 @@ fn first_free(places: &[Option<Work>]) -> Option<usize>
     places.iter().position(|place| place.is_none())
 }
 
-/// Puts a value into the draft of the copy that is there.
-#[tactic(auto, using(crate::proofs::Forms::has_form))]
-fn edit_at(place: &mut Option<Work>, path: &Path, value: &Graph) -> Result<(), SetFault>
-    requires { IsSome place.old }
-    ensures ok { OnOk result (place.new ≡ option_map (drafted path.now value.now) place.old) }
-    ensures form { OnOk result (HasForm
-        (option_and_then (draft_with path.now value.now) place.old)) }
-    ensures no_path { IsErrOf result SetFault.NoPath
-        ↔ (option_and_then (draft_with path.now value.now) place.old ≡ None) }
-    ensures limit { IsErrOf result SetFault.Limit → PassesALimit
-        (option_and_then (draft_with path.now value.now) place.old) }
-    ensures err { OnErr result (place.new ≡ place.old) }
+/// Gives the copy another draft that is there.
+fn redraft_at(place: &mut Option<Work>, draft: Graph)
+    ensures { place.new ≡ option_map (edited draft) place.old }
 {
-    match place {
-        Some(work) => work.edit(path, value),
-        None => unreachable!(),
+    if let Some(work) = place {
+        work.redraft(draft);
     }
 }
 

@@ -1,5 +1,5 @@
 use Rattle.std.proofs.Common.{IsTrue, ◌≡◌, length}
-use Rattle.newt_spec_world.specs.World.{World}
+use Rattle.newt_spec_whole.specs.Whole.{Whole}
 use Rattle.newt_script_session.specs.Calls.{Quiet}
 use Rattle.newt_script_session.specs.Lines.{ended_lines, unended}
 use Rattle.newt_script_session.specs.Script.{commands_of, has_quit}
@@ -16,7 +16,7 @@ invariant-loop-ended g l =
     let all = ended_lines l.fn.line.items l.fn.piece in
     record {
       stands : it.stands g.H.Host.told l.interpreter now;
-      progress : IsTrue g.H.Host.told → (world : World) → it.means l.fn.interpreter before world
+      progress : IsTrue g.H.Host.told → (world : Whole) → it.means l.fn.interpreter before world
           → Progress it.step g.S.Sink.shows it.store_of_image world (commands_of all) (it.means l.interpreter now) (commands_of rest)
           (g.S.Sink.has l.fn.sink) (g.S.Sink.has l.sink) before.now now.now before.dev_faults now.dev_faults;
       flow : has_quit rest ≡ has_quit all;

@@ -1,6 +1,6 @@
 use Rattle.std.proofs.Common.{true, Bool, Global, Result, Err, map, string_bytes, refl, subst}
 use Rattle.newt_host_attach.specs.Named.{AreAttached}
-use Rattle.newt_spec_world.specs.World.{World}
+use Rattle.newt_spec_whole.specs.Whole.{Whole}
 use Rattle.newt_script_session.specs.Causes.{HasCause}
 use Rattle.newt_script_session.specs.First.{unmounted}
 use Rattle.newt_script_session.specs.Reading.{start}
@@ -26,7 +26,7 @@ returns-in_default-clause-ran g c = λ told.
     let found = first_is it.store_of_image names old mid a (λ unit. g.met.H.Host.sized c.new.new.host unit told) in
     let its = rests_first it.store_of_image mid (attached_at_rest g.H.Host.told _ _ _ c.new.ensures.attached told) in
     let result : Result (Unit {0}) Halt = Err Memory in
-    let S : World → Type 0 = λ w. Session it.step it.store_of_image c.args.limit result w mid mid in
+    let S : Whole → Type 0 = λ w. Session it.step it.store_of_image c.args.limit result w mid mid in
     named_ran names old mid mid a it.step it.store_of_image
     (λ unit. refl) (λ unit. g.met.H.Host.untouched c.args.host.now unit told (c.requires.free unit))
     (λ unit none. g.met.H.Host.untouched c.new.new.host unit told none) (λ unit some. g.met.H.Host.history c.new.new.host unit told some)

@@ -3,7 +3,7 @@ use Rattle.std.proofs.lemmas.List.{append-nil, length-append, length-take-le}
 use Rattle.std.proofs.lemmas.Result.{err_from_is_err_and, on_ok_weaker}
 use Rattle.newt_host.specs.Moments.{Moment, taken as taken_by}
 use Rattle.newt_host.proofs.Moments.{Always-last}
-use Rattle.newt_spec_world.specs.World.{World}
+use Rattle.newt_spec_whole.specs.Whole.{Whole}
 use Rattle.newt_script_session.specs.Causes.{SameDevices}
 use Rattle.newt_script_session.specs.Lines.{ended_lines, last_line}
 use Rattle.newt_script_session.specs.Run.{IsReadThrough}
@@ -46,7 +46,7 @@ returns-in_err-moved-clause-session g c = λ told w means.
     let v = c.pieces.invariant.going told w means in
     let devices = subst (λ (t : Bool). SameDevices t (g.H.Host.outside c.pieces.host) mid) told c.read_piece.ensures.call.devices in
     let counts = c.read_piece.ensures.call.devices.counts.dev_faults in
-    let same = λ (u : World) (stood : it.means c.pieces.interpreter (g.H.Host.outside c.pieces.host) u).
+    let same = λ (u : Whole) (stood : it.means c.pieces.interpreter (g.H.Host.outside c.pieces.host) u).
     g.met.I.Interpreter.same_worlds c.pieces.interpreter (g.H.Host.outside c.pieces.host) mid u devices stood in
     let going = going_moved it.step it.store_of_image _ _ v.0 _ _ _ _ _ _ _ _ mid.now _ _ mid.dev_faults c.in_err-moved.ensures.failed.1 same counts v.3 in
     session_halted it.step it.store_of_image c.args.limit _ _ (g.H.Host.outside c.args.host.now) mid v.0 _ _ _ _ _ going Source (p.1 ∙ ap Err (p.2 ∙ c.in_err-moved.ensures.call.faults.cause.0))
@@ -66,7 +66,7 @@ returns-then-taken-limit-clause-session g c = λ told w means.
     let v = c.pieces.invariant.going told w means in
     let devices = subst (λ (t : Bool). SameDevices t (g.H.Host.outside c.pieces.host) mid) told c.read_piece.ensures.call.devices in
     let counts = c.read_piece.ensures.call.devices.counts.dev_faults in
-    let same = λ (u : World) (stood : it.means c.pieces.interpreter (g.H.Host.outside c.pieces.host) u).
+    let same = λ (u : Whole) (stood : it.means c.pieces.interpreter (g.H.Host.outside c.pieces.host) u).
     g.met.I.Interpreter.same_worlds c.pieces.interpreter (g.H.Host.outside c.pieces.host) mid u devices stood in
     let going = going_took it.step it.store_of_image _ _ v.0 _ _ _ _ _ _ _ _ _ mid.now _ _ mid.dev_faults (c.in_ok-moved.ensures.took told).moment same counts v.2 v.3 in
     let buffer = c.read_piece.new.buffer in
@@ -93,7 +93,7 @@ returns-in_err-feed-clause-session g c = λ told w means.
     let v = c.pieces.invariant.going told w means in
     let devices = subst (λ (t : Bool). SameDevices t (g.H.Host.outside c.pieces.host) mid) told c.read_piece.ensures.call.devices in
     let counts = c.read_piece.ensures.call.devices.counts.dev_faults in
-    let same = λ (u : World) (stood : it.means c.pieces.interpreter (g.H.Host.outside c.pieces.host) u).
+    let same = λ (u : Whole) (stood : it.means c.pieces.interpreter (g.H.Host.outside c.pieces.host) u).
     g.met.I.Interpreter.same_worlds c.pieces.interpreter (g.H.Host.outside c.pieces.host) mid u devices stood in
     let going = going_took it.step it.store_of_image _ _ v.0 _ _ _ _ _ _ _ _ _ mid.now _ _ mid.dev_faults (c.in_ok-moved.ensures.took told).moment same counts v.2 v.3 in
     let piece = take c.in_ok-moved.moved c.read_piece.new.buffer in
@@ -116,7 +116,7 @@ returns-in-Quit-clause-session g c = λ told w means.
     let v = c.pieces.invariant.going told w means in
     let devices = subst (λ (t : Bool). SameDevices t (g.H.Host.outside c.pieces.host) mid) told c.read_piece.ensures.call.devices in
     let counts = c.read_piece.ensures.call.devices.counts.dev_faults in
-    let same = λ (u : World) (stood : it.means c.pieces.interpreter (g.H.Host.outside c.pieces.host) u).
+    let same = λ (u : Whole) (stood : it.means c.pieces.interpreter (g.H.Host.outside c.pieces.host) u).
     g.met.I.Interpreter.same_worlds c.pieces.interpreter (g.H.Host.outside c.pieces.host) mid u devices stood in
     let going = going_took it.step it.store_of_image _ _ v.0 _ _ _ _ _ _ _ _ _ mid.now _ _ mid.dev_faults (c.in_ok-moved.ensures.took told).moment same counts v.2 v.3 in
     let buffer = c.read_piece.new.buffer in
@@ -156,7 +156,7 @@ pieces-preserved g c =
           let v = c.pieces.invariant.going told w means in
           let devices = subst (λ (t : Bool). SameDevices t (g.H.Host.outside c.pieces.host) mid) told c.read_piece.ensures.call.devices in
           let counts = c.read_piece.ensures.call.devices.counts.dev_faults in
-          let same = λ (u : World) (stood : it.means c.pieces.interpreter (g.H.Host.outside c.pieces.host) u).
+          let same = λ (u : Whole) (stood : it.means c.pieces.interpreter (g.H.Host.outside c.pieces.host) u).
           g.met.I.Interpreter.same_worlds c.pieces.interpreter (g.H.Host.outside c.pieces.host) mid u devices stood in
           let going = going_took it.step it.store_of_image _ _ v.0 _ _ _ _ _ _ _ _ _ mid.now _ _ mid.dev_faults (c.in_ok-moved.ensures.took told).moment same counts v.2 v.3 in
           let unread = c.in_ok-feed.ensures.call.unread.moments told in
@@ -185,7 +185,7 @@ returns-clause-session g c = λ told w means.
     let v = c.pieces.invariant.going told w means in
     let devices = subst (λ (t : Bool). SameDevices t (g.H.Host.outside c.pieces.host) mid) told c.read_piece.ensures.call.devices in
     let counts = c.read_piece.ensures.call.devices.counts.dev_faults in
-    let same = λ (u : World) (stood : it.means c.pieces.interpreter (g.H.Host.outside c.pieces.host) u).
+    let same = λ (u : Whole) (stood : it.means c.pieces.interpreter (g.H.Host.outside c.pieces.host) u).
     g.met.I.Interpreter.same_worlds c.pieces.interpreter (g.H.Host.outside c.pieces.host) mid u devices stood in
     let going = going_took it.step it.store_of_image _ _ v.0 _ _ _ _ _ _ _ _ _ mid.now _ _ mid.dev_faults (c.in_ok-moved.ensures.took told).moment same counts v.2 v.3 in
     let end : (g.H.Host.outside c.pieces.host).input ≡ [] = c.in_ok-moved.ensures.end told (omega arith) (omega arith) in

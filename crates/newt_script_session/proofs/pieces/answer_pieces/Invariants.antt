@@ -1,6 +1,6 @@
 use Rattle.std.proofs.Common.{IsTrue, ◌≡◌, ◌≤◌, ◌-◌, ◌++◌, List, ℕ, length}
 use Rattle.newt_host.specs.Moments.{taken as taken_by}
-use Rattle.newt_spec_world.specs.World.{World}
+use Rattle.newt_spec_whole.specs.Whole.{Whole}
 use Rattle.newt_script_session.proofs.Counting.{Running}
 use Rattle.newt_script_session.proofs.Going.{Going}
 use Rattle.newt_script_session.proofs.pieces.answer_pieces.Given as goal
@@ -12,7 +12,7 @@ invariant-pieces g l =
     let now = g.H.Host.outside l.host in
     record {
       stands : it.stands g.H.Host.told l.interpreter now;
-      going : IsTrue g.H.Host.told → (world : World) → it.means l.fn.interpreter before world
+      going : IsTrue g.H.Host.told → (world : Whole) → it.means l.fn.interpreter before world
           → (taken : List ℕ) × (length taken ≡ l.taken) × (taken_by now.now ≡ taken_by before.now ++ taken)
           × Going it.step it.store_of_image world before.input taken now.input (it.means l.interpreter now) l.line.items
           (λ texts. Unit {0}) (λ texts. Unit {0}) before.now now.now before.dev_faults now.dev_faults;

@@ -1,9 +1,10 @@
 -- Nothing is mounted yet, and no cursor is open.
-use Rattle.std.proofs.Common.{Bool, Global, map, string_bytes, sym, subst, ◌∙◌}
+use Rattle.std.proofs.Common.{Bool, Global, ap, map, string_bytes, sym, subst, ◌∙◌}
 use Rattle.newt_host_attach.specs.Named.{AreAttached}
 use Rattle.newt_laws_world.specs.Settled.{IsSettled, MountedApart}
 use Rattle.newt_script_session.proofs.Beginning.{attached_at_rest, first_is}
 use Rattle.newt_engine_cursors.specs.Fits.{DeskFits}
+use Rattle.newt_spec_whole.specs.Whole.{Whole}
 use Rattle.newt_laws_steps.specs.StandsFor.{StandsFor}
 use Rattle.newt_laws_steps.proofs.StoodFor.{known-stands}
 use Rattle.newt_engine.specs.Laws.{known_attached, laws_of, units_kept}
@@ -35,5 +36,5 @@ returns-clause-world g c t =
     let laws = laws_of g.met.C.Card.formed g.met.C.Card.plain g.met.C.Card.durable g.met.C.Card.banks g.met.C.Card.kept in
     subst (StandsFor g.C.Card.reads (marks_with units cursors) o)
     (first_world_is g.C.Card.reads units cursors o (c.in_ok-of.ensures.world o) c.in_ok-new.ensures
-    ∙ first_is g.C.Card.reads names old o a (λ unit. g.met.H.Host.sized c.attach_names-attached.new.host unit t))
+    ∙ ap (λ (h : Whole). h.world) (first_is g.C.Card.reads names old o a (λ unit. g.met.H.Host.sized c.attach_names-attached.new.host unit t)))
     (known-stands g.C.Card.reads (marks_with units cursors) o (units_kept laws units cursors o (standing-told (returns-clause-stands g c) t)))

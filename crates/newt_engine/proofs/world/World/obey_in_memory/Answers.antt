@@ -6,7 +6,7 @@ use Rattle.newt_reply.specs.Said.{said, store_row}
 use Rattle.newt_spec_graph.proofs.Lists.{both-ways}
 use Rattle.newt_spec_world.specs.Reply.{Reply as plain}
 use Rattle.newt_spec_world.specs.Answer.{answer}
-use Rattle.newt_laws_answers.proofs.Stores.{quit-done}
+use Rattle.newt_laws_answers.proofs.Stores.{apart-done, quit-done}
 use Rattle.newt_store_change.specs.Faults.{NoDevice}
 use Rattle.newt_engine_units.specs.Answers.{Answers}
 use Rattle.newt_engine_units.specs.Stands.{world_of}
@@ -163,4 +163,12 @@ returns-in-Resolve g c =
 pub returns-in_default : goal.returns-in_default
 returns-in_default g c =
     let d = c.in_default in
-    absurd (no_other c.args.command.now c.requires.not_shown c.requires.no_device c.requires.no_cursor d.not-Time d.not-Quit d.not-Unmount d.not-Stores d.not-Default d.not-Soups d.not-Indexes d.not-Tags d.not-Info d.not-Alias d.not-Resolve)
+    let apart = no_other c.args.command.now c.requires.not_shown c.requires.no_device c.requires.no_cursor d.not-Time d.not-Quit d.not-Unmount d.not-Stores d.not-Default d.not-Soups d.not-Indexes d.not-Tags d.not-Info d.not-Alias d.not-Resolve in
+    record {
+      stands = λ told outside h. h;
+      answered = λ outside eight stand. apart-done (world_of g.C.Card.reads c.args.self.now.units outside) refl c.args.command.now apart;
+      desk = refl;
+      device = tt;
+      quiet = λ u. refl;
+      ends = λ none. tt;
+    }

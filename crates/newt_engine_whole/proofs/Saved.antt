@@ -1,0 +1,186 @@
+-- An entry is given the draft of its copy.
+use Rattle.std.proofs.Common.{arith, ◌≡◌, ◌⊎◌, inl, inr, refl, ap, sym, ◌∙◌, subst, ℕ, ◌+◌, ◌-◌, ◌^◌, ◌≤◌, List, [], ◌∷◌, Bool, true, false, not, IsTrue, Option, Some, None, option_map, option_and_then, slice_set, unwrap_or, if◌then◌else◌, drop}
+use Rattle.std.specs.declared.alloc.AllocError.{AllocError}
+use Rattle.std.specs.Prelude.{IfOk, Result, Ok, Err, is_none, min}
+use Rattle.newt_base.specs.Refusals.{Checks, first_of}
+use Rattle.newt_base.specs.declared.Refusal.{Refusal}
+use Rattle.newt_base.specs.declared.Refusal.TheVariants.{Changed, Copy as NoCopy, Entry as NoEntry, Full, Notframe, Size}
+use Rattle.newt_host.specs.Moments.{Always, Moment, image}
+use Rattle.newt_host.specs.Outside.{Outside}
+use Rattle.newt_host.proofs.Outside.{OnDevices-append}
+use Rattle.newt_pagebook.specs.Book.{IsOpenFor}
+use Rattle.newt_reply.specs.Said.{said}
+use Rattle.newt_reply.specs.declared.reply.Reply.{Reply}
+use Rattle.newt_reply.specs.declared.reply.Reply.TheVariants as reply
+use Rattle.newt_script_session.specs.Steps.{Stepped}
+use Rattle.newt_spec_graph.proofs.Lists.{both-ways, none-some}
+use Rattle.newt_spec_store.specs.Store.{Soup, Store}
+use Rattle.newt_spec_whole.specs.Answer.{copies_after, watches_after, whole_answer, whole_answered, whole_fields, world_after}
+use Rattle.newt_spec_whole.specs.Events.{Event, entry_event, events, events_of, note_all}
+use Rattle.newt_spec_whole.specs.Refused.{whole_checks}
+use Rattle.newt_spec_whole.specs.Step.{WholeStep}
+use Rattle.newt_spec_whole.specs.Whole as plain
+use Rattle.newt_spec_whole.specs.Whole.{asked_in_turn, asks, change_of, copy, get_of, living, save_in_turn, save_of}
+use Rattle.newt_spec_world.specs.Alias.{Spot}
+use Rattle.newt_spec_world.specs.Answer.{answer, answered, fields, or_nil}
+use Rattle.newt_spec_world.specs.Changed.{changed}
+use Rattle.newt_spec_world.specs.Refused.{checks, full, on_some}
+use Rattle.newt_spec_world.specs.Reply as replies
+use Rattle.newt_spec_world.specs.Step.{Step, found, halfway, plain as answers, thrown, world_thrown}
+use Rattle.newt_spec_world.specs.World.{World, change_at, settle}
+use Rattle.newt_spec_world.specs.declared.command.Command.{Command}
+use Rattle.newt_spec_world.specs.declared.command.Command.TheVariants as command
+use Rattle.newt_work.specs.Work.{Copy, is_based, rebased}
+use Rattle.newt_laws_steps.specs.Answering.{Answering}
+use Rattle.newt_laws_steps.specs.Thrown.{Failed, Threw}
+use Rattle.newt_engine_card.specs.Bounds.{IsOpenOrSame}
+use Rattle.newt_engine.specs.Calls.{Applied as Inner}
+use Rattle.newt_engine.specs.Standing.{means}
+use Rattle.newt_engine.specs.declared.world.World.{World as Engine}
+use Rattle.newt_engine_whole.specs.Calls.{Applied}
+use Rattle.newt_engine_whole.specs.Standing.{Means, Standing}
+use Rattle.newt_engine_whole.specs.declared.whole.Whole.{Whole}
+use Rattle.newt_engine_whole.proofs.Turns.{in-turn}
+
+-- ---- what the whole answers
+
+module _ (h : plain.Whole) (n : ℕ) (k : Copy) (there : copy h n ≡ Some k) (s : Spot) (lives : living h k ≡ Some s) where
+  abbrev based : Bool
+  based = is_based s.entry.time s.entry.graph k
+
+  abbrev is_full : Bool
+  is_full = (full h.world s.unit (change_of k s)).1
+
+  save-by : whole_answer h (command.Save n) ≡ whole_answered h (command.Save n) (first_of ((Changed, not based) ∷ (Full, is_full) ∷ []))
+  unfolding whole_answer whole_checks
+  save-by =
+      ap {A = Option Copy} (λ o. whole_answered h (command.Save n) (first_of (
+        (NoCopy, is_none o) ∷ (NoEntry, on_some o (λ k. is_none (living h k)))
+        ∷ (Changed, on_some o (λ k. on_some (living h k) (λ s. not (is_based s.entry.time s.entry.graph k))))
+        ∷ (Full, on_some o (λ k. on_some (living h k) (λ s. (full h.world s.unit (change_of k s)).1))) ∷ []))) there
+      ∙ ap {A = Option Spot} (λ o. whole_answered h (command.Save n) (first_of (
+        (NoEntry, is_none o) ∷ (Changed, on_some o (λ s. not (is_based s.entry.time s.entry.graph k)))
+        ∷ (Full, on_some o (λ s. (full h.world s.unit (change_of k s)).1)) ∷ []))) lives
+
+  -- the entry is not as the base
+  pub save-changed : based ≡ false → whole_answer h (command.Save n) ≡ (h, replies.Reply.changed s.entry.time)
+  save-changed other =
+      save-by
+      ∙ ap {A = Bool} (λ b. whole_answered h (command.Save n) (first_of ((Changed, not b) ∷ (Full, is_full) ∷ []))) other
+      ∙ ap {A = Option Copy} {B = plain.Whole × replies.Reply} (λ o. (h, or_nil (λ (s : Spot). replies.Reply.changed s.entry.time) (option_and_then (living h) o))) there
+      ∙ ap {A = Option Spot} {B = plain.Whole × replies.Reply} (λ o. (h, or_nil (λ (s : Spot). replies.Reply.changed s.entry.time) o)) lives
+
+  -- it is, and there is no room, or there is
+  pub save-full : based ≡ true → is_full ≡ true → whole_answer h (command.Save n) ≡ (h, replies.Reply.refused Full)
+  save-full same no =
+      save-by
+      ∙ ap {A = Bool} (λ b. whole_answered h (command.Save n) (first_of ((Changed, not b) ∷ (Full, is_full) ∷ []))) same
+      ∙ ap {A = Bool} (λ b. whole_answered h (command.Save n) (first_of ((Full, b) ∷ []))) no
+
+  save-asks : based ≡ true → asks h (command.Save n) ≡ Some (change_of k s)
+  unfolding asks
+  save-asks same =
+      ap {A = Option Copy} {B = Option Command} (λ o. option_and_then (λ k. option_map (save_of k) (living h k)) o) there
+      ∙ ap {A = Option Spot} {B = Option Command} (option_map (save_of k)) lives
+      ∙ ap {A = Bool} {B = Option Command} (λ b. Some (if b then change_of k s else get_of s)) same
+
+  pub save-done : based ≡ true → is_full ≡ false → whole_answer h (command.Save n) ≡ (record {
+    world = settle (changed h.world (change_of k s));
+    watches = note_all (events h.world (change_of k s)) h.watches;
+    copies = change_at n (λ k. rebased h.world.minute k.draft k) h.copies;
+  }, replies.Reply.done)
+  unfolding whole_fields watches_after copies_after
+  save-done same room =
+      save-by
+      ∙ ap {A = Bool} (λ b. whole_answered h (command.Save n) (first_of ((Changed, not b) ∷ (Full, is_full) ∷ []))) same
+      ∙ ap {A = Bool} (λ b. whole_answered h (command.Save n) (first_of ((Full, b) ∷ []))) room
+      ∙ ap {A = Option Command} {B = plain.Whole × replies.Reply} (λ a. (record {
+        world = world_after h.world a;
+        watches = note_all (events_of h.world a) h.watches;
+        copies = change_at n (λ k. rebased h.world.minute k.draft k) h.copies;
+      }, replies.Reply.done)) (save-asks same)
+
+  -- what is asked one after another
+  pub save-turn : asked_in_turn h (command.Save n) ≡ get_of s ∷ (if based then change_of k s ∷ [] else [])
+  save-turn =
+      ap {A = Option Copy} {B = List Command} (λ o. unwrap_or (option_and_then (λ k. option_map (save_in_turn k) (living h k)) o) []) there
+      ∙ ap {A = Option Spot} {B = List Command} (λ o. unwrap_or (option_map (save_in_turn k) o) []) lives
+
+-- ---- what the world may answer to the change, where it is refused for room alone
+
+abbrev pub ChangesOr : World → Command → Bool → World → replies.Reply → Type 0
+ChangesOr w c room v r =
+    ((room ≡ true) × (v ≡ w) × (r ≡ replies.Reply.refused Full))
+    ⊎ ((room ≡ false) × (v ≡ settle (changed w c)) × (r ≡ replies.Reply.done))
+    ⊎ ((x : ℕ) × (v ≡ world_thrown w c x) × (r ≡ replies.Reply.thrown x))
+
+pub changes : (w : World) (u uid : ℕ) (s : List ℕ) (g : _) (no_room : Bool) (v : World) (r : replies.Reply) → let c = command.Change u s uid g in
+    first_of (checks w c) ≡ first_of ((Full, no_room) ∷ []) → Step w c v r → ChangesOr w c no_room v r
+unfolding answer fields
+changes w u uid s g no_room v r tests (answers none is) = go no_room refl
+  where
+    go : (b : Bool) → no_room ≡ b → ChangesOr w (command.Change u s uid g) no_room v r
+    go true e =
+        let now = sym (ap (answered w (command.Change u s uid g)) (tests ∙ ap (λ b. first_of ((Full, b) ∷ [])) e)) ∙ is in
+        inl (e, sym (ap (λ (a : World × replies.Reply). a.0) now), sym (ap (λ (a : World × replies.Reply). a.1) now))
+    go false e =
+        let now = sym (ap (answered w (command.Change u s uid g)) (tests ∙ ap (λ b. first_of ((Full, b) ∷ [])) e)) ∙ is in
+        inr (inl (e, sym (ap (λ (a : World × replies.Reply). a.0) now), sym (ap (λ (a : World × replies.Reply). a.1) now)))
+changes w u uid s g no_room v r tests (found {u = x} looks has is) = absurd (none-some x looks)
+changes w u uid s g no_room v r tests (thrown {u = x} next is) = inr (inr (x, next, is))
+changes w u uid s g no_room v r tests (halfway {u = x} moves ok next is) = absurd (both-ways moves)
+
+-- ---- a command behind the reading of an entry
+
+rose-later : (a b c : ℕ) → a ≤ b → min (b + 1) (2 ^ 64 - 1) ≤ c → min (a + 1) (2 ^ 64 - 1) ≤ c
+rose-later a b c less rose = grind (arith, less, rose)
+
+open-append : (u : ℕ) (a b c : Moment) → IsOpenOrSame u a b → IsOpenOrSame u b c → IsOpenOrSame u a c
+open-append u a b c first (inl h) = inl h
+open-append u a b c (inl h) (inr same) = inl (subst (IsOpenFor 0) (sym same) h)
+open-append u a b c (inr before) (inr same) = inr (same ∙ before)
+
+module _ {C : Type 0} {reads : List ℕ → Option Store} {place : C → ℕ} {stands : Bool → C → Outside → Type 0} {told : Bool} {old : Whole C} {mid : Engine C} {o p : Outside} (u uid : ℕ) (s : List ℕ) {time : ℕ} {graph : _}
+    (a : Inner reads place stands told (command.Get u s uid) old.world mid o p (Ok (reply.Timed time graph)))
+    (still : IsTrue told → (h : plain.Whole) → Means reads old o h → means reads mid p h.world × Always (Answering reads h.world (command.Get u s uid) h.world o.now) o.now p.now) where
+  pub save-after : {n : ℕ} {last : Whole C} {q : Outside} {result : Result Reply AllocError} → Applied reads place stands told (command.Save n) (record old { world = mid }) last p q result
+      → Applied reads place stands told (command.Save n) old last o q result
+  save-after {n} {last} {q} {result} b = record {
+    stands = b.stands;
+    stepped = λ t h m.
+        let k = still t h m in
+        go t h k.1 (b.stepped t h (record { world = k.0; watches = m.watches; copies = m.copies }));
+    ended = record {
+      alone = OnDevices-append a.finished.alone b.ended.alone;
+      bound = λ t is. absurd (both-ways is);
+      fetched = λ t is. absurd (both-ways is);
+      step = λ t is. absurd (both-ways is);
+      open_after = λ t. opens t result (b.ended.open_after t);
+      never_memory = λ none. absurd (both-ways (sym none));
+      never_thrown = λ none. absurd (both-ways (sym none));
+    };
+  }
+    where
+      opens : IsTrue told → (r : Result Reply AllocError) → IfOk r (λ it. (x : ℕ) → (it ≡ reply.Thrown x → ⊥) → IsOpenOrSame x p.now q.now) → IfOk r (λ it. (x : ℕ) → (it ≡ reply.Thrown x → ⊥) → IsOpenOrSame x o.now q.now)
+      opens t (Ok it) then = λ x other. open-append x o.now p.now q.now (a.finished.open_after t x (λ k. cc)) (then x other)
+      opens t (Err e) then = tt
+
+      go : IsTrue told → (h : plain.Whole) → Always (Answering reads h.world (command.Get u s uid) h.world o.now) o.now p.now
+          → Stepped {E = AllocError} WholeStep reads (command.Save n) result h (Means reads last q) p.now q.now p.dev_faults q.dev_faults
+          → Stepped {E = AllocError} WholeStep reads (command.Save n) result h (Means reads last q) o.now q.now o.dev_faults q.dev_faults
+      go t h first k = record {
+        next = k.next;
+        reply = k.reply;
+        steps = k.steps;
+        threw = record {
+          later = λ x. let one = a.finished.later x in let two = k.threw.later x in omega (arith, one, two);
+          rose = λ x is. rose-later (o.dev_faults x) (p.dev_faults x) (q.dev_faults x) (a.finished.later x) (k.threw.rose x is);
+        };
+        answered = done result k.answered;
+        moments = in-turn reads h.world (command.Get u s uid) (command.Save n) k.next.world o.now p.now q.now (λ x. refl) first k.moments;
+      }
+        where
+          done : (r : Result Reply AllocError) → IfOk r (λ it. (said it ≡ k.reply) × Means reads last q k.next × Failed k.reply p.dev_faults q.dev_faults)
+              → IfOk r (λ it. (said it ≡ k.reply) × Means reads last q k.next × Failed k.reply o.dev_faults q.dev_faults)
+          done (Ok it) (says, there, failed) = (says, there, λ x none. failed x none ∙ a.finished.failed x refl)
+          done (Err e) x = tt

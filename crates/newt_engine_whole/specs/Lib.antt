@@ -1,0 +1,7 @@
+pub mod Standing
+pub mod Ends
+pub mod Told
+pub mod Bounds
+pub mod Calls
+pub mod Laws
+pub mod Copies

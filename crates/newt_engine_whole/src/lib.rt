@@ -1,0 +1,18 @@
+//! The engine of a script: a world over the stores on cards, with watches and working copies beside
+//! it.
+//!
+//! It stands on `newt_engine`, whose world it asks, on `newt_notify` and `newt_work`, and on
+//! `newt_script_session`, whose `Interpreter` says what a script asks of an engine. It carries the
+//! promise of one command: world, watches, copies and devices stand for one whole, or for several;
+//! from each of them a command that is of its form makes a step to one that is stood for then, and
+//! at each moment a crash leaves each unit as in the one or in the other. Room for notes and for a
+//! copy's new base is there before a commit, so that behind it nothing wants memory.
+#![tactic(auto)]
+
+mod due;
+mod edits;
+mod notes;
+mod saves;
+mod whole;
+
+pub use whole::Whole;

@@ -1,0 +1,9 @@
+pub mod Places
+pub mod Drafts
+pub mod Plain
+pub mod Saving
+pub mod Watched
+pub mod Fits
+pub mod Stepping
+pub mod Telling
+pub mod Reading

@@ -1,0 +1,67 @@
+-- What becomes of a working copy.
+use Rattle.std.specs.Prelude.{◌≡◌, ℕ, Bool, false, ◌==◌, List, [], ◌∷◌, ◌++◌, Option, Some, None}
+use Rattle.std.specs.Prelude.{cond, ⊤}
+use Rattle.newt_base.specs.declared.Refusal.{Refusal}
+use Rattle.newt_base.specs.Refusals.{first_of}
+use Rattle.newt_graph.specs.Graph.{RawGraph}
+use Rattle.newt_spec_store.specs.Keys.{Path}
+use Rattle.newt_work.specs.Work.{Copy}
+use Rattle.newt_spec_world.specs.World.{settle}
+use Rattle.newt_spec_world.specs.Changed.{changed, graph_after_set}
+use Rattle.newt_spec_world.specs.Alias.{Spot}
+use Rattle.newt_spec_world.specs.declared.command.Command.{Command}
+use Rattle.newt_spec_world.specs.declared.command.Command.TheVariants as command
+use Rattle.newt_spec_whole.specs.Whole.{Whole, living}
+use Rattle.newt_spec_whole.specs.Refused.{whole_checks}
+use Rattle.newt_spec_whole.specs.Answer.{whole_answer}
+
+-- a path, and the value that is put there (a word of these definitions)
+abbrev pub Edit : Type 0
+Edit = Path × RawGraph
+
+-- the graph with these values put into it, one after another (this project's own)
+abbrev pub put_all : RawGraph → List Edit → RawGraph
+put_all g [] = g
+put_all g (e ∷ es) = put_all (graph_after_set e.0 e.1 g) es
+
+-- the command is not refused (a word of these definitions)
+abbrev pub IsDone : Whole → Command → Type 0
+IsDone h c = first_of (whole_checks h c) ≡ None
+
+-- the edit that a command makes in a copy, where it is not refused (a word of these definitions)
+abbrev pub edit_by : ℕ → Command → List Edit
+edit_by n (command.Edit m path g) = cond (m == n) ((path, g) ∷ []) []
+edit_by n _ = []
+
+-- none where it is refused (a word of these definitions)
+abbrev pub if_done : {X : Type 0} → Option Refusal → List X → List X
+if_done (Some r) xs = []
+if_done None xs = xs
+
+-- the edits that commands one after another make in a copy (this project's own)
+unfoldable pub edits_since : ℕ → Whole → List Command → List Edit
+edits_since n h [] = []
+edits_since n h (c ∷ cs) =
+    if_done (first_of (whole_checks h c)) (edit_by n c) ++ edits_since n (whole_answer h c).0 cs
+
+-- the command saves, reverts or discards the copy, where it is not refused (this project's own)
+abbrev pub ends_edits : ℕ → Command → Bool
+ends_edits n (command.Save m) = m == n
+ends_edits n (command.Revert m) = m == n
+ends_edits n (command.Discard m) = m == n
+ends_edits n _ = false
+
+-- none of the commands that are done saves, reverts or discards the copy (this project's own)
+unfoldable pub GoesOn : ℕ → Whole → List Command → Type 0
+GoesOn n h [] = ⊤
+GoesOn n h (c ∷ cs) = (IsDone h c → ends_edits n c ≡ false) × GoesOn n (whole_answer h c).0 cs
+
+-- A save was done: the entry was still as the copy's base, and what it asks of the world is that its
+-- graph is changed to this one. (this project's own)
+pub record Saves (h v : Whole) (k : Copy) (draft : RawGraph) : Type 0 where
+  pub spot : Spot
+  pub lives : living h k ≡ Some spot
+  pub same_time : spot.entry.time ≡ k.time
+  pub same_graph : spot.entry.graph ≡ k.base
+  pub after : v.world
+      ≡ settle (changed h.world (command.Change spot.unit spot.soup.name spot.entry.uid draft))

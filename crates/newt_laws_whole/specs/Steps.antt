@@ -1,0 +1,42 @@
+-- The whole behind a step of its world.
+use Rattle.std.specs.Prelude.{ℕ, Bool, false, not, ◌==◌, ◌&&◌, List, [], take, Option, Some, None}
+use Rattle.std.specs.Prelude.{if◌then◌else◌}
+use Rattle.newt_base.specs.Refusals.{first_of}
+use Rattle.newt_spec_world.specs.Answer.{new_uid}
+use Rattle.newt_spec_world.specs.Reply.{Reply}
+use Rattle.newt_spec_world.specs.Step.{moves_away}
+use Rattle.newt_spec_store.specs.Store.{Soup}
+use Rattle.newt_spec_world.specs.World.{World, soup_in}
+use Rattle.newt_spec_world.specs.Refused.{checks}
+use Rattle.newt_spec_world.specs.declared.command.Command.{Command}
+use Rattle.newt_spec_world.specs.declared.command.Command.TheVariants as command
+use Rattle.newt_spec_whole.specs.Whole.{Whole}
+use Rattle.newt_spec_whole.specs.Events.{Event, events, note_all}
+use Rattle.newt_laws_whole.specs.Since.{if_done}
+
+-- the notes of a command of the world: none where it is refused (this project's own)
+abbrev pub notes_of : World → Command → List Event
+notes_of w c = if_done (first_of (checks w c)) (events w c)
+
+-- the whole with this world, with these notes given (a word of these definitions)
+abbrev pub noting : Whole → World → List Event → Whole
+noting h w es = record h { world = w; watches = note_all es h.watches }
+
+-- the next id of a soup is another one than this (a word of these definitions)
+abbrev pub is_past : ℕ → Option Soup → Bool
+is_past uid None = false
+is_past uid (Some p) = not (p.next_uid == uid)
+
+-- the target of a move has taken an id from the one world to the other (this project's own)
+abbrev pub has_taken : World → Command → World → Bool
+has_taken w (command.Move t s uid x y) v = is_past (new_uid w x y) (soup_in v x y)
+has_taken w c v = false
+
+-- The notes of a step, as the world behind it tells them: none of a command that is refused; where
+-- the device of a unit failed, the first of a move away from it whose target has taken an id; and
+-- else all of the command. (this project's own)
+abbrev pub notes_behind : World → Command → World → Reply → List Event
+notes_behind w c v (Reply.refused refusal) = []
+notes_behind w c v (Reply.thrown u) =
+    if moves_away c u && has_taken w c v then take 1 (events w c) else []
+notes_behind w c v reply = events w c

@@ -1,0 +1,61 @@
+-- The notes of each command. That a change of a soup is told with what was done is Newton's (Newton
+-- Programmer's Guide 2.0, soup change notification); which commands tell what is this project's own.
+use Rattle.std.specs.Prelude.{ℕ, List, [], ◌∷◌, Option, Some, None, option_map, unwrap_or}
+use Rattle.newt_notify.specs.declared.note.Note.{Note}
+use Rattle.newt_notify.specs.declared.note.Kind.{Kind}
+use Rattle.newt_notify.specs.declared.note.Kind.TheVariants.{Make, Gone, Add, Change, Remove}
+use Rattle.newt_notify.specs.Watch.{Watching, noted}
+use Rattle.newt_spec_world.specs.World.{World, default_unit, soup_in, mounted_store}
+use Rattle.newt_spec_world.specs.Answer.{new_uid}
+use Rattle.newt_spec_world.specs.declared.command.Command.{Command}
+use Rattle.newt_spec_world.specs.declared.command.Command.TheVariants as command
+
+-- the name of a soup, and a note of it (a word of these definitions)
+abbrev pub Event : Type 0
+Event = List ℕ × Note
+
+-- the signature of the soup of this name on a unit (a word of these definitions)
+abbrev pub soup_sig : World → ℕ → List ℕ → ℕ
+soup_sig w u name = unwrap_or (option_map (λ p. p.sig) (soup_in w u name)) 0
+
+-- the signature that the next soup on a unit gets (a word of these definitions)
+abbrev pub next_sig : World → ℕ → ℕ
+next_sig w u = unwrap_or (option_map (λ s. s.next_soup) (mounted_store w u)) 0
+
+-- a soup of this name is made, or dropped (this project's own)
+abbrev pub soup_event : Kind → ℕ → List ℕ → ℕ → Event
+soup_event kind u name sig = (name, record { kind = kind; unit = u; soup = sig; uid = 0 })
+
+-- an entry of the soup of this name on a unit is changed, or removed (this project's own)
+abbrev pub entry_event : World → Kind → ℕ → List ℕ → ℕ → Event
+entry_event w kind u name uid =
+    (name, record { kind = kind; unit = u; soup = soup_sig w u name; uid = uid })
+
+-- an entry is added to it (this project's own)
+abbrev pub add_event : World → ℕ → List ℕ → Event
+add_event w u name = entry_event w Add u name (new_uid w u name)
+
+-- the table: the notes of each command that is done, from the world before it (this project's own)
+unfoldable pub events : World → Command → List Event
+events w (command.Soup u s) = soup_event Make u s (next_sig w u) ∷ []
+events w (command.Drop u s) = soup_event Gone u s (soup_sig w u s) ∷ []
+events w (command.Add u s g) = add_event w u s ∷ []
+events w (command.Addx u s g) = add_event w u s ∷ []
+events w (command.Addu s g) = add_event w (default_unit w) s ∷ []
+events w (command.Set u s uid path g) = entry_event w Change u s uid ∷ []
+events w (command.Change u s uid g) = entry_event w Change u s uid ∷ []
+events w (command.Vwrite u s uid path at bytes) = entry_event w Change u s uid ∷ []
+events w (command.Remove u s uid) = entry_event w Remove u s uid ∷ []
+events w (command.Copy u s uid v t) = add_event w v t ∷ []
+events w (command.Move u s uid v t) = add_event w v t ∷ entry_event w Remove u s uid ∷ []
+events w _ = []
+
+-- the notes of what is asked of the world, if anything is (a word of these definitions)
+abbrev pub events_of : World → Option Command → List Event
+events_of w None = []
+events_of w (Some c) = events w c
+
+-- each watch of its soup's name takes a note, one after another (this project's own)
+abbrev pub note_all : List Event → List (Option Watching) → List (Option Watching)
+note_all [] ws = ws
+note_all (e ∷ es) ws = note_all es (noted e.0 e.1 ws)
