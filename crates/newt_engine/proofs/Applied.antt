@@ -1,15 +1,19 @@
 -- What the world promises of a command, by what it does to the known one.
 use Rattle.std.proofs.Common.{◌≡◌, ◌≢◌, ◌⊎◌, inl, inr, refl, ap, sym, ◌∙◌, subst, ℕ, List, Bool, true, IsTrue, Option, Some}
+use Rattle.std.proofs.lemmas.Bool.{eq-eqb}
 use Rattle.std.specs.declared.alloc.AllocError.{AllocError}
 use Rattle.std.specs.Prelude.{IsSome, Result, Ok, Err}
 use Rattle.newt_host.specs.Moments.{MayLeave, bytes_after, image}
 use Rattle.newt_host.specs.Outside.{Outside}
+use Rattle.newt_host.proofs.Moments.{Always-last}
 use Rattle.newt_pagebook.specs.declared.book.Stop.TheVariants as stops
 use Rattle.newt_reply.specs.Said.{said}
 use Rattle.newt_reply.specs.declared.reply.Reply.{Reply}
 use Rattle.newt_reply.specs.declared.reply.Reply.TheVariants as reply
 use Rattle.newt_spec_store.specs.Store.{Store}
 use Rattle.newt_spec_store.specs.Valid.{valid}
+use Rattle.newt_spec_graph.proofs.Lists.{both-ways}
+use Rattle.newt_spec_world.specs.Reply as plain
 use Rattle.newt_spec_world.specs.Changed.{changed}
 use Rattle.newt_spec_world.specs.Step.{thrown_out}
 use Rattle.newt_spec_world.specs.World as plain_world
@@ -62,6 +66,8 @@ module _ {C : Type 0} {reads : List ℕ → Option Store} {place : C → ℕ} {s
       never_memory = λ none. refl;
       never_thrown = λ none. e.quiet;
     };
+    known = λ t quiet. sym (ap {A = plain_world.World × plain.Reply} (λ a. a.0) (e.answered t));
+    beside = λ t. (Always-last (e.moments t)).beside;
     refused = λ t r is w means.
         let k = lift-answer reads (marks_of old) o c (units_kept laws old.units old.desk o (standing-told begun t)) (may t) (good t) p (e.moments t)
         (marks_of new) (units_kept laws new.units new.desk p (standing-told (e.stands tt) t)) e.alone.cards (said it) (e.answered t) w means in
@@ -104,6 +110,8 @@ module _ {C : Type 0} {reads : List ℕ → Option Store} {place : C → ℕ} {s
       never_memory = λ none. absurd (e.ends none);
       never_thrown = λ none. tt;
     };
+    known = λ t. tt;
+    beside = λ t. (Always-last (e.moments t)).beside;
     refused = λ t r is. cc;
   }
 
@@ -139,6 +147,8 @@ module _ {C : Type 0} {reads : List ℕ → Option Store} {place : C → ℕ} {s
           (marks_of new) (units_kept laws new.units new.desk p (standing-told then t)) e.alone.cards
           (is t ∙ sym (out-settled (stood_for reads old o) u (known-formed laws old.units old.desk o (standing-told begun t)) (begun.apart t) (begun.settled t))) w means;
       finished = finished-thrown (λ t n other. inr (ap bytes_after (f.others t n other))) f.failed;
+      known = λ t quiet. absurd (both-ways (sym (quiet u) ∙ eq-eqb u u refl));
+      beside = λ t. (Always-last (e.moments t)).beside;
       refused = λ t r is. cc;
     }
       where
@@ -156,6 +166,8 @@ module _ {C : Type 0} {reads : List ℕ → Option Store} {place : C → ℕ} {s
       obeyed = λ t w means. lift-halfway reads (marks_of old) o c (units_kept laws old.units old.desk o (standing-told begun t)) (may t) p (e.moments t) u f.away (f.accepted t)
           (marks_of new) (units_kept laws new.units new.desk p (standing-told then t)) e.alone.cards (is t) w means;
       finished = finished-thrown f.open_after f.failed;
+      known = λ t quiet. absurd (both-ways (sym (quiet u) ∙ eq-eqb u u refl));
+      beside = λ t. (Always-last (e.moments t)).beside;
       refused = λ t r is. cc;
     }
       where

@@ -1,5 +1,5 @@
 -- What the world promises of a command. All of it is this project's own.
-use Rattle.std.specs.Prelude.{◌≡◌, ◌≢◌, ◌⊎◌, ◌*◌, ℕ, ◌≤◌, Bool, true, false, IsTrue, List, Option, None, Result, Ok, IfErr, IfOk, IsOk, OnOk}
+use Rattle.std.specs.Prelude.{◌≡◌, ◌≢◌, ◌⊎◌, ◌*◌, ℕ, ◌≤◌, Bool, true, false, IsTrue, List, Option, Some, None, Result, Ok, IfErr, IfOk, IsOk, OnOk}
 use Rattle.newt_base.specs.Refusals.{first_of}
 use Rattle.newt_base.specs.declared.Refusal.{Refusal}
 use Rattle.newt_host.specs.Moments.{Always, changes}
@@ -14,7 +14,7 @@ use Rattle.newt_spec_store.specs.Store.{Store}
 use Rattle.newt_spec_world.specs.Answer.{answer}
 use Rattle.newt_spec_world.specs.Changed.{changed}
 use Rattle.newt_spec_world.specs.Refused.{checks}
-use Rattle.newt_spec_world.specs.Step.{is_accepted, may_tear, moves_away, thrown_out}
+use Rattle.newt_spec_world.specs.Step.{is_accepted, is_format_of, looks_at, may_tear, moves_away, thrown_out, writes}
 use Rattle.newt_spec_world.specs.World as plain
 use Rattle.newt_spec_world.specs.World.{lost, mounted_store, settle}
 use Rattle.newt_spec_world.specs.declared.command.Command.{Command}
@@ -168,10 +168,18 @@ module _ {C : Type 0} (reads : List ℕ → Option Store) where
 module _ {C : Type 0} (reads : List ℕ → Option Store) (place : C → ℕ) (standing : Bool → C → Outside → Type 0) where
   -- What the world promises of any command. From each world that it stood for it has made a step to
   -- one that it stands for; at each moment a crash leaves each unit as in the one or in the other;
-  -- and a refusal leaves the world as the command saw it.
+  -- where no unit was thrown out, the known world is answered too; nothing has happened to a unit
+  -- that the command leaves alone; and a refusal leaves the world as the command saw it.
   pub record Applied (told : Bool) (command : Command) (old new : World C) (before after : Outside) (result : Result Reply AllocError) : Type 0 where
     pub stands : OnOk result (Standing reads place standing told new.units new.desk after)
     pub obeyed : IsTrue told → (w : plain.World) → means reads old before w → Obeys reads said (means reads new after) w command result before.now after.now
     pub finished : Finished reads told command old before after result
+    pub known : IsTrue told → let w = stood_for reads old before in
+        IfOk result (λ it. IsNotThrown it
+        → stood_for reads new after ≡ (answer (seen reads w before.now command) command).0)
+    pub beside : IsTrue told → let w = stood_for reads old before in (u : ℕ)
+        → writes w command u ≡ false → is_format_of command u ≡ false
+        → (looks_at command ≡ Some u → is_due old.units u ≡ false)
+        → changes u after.now ≡ changes u before.now
     pub refused : IsTrue told → (refusal : Refusal) → result ≡ Ok (reply.Refused refusal) → (w : plain.World) → means reads old before w
         → means reads new after (seen reads w before.now command)
