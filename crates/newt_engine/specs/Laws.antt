@@ -3,7 +3,7 @@ use Rattle.std.proofs.Common.{◌≡◌, refl, ap, sym, ◌∙◌, subst, ℕ, z
 use Rattle.std.specs.Prelude.{is_some, slice_index_or, slice_get}
 use Rattle.newt_host.specs.Moments.{IsDurable, MayLeave, image}
 use Rattle.newt_host.specs.Outside.{Outside}
-use Rattle.newt_script_session.specs.Causes.{SameDevices}
+use Rattle.newt_laws_steps.specs.Devices.{SameDevices}
 use Rattle.newt_spec_graph.proofs.Lists.{none-some, some-same}
 use Rattle.newt_spec_query.specs.Cursor.{Cursor}
 use Rattle.newt_spec_store.specs.Laid.{bare}

@@ -11,3 +11,4 @@ pub mod Held
 pub mod Seen
 pub mod StoodFor
 pub mod Replying
+pub mod Beginning

@@ -7,3 +7,4 @@ pub mod Thrown
 pub mod Answering
 pub mod Meant
 pub mod StandsFor
+pub mod Devices

@@ -4,7 +4,8 @@ use Rattle.newt_host.specs.Moments.{Moment, changes}
 use Rattle.newt_host.specs.Outside.{Outside, InputCall, OnDevices, OutputCall, PrintsSome, Rose, SameCards, SameCounts, Takes}
 use Rattle.newt_host.proofs.Outside.{SameCards-refl, SameCards-append, SameCounts-append, SameWork-refl}
 use Rattle.newt_script_session.specs.Calls.{AnswerCall, Faults, HasReadCause, OutputFailed, Quiet, ReadCall, RunCall, Unread, WriteCall}
-use Rattle.newt_script_session.specs.Causes.{HasCause, HasSinkCause, NeverLess, NoStreamFault, SameDevices}
+use Rattle.newt_laws_steps.specs.Devices.{SameDevices}
+use Rattle.newt_script_session.specs.Causes.{HasCause, HasSinkCause, NeverLess, NoStreamFault}
 use Rattle.newt_script_session.proofs.Reading.{unread-append, unread-refl, unread_printing}
 use Rattle.newt_script_session.proofs.Writing.{prints_devices}
 use Rattle.newt_script_session.specs.declared.halt.Halt.{Halt}

@@ -6,7 +6,7 @@ use Rattle.newt_host.specs.Outside.{Outside, PrintsSome, SameCards, SameCounts, 
 use Rattle.newt_host.proofs.Extending.{Always-prints_some}
 use Rattle.newt_host.proofs.Moments.{Always-append, Always-last, Always-map}
 use Rattle.newt_host.proofs.Printing.{changes-printed, output-printed, printed-append}
-use Rattle.newt_script_session.specs.Causes.{SameDevices}
+use Rattle.newt_laws_steps.specs.Devices.{SameDevices}
 use Rattle.newt_script_session.specs.Stream.{Wrote, WroteSome, Puts}
 
 pub nothing_wrote : (text out : List ℕ) → Wrote text text out out

@@ -3,7 +3,8 @@
 use Rattle.std.specs.Prelude.{◌≡◌, Bool, IsTrue, Result, OnOk, IfErr}
 use Rattle.newt_host.specs.Moments.{Always, taken}
 use Rattle.newt_host.specs.Outside.{Outside, Rose, SameCards}
-use Rattle.newt_script_session.specs.Causes.{HasCause, HasSinkCause, NeverLess, NoStreamFault, SameDevices}
+use Rattle.newt_laws_steps.specs.Devices.{SameDevices}
+use Rattle.newt_script_session.specs.Causes.{HasCause, HasSinkCause, NeverLess, NoStreamFault}
 use Rattle.newt_script_session.specs.declared.halt.Halt.{Halt}
 use Rattle.newt_script_session.specs.declared.halt.Halt.TheVariants.{Source}
 

@@ -1,7 +1,6 @@
 -- Why the answering of lines halts.
-use Rattle.std.specs.Prelude.{◌≡◌, ℕ, ◌≤◌, Bool, true, false, IsTrue}
-use Rattle.newt_host.specs.Moments.{changes}
-use Rattle.newt_host.specs.Outside.{Outside, Rose, SameCards, SameCounts}
+use Rattle.std.specs.Prelude.{◌≡◌, ℕ, ◌≤◌, Bool, true, false}
+use Rattle.newt_host.specs.Outside.{Outside, Rose}
 use Rattle.newt_script_session.specs.declared.halt.Flow.{Flow}
 use Rattle.newt_script_session.specs.declared.halt.Flow.TheVariants.{Go, Quit}
 use Rattle.newt_script_session.specs.declared.halt.Halt.{Halt}
@@ -25,12 +24,6 @@ HasCause Memory old new = Unit {0}
 HasCause TooLong old new = Unit {0}
 HasCause Source old new = Rose old.in_faults new.in_faults
 HasCause Sink old new = Rose old.out_faults new.out_faults
-
--- No device, and nothing that is told of one, is other than it was, and nothing that is counted was done to one.
-pub record SameDevices (told : Bool) (old new : Outside) : Type 0 where
-  pub cards : SameCards old new
-  pub counts : SameCounts old new
-  pub changes : IsTrue told → (unit : ℕ) → changes unit new.now ≡ changes unit old.now
 
 -- no fault of the input or of the output was counted, and no count of a device has fallen
 pub record NoStreamFault (old new : Outside) : Type 0 where

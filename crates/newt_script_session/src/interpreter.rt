@@ -7,7 +7,7 @@ ghost use Rattle.newt_host.specs.Outside.{Outside, OnDevices};
 ghost use Rattle.newt_host_attach.specs.Named.{AreAttached, AreDistinct};
 ghost use Rattle.newt_laws_steps.specs.Answering.{ReadsOneOf};
 ghost use Rattle.newt_laws_world.specs.Worlds.{has_form};
-ghost use Rattle.newt_script_session.specs.Causes.{SameDevices};
+ghost use Rattle.newt_laws_steps.specs.Devices.{SameDevices};
 ghost use Rattle.newt_script_session.specs.Steps.{Stepped};
 ghost use Rattle.newt_spec_graph.specs.Lists.{Among};
 ghost use Rattle.newt_spec_store.specs.Store.{Store};

@@ -3,7 +3,8 @@ use Rattle.std.proofs.Common.{◌≡◌, ℕ, ◌<◌, Bool, IsTrue, List, lengt
 use Rattle.newt_host.specs.Meanings.{out_of}
 use Rattle.newt_host.specs.Outside.{Outside}
 use Rattle.newt_script_session.specs.Calls.{HasReadCause as ReadFailed, ReadCall, WriteCall}
-use Rattle.newt_script_session.specs.Causes.{HasCause, HasSinkCause, NoStreamFault, SameDevices}
+use Rattle.newt_laws_steps.specs.Devices.{SameDevices}
+use Rattle.newt_script_session.specs.Causes.{HasCause, HasSinkCause, NoStreamFault}
 use Rattle.newt_script_session.specs.declared.halt.Halt.{Halt}
 use Rattle.newt_script_session.specs.declared.halt.Halt.TheVariants.{Memory, Source, Sink, TooLong}
 use Rattle.newt_script_session.proofs.Counting.{faults_end, faults_err, faults_none, faults_same, none-append, none-refl, same-refl, same-trans, sink_from}

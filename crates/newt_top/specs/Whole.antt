@@ -13,7 +13,7 @@ use Rattle.newt_script.specs.Graphs.{literal_of}
 use Rattle.newt_host.specs.Meanings.{out_of}
 use Rattle.newt_host.specs.Outside.{Outside, Rose}
 use Rattle.newt_script_session.specs.Calls.{Faults}
-use Rattle.newt_script_session.specs.Causes.{SameDevices}
+use Rattle.newt_laws_steps.specs.Devices.{SameDevices}
 use Rattle.newt_script_session.specs.Stream.{WroteSome}
 use Rattle.newt_script_session.specs.declared.halt.Halt.{Halt}
 use Rattle.newt_script_session.specs.declared.halt.Halt.TheVariants.{Memory, Source, Sink, TooLong}

@@ -7,7 +7,8 @@ use Rattle.newt_script_session.specs.First.{unmounted}
 use Rattle.newt_script_session.specs.Script.{script_items}
 use Rattle.newt_script_session.specs.declared.halt.Halt.{Halt}
 use Rattle.newt_script_session.specs.declared.halt.Halt.TheVariants.{Memory}
-use Rattle.newt_script_session.proofs.Beginning.{first_is, attached_at_rest, attached_faultless, named_counted, rests_first}
+use Rattle.newt_laws_steps.proofs.Beginning.{attached-at-rest}
+use Rattle.newt_script_session.proofs.Beginning.{first_is, attached_faultless, named_counted, rests_first}
 use Rattle.newt_script_session.proofs.Counting.{faults_end, faults_same, sink_from}
 use Rattle.newt_script_session.proofs.Progress.{ran_nothing}
 use Rattle.newt_script_session.proofs.Summing.{counted_halted}
@@ -23,7 +24,7 @@ returns-in_default-clause-counted g c = λ told.
     let mid = g.H.Host.outside c.new.new.host in
     let a = subst (λ (t : Bool). AreAttached t names old mid) told c.new.ensures.attached in
     let found = first_is it.store_of_image names old mid a (λ unit. g.met.H.Host.sized c.new.new.host unit told) in
-    let its = rests_first it.store_of_image mid (attached_at_rest g.H.Host.told _ _ _ c.new.ensures.attached told) in
+    let its = rests_first it.store_of_image mid (attached-at-rest g.H.Host.told _ _ _ c.new.ensures.attached told) in
     let result : Result (Unit {0}) Halt = Err Memory in
     let S : Whole → Type 0 = λ w. Counted it.step it.store_of_image c.args.script.now result w mid mid in
     named_counted names old mid mid a it.step it.store_of_image

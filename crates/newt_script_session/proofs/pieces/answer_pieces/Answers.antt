@@ -4,7 +4,7 @@ use Rattle.std.proofs.lemmas.Result.{err_from_is_err_and, on_ok_weaker}
 use Rattle.newt_host.specs.Moments.{Moment, taken as taken_by}
 use Rattle.newt_host.proofs.Moments.{Always-last}
 use Rattle.newt_spec_whole.specs.Whole.{Whole}
-use Rattle.newt_script_session.specs.Causes.{SameDevices}
+use Rattle.newt_laws_steps.specs.Devices.{SameDevices}
 use Rattle.newt_script_session.specs.Lines.{ended_lines, last_line}
 use Rattle.newt_script_session.specs.Run.{IsReadThrough}
 use Rattle.newt_script_session.specs.Script.{commands_of, has_quit}

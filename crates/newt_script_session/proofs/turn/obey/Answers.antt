@@ -1,7 +1,7 @@
 use Rattle.std.proofs.Common.{◌++◌, [], ◌∷◌, ℕ, List, Bool, IsTrue, Ok, Err, ap, subst, ◌∙◌}
 use Rattle.std.proofs.lemmas.Result.{err_from_is_err_and}
 use Rattle.newt_spec_world.specs.Reply.{Reply, reply_text}
-use Rattle.newt_script_session.specs.Causes.{SameDevices}
+use Rattle.newt_laws_steps.specs.Devices.{SameDevices}
 use Rattle.newt_script_session.specs.Stream.{Puts, put_out}
 use Rattle.newt_script_session.proofs.Counting.{answer_put, answer_stopped, answer_unput, quiet_apply}
 use Rattle.newt_script_session.proofs.Crashing.{answering_command, at_rest}

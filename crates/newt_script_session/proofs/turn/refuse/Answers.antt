@@ -1,7 +1,7 @@
 use Rattle.std.proofs.Common.{Bool, Err, refl, ap, subst, ◌∙◌}
 use Rattle.std.proofs.lemmas.Result.{err_from_is_err_and}
 use Rattle.newt_spec_world.specs.Reply.{Reply}
-use Rattle.newt_script_session.specs.Causes.{SameDevices}
+use Rattle.newt_laws_steps.specs.Devices.{SameDevices}
 use Rattle.newt_script_session.proofs.Counting.{answer_put, answer_unput, quiet-refl}
 use Rattle.newt_script_session.proofs.Crashing.{answering_refusal, at_rest}
 use Rattle.newt_script_session.proofs.Obeying.{ran_item, ran_untaken}

@@ -1,11 +1,10 @@
 -- Nothing is mounted yet, and no cursor is open.
-use Rattle.std.proofs.Common.{Bool, Global, ap, map, string_bytes, sym, subst, ◌∙◌}
+use Rattle.std.proofs.Common.{Bool, Global, map, string_bytes, sym, subst, ◌∙◌}
 use Rattle.newt_host_attach.specs.Named.{AreAttached}
 use Rattle.newt_laws_world.specs.Settled.{IsSettled, MountedApart}
-use Rattle.newt_script_session.proofs.Beginning.{attached_at_rest, first_is}
 use Rattle.newt_engine_cursors.specs.Fits.{DeskFits}
-use Rattle.newt_spec_whole.specs.Whole.{Whole}
 use Rattle.newt_laws_steps.specs.StandsFor.{StandsFor}
+use Rattle.newt_laws_steps.proofs.Beginning.{attached-at-rest, attached-world}
 use Rattle.newt_laws_steps.proofs.StoodFor.{known-stands}
 use Rattle.newt_engine.specs.Laws.{known_attached, laws_of, units_kept}
 use Rattle.newt_engine.specs.Standing.{marks_with}
@@ -18,7 +17,7 @@ returns-clause-stands g c =
     let o = g.H.Host.outside c.attach_names-attached.new.host in
     let a = c.attach_names-attached.ensures in
     let world = first_world_is g.C.Card.reads c.in_ok-of.field-0 c.in_ok-new.field-0 o (c.in_ok-of.ensures.world o) c.in_ok-new.ensures in record {
-      stand = c.in_ok-of.ensures.stands g.H.Host.told o (known_attached c.attach_names-attached.result o.card a.flags) (attached_at_rest g.H.Host.told _ _ _ a.attached);
+      stand = c.in_ok-of.ensures.stands g.H.Host.told o (known_attached c.attach_names-attached.result o.card a.flags) (attached-at-rest g.H.Host.told _ _ _ a.attached);
       eight = record { eight = g.met.H.Host.eight c.attach_names-attached.new.host; none = g.met.H.Host.none c.attach_names-attached.new.host };
       desk = subst DeskFits (sym c.in_ok-new.ensures) all_free;
       apart = λ t. subst MountedApart (sym world) (none_mounted g.C.Card.reads o);
@@ -36,5 +35,5 @@ returns-clause-world g c t =
     let laws = laws_of g.met.C.Card.formed g.met.C.Card.plain g.met.C.Card.durable g.met.C.Card.banks g.met.C.Card.kept in
     subst (StandsFor g.C.Card.reads (marks_with units cursors) o)
     (first_world_is g.C.Card.reads units cursors o (c.in_ok-of.ensures.world o) c.in_ok-new.ensures
-    ∙ ap (λ (h : Whole). h.world) (first_is g.C.Card.reads names old o a (λ unit. g.met.H.Host.sized c.attach_names-attached.new.host unit t)))
+    ∙ attached-world g.C.Card.reads names old o a (λ unit. g.met.H.Host.sized c.attach_names-attached.new.host unit t))
     (known-stands g.C.Card.reads (marks_with units cursors) o (units_kept laws units cursors o (standing-told (returns-clause-stands g c) t)))
