@@ -101,6 +101,17 @@ vwrite 0 S 0 v 499 => vwrite 0 <S> 0 .v from 499:
 vwrite 0 S 0 v 499 \t\r => vwrite 0 <S> 0 .v from 499:
 vwrite 0 S 0 v 0 03 => vwrite 0 <S> 0 .v from 0: 3
 vwrite 0 S 0 v 4 020A => vwrite 0 <S> 0 .v from 4: 2 10
+# Watches and working copies.
+watch Names 1 => watch <Names> 1
+watch \"To Do\" 0000000064 => watch <To Do> 64
+notes 0 => notes 0
+unwatch 7 => unwatch 7
+open 0 Names 4294967295 => open 0 <Names> 4294967295
+draft 15 => draft 15
+edit 0 a.B {c: 1} => edit 0 .a.B {c: 1}
+save 1 => save 1
+revert 2 => revert 2
+discard 3\t => discard 3
 ";
 
 #[test]
@@ -213,6 +224,21 @@ vwrite 0 S 0 v 0 4G => 1 malformed
 vwrite 0 S 0 v 0 41 42 => 1 malformed
 vwrite 0 S 0 v 0 0x41 => 1 malformed
 vwrite 0 S 0 v 0 414 => 1 malformed
+# Watches and working copies.
+watch Names => 11 line
+watch Names 0 => 11 line
+watch Names 65 => 11 line
+watch 0 Names 1 => 11 line
+notes => 11 line
+notes 8 => 11 line
+unwatch 0 1 => 11 line
+open 0 Names => 11 line
+draft 16 => 11 line
+edit 0 a => 11 line
+edit 16 a 1 => 11 line
+edit 0 a..b 1 => 11 line
+edit 0 a { => 3 literal
+save -1 => 11 line
 ";
 
 #[test]

@@ -7,6 +7,7 @@ use newt_graph::Bytes;
 use newt_host::Unit;
 use newt_keys::{IndexPart, IndexSpec};
 use newt_lit_read::read_literal;
+use newt_notify::{Kind as Noted, Note, NoteList, Notes};
 use newt_path::Path;
 use newt_reply::{
     Alias, Reply, SoupLine, SoupRows, SpecRows, StoreLine, StoreRows, TagRow, write_reply,
@@ -135,6 +136,30 @@ fn tags(alloc: Global, text: &str) -> Result<TagRow, AllocError> {
     Ok(TagRow { table })
 }
 
+fn note(kind: Noted, place: u8, uid: u32) -> Note {
+    Note {
+        kind,
+        unit: Unit(place),
+        soup: Sig(7),
+        uid: Uid(uid),
+    }
+}
+
+/// The notes of a word: none of them, or one of each kind.
+fn notes(alloc: Global, text: &str) -> Result<NoteList, AllocError> {
+    let notes = match text {
+        "none" => Vec::new(alloc),
+        _ => vec![in alloc;
+            note(Noted::Make, 0, 0),
+            note(Noted::Add, 1, 4294967295),
+            note(Noted::Change, 1, 2),
+            note(Noted::Remove, 1, 2),
+            note(Noted::Gone, 0, 0),
+        ]?,
+    };
+    Ok(NoteList::of(notes))
+}
+
 /// A reply with a graph and with up to three numbers before it.
 fn reply_of_graph(alloc: Global, word: &str, rest: &str) -> Result<Reply, Fail> {
     let (first, behind) = number(rest);
@@ -153,7 +178,7 @@ fn reply_of_graph(alloc: Global, word: &str, rest: &str) -> Result<Reply, Fail> 
     }
 }
 
-/// A reply with names, bytes or declarations.
+/// A reply with names, bytes, declarations or notes.
 fn reply_of_names(alloc: Global, word: &str, rest: &str) -> Result<Reply, Fail> {
     let (first, behind) = number(rest);
     match word {
@@ -168,6 +193,10 @@ fn reply_of_names(alloc: Global, word: &str, rest: &str) -> Result<Reply, Fail> 
         "soups" => Ok(Reply::Soups(soups(alloc, rest)?)),
         "indexes" => Ok(Reply::Indexes(indexes(alloc, rest)?)),
         "tags" => Ok(Reply::Tags(tags(alloc, rest)?)),
+        "notes" => Ok(Reply::Notes(Notes {
+            lost: first,
+            list: notes(alloc, behind)?,
+        })),
         _ => reply_of_graph(alloc, word, rest),
     }
 }
@@ -194,6 +223,7 @@ fn reply(alloc: Global, text: &str) -> Result<Reply, Fail> {
         "begin" => Ok(Reply::Begin),
         "end" => Ok(Reply::End),
         "full" => Ok(Reply::Refused(Refusal::Full)),
+        "changed" => Ok(Reply::Changed(first)),
         "thrown" => Ok(Reply::Thrown(unit(first))),
         "number" => Ok(Reply::Number(first)),
         "added" => Ok(Reply::Added(unit(first), Uid(number(behind).0))),
@@ -229,6 +259,7 @@ number 4294967295 => ok 4294967295
 added 3 0 => ok 3 0
 alias 536870911 0 12 => ok [alias: 536870911, 0, 12]
 full => error 33 full
+changed 77 => error 45 changed 77
 thrown 0 => error 50 device 0
 thrown 7 => error 50 device 7
 # Names.
@@ -259,6 +290,9 @@ indexes none => ok
 indexes two => ok a.B:string:ascend, a.B:int:descend a.B:char:ascend a.B:symbol:descend
 tags none => ok
 tags two => ok a.B x Y
+# Notes.
+notes 0 none => ok 0
+notes 3 each => ok 3 make 0 7, add 1 7 4294967295, change 1 7 2, remove 1 7 2, drop 0 7
 ";
 
 #[test]

@@ -63,9 +63,10 @@ fn push_entry(alloc: Global, to: &mut Vec<u8>, word: &str, unit: Unit, name: &Na
     push_number(alloc, to, i64::from(uid.0));
 }
 
-fn push_cursor(alloc: Global, to: &mut Vec<u8>, word: &str, cursor: u8) {
+/// A command on the cursor, the watch or the working copy of a number.
+fn push_numbered(alloc: Global, to: &mut Vec<u8>, word: &str, number: u8) {
     push(to, word.as_bytes());
-    push_number(alloc, to, i64::from(cursor));
+    push_number(alloc, to, i64::from(number));
 }
 
 /// A command on stores and soups, or on none.
@@ -219,11 +220,11 @@ fn push_of_cursors(alloc: Global, to: &mut Vec<u8>, command: &Command) {
             push_name(to, name);
             push_graph(alloc, to, graph);
         }
-        Command::Entry(cursor) => push_cursor(alloc, to, "entry", *cursor),
-        Command::Count(cursor) => push_cursor(alloc, to, "count", *cursor),
-        Command::Which(cursor) => push_cursor(alloc, to, "which", *cursor),
-        Command::Clone(cursor) => push_cursor(alloc, to, "clone", *cursor),
-        Command::Close(cursor) => push_cursor(alloc, to, "close", *cursor),
+        Command::Entry(cursor) => push_numbered(alloc, to, "entry", *cursor),
+        Command::Count(cursor) => push_numbered(alloc, to, "count", *cursor),
+        Command::Which(cursor) => push_numbered(alloc, to, "which", *cursor),
+        Command::Clone(cursor) => push_numbered(alloc, to, "clone", *cursor),
+        Command::Close(cursor) => push_numbered(alloc, to, "close", *cursor),
         _ => push_of_moves(alloc, to, command),
     }
 }
@@ -231,22 +232,22 @@ fn push_of_cursors(alloc: Global, to: &mut Vec<u8>, command: &Command) {
 /// A command that moves a cursor.
 fn push_of_moves(alloc: Global, to: &mut Vec<u8>, command: &Command) {
     match command {
-        Command::Next(cursor) => push_cursor(alloc, to, "next", *cursor),
-        Command::Prev(cursor) => push_cursor(alloc, to, "prev", *cursor),
-        Command::Reset(cursor) => push_cursor(alloc, to, "reset", *cursor),
-        Command::End(cursor) => push_cursor(alloc, to, "end", *cursor),
+        Command::Next(cursor) => push_numbered(alloc, to, "next", *cursor),
+        Command::Prev(cursor) => push_numbered(alloc, to, "prev", *cursor),
+        Command::Reset(cursor) => push_numbered(alloc, to, "reset", *cursor),
+        Command::End(cursor) => push_numbered(alloc, to, "end", *cursor),
         Command::Moveby(cursor, steps) => {
-            push_cursor(alloc, to, "moveby", *cursor);
+            push_numbered(alloc, to, "moveby", *cursor);
             push(to, b" by");
             push_number(alloc, to, i64::from(*steps));
         }
         Command::Goto(cursor, unit, uid) => {
-            push_cursor(alloc, to, "goto", *cursor);
+            push_numbered(alloc, to, "goto", *cursor);
             push_unit(alloc, to, " at", *unit);
             push_number(alloc, to, i64::from(uid.0));
         }
         Command::Gotokey(cursor, graph) => {
-            push_cursor(alloc, to, "gotokey", *cursor);
+            push_numbered(alloc, to, "gotokey", *cursor);
             push_graph(alloc, to, graph);
         }
         _ => push_of_bytes(alloc, to, command),
@@ -274,6 +275,30 @@ fn push_of_bytes(alloc: Global, to: &mut Vec<u8>, command: &Command) {
                 push_number(alloc, to, i64::from(*byte));
             }
         }
+        _ => push_of_wholes(alloc, to, command),
+    }
+}
+
+/// A command on a watch or a working copy.
+fn push_of_wholes(alloc: Global, to: &mut Vec<u8>, command: &Command) {
+    match command {
+        Command::Watch(name, most) => {
+            push(to, b"watch");
+            push_name(to, name);
+            push_number(alloc, to, i64::from(*most));
+        }
+        Command::Notes(watch) => push_numbered(alloc, to, "notes", *watch),
+        Command::Unwatch(watch) => push_numbered(alloc, to, "unwatch", *watch),
+        Command::Open(unit, name, uid) => push_entry(alloc, to, "open", *unit, name, *uid),
+        Command::Draft(copy) => push_numbered(alloc, to, "draft", *copy),
+        Command::Edit(copy, path, graph) => {
+            push_numbered(alloc, to, "edit", *copy);
+            push_path(to, path);
+            push_graph(alloc, to, graph);
+        }
+        Command::Save(copy) => push_numbered(alloc, to, "save", *copy),
+        Command::Revert(copy) => push_numbered(alloc, to, "revert", *copy),
+        Command::Discard(copy) => push_numbered(alloc, to, "discard", *copy),
         _ => push(to, b"another command"),
     }
 }
