@@ -1,0 +1,74 @@
+-- The alias is looked up, the entry is read, and a copy is put.
+use Rattle.std.proofs.Common.{refl, subst, sym, ◌∙◌, [], Err}
+use Rattle.std.specs.Prelude.{Result}
+use Rattle.std.specs.declared.alloc.AllocError.{AllocError}
+use Rattle.std.proofs.lemmas.Result.{err_from_is_err_and}
+use Rattle.newt_reply.specs.declared.reply.Reply.{Reply}
+use Rattle.newt_spec_world.specs.declared.command.Command.TheVariants as command
+use Rattle.newt_laws_world.specs.Worlds.{is_plain}
+use Rattle.newt_laws_whole.proofs.Reading.{open-refused}
+use Rattle.newt_store_change.specs.Faults.{IsRefusal}
+use Rattle.newt_engine_units.specs.Answers.{Answers}
+use Rattle.newt_engine_units.specs.Stands.{world_of}
+use Rattle.newt_engine_units.proofs.Known.{Laws}
+use Rattle.newt_engine.specs.Laws.{laws_of}
+use Rattle.newt_engine.proofs.Applying.{standing-told}
+use Rattle.newt_engine_whole.specs.Calls.{Applied}
+use Rattle.newt_engine_whole.specs.Standing.{known_whole}
+use Rattle.newt_engine_whole.proofs.Found.{known-means, whole-told}
+use Rattle.newt_engine_whole.proofs.Opening.{opening}
+use Rattle.newt_engine_whole.proofs.Meant.{all-formed, mounted-same, soup-same, tests-same}
+use Rattle.newt_engine_whole.proofs.Opened.{alias-known, alias-refused, open-handed, open-turn, untimed}
+use Rattle.newt_engine_whole.proofs.Unanswered.{read-memory, rest-refused, still-read}
+use Rattle.newt_engine_whole.proofs.whole.Whole.open.Given.{Over}
+use Rattle.newt_engine_whole.proofs.whole.Whole.open.Goals as goal
+
+abbrev laws : (g : Over) → Laws g.C.Card.reads g.C.Card.place g.C.Card.soups g.C.Card.stands
+laws g = laws_of g.met.C.Card.formed g.met.C.Card.plain g.met.C.Card.durable g.met.C.Card.banks g.met.C.Card.kept
+
+pub returns-in-Err-Refused : goal.returns-in-Err-Refused
+unfolding is_plain
+returns-in-Err-Refused g c =
+    let e = c.in-Err-Refused in
+    let o = g.H.Host.outside c.args.host.now in
+    let it = c.args.self.now.world in
+    rest-refused refl c.requires.stands e.refusal (λ t h m.
+    let s = standing-told c.requires.stands.world t in
+    let w = world_of g.C.Card.reads it.units o in
+    let says = subst (λ f. Answers w w (command.Alias c.args.unit c.args.name c.args.uid) _ (Err f)) e.field-0-is (e.ensures.answered o s.eight s.stand) in
+    open-refused h c.args.unit c.args.name c.args.uid e.refusal
+    (tests-same (laws g) it.units it.desk o s h.world m.world c.args.unit c.args.uid c.args.name ∙ alias-refused w w c.args.unit c.args.uid c.args.name e.refusal says))
+
+pub returns-in-Err-Stop : goal.returns-in-Err-Stop
+returns-in-Err-Stop g c = absurd (subst (λ f. IsRefusal f) c.in-Err-Stop.field-0-is c.in-Err-Stop.ensures.only)
+
+pub returns-in_default : goal.returns-in_default
+returns-in_default g c = open-handed c.args.unit c.args.uid c.args.name c.requires.stands (untimed _ c.in_default.not-Timed) c.in_ok-reply.ensures
+
+pub returns-in_err-reply : goal.returns-in_err-reply
+unfolding is_plain
+returns-in_err-reply g c =
+    let memory = err_from_is_err_and c.from_residual.result c.from_residual.ensures.1 in
+    let u = c.args.unit in
+    let o = g.H.Host.outside c.args.host.now in
+    subst (λ (r : Result Reply AllocError). Applied g.C.Card.reads g.C.Card.place g.C.Card.stands g.H.Host.told (command.Open u c.args.name c.args.uid) c.args.self.now (record c.args.self.now { world = c.apply.new.self }) o (g.H.Host.outside c.apply.new.host) r)
+    (sym memory.1)
+    (read-memory refl c.requires.stands u c.args.uid c.args.name c.in_err-reply.ensures memory.0 (λ w. refl) refl refl (λ t. ([], open-turn (known_whole g.C.Card.reads c.args.self.now o) u c.args.uid c.args.name))
+    (still-read c.requires.stands u c.args.uid c.args.name c.in_err-reply.ensures (λ t h m v it e. cc)))
+
+pub returns-in-Timed : goal.returns-in-Timed
+returns-in-Timed g c =
+    let o = g.H.Host.outside c.args.host.now in
+    let it = c.args.self.now.world in
+    let e = c.open_at.ensures in
+    opening c.args.unit c.args.uid c.args.name c.requires.stands c.in_ok-reply.ensures
+    (λ t h m.
+    let s = standing-told c.requires.stands.world t in
+    let w = world_of g.C.Card.reads it.units o in
+    let k = alias-known w w c.args.unit c.args.uid _ _ c.args.name (c.in-Ok.ensures.answered o s.eight s.stand) in
+    (k.0, mounted-same (laws g) it.units it.desk o s h.world m.world c.args.unit ∙ k.1, k.2, k.3, soup-same (laws g) it.units it.desk o s h.world m.world c.args.unit c.args.name ∙ k.4, k.5))
+    (λ t.
+    let s = whole-told c.requires.stands t in
+    let m = known-means (laws g) c.args.self.now o s in
+    (record (known_whole g.C.Card.reads c.args.self.now o) { watches = s.watches.0 }, m, all-formed (laws g) it.units it.desk o s.world (known_whole g.C.Card.reads c.args.self.now o).world m.world))
+    e.world e.watches c.open_at.result e.put
