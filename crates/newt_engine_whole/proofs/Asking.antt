@@ -2,7 +2,7 @@
 use Rattle.std.proofs.Common.{◌≡◌, refl, ap, sym, ◌∙◌, subst, arith, ℕ, ◌+◌, ◌≤◌, List, [], ◌∷◌, ◌++◌, Bool, true, false, IsTrue, Option, Some, None, option_map, option_and_then, unwrap_or, sum_by}
 use Rattle.std.specs.declared.alloc.AllocError.{AllocError}
 use Rattle.std.specs.Prelude.{IsSome, Result, Ok, Err}
-use Rattle.newt_host.specs.Moments.{MayLeave, image}
+use Rattle.newt_host.specs.Moments.{Always, MayLeave, image}
 use Rattle.newt_host.specs.Outside.{Outside}
 use Rattle.newt_notify.specs.Watch.{Watching, kept_all}
 use Rattle.newt_notify.specs.declared.note.Kind.{Kind}
@@ -22,6 +22,7 @@ use Rattle.newt_spec_world.specs.Step.{Step}
 use Rattle.newt_spec_world.specs.World.{World, default_unit, mounted_store, soup_in}
 use Rattle.newt_spec_world.specs.declared.command.Command.{Command}
 use Rattle.newt_spec_world.specs.declared.command.Command.TheVariants as command
+use Rattle.newt_laws_steps.specs.Answering.{Answering}
 use Rattle.newt_laws_steps.specs.StandsFor.{Obeys, seen}
 use Rattle.newt_laws_steps.specs.Thrown.{Failed, Threw}
 use Rattle.newt_laws_steps.proofs.Seen.{seen-step}
@@ -126,7 +127,7 @@ asked-step reads old new o p c h it notes plain m (v, turned, stands, moments) t
 -- it was not answered, for want of memory
 pub asked-memory : {C : Type 0} (reads : List ℕ → Option Store) (old : Whole C) (o p : Outside) (c : Command) (h : plain.Whole) (error : AllocError) (After : plain.Whole → Type 0) → is_plain c ≡ true → Means reads old o h
     → ((u : ℕ) → IsSome (o.card u) → MayLeave u o.now (image u o.now)) → ((u : ℕ) (s : Store) → IsSome (o.card u) → reads (image u o.now) ≡ Some s → IsTrue (valid (o.blocks u) s))
-    → {P : World → Type 0} → Obeys {R = Reply} {E = AllocError} reads said P h.world c (Err error) o.now p.now → ((u : ℕ) → o.dev_faults u ≤ p.dev_faults u)
+    → Always (Answering reads h.world c (answer (seen reads h.world o.now c) c).0 o.now) o.now p.now → ((u : ℕ) → o.dev_faults u ≤ p.dev_faults u)
     → Stepped {E = AllocError} WholeStep reads c (Err error) h After o.now p.now o.dev_faults p.dev_faults
 asked-memory reads old o p c h error After plain m may good moments later =
     let a = answer (seen reads h.world o.now c) c in record {
@@ -164,7 +165,7 @@ module _ {C : Type 0} {reads : List ℕ → Option Store} {place : C → ℕ} {s
   module _ (may : IsTrue told → (u : ℕ) → IsSome (o.card u) → MayLeave u o.now (image u o.now))
       (good : IsTrue told → (u : ℕ) (s : Store) → IsSome (o.card u) → reads (image u o.now) ≡ Some s → IsTrue (valid (o.blocks u) s)) where
     -- memory was refused in the world
-    pub asked-ends : {mid new : Whole C} {p : Outside} (error : AllocError) → Inner reads place stands told c old.world mid.world o p (Err error) → Applied reads place stands told c old new o p (Err error)
+    pub asked-ends : {mid : Engine C} {new : Whole C} {p : Outside} (error : AllocError) → Inner reads place stands told c old.world mid o p (Err error) → Applied reads place stands told c old new o p (Err error)
     asked-ends {mid} {new} {p} error a = record {
       stands = tt;
       stepped = λ t h m. asked-memory reads old o p c h error (Means reads new p) itself m (may t) (good t) (a.obeyed t h.world m.world) a.finished.later;

@@ -1,5 +1,5 @@
 -- The notes that are due of a command are its events.
-use Rattle.std.proofs.Common.{◌≡◌, refl, ap, sym, ◌∙◌, subst, ℕ, List, [], ◌∷◌, true, Option, unwrap_or}
+use Rattle.std.proofs.Common.{◌≡◌, refl, ap, sym, ◌∙◌, subst, ℕ, List, [], ◌∷◌, true, Bool, Option, unwrap_or}
 use Rattle.newt_host.specs.Outside.{Outside}
 use Rattle.newt_notify.specs.declared.note.Kind.{Kind}
 use Rattle.newt_notify.specs.declared.note.Kind.TheVariants.{Add}
@@ -18,7 +18,7 @@ use Rattle.newt_engine_whole.specs.declared.due.Due.{Due}
 use Rattle.newt_engine_whole.specs.declared.due.Due.TheVariants.{Nothing, Soup, One, Two}
 use Rattle.newt_engine_whole.specs.declared.due.Told.{Told}
 
-module _ {C : Type 0} {reads : List ℕ → Option Store} {place : C → ℕ} {soups : C → Store} {stands : _} (laws : Laws reads place soups stands) (units : Units C) (o : Outside) (eight : Eight o) (stand : Stands place stands true units o) where
+module _ {C : Type 0} {reads : List ℕ → Option Store} {place : C → ℕ} {soups : C → Store} {stands : Bool → C → Outside → Type 0} (laws : Laws reads place soups stands) (units : Units C) (o : Outside) (eight : Eight o) (stand : Stands place stands true units o) where
   -- the signature and the id are those of the world that is known
   pub entry-due : (kind : Kind) (u : ℕ) (name : List ℕ) (uid : ℕ) (told : Told) → told ≡ record { name = name; note = record { kind = kind; unit = u; soup = unwrap_or (soup_on soups units u name) 0; uid = uid } }
       → event_of told ≡ entry_event (world_of reads units o) kind u name uid

@@ -127,10 +127,10 @@ module _ {C : Type 0} (soups : C → Store) (units : Units C) (w v : World) wher
 
     failed-same : (c : Command) → ((r : Reply) → HasSig w c r → all_due due r ≡ events w c) → (u : ℕ) → failed_due soups units due u ≡ notes_behind w c v (Reply.thrown u)
     failed-same (command.Move t s uid x y) is u = failed-move t uid x s y is u
-    failed-same _ is u = failed-other _ refl is u
+    failed-same c is u = failed-other c refl is u
 
     pub told-same : (c : Command) (r : Reply) → ((r : Reply) → HasSig w c r → all_due due r ≡ events w c) → (is_fault r ≡ false → HasSig w c r)
         → due_told soups units due r ≡ notes_behind w c v r
     told-same c (Reply.refused x) is sig = refl
     told-same c (Reply.thrown u) is sig = failed-same c is u
-    told-same c _ is sig = is _ (sig refl)
+    told-same c r is sig = is r (sig refl)

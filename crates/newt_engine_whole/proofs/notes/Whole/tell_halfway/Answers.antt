@@ -11,10 +11,10 @@ pub returns-then-is_halfway : goal.returns-then-is_halfway
 returns-then-is_halfway g c =
     let units = c.args.self.now.world.units in
     tells-as (sym (ap (λ due. failed_due g.C.Card.soups units due c.args.failed) c.in-Two.is
-    ∙ first-told g.C.Card.soups units c.in-Two.first.now c.in-Two.second.now c.args.failed (sym c.is_halfway.ensures ∙ c.if-is_halfway.true))) c.tell_one.ensures
+    ∙ first-told g.C.Card.soups units c.in-Two.first c.in-Two.second c.args.failed (sym c.is_halfway.ensures ∙ c.if-is_halfway.true))) c.tell_one.ensures
 
 pub returns-else-is_halfway : goal.returns-else-is_halfway
 returns-else-is_halfway g c =
     let units = c.args.self.now.world.units in
     nothing-told (ap (λ due. failed_due g.C.Card.soups units due c.args.failed) c.in-Two.is
-    ∙ none-told g.C.Card.soups units c.in-Two.first.now c.in-Two.second.now c.args.failed (sym c.is_halfway.ensures ∙ c.if-is_halfway.false))
+    ∙ none-told g.C.Card.soups units c.in-Two.first c.in-Two.second c.args.failed (sym c.is_halfway.ensures ∙ c.if-is_halfway.false))

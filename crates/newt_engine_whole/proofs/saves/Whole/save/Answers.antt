@@ -92,7 +92,7 @@ returns-in_err-reply g c =
     subst (λ (r : Result Reply AllocError). Applied g.C.Card.reads g.C.Card.place g.C.Card.stands g.H.Host.told (command.Save c.args.number) it (record it { world = c.apply.new.self }) (g.H.Host.outside host) (g.H.Host.outside c.apply.new.host) r)
     (sym memory.1)
     (read-memory refl c.requires.stands at.unit at.uid at.name c.in_err-reply.ensures memory.0 (λ w. refl) refl refl (turn g it host c.args.number at c.requires.stands f)
-    (still-read refl c.requires.stands at.unit at.uid at.name c.in_err-reply.ensures (λ t h m v x e. cc)))
+    (still-read c.requires.stands at.unit at.uid at.name c.in_err-reply.ensures (λ t h m v x e. cc)))
 
 -- the one that is known before has the entry as it was read, and so has each that is stood for then
 pub save_over-requires : goal.save_over-requires
@@ -118,4 +118,5 @@ returns-in-Timed g c =
     let host = c.args.host.now in
     let at = c.in-Ok.place in
     let f = found g it host c.args.number at c.requires.stands (λ h s m. c.in_ok-living.ensures.found (g.H.Host.outside host) h s m) in
-    save-after at.unit at.uid at.name c.in_ok-reply.ensures (λ t h m. let r = is-shown c.args.number at c.requires.stands f c.in_ok-reply.ensures t h m in (r.1, r.2)) c.save_over.ensures
+    save-after at.unit at.uid at.name c.requires.stands c.in_ok-reply.ensures c.args.number (turn g it host c.args.number at c.requires.stands f)
+    (λ t h m. let r = is-shown c.args.number at c.requires.stands f c.in_ok-reply.ensures t h m in (r.1, r.2)) c.save_over.ensures

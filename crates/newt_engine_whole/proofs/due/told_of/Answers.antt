@@ -2,7 +2,7 @@
 use Rattle.std.proofs.Common.{refl}
 use Rattle.newt_engine.specs.Laws.{laws_of}
 use Rattle.newt_engine_whole.proofs.Dues.{entry-due}
-use Rattle.newt_engine_whole.proofs.due.told.Goals as goal
+use Rattle.newt_engine_whole.proofs.due.told_of.Goals as goal
 
 pub returns : goal.returns
 returns g c o eight stand =
