@@ -1,4 +1,5 @@
 pub mod Groups
+pub mod Costing
 pub mod Starting
 pub mod Meant
 pub mod Telling

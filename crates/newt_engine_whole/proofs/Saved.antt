@@ -5,7 +5,8 @@ use Rattle.std.specs.Prelude.{IfOk, Result, Ok, Err, is_none, min}
 use Rattle.newt_base.specs.Refusals.{Checks, first_of}
 use Rattle.newt_base.specs.declared.Refusal.{Refusal}
 use Rattle.newt_base.specs.declared.Refusal.TheVariants.{Changed, Copy as NoCopy, Entry as NoEntry, Full, Notframe, Size}
-use Rattle.newt_host.specs.Moments.{Always, Moment, image}
+use Rattle.newt_graph.specs.Graph.{RawGraph}
+use Rattle.newt_host.specs.Moments.{Always, Moment, bytes_after, image}
 use Rattle.newt_host.specs.Outside.{Outside}
 use Rattle.newt_host.proofs.Outside.{OnDevices-append}
 use Rattle.newt_pagebook.specs.Book.{IsOpenFor}
@@ -35,12 +36,15 @@ use Rattle.newt_laws_steps.specs.Answering.{Answering}
 use Rattle.newt_laws_steps.specs.Thrown.{Failed, Threw}
 use Rattle.newt_engine_card.specs.Bounds.{IsOpenOrSame}
 use Rattle.newt_engine.specs.Calls.{Applied as Inner}
-use Rattle.newt_engine.specs.Standing.{means}
+use Rattle.newt_engine.specs.Standing.{means, stood_for}
 use Rattle.newt_engine.specs.declared.world.World.{World as Engine}
-use Rattle.newt_engine_whole.specs.Calls.{Applied}
-use Rattle.newt_engine_whole.specs.Standing.{Means, Standing}
+use Rattle.newt_engine_whole.specs.Bounds.{ProgramsInTurn, most_put, most_taken}
+use Rattle.newt_engine_whole.specs.Calls.{Applied, AppliedRest, rest_asked}
+use Rattle.newt_engine_whole.specs.Standing.{Means, Standing, known_whole}
 use Rattle.newt_engine_whole.specs.declared.whole.Whole.{Whole}
+use Rattle.newt_engine_whole.proofs.Costing.{then-fetches, then-programs}
 use Rattle.newt_engine_whole.proofs.Turns.{in-turn}
+use Rattle.newt_engine_whole.proofs.Unanswered.{get-stays}
 
 -- ---- what the whole answers
 
@@ -140,47 +144,80 @@ open-append u a b c first (inl h) = inl h
 open-append u a b c (inl h) (inr same) = inl (subst (IsOpenFor 0) (sym same) h)
 open-append u a b c (inr before) (inr same) = inr (same ∙ before)
 
-module _ {C : Type 0} {reads : List ℕ → Option Store} {place : C → ℕ} {stands : Bool → C → Outside → Type 0} {told : Bool} {old : Whole C} {mid : Engine C} {o p : Outside} (u uid : ℕ) (s : List ℕ) {time : ℕ} {graph : _}
-    (a : Inner reads place stands told (command.Get u s uid) old.world mid o p (Ok (reply.Timed time graph)))
-    (still : IsTrue told → (h : plain.Whole) → Means reads old o h → means reads mid p h.world × Always (Answering reads h.world (command.Get u s uid) h.world o.now) o.now p.now) where
-  pub save-after : {n : ℕ} {last : Whole C} {q : Outside} {result : Result Reply AllocError} → Applied reads place stands told (command.Save n) (record old { world = mid }) last p q result
-      → Applied reads place stands told (command.Save n) old last o q result
-  save-after {n} {last} {q} {result} b = record {
-    stands = b.stands;
-    stepped = λ t h m.
-        let k = still t h m in
-        go t h k.1 (b.stepped t h (record { world = k.0; watches = m.watches; copies = m.copies }));
-    ended = record {
-      alone = OnDevices-append a.finished.alone b.ended.alone;
-      bound = λ t is. absurd (both-ways is);
-      fetched = λ t is. absurd (both-ways is);
-      step = λ t is. absurd (both-ways is);
-      open_after = λ t. opens t result (b.ended.open_after t);
-      never_memory = λ none. absurd (both-ways (sym none));
-      never_thrown = λ none. absurd (both-ways (sym none));
-    };
-  }
-    where
-      opens : IsTrue told → (r : Result Reply AllocError) → IfOk r (λ it. (x : ℕ) → (it ≡ reply.Thrown x → ⊥) → IsOpenOrSame x p.now q.now) → IfOk r (λ it. (x : ℕ) → (it ≡ reply.Thrown x → ⊥) → IsOpenOrSame x o.now q.now)
-      opens t (Ok it) then = λ x other. open-append x o.now p.now q.now (a.finished.open_after t x (λ k. cc)) (then x other)
-      opens t (Err e) then = tt
+-- what a save asks, where its copies are these
+abbrev asked_of : World → List (Option Copy) → ℕ → List Command
+asked_of w copies n = asked_in_turn (record (plain.bare_whole w) { copies = copies }) (command.Save n)
 
-      go : IsTrue told → (h : plain.Whole) → Always (Answering reads h.world (command.Get u s uid) h.world o.now) o.now p.now
-          → Stepped {E = AllocError} WholeStep reads (command.Save n) result h (Means reads last q) p.now q.now p.dev_faults q.dev_faults
-          → Stepped {E = AllocError} WholeStep reads (command.Save n) result h (Means reads last q) o.now q.now o.dev_faults q.dev_faults
-      go t h first k = record {
-        next = k.next;
-        reply = k.reply;
-        steps = k.steps;
-        threw = record {
-          later = λ x. let one = a.finished.later x in let two = k.threw.later x in omega (arith, one, two);
-          rose = λ x is. rose-later (o.dev_faults x) (p.dev_faults x) (q.dev_faults x) (a.finished.later x) (k.threw.rose x is);
-        };
-        answered = done result k.answered;
-        moments = in-turn reads h.world (command.Get u s uid) (command.Save n) k.next.world o.now p.now q.now (λ x. refl) first k.moments;
-      }
-        where
-          done : (r : Result Reply AllocError) → IfOk r (λ it. (said it ≡ k.reply) × Means reads last q k.next × Failed k.reply p.dev_faults q.dev_faults)
-              → IfOk r (λ it. (said it ≡ k.reply) × Means reads last q k.next × Failed k.reply o.dev_faults q.dev_faults)
-          done (Ok it) (says, there, failed) = (says, there, λ x none. failed x none ∙ a.finished.failed x refl)
-          done (Err e) x = tt
+module _ {C : Type 0} {reads : List ℕ → Option Store} {place : C → ℕ} {stands : Bool → C → Outside → Type 0} {told : Bool} {old : Whole C} {mid : Engine C} {o p : Outside} (u uid : ℕ) (s : List ℕ) {time : ℕ} {graph : RawGraph}
+    (begun : Standing reads place stands told old o) (a : Inner reads place stands told (command.Get u s uid) old.world mid o p (Ok (reply.Timed time graph))) where
+  -- the known world is as it was
+  same-known : IsTrue told → stood_for reads mid p ≡ stood_for reads old.world o
+  same-known t = a.known t (λ x. refl) ∙ get-stays (stood_for reads old.world o) u uid s (begun.world.settled t)
+
+  -- and so is each image
+  same-room : IsTrue told → (x n : ℕ) → IsOpenFor n (image x o.now) → IsOpenFor n (image x p.now)
+  same-room t x n room = subst (λ c. IsOpenFor n (bytes_after c)) (sym (a.beside t x refl refl (λ k. cc))) room
+
+  module _ (n : ℕ) (turn : IsTrue told → (rest : List Command) × (asked_in_turn (known_whole reads old o) (command.Save n) ≡ command.Get u s uid ∷ rest)) where
+    -- the rest of what is asked, by the world as it was
+    rest-is : (t : IsTrue told) → rest_asked reads (record old { world = mid }) p (command.Save n) ≡ (turn t).0
+    rest-is t = ap {A = World} {B = List Command} (λ w. drop 1 (asked_of w old.works n)) (same-known t) ∙ ap {A = List Command} {B = List Command} (λ ds. drop 1 ds) (turn t).1
+
+    pub save-after : {last : Whole C} {q : Outside} {result : Result Reply AllocError}
+        → (IsTrue told → (h : plain.Whole) → Means reads old o h → means reads mid p h.world × Always (Answering reads h.world (command.Get u s uid) h.world o.now) o.now p.now)
+        → AppliedRest reads place stands told (command.Save n) (record old { world = mid }) last p q result
+        → Applied reads place stands told (command.Save n) old last o q result
+    save-after {last} {q} {result} still b = record {
+      stands = b.stands;
+      stepped = λ t h m.
+          let k = still t h m in
+          go t h k.1 (b.stepped t h (record { world = k.0; watches = m.watches; copies = m.copies }));
+      ended = record {
+        alone = OnDevices-append a.finished.alone b.ended.alone;
+        bound = λ t other x. subst (λ (ds : List Command). ProgramsInTurn w ds x o q) (sym (turn t).1)
+            (then-programs w get (turn t).0 x (same-room t x) (a.finished.bound t refl x)
+            (rest-of t (λ v ds. ProgramsInTurn v ds x p q) (b.ended.bound t refl x)));
+        fetched = λ t entries x. subst (λ (ds : List Command). IsOpenFor (most_put w ds x) (image x o.now) → q.fetched x ≤ o.fetched x + most_taken w ds x) (sym (turn t).1)
+            (then-fetches w get (turn t).0 x (same-room t x) (a.finished.settling t refl x)
+            (rest-of t (λ v ds. IsOpenFor (most_put v ds x) (image x p.now) → q.fetched x ≤ p.fetched x + most_taken v ds x) (b.ended.fetched t refl x)));
+        step = λ t is. absurd (both-ways is);
+        open_after = λ t. opens t result (b.ended.open_after t);
+        never_memory = λ none. absurd (both-ways (sym none));
+        never_thrown = λ none. absurd (both-ways (sym none));
+      };
+    }
+      where
+        w : World
+        w = stood_for reads old.world o
+
+        get : Command
+        get = command.Get u s uid
+
+        -- what holds of the rest holds by the world as it was
+        rest-of : (t : IsTrue told) (P : World → List Command → Type 0) → P (stood_for reads mid p) (rest_asked reads (record old { world = mid }) p (command.Save n)) → P (stood_for reads old.world o) (turn t).0
+        rest-of t P is = subst (P (stood_for reads old.world o)) (rest-is t)
+            (subst (λ (v : World). P v (rest_asked reads (record old { world = mid }) p (command.Save n))) (same-known t) is)
+
+        opens : IsTrue told → (r : Result Reply AllocError) → IfOk r (λ it. (x : ℕ) → (it ≡ reply.Thrown x → ⊥) → IsOpenOrSame x p.now q.now) → IfOk r (λ it. (x : ℕ) → (it ≡ reply.Thrown x → ⊥) → IsOpenOrSame x o.now q.now)
+        opens t (Ok it) then = λ x other. open-append x o.now p.now q.now (a.finished.open_after t x (λ k. cc)) (then x other)
+        opens t (Err e) then = tt
+
+        go : IsTrue told → (h : plain.Whole) → Always (Answering reads h.world (command.Get u s uid) h.world o.now) o.now p.now
+            → Stepped {E = AllocError} WholeStep reads (command.Save n) result h (Means reads last q) p.now q.now p.dev_faults q.dev_faults
+            → Stepped {E = AllocError} WholeStep reads (command.Save n) result h (Means reads last q) o.now q.now o.dev_faults q.dev_faults
+        go t h first k = record {
+          next = k.next;
+          reply = k.reply;
+          steps = k.steps;
+          threw = record {
+            later = λ x. let one = a.finished.later x in let two = k.threw.later x in omega (arith, one, two);
+            rose = λ x is. rose-later (o.dev_faults x) (p.dev_faults x) (q.dev_faults x) (a.finished.later x) (k.threw.rose x is);
+          };
+          answered = done result k.answered;
+          moments = in-turn reads h.world (command.Get u s uid) (command.Save n) k.next.world o.now p.now q.now (λ x. refl) first k.moments;
+        }
+          where
+            done : (r : Result Reply AllocError) → IfOk r (λ it. (said it ≡ k.reply) × Means reads last q k.next × Failed k.reply p.dev_faults q.dev_faults)
+                → IfOk r (λ it. (said it ≡ k.reply) × Means reads last q k.next × Failed k.reply o.dev_faults q.dev_faults)
+            done (Ok it) (says, there, failed) = (says, there, λ x none. failed x none ∙ a.finished.failed x refl)
+            done (Err e) x = tt

@@ -1,13 +1,14 @@
 -- The change of a save: it is done, refused for room, or a device failed in it.
-use Rattle.std.proofs.Common.{◌≡◌, ◌⊎◌, inl, inr, refl, ap, sym, ◌∙◌, subst, ℕ, ◌≤◌, List, [], ◌∷◌, Bool, true, false, not, IsTrue, Option, Some, None, option_map, slice_set, drop, unwrap_or, if◌then◌else◌}
+use Rattle.std.proofs.Common.{◌≡◌, ◌⊎◌, inl, inr, refl, ap, sym, ◌∙◌, subst, ℕ, ◌+◌, ◌≤◌, List, [], ◌∷◌, Bool, true, false, not, IsTrue, Option, Some, None, option_map, slice_set, drop, unwrap_or, if◌then◌else◌}
 use Rattle.std.specs.declared.alloc.AllocError.{AllocError}
 use Rattle.std.specs.Prelude.{Ok, Err, Result, is_none, slice_get}
 use Rattle.newt_base.specs.Refusals.{Checks, first_of}
 use Rattle.newt_base.specs.declared.Refusal.{Refusal}
 use Rattle.newt_base.specs.declared.Refusal.TheVariants.{Full, Notframe, Size}
 use Rattle.newt_graph.specs.Graph.{RawGraph}
-use Rattle.newt_host.specs.Moments.{Always}
+use Rattle.newt_host.specs.Moments.{Always, image}
 use Rattle.newt_host.specs.Outside.{Outside}
+use Rattle.newt_pagebook.specs.Book.{IsOpenFor}
 use Rattle.newt_notify.specs.Watch.{Watching, kept_all}
 use Rattle.newt_notify.specs.declared.note.Kind.TheVariants.{Change}
 use Rattle.newt_reply.specs.Said.{said}
@@ -42,16 +43,18 @@ use Rattle.newt_laws_steps.specs.StandsFor.{Obeys, seen}
 use Rattle.newt_laws_whole.specs.Runs.{AllFormed, CanBeEntry}
 use Rattle.newt_laws_whole.proofs.Fits.{change-all}
 use Rattle.newt_engine.specs.Calls.{Applied as Inner}
-use Rattle.newt_engine.specs.Standing.{IsStanding, means}
+use Rattle.newt_engine.specs.Standing.{IsStanding, means, stood_for}
 use Rattle.newt_engine.specs.declared.world.World.{World as Engine}
 use Rattle.newt_laws_world.specs.Worlds.{is_plain}
-use Rattle.newt_engine_whole.specs.Calls.{Applied, Ended}
+use Rattle.newt_engine_whole.specs.Bounds.{ProgramsInTurn, most_put, most_taken}
+use Rattle.newt_engine_whole.specs.Calls.{AppliedRest, Ended, rest_asked}
 use Rattle.newt_engine_whole.specs.Copies.{IsAt, IsRead, saved_event}
-use Rattle.newt_engine_whole.specs.Standing.{DraftsFit, Means, Standing}
+use Rattle.newt_engine_whole.specs.Standing.{DraftsFit, Means, Standing, known_whole}
 use Rattle.newt_engine_whole.specs.Told.{Tells}
 use Rattle.newt_engine_whole.proofs.Apart.{apart-quiet, apart-stepped, rest-ended}
 use Rattle.newt_engine_whole.specs.declared.saves.Place.{Place}
 use Rattle.newt_engine_whole.specs.declared.whole.Whole.{Whole}
+use Rattle.newt_engine_whole.proofs.Costing.{first-fetches, first-programs}
 use Rattle.newt_engine_whole.proofs.Drafted.{change-as, flat-is, set-change}
 use Rattle.newt_engine_whole.proofs.Living.{entry-there, named, soup-there}
 use Rattle.newt_engine_whole.proofs.Saved.{ChangesOr, changes, save-changed, save-done, save-full, save-turn}
@@ -86,7 +89,7 @@ module _ (h : plain.Whole) (formed : AllFormed h.world) (k : Copy) (s : Spot) (l
 
 -- ---- what became of the change
 
-module _ {C : Type 0} {reads : List ℕ → Option Store} {told : Bool} {place : C → ℕ} {stands : Bool → C → Outside → Type 0} {old new : Whole C} {mid : Engine C} {o p : Outside} (n : ℕ) (at : Place) (draft : RawGraph) {it : Reply}
+module _ {C : Type 0} {reads : List ℕ → Option Store} {told : Bool} {place : C → ℕ} {stands : Bool → C → Outside → Type 0} {old : Whole C} {mid : Engine C} {o p : Outside} (n : ℕ) (at : Place) (draft : RawGraph) {it : Reply}
     (a : Inner reads place stands told (command.Change at.unit at.name at.uid draft) old.world mid o p (Ok it)) (t : IsTrue told)
     (h : plain.Whole) (m : Means reads old o h) (formed : AllFormed h.world) (i : IsAt h n at) (can : CanBeEntry i.of.draft) (drafted : draft ≡ i.of.draft) (based : is_based i.spot.entry.time i.spot.entry.graph i.of ≡ true) where
   abbrev asked : Command
@@ -212,20 +215,35 @@ module _ {C : Type 0} {reads : List ℕ → Option Store} {place : C → ℕ} {s
 
   -- ---- all that is promised
 
-  save-ended : {result : Result Reply AllocError} → Inner reads place stands told (command.Change at.unit at.name at.uid draft) old.world mid o p result → Ended reads told (command.Save n) old o p result
-  save-ended a = record {
-    alone = a.finished.alone;
-    bound = λ t is. absurd (both-ways is);
-    fetched = λ t is. absurd (both-ways is);
-    step = λ t is. absurd (both-ways is);
-    open_after = a.finished.open_after;
-    never_memory = λ none. absurd (both-ways (sym none));
-    never_thrown = λ none. absurd (both-ways (sym none));
-  }
+  module _ (begun : Standing reads place stands told old o) (known : IsTrue told → (ws : List (Option Watching)) × Means reads old o (record (known_whole reads old o) { watches = ws })) where
+    -- what is asked last is the change
+    last-turn : IsTrue told → rest_asked reads old o (command.Save n) ≡ command.Change at.unit at.name at.uid draft ∷ []
+    last-turn t =
+        let k = known t in
+        let h = record (known_whole reads old o) { watches = k.0 } in
+        let b = base t h k.1 in
+        ap {A = List Command} {B = List Command} (λ ds. drop 1 ds) (save-turn h n b.is.of b.is.there b.is.spot b.is.lives
+        ∙ ap {A = Bool} {B = List Command} (λ c. get_of b.is.spot ∷ (if c then change_of b.is.of b.is.spot ∷ [] else [])) b.based)
+        ∙ ap {A = Command} {B = List Command} (λ c. c ∷ []) (λ j. command.Change (sym b.is.unit j) (sym b.is.name j) (sym b.is.uid j) (sym b.drafted j))
 
-  module _ (begun : Standing reads place stands told old o) where
+    save-ended : {result : Result Reply AllocError} → Inner reads place stands told (command.Change at.unit at.name at.uid draft) old.world mid o p result
+        → Ended reads told (command.Save n) (rest_asked reads old o (command.Save n)) old o p result
+    save-ended a =
+        let w = stood_for reads old.world o in
+        let change = command.Change at.unit at.name at.uid draft in
+        record {
+          alone = a.finished.alone;
+          bound = λ t other x. subst (λ (ds : List Command). ProgramsInTurn w ds x o p) (sym (last-turn t)) (first-programs w change [] x (a.finished.bound t refl x));
+          fetched = λ t entries x. subst (λ (ds : List Command). IsOpenFor (most_put w ds x) (image x o.now) → p.fetched x ≤ o.fetched x + most_taken w ds x) (sym (last-turn t))
+              (first-fetches w change [] x (a.finished.settling t refl x));
+          step = λ t is. absurd (both-ways is);
+          open_after = a.finished.open_after;
+          never_memory = λ none. absurd (both-ways (sym none));
+          never_thrown = λ none. absurd (both-ways (sym none));
+        }
+
     pub save-handed : {it : Reply} → (said it ≡ replies.Reply.done → ⊥) → Inner reads place stands told (command.Change at.unit at.name at.uid draft) old.world mid o p (Ok it)
-        → Applied reads place stands told (command.Save n) old (record old { world = mid }) o p (Ok it)
+        → AppliedRest reads place stands told (command.Save n) old (record old { world = mid }) o p (Ok it)
     save-handed other a = record {
       stands = record { world = a.stands; watches = begun.watches; drafts = begun.drafts };
       stepped = change-handed other a;
@@ -234,7 +252,7 @@ module _ {C : Type 0} {reads : List ℕ → Option Store} {place : C → ℕ} {s
 
     pub save-over : {then new : Whole C} (k : Copy) → Some k ≡ copy_at n old.works → draft ≡ k.draft → Inner reads place stands told (command.Change at.unit at.name at.uid draft) old.world mid o p (Ok reply.Done)
         → then.world ≡ mid → then.watches ≡ old.watches → then.works ≡ slice_set old.works n (option_map (rebased mid.units.minute draft) (copy_at n old.works)) → Tells (saved_event at ∷ []) then new
-        → Applied reads place stands told (command.Save n) old new o p (Ok reply.Done)
+        → AppliedRest reads place stands told (command.Save n) old new o p (Ok reply.Done)
     save-over {then} {new} k there same a world watches works tells = record {
       stands = record {
         world = subst (λ (e : Engine C). IsStanding reads place stands told e p) (sym (tells.world ∙ world)) a.stands;
@@ -249,7 +267,7 @@ module _ {C : Type 0} {reads : List ℕ → Option Store} {place : C → ℕ} {s
 
     -- memory was refused in it
     pub change-memory : {new : Whole C} (error : AllocError) → Inner reads place stands told (command.Change at.unit at.name at.uid draft) old.world mid o p (Err error)
-        → Applied reads place stands told (command.Save n) old new o p (Err error)
+        → AppliedRest reads place stands told (command.Save n) old new o p (Err error)
     unfolding is_plain
     change-memory {new} error a = record {
       stands = tt;
@@ -272,7 +290,7 @@ module _ {C : Type 0} {reads : List ℕ → Option Store} {place : C → ℕ} {s
 
 pub rest-changed : {C : Type 0} {reads : List ℕ → Option Store} {place : C → ℕ} {stands : Bool → C → Outside → Type 0} {told : Bool} {old : Whole C} {o : Outside} {n time : ℕ} {graph : RawGraph} {at : Place} (k : Copy) → Some k ≡ copy_at n old.works
     → is_based time graph k ≡ false → Standing reads place stands told old o → (IsTrue told → (h : plain.Whole) → Means reads old o h → IsRead h n at time graph)
-    → Applied reads place stands told (command.Save n) old old o o (Ok (reply.Changed time))
+    → AppliedRest reads place stands told (command.Save n) old old o o (Ok (reply.Changed time))
 unfolding is_plain
 rest-changed {C} {reads} {place} {stands} {told} {old} {o} {n} {time} {graph} {at} k there other begun read = record {
   stands = begun;

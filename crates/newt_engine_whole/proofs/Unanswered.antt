@@ -33,7 +33,7 @@ use Rattle.newt_engine.specs.Calls.{Applied as Inner}
 use Rattle.newt_engine.specs.Standing.{means}
 use Rattle.newt_engine.specs.declared.world.World.{World as Engine}
 use Rattle.newt_engine.proofs.Refusing.{answer_quiet}
-use Rattle.newt_engine_whole.specs.Calls.{Applied}
+use Rattle.newt_engine_whole.specs.Calls.{Applied, AppliedBy}
 use Rattle.newt_engine_whole.specs.Ends.{whole_takes_memory, whole_uses_device}
 use Rattle.newt_engine_whole.specs.Standing.{Means, Standing, known_whole}
 use Rattle.newt_engine_whole.specs.declared.whole.Whole.{Whole}
@@ -73,7 +73,7 @@ module _ {C : Type 0} {reads : List ℕ → Option Store} {place : C → ℕ} {s
     ended = rest-ended reads told old o c (Ok (reply.Refused r)) (λ none. refl) (λ u. refl);
   }
 
-  pub rest-memory : {new : Whole C} (error : AllocError) → whole_takes_memory c ≡ true → Applied reads place stands told c old new o o (Err error)
+  pub rest-memory : {new : Whole C} {asked : List Command} (error : AllocError) → whole_takes_memory c ≡ true → AppliedBy reads place stands asked told c old new o o (Err error)
   rest-memory {new} error takes = record {
     stands = tt;
     stepped = λ t h m. apart-stepped reads old new o c h (Err error) apart m tt;

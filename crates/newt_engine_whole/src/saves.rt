@@ -5,7 +5,7 @@ ghost use Rattle.newt_reply.specs.Said.{said};
 ghost use Rattle.newt_spec_whole.specs.Whole as plain;
 ghost use Rattle.newt_spec_world.specs.declared.command.Command.TheVariants as asked;
 ghost use Rattle.newt_work.specs.Work.{copy_at, opened};
-ghost use Rattle.newt_engine_whole.specs.Calls.{Applied};
+ghost use Rattle.newt_engine_whole.specs.Calls.{Applied, AppliedRest};
 ghost use Rattle.newt_engine_whole.specs.Copies.{FindsLiving, IsRead, PutsCopy, saved_event};
 ghost use Rattle.newt_engine_whole.specs.Standing.{Means, Standing};
 ghost use Rattle.newt_engine_whole.specs.Told.{Tells};
@@ -144,7 +144,7 @@ impl<C: Card> Whole<C> {
         requires read { IsTrue H.told → (h : plain.Whole)
             → Means C.reads self.old (H.outside host.old) h
             → IsRead h number place.now time graph.now }
-        ensures { Applied C.reads C.place C.stands H.told (asked.Save number)
+        ensures { AppliedRest C.reads C.place C.stands H.told (asked.Save number)
             self.old self.new (H.outside host.old) (H.outside host.new) result }
     {
         let Some(work) = self.works.at(number) else {

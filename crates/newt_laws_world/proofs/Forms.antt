@@ -141,11 +141,11 @@ abbrev CanKeep : ℕ → Type 0
 CanKeep n = (nat_le 1 n && nat_le n 64) ≡ true
 
 gives-most : Gives CanKeep most
-gives-most = gives-word CanKeep (one_to 64) (λ cs a e. go (decimal_to 64 cs) refl a e)
+gives-most = gives-word CanKeep (one_to 64) (λ cs a e. go cs (decimal_to 64 cs) refl a e)
   where
-    go : {cs : List ℕ} (o : Option ℕ) → decimal_to 64 cs ≡ o → (a : ℕ) → option_and_then (only (nat_le 1)) o ≡ Some a → CanKeep a
-    go None is a e = absurd (none-some a e)
-    go {cs} (Some n) is a e =
+    go : (cs : List ℕ) (o : Option ℕ) → decimal_to 64 cs ≡ o → (a : ℕ) → option_and_then (only (nat_le 1)) o ≡ Some a → CanKeep a
+    go cs None is a e = absurd (none-some a e)
+    go cs (Some n) is a e =
         let some = only-passes (nat_le 1) n a e in
         let fits = decimal-fits 64 cs n is in
         let same = only-same (nat_le 1) n a e in

@@ -5,7 +5,7 @@ use Rattle.newt_engine_whole.proofs.Drafted.{discarded-there, none-discarded, no
 use Rattle.newt_engine_whole.proofs.whole.Whole.discard.Goals as goal
 
 pub returns-then-is_none : goal.returns-then-is_none
-returns-then-is_none g c = none-discarded c.args.number refl (sym c.at.ensures ∙ none-mapped {Y = Copy} _ c.at.result c.if-is_none.ensures)
+returns-then-is_none g c = none-discarded c.args.number refl (sym c.at.ensures ∙ none-mapped {Y = Copy} (λ k. k.now) c.at.result c.if-is_none.ensures)
 
 pub returns : goal.returns
-returns g c = discarded-there c.args.number (sym c.at.ensures) c.if-is_none.ensures refl refl c.discard.ensures
+returns g c = discarded-there c.args.number (λ k. k.now) c.at.result (sym c.at.ensures) c.if-is_none.ensures refl refl c.discard.ensures

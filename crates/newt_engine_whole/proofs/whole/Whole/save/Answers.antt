@@ -118,4 +118,5 @@ returns-in-Timed g c =
     let host = c.args.host.now in
     let at = c.in-Ok.place in
     let f = found g it host c.args.number at c.requires.stands (λ h s m. c.in_ok-living.ensures.found (g.H.Host.outside host) h s m) in
-    save-after at.unit at.uid at.name c.in_ok-reply.ensures (λ t h m. let r = is-shown c.args.number at c.requires.stands f c.in_ok-reply.ensures t h m in (r.1, r.2)) c.save_over.ensures
+    save-after at.unit at.uid at.name c.requires.stands c.in_ok-reply.ensures c.args.number (turn g it host c.args.number at c.requires.stands f)
+    (λ t h m. let r = is-shown c.args.number at c.requires.stands f c.in_ok-reply.ensures t h m in (r.1, r.2)) c.save_over.ensures

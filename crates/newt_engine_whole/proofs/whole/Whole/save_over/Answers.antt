@@ -1,9 +1,10 @@
 -- Where the entry is as the base it is changed, and the copy begins anew from its draft.
-use Rattle.std.proofs.Common.{◌≡◌, ap, refl, subst, sym, ◌∙◌, true, IsTrue, Some, option_map, slice_set}
+use Rattle.std.proofs.Common.{◌≡◌, ap, refl, subst, sym, ◌∙◌, true, IsTrue, List, Option, Some, option_map, slice_set}
 use Rattle.std.specs.Prelude.{Err, Result, is_some}
 use Rattle.std.specs.declared.alloc.AllocError.{AllocError}
 use Rattle.std.proofs.lemmas.Result.{err_from_is_err_and}
 use Rattle.newt_graph.specs.Graph.{IsGraph, RawGraph}
+use Rattle.newt_notify.specs.Watch.{Watching}
 use Rattle.newt_reply.specs.declared.reply.Reply.{Reply}
 use Rattle.newt_spec_graph.specs.Limits.{within_limits}
 use Rattle.newt_spec_graph.proofs.Lists.{both-ways}
@@ -14,11 +15,11 @@ use Rattle.newt_laws_images.proofs.Within.{graph-within}
 use Rattle.newt_laws_world.specs.Worlds.{has_form, is_plain}
 use Rattle.newt_engine_units.proofs.Known.{Laws}
 use Rattle.newt_engine.specs.Laws.{laws_of}
-use Rattle.newt_engine_whole.specs.Calls.{Applied}
+use Rattle.newt_engine_whole.specs.Calls.{AppliedRest}
 use Rattle.newt_engine_whole.specs.Copies.{IsRead}
-use Rattle.newt_engine_whole.specs.Standing.{Means, Standing}
+use Rattle.newt_engine_whole.specs.Standing.{Means, Standing, known_whole}
 use Rattle.newt_engine_whole.specs.declared.whole.Whole.{Whole}
-use Rattle.newt_engine_whole.proofs.Found.{whole-told}
+use Rattle.newt_engine_whole.proofs.Found.{known-means, whole-told}
 use Rattle.newt_engine_whole.proofs.Meant.{all-formed}
 use Rattle.newt_engine_whole.proofs.Saving.{IsBase, base-of, change-memory, rest-changed, save-handed, save-over, undone}
 use Rattle.newt_engine_whole.proofs.Unanswered.{rest-memory}
@@ -30,11 +31,11 @@ laws g = laws_of g.met.C.Card.formed g.met.C.Card.plain g.met.C.Card.durable g.m
 
 -- before the world is asked
 ends : (g : Over) {it : Whole g.C} {host : _} {n : _} {Q : AllocError → Type 0} → Standing g.C.Card.reads g.C.Card.place g.C.Card.stands g.H.Host.told it (g.H.Host.outside host) → (r : Result Reply AllocError) → (e : AllocError) × (r ≡ Err e) × Q e
-    → Applied g.C.Card.reads g.C.Card.place g.C.Card.stands g.H.Host.told (command.Save n) it it (g.H.Host.outside host) (g.H.Host.outside host) r
+    → AppliedRest g.C.Card.reads g.C.Card.place g.C.Card.stands g.H.Host.told (command.Save n) it it (g.H.Host.outside host) (g.H.Host.outside host) r
 unfolding is_plain
 ends g {it} {host} {n} begun r memory =
     let o = g.H.Host.outside host in
-    subst (λ (r : Result Reply AllocError). Applied g.C.Card.reads g.C.Card.place g.C.Card.stands g.H.Host.told (command.Save n) it it o o r) (sym memory.1) (rest-memory refl begun memory.0 refl)
+    subst (λ (r : Result Reply AllocError). AppliedRest g.C.Card.reads g.C.Card.place g.C.Card.stands g.H.Host.told (command.Save n) it it o o r) (sym memory.1) (rest-memory refl begun memory.0 refl)
 
 pub returns-in_default : goal.returns-in_default
 returns-in_default g c = absurd (both-ways (ap is_some c.in_default.ensures ∙ c.requires.there))
@@ -57,6 +58,11 @@ base g it host n time graph at begun k there same draft is read t h m =
     let s = whole-told begun t in
     base-of (read t h m) k there same is m (all-formed (laws g) it.world.units it.world.desk (g.H.Host.outside host) s.world h.world m.world) (s.drafts refl)
 
+-- the whole that is known
+known : (g : Over) (it : Whole g.C) (host : _) → Standing g.C.Card.reads g.C.Card.place g.C.Card.stands g.H.Host.told it (g.H.Host.outside host)
+    → IsTrue g.H.Host.told → (ws : List (Option Watching)) × Means g.C.Card.reads it (g.H.Host.outside host) (record (known_whole g.C.Card.reads it (g.H.Host.outside host)) { watches = ws })
+known g it host begun t = let s = whole-told begun t in (s.watches.0, known-means (laws g) it (g.H.Host.outside host) s)
+
 pub rebase-requires : goal.rebase-requires
 rebase-requires g c = record { there = c.requires.there; same = c.in_ok-base.ensures ∙ c.draft-2.ensures ∙ sym (c.in_ok-draft.ensures ∙ c.draft-3.ensures) }
 
@@ -66,7 +72,7 @@ returns-in_default-2 g c =
     let given = c.in_ok-given.ensures ∙ c.draft-4.ensures in
     save-handed c.args.number c.args.place.now c.in_ok-given.given
     (base g c.args.self.now c.args.host.now c.args.number c.args.time c.args.graph.now c.args.place.now c.requires.stands k c.in-Some.ensures (sym c.based.ensures.value ∙ c.if-not-based.false) c.in_ok-given.given given c.requires.read)
-    c.requires.stands (undone _ c.in_default-2.not-Done) c.in_ok-reply.ensures
+    c.requires.stands (known g c.args.self.now c.args.host.now c.requires.stands) (undone _ c.in_default-2.not-Done) c.in_ok-reply.ensures
 
 pub returns-in-Done : goal.returns-in-Done
 returns-in-Done g c =
@@ -78,7 +84,7 @@ returns-in-Done g c =
     let minute = c.minute.ensures ∙ ap (λ units. units.minute) c.units.ensures in
     save-over n c.args.place.now c.in_ok-given.given
     (base g c.args.self.now c.args.host.now n c.args.time c.args.graph.now c.args.place.now c.requires.stands k c.in-Some.ensures (sym c.based.ensures.value ∙ c.if-not-based.false) c.in_ok-given.given given c.requires.read)
-    c.requires.stands k c.in-Some.ensures given c.in_ok-reply.ensures refl refl
+    c.requires.stands (known g c.args.self.now c.args.host.now c.requires.stands) k c.in-Some.ensures given c.in_ok-reply.ensures refl refl
     (c.rebase.ensures ∙ (λ i. slice_set works n (option_map (rebased (minute i) (same i)) (copy_at n works)))) c.tell_saved.ensures
 
 -- ---- memory is refused
@@ -100,8 +106,8 @@ returns-in_err-reply g c =
     let memory = err_from_is_err_and c.from_residual-in_err-reply.result c.from_residual-in_err-reply.ensures.1 in
     let k = c.in-Some.work.now in
     let given = c.in_ok-given.ensures ∙ c.draft-4.ensures in
-    subst (λ (r : Result Reply AllocError). Applied g.C.Card.reads g.C.Card.place g.C.Card.stands g.H.Host.told (command.Save c.args.number) c.args.self.now (record c.args.self.now { world = c.apply.new.self })
+    subst (λ (r : Result Reply AllocError). AppliedRest g.C.Card.reads g.C.Card.place g.C.Card.stands g.H.Host.told (command.Save c.args.number) c.args.self.now (record c.args.self.now { world = c.apply.new.self })
     (g.H.Host.outside c.args.host.now) (g.H.Host.outside c.apply.new.host) r) (sym memory.1)
     (change-memory c.args.number c.args.place.now c.in_ok-given.given
     (base g c.args.self.now c.args.host.now c.args.number c.args.time c.args.graph.now c.args.place.now c.requires.stands k c.in-Some.ensures (sym c.based.ensures.value ∙ c.if-not-based.false) c.in_ok-given.given given c.requires.read)
-    c.requires.stands memory.0 c.in_err-reply.ensures)
+    c.requires.stands (known g c.args.self.now c.args.host.now c.requires.stands) memory.0 c.in_err-reply.ensures)
