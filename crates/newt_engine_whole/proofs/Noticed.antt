@@ -54,7 +54,7 @@ module _ (h : plain.Whole) where
 
     notes-none : watch h n ≡ None → whole_answer h (command.Notes n) ≡ (h, replies.Reply.refused NoWatch)
     unfolding whole_answer whole_checks
-    notes-none no = ap {A = Option Watching} (λ o. whole_answered h (command.Notes n) (first_of ((NoWatch, is_none o) ∷ []))) no
+    notes-none lacks = ap {A = Option Watching} (λ o. whole_answered h (command.Notes n) (first_of ((NoWatch, is_none o) ∷ []))) lacks
 
     unwatch-answered : (w : Watching) → watch h n ≡ Some w → whole_answer h (command.Unwatch n) ≡ (record h { watches = slice_set h.watches n None }, replies.Reply.done)
     unfolding whole_answer whole_checks whole_fields watches_after copies_after asks
@@ -62,7 +62,7 @@ module _ (h : plain.Whole) where
 
     unwatch-none : watch h n ≡ None → whole_answer h (command.Unwatch n) ≡ (h, replies.Reply.refused NoWatch)
     unfolding whole_answer whole_checks
-    unwatch-none no = ap {A = Option Watching} (λ o. whole_answered h (command.Unwatch n) (first_of ((NoWatch, is_none o) ∷ []))) no
+    unwatch-none lacks = ap {A = Option Watching} (λ o. whole_answered h (command.Unwatch n) (first_of ((NoWatch, is_none o) ∷ []))) lacks
 
 -- ---- a watch that is there or is not
 
@@ -152,7 +152,7 @@ module _ {C : Type 0} {reads : List ℕ → Option Store} {old new : Whole C} wh
             ∙ ap {B = plain.Whole × replies.Reply} (λ l. (record h { watches = change_at n emptied h.watches }, replies.Reply.notes notes.lost l)) (sym (some-same notes.list (kept_of w).last last))
 
     pub no-notes : new ≡ old → is_some (watch_at n old.watches) ≡ false → AnsweredApart reads (command.Notes n) old new (Ok (reply.Refused NoWatch))
-    no-notes same no = apart-refused (command.Notes n) NoWatch same (λ h kept copies. notes-none h n (none-of kept_of (watch h n) (ap is_some (sym (at-kept n h old.watches kept)) ∙ no)))
+    no-notes same lacks = apart-refused (command.Notes n) NoWatch same (λ h kept copies. notes-none h n (none-of kept_of (watch h n) (ap is_some (sym (at-kept n h old.watches kept)) ∙ lacks)))
 
     pub unwatched : new.world ≡ old.world → new.works ≡ old.works → is_some (watch_at n old.watches) ≡ true → new.watches ≡ slice_set old.watches n None
         → AnsweredApart reads (command.Unwatch n) old new (Ok reply.Done)
@@ -162,4 +162,4 @@ module _ {C : Type 0} {reads : List ℕ → Option Store} {old new : Whole C} wh
         (λ u. refl)
 
     pub not-watched : new ≡ old → is_some (watch_at n old.watches) ≡ false → AnsweredApart reads (command.Unwatch n) old new (Ok (reply.Refused NoWatch))
-    not-watched same no = apart-refused (command.Unwatch n) NoWatch same (λ h kept copies. unwatch-none h n (none-of kept_of (watch h n) (ap is_some (sym (at-kept n h old.watches kept)) ∙ no)))
+    not-watched same lacks = apart-refused (command.Unwatch n) NoWatch same (λ h kept copies. unwatch-none h n (none-of kept_of (watch h n) (ap is_some (sym (at-kept n h old.watches kept)) ∙ lacks)))

@@ -1,5 +1,5 @@
 -- Each arm has the notes of its command.
-use Rattle.std.proofs.Common.{◌≡◌, refl, subst, ℕ, Option, unwrap_or}
+use Rattle.std.proofs.Common.{◌≡◌, ap, refl, subst, sym, ◌∙◌, ℕ, Option, unwrap_or}
 use Rattle.newt_notify.specs.declared.note.Kind.TheVariants.{Change, Gone, Remove}
 use Rattle.newt_spec_whole.specs.Events.{add_event, entry_event, events}
 use Rattle.newt_spec_world.specs.World.{default_unit}
@@ -11,7 +11,7 @@ use Rattle.newt_engine_whole.proofs.due.due_of.Goals as goal
 
 pub returns-in_ok-copy-in-Soup-clause-due : goal.returns-in_ok-copy-in-Soup-clause-due
 returns-in_ok-copy-in-Soup-clause-due g c o eight stand =
-    soup-due (world_of g.C.Card.reads c.args.units.now o) c.in-Soup.unit c.in-Soup.name c.in-Soup.is
+    soup-due (world_of g.C.Card.reads c.args.units.now o) c.in-Soup.unit c.in_ok-copy-in-Soup.field-0 (c.in-Soup.is ∙ ap (command.Soup c.in-Soup.unit) (sym c.in_ok-copy-in-Soup.ensures))
 
 pub returns-in_ok-told_of-in-Drop-clause-due : goal.returns-in_ok-told_of-in-Drop-clause-due
 unfolding events
@@ -39,7 +39,8 @@ unfolding events
 returns-in_ok-added-in-Addu-clause-due g c o eight stand =
     let w = world_of g.C.Card.reads c.args.units.now o in
     one-due w (command.Addu c.in-Addu.name _) (add_event w (default_unit w) c.in-Addu.name) c.in-Addu.is refl
-    c.in_ok-added-in-Addu.field-0 (subst (λ (u : Option ℕ). event_of c.in_ok-added-in-Addu.field-0 ≡ add_event w (unwrap_or u 8) c.in-Addu.name) c.default_unit.ensures (c.in_ok-added-in-Addu.ensures o eight stand))
+    c.in_ok-added-in-Addu.field-0 (subst (λ (u : ℕ). event_of c.in_ok-added-in-Addu.field-0 ≡ add_event w u c.in-Addu.name)
+    (c.unwrap_or-unit.ensures ∙ ap (λ (u : Option ℕ). unwrap_or u 8) c.default_unit.ensures) (c.in_ok-added-in-Addu.ensures o eight stand))
 
 pub returns-in_default-clause-due : goal.returns-in_default-clause-due
 returns-in_default-clause-due g c o eight stand =
