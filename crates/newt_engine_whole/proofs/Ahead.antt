@@ -55,8 +55,8 @@ read-same laws it p s h v mh mv copies {n} r =
         soup = i.soup;
         uid = i.uid;
       };
-      time = r.time;
-      graph = r.graph;
+      timed = r.timed;
+      shows = r.shows;
     }
 
 -- what a save asks first
@@ -80,7 +80,7 @@ module _ {C : Type 0} {reads : List ℕ → Option Store} {place : C → ℕ} {s
         where
           by : Reads n at h i v (replies.Reply.timed time graph) → IsRead h n at time graph × means reads mid p h.world × Always (Answering reads h.world (command.Get at.unit at.name at.uid) h.world o.now) o.now p.now
           by (shown same says) = (
-            record { at = i; time = cc; graph = cc },
+            record { at = i; timed = cc; shows = cc },
             subst (means reads mid p) same there,
             subst (λ (w : World). Always (Answering reads h.world (command.Get at.unit at.name at.uid) w o.now) o.now p.now) same moments,
           )

@@ -1,5 +1,5 @@
 -- A draft is shown, edited or discarded.
-use Rattle.std.proofs.Common.{◌≡◌, refl, ap, sym, ◌∙◌, subst, ℕ, zero, suc, List, [], ◌∷◌, Bool, true, false, not, Option, Some, None, option_map, option_and_then, unwrap_or, slice_set, if◌then◌else◌, nat_lt}
+use Rattle.std.proofs.Common.{◌≡◌, refl, ap, sym, ◌∙◌, subst, ℕ, zero, suc, List, [], ◌∷◌, Bool, true, false, not, Option, Some, None, option_map, option_and_then, unwrap_or, slice_set, nat_lt, MatchBool}
 use Rattle.std.specs.Prelude.{Ok, slice_get, is_none, is_some}
 use Rattle.newt_base.specs.Refusals.{Checks, first_of}
 use Rattle.newt_base.specs.declared.Refusal.{Refusal}
@@ -198,8 +198,8 @@ module _ {C : Type 0} {reads : List ℕ → Option Store} {old new : Whole C} (n
           go h at (Some raw) made passes = edit-past h n path g k at raw made passes.1
 
       pub edit-put : (x : RawGraph) (r : Reply) → IsFormOf (put k.draft path g) x → new.world ≡ old.world → new.watches ≡ old.watches
-          → (if nat_lt 64_000 (skeleton_length x) then (said r ≡ replies.Reply.refused Size) × (new.works ≡ old.works)
-          else (said r ≡ replies.Reply.done) × (new.works ≡ slice_set old.works n (option_map (edited x) (copy_at n old.works))))
+          → MatchBool (nat_lt 64_000 (skeleton_length x)) ((said r ≡ replies.Reply.refused Size) × (new.works ≡ old.works))
+          ((said r ≡ replies.Reply.done) × (new.works ≡ slice_set old.works n (option_map (edited x) (copy_at n old.works))))
           → AnsweredApart reads (command.Edit n path g) old new (Ok r)
       edit-put x r form world watches is =
           let f = raw-of x (put k.draft path g) form in
@@ -209,7 +209,7 @@ module _ {C : Type 0} {reads : List ℕ → Option Store} {old new : Whole C} (n
           quiet q is none u = ap (throws u) is ∙ none u
 
           go : (raw : RawGraph) → put k.draft path g ≡ Some raw → normal_form raw ≡ Some x → within_limits x ≡ true → (b : Bool) → nat_lt 64_000 (skeleton_length x) ≡ b
-              → (if b then (said r ≡ replies.Reply.refused Size) × (new.works ≡ old.works) else (said r ≡ replies.Reply.done) × (new.works ≡ slice_set old.works n (option_map (edited x) (copy_at n old.works))))
+              → MatchBool b ((said r ≡ replies.Reply.refused Size) × (new.works ≡ old.works)) ((said r ≡ replies.Reply.done) × (new.works ≡ slice_set old.works n (option_map (edited x) (copy_at n old.works))))
               → AnsweredApart reads (command.Edit n path g) old new (Ok r)
           go raw made nf within true size (says, works) = record {
             world = world;

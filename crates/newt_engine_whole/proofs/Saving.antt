@@ -302,8 +302,8 @@ rest-changed {C} {reads} {place} {stands} {told} {old} {o} {n} {time} {graph} {a
     says h m r =
         let i = r.at in
         let same : i.of ≡ k = some-same i.of k (sym i.there ∙ sym (ap (copy_at n) m.copies ∙ flat-is (slice_get h.copies n)) ∙ sym there) in
-        save-changed h n i.of i.there i.spot i.lives ((λ j. is_based (r.time j) (r.graph j) (same j)) ∙ other)
-        ∙ ap {A = ℕ} {B = plain.Whole × replies.Reply} (λ x. (h, replies.Reply.changed x)) r.time
+        save-changed h n i.of i.there i.spot i.lives ((λ j. is_based (r.timed j) (r.shows j) (same j)) ∙ other)
+        ∙ ap {A = ℕ} {B = plain.Whole × replies.Reply} (λ x. (h, replies.Reply.changed x)) r.timed
 
 -- ---- the entry is as the base
 
@@ -317,7 +317,7 @@ base-of {old = old} {h = h} {n} r k there same is m formed fit =
       is = i;
       can = subst (λ (c : Copy). CanBeEntry c.draft) (sym copies) (fit n k (sym there));
       drafted = is ∙ ap (λ (c : Copy). c.draft) (sym copies);
-      based = (λ j. is_based (r.time j) (r.graph j) (copies j)) ∙ same;
+      based = (λ j. is_based (r.timed j) (r.shows j) (copies j)) ∙ same;
     }
 
 -- no other reply says that it was done
