@@ -102,7 +102,7 @@ module _ {C : Type 0} {reads : List ℕ → Option Store} {place : C → ℕ} {s
 -- ---- a step
 
 pub asked-step : {C : Type 0} (reads : List ℕ → Option Store) (old new : Whole C) (o p : Outside) (c : Command) (h : plain.Whole) (it : Reply) (notes : List Event) → is_plain c ≡ true → Means reads old o h
-    → Obeys {R = Reply} {E = AllocError} reads said (means reads new.world p) h.world c (Ok it) o.now p.now
+    → Obeys reads {R = Reply} {E = AllocError} said (means reads new.world p) h.world c (Ok it) o.now p.now
     → ((v : World) → Step h.world c v (said it) → means reads new.world p v → notes ≡ notes_behind h.world c v (said it))
     → ((watches : List (Option Watching)) → old.watches ≡ kept_all watches → new.watches ≡ kept_all (note_all notes watches)) → new.works ≡ old.works
     → Threw (said it) o.dev_faults p.dev_faults → Failed (said it) o.dev_faults p.dev_faults
@@ -155,7 +155,7 @@ module _ {C : Type 0} {reads : List ℕ → Option Store} {place : C → ℕ} {s
       drafts = λ t. subst DraftsFit (sym (tells.works ∙ works)) (begun.drafts t);
     };
     stepped = λ t h m. asked-step reads old new o p c h it (due_told soups mid.world.units due (said it)) itself m
-        (subst (λ (w : Engine C). Obeys {R = Reply} {E = AllocError} reads said (means reads w p) h.world c (Ok it) o.now p.now) (sym tells.world) (a.obeyed t h.world m.world))
+        (subst (λ (w : Engine C). Obeys reads {R = Reply} {E = AllocError} said (means reads w p) h.world c (Ok it) o.now p.now) (sym tells.world) (a.obeyed t h.world m.world))
         (λ v step there. told-behind laws old.world mid.world o p (standing-told begun.world t) (standing-told a.stands t) c due (is t) h.world v (said it) m.world
         (subst (λ (w : Engine C). means reads w p v) tells.world there) step)
         (λ ws kept. tells.watches ws (watches ∙ kept)) (tells.works ∙ works) a.finished.threw a.finished.failed;

@@ -51,12 +51,12 @@ module _ (w : World) (d : Command) (rest : List Command) (u : ℕ) where
     wears = λ room. Wears-widen 0 2 0 (2 * length (d ∷ rest)) (omega arith) one-of (b.wears (first-room room));
   }
 
-  pub first-fetches : {o p : Outside} → (IsOpenFor (most_programmed w d u) (image u o.now) → p.fetched u ≤ o.fetched u + most_settled w d u)
+  pub first-fetches : (o p : Outside) → (IsOpenFor (most_programmed w d u) (image u o.now) → p.fetched u ≤ o.fetched u + most_settled w d u)
       → IsOpenFor (most_put w (d ∷ rest) u) (image u o.now) → p.fetched u ≤ o.fetched u + most_taken w (d ∷ rest) u
-  first-fetches {o} {p} b room = first-sum (p.fetched u) (o.fetched u) (most_taken w (d ∷ rest) u) (most_settled w d u) (most_taken w rest u) taken-is (b (first-room room))
+  first-fetches o p b room = first-sum (p.fetched u) (o.fetched u) (most_taken w (d ∷ rest) u) (most_settled w d u) (most_taken w rest u) taken-is (b (first-room room))
 
   -- the rest was asked behind it
-  module _ {o p q : Outside} (same : (n : ℕ) → IsOpenFor n (image u o.now) → IsOpenFor n (image u p.now)) where
+  module _ (o p q : Outside) (same : (n : ℕ) → IsOpenFor n (image u o.now) → IsOpenFor n (image u p.now)) where
     pub then-programs : ProgramsAtMost (most_programmed w d u) u o p → ProgramsInTurn w rest u p q → ProgramsInTurn w (d ∷ rest) u o q
     then-programs b c = record {
       programmed = λ room. both-sum (q.programmed u) (p.programmed u) (o.programmed u) (most_put w (d ∷ rest) u) (most_programmed w d u) (most_put w rest u) put-is

@@ -65,7 +65,7 @@ reading-ended {C} {reads} {told} {c} {old} {o} {p} {inner} {result} u uid s unre
       alone = f.alone;
       bound = λ t other x. let k = turn t in subst (λ (ds : List Command). ProgramsInTurn w ds x o p) (sym k.1) (first-programs w get k.0 x (f.bound t refl x));
       fetched = λ t entries x. let k = turn t in
-          subst (λ (ds : List Command). IsOpenFor (most_put w ds x) (image x o.now) → p.fetched x ≤ o.fetched x + most_taken w ds x) (sym k.1) (first-fetches w get k.0 x (f.settling t refl x));
+          subst (λ (ds : List Command). IsOpenFor (most_put w ds x) (image x o.now) → p.fetched x ≤ o.fetched x + most_taken w ds x) (sym k.1) (first-fetches w get k.0 x o p (f.settling t refl x));
       step = λ t steps. absurd (both-ways (sym (unread w) ∙ steps));
       open_after = opens;
       never_memory = λ none. absurd (both-ways (sym none ∙ memory));
@@ -154,7 +154,7 @@ module _ {C : Type 0} {reads : List ℕ → Option Store} {place : C → ℕ} {s
     ended = reading-ended u uid s (λ w. refl) refl refl (λ t. ([], open-turn (known_whole reads old o) u uid s)) a.finished a.finished.open_after;
   }
     where
-      go : (h : plain.Whole) → Means reads old o h → Obeys {R = Reply} {E = AllocError} reads said (means reads mid p) h.world (command.Get u s uid) (Ok it) o.now p.now
+      go : (h : plain.Whole) → Means reads old o h → Obeys reads {R = Reply} {E = AllocError} said (means reads mid p) h.world (command.Get u s uid) (Ok it) o.now p.now
           → Stepped {E = AllocError} WholeStep reads (command.Open u s uid) (Ok it) h (Means reads (record old { world = mid }) p) o.now p.now o.dev_faults p.dev_faults
       go h m (v, turned, there, moments) = by (gets h.world u s uid v (said it) m.world.settled turned.step)
         where
@@ -185,7 +185,7 @@ module _ {C : Type 0} {reads : List ℕ → Option Store} {place : C → ℕ} {s
         × means reads mid p h.world × Always (Answering reads h.world (command.Open u s uid) h.world o.now) o.now p.now
     open-found t h m = go (a.obeyed t h.world m.world)
       where
-        go : Obeys {R = Reply} {E = AllocError} reads said (means reads mid p) h.world (command.Get u s uid) (Ok (reply.Timed time graph)) o.now p.now
+        go : Obeys reads {R = Reply} {E = AllocError} said (means reads mid p) h.world (command.Get u s uid) (Ok (reply.Timed time graph)) o.now p.now
             → (e : Entry) × (first_of (entry_tests h.world u s uid) ≡ None) × (entry_in h.world u s uid ≡ Some e) × (e.time ≡ time) × (e.graph ≡ graph)
             × means reads mid p h.world × Always (Answering reads h.world (command.Open u s uid) h.world o.now) o.now p.now
         go (v, turned, there, moments) = by (gets h.world u s uid v (replies.Reply.timed time graph) m.world.settled turned.step)

@@ -114,7 +114,7 @@ module _ {C : Type 0} {reads : List ℕ → Option Store} {place : C → ℕ} {s
     ended = reading-ended at.unit at.uid at.name (λ w. refl) refl refl (λ t. ([], known-turn t)) a.finished a.finished.open_after;
   }
     where
-      go : (h : plain.Whole) → Means reads old o h → AllFormed h.world × IsAt h n at → Obeys {R = Reply} {E = AllocError} reads said (means reads mid p) h.world (command.Get at.unit at.name at.uid) (Ok it) o.now p.now
+      go : (h : plain.Whole) → Means reads old o h → AllFormed h.world × IsAt h n at → Obeys reads {R = Reply} {E = AllocError} said (means reads mid p) h.world (command.Get at.unit at.name at.uid) (Ok it) o.now p.now
           → Stepped {E = AllocError} WholeStep reads (command.Revert n) (Ok it) h (Means reads (record old { world = mid }) p) o.now p.now o.dev_faults p.dev_faults
       go h m (formed, k) (v, turned, there, moments) = by (reads-entry n at h formed k v (said it) (gets h.world at.unit at.name at.uid v (said it) m.world.settled turned.step))
         where
@@ -151,7 +151,7 @@ module _ {C : Type 0} {reads : List ℕ → Option Store} {place : C → ℕ} {s
           → (time ≡ f.1.spot.entry.time) × (graph ≡ f.1.spot.entry.graph) × means reads mid p h.world × Always (Answering reads h.world (command.Revert n) h.world o.now) o.now p.now
       read-so t h m (formed, k) = go (a.obeyed t h.world m.world)
         where
-          go : Obeys {R = Reply} {E = AllocError} reads said (means reads mid p) h.world (command.Get at.unit at.name at.uid) (Ok (reply.Timed time graph)) o.now p.now
+          go : Obeys reads {R = Reply} {E = AllocError} said (means reads mid p) h.world (command.Get at.unit at.name at.uid) (Ok (reply.Timed time graph)) o.now p.now
               → (time ≡ k.spot.entry.time) × (graph ≡ k.spot.entry.graph) × means reads mid p h.world × Always (Answering reads h.world (command.Revert n) h.world o.now) o.now p.now
           go (v, turned, there, moments) = by (reads-entry n at h formed k v (replies.Reply.timed time graph) (gets h.world at.unit at.name at.uid v (replies.Reply.timed time graph) m.world.settled turned.step))
             where

@@ -100,9 +100,9 @@ module _ {C : Type 0} {reads : List ℕ → Option Store} {told : Bool} {place :
 
   -- it turned the world, as the change that is asked
   pub turned : (v : World) × ChangesOr h.world asked (full h.world i.spot.unit asked).1 v (said it) × means reads mid p v × Always (Answering reads h.world (command.Save n) v o.now) o.now p.now
-  turned = go (subst (λ (c : Command). Obeys {R = Reply} {E = AllocError} reads said (means reads mid p) h.world c (Ok it) o.now p.now) asked-is (a.obeyed t h.world m.world))
+  turned = go (subst (λ (c : Command). Obeys reads {R = Reply} {E = AllocError} said (means reads mid p) h.world c (Ok it) o.now p.now) asked-is (a.obeyed t h.world m.world))
     where
-      go : Obeys {R = Reply} {E = AllocError} reads said (means reads mid p) h.world asked (Ok it) o.now p.now
+      go : Obeys reads {R = Reply} {E = AllocError} said (means reads mid p) h.world asked (Ok it) o.now p.now
           → (v : World) × ChangesOr h.world asked (full h.world i.spot.unit asked).1 v (said it) × means reads mid p v × Always (Answering reads h.world (command.Save n) v o.now) o.now p.now
       go (v, turn, there, moments) = (
         v,
@@ -235,7 +235,7 @@ module _ {C : Type 0} {reads : List ℕ → Option Store} {place : C → ℕ} {s
           alone = a.finished.alone;
           bound = λ t other x. subst (λ (ds : List Command). ProgramsInTurn w ds x o p) (sym (last-turn t)) (first-programs w change [] x (a.finished.bound t refl x));
           fetched = λ t entries x. subst (λ (ds : List Command). IsOpenFor (most_put w ds x) (image x o.now) → p.fetched x ≤ o.fetched x + most_taken w ds x) (sym (last-turn t))
-              (first-fetches w change [] x (a.finished.settling t refl x));
+              (first-fetches w change [] x o p (a.finished.settling t refl x));
           step = λ t is. absurd (both-ways is);
           open_after = a.finished.open_after;
           never_memory = λ none. absurd (both-ways (sym none));

@@ -57,7 +57,7 @@ module _ {C : Type 0} {reads : List ℕ → Option Store} {place : C → ℕ} {s
       → IsTrue told → (h : plain.Whole) → Means reads old o h → Always (Answering reads h.world (command.Get u s uid) h.world o.now) o.now p.now
   still-read same t h m = go inner refl (a.obeyed t h.world m.world)
     where
-      go : (r : Result Reply AllocError) → inner ≡ r → Obeys {R = Reply} {E = AllocError} reads said (means reads mid p) h.world (command.Get u s uid) r o.now p.now
+      go : (r : Result Reply AllocError) → inner ≡ r → Obeys reads {R = Reply} {E = AllocError} said (means reads mid p) h.world (command.Get u s uid) r o.now p.now
           → Always (Answering reads h.world (command.Get u s uid) h.world o.now) o.now p.now
       go (Ok it) e (v, turned, there, moments) =
           subst (λ (w : World). Always (Answering reads h.world (command.Get u s uid) w o.now) o.now p.now) (same t h m v it e (gets h.world u s uid v (said it) m.world.settled turned.step)) moments
