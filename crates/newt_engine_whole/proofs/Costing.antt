@@ -23,7 +23,7 @@ first-sum : (new old all one rest : ℕ) → all ≡ one + rest → new ≤ old 
 first-sum new old all one rest is low = omega (arith, is, low)
 
 both-sum : (new mid old all one rest : ℕ) → all ≡ one + rest → mid ≤ old + one → new ≤ mid + rest → new ≤ old + all
-both-sum new mid old all one rest is first then = omega (arith, is, first, then)
+both-sum new mid old all one rest is first last = omega (arith, is, first, last)
 
 module _ (w : World) (d : Command) (rest : List Command) (u : ℕ) where
   put-is : most_put w (d ∷ rest) u ≡ most_programmed w d u + most_put w rest u

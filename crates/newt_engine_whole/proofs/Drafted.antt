@@ -69,7 +69,7 @@ module _ (h : plain.Whole) (n : ℕ) where
 
   draft-none : copy h n ≡ None → whole_answer h (command.Draft n) ≡ (h, replies.Reply.refused NoCopy)
   unfolding whole_answer whole_checks
-  draft-none no = ap {A = Option Copy} (λ o. whole_answered h (command.Draft n) (first_of ((NoCopy, is_none o) ∷ []))) no
+  draft-none lacks = ap {A = Option Copy} (λ o. whole_answered h (command.Draft n) (first_of ((NoCopy, is_none o) ∷ []))) lacks
 
   discard-answered : (k : Copy) → copy h n ≡ Some k → whole_answer h (command.Discard n) ≡ (record h { copies = slice_set h.copies n None }, replies.Reply.done)
   unfolding whole_answer whole_checks whole_fields watches_after copies_after asks
@@ -77,7 +77,7 @@ module _ (h : plain.Whole) (n : ℕ) where
 
   discard-none : copy h n ≡ None → whole_answer h (command.Discard n) ≡ (h, replies.Reply.refused NoCopy)
   unfolding whole_answer whole_checks
-  discard-none no = ap {A = Option Copy} (λ o. whole_answered h (command.Discard n) (first_of ((NoCopy, is_none o) ∷ []))) no
+  discard-none lacks = ap {A = Option Copy} (λ o. whole_answered h (command.Discard n) (first_of ((NoCopy, is_none o) ∷ []))) lacks
 
   module _ (path : Path) (g : RawGraph) where
     abbrev tests : Option Copy → Checks
@@ -94,7 +94,7 @@ module _ (h : plain.Whole) (n : ℕ) where
     edit-by o there = ap {A = Option Copy} (λ o. whole_answered h (command.Edit n path g) (first_of (tests o))) there
 
     edit-none : copy h n ≡ None → whole_answer h (command.Edit n path g) ≡ (h, replies.Reply.refused NoCopy)
-    edit-none no = edit-by None no
+    edit-none lacks = edit-by None lacks
 
     module _ (k : Copy) (there : copy h n ≡ Some k) where
       abbrev large : Bool
@@ -150,7 +150,7 @@ module _ {C : Type 0} {reads : List ℕ → Option Store} {old new : Whole C} (n
   }
 
   pub none-shown : new ≡ old → copy_at n old.works ≡ None → AnsweredApart reads (command.Draft n) old new (Ok (reply.Refused NoCopy))
-  none-shown same no = apart-refused (command.Draft n) NoCopy same (λ h kept copies. draft-none h n (sym (at-copies n old.works h copies) ∙ no))
+  none-shown same lacks = apart-refused (command.Draft n) NoCopy same (λ h kept copies. draft-none h n (sym (at-copies n old.works h copies) ∙ lacks))
 
   pub discarded : (k : Copy) → Some k ≡ copy_at n old.works → new.world ≡ old.world → new.watches ≡ old.watches → new.works ≡ slice_set old.works n None
       → AnsweredApart reads (command.Discard n) old new (Ok reply.Done)
@@ -178,13 +178,13 @@ module _ {C : Type 0} {reads : List ℕ → Option Store} {old new : Whole C} (n
       go (Some x) is some = discarded (f x) (sym is) world watches works
 
   pub none-discarded : new ≡ old → copy_at n old.works ≡ None → AnsweredApart reads (command.Discard n) old new (Ok (reply.Refused NoCopy))
-  none-discarded same no = apart-refused (command.Discard n) NoCopy same (λ h kept copies. discard-none h n (sym (at-copies n old.works h copies) ∙ no))
+  none-discarded same lacks = apart-refused (command.Discard n) NoCopy same (λ h kept copies. discard-none h n (sym (at-copies n old.works h copies) ∙ lacks))
 
   -- ---- an edit
 
   module _ (path : Path) (g : RawGraph) where
     pub none-edited : new ≡ old → copy_at n old.works ≡ None → AnsweredApart reads (command.Edit n path g) old new (Ok (reply.Refused NoCopy))
-    none-edited same no = apart-refused (command.Edit n path g) NoCopy same (λ h kept copies. edit-none h n path g (sym (at-copies n old.works h copies) ∙ no))
+    none-edited same lacks = apart-refused (command.Edit n path g) NoCopy same (λ h kept copies. edit-none h n path g (sym (at-copies n old.works h copies) ∙ lacks))
 
     module _ (k : Copy) (there : Some k ≡ copy_at n old.works) where
       pub no-path : new ≡ old → put k.draft path g ≡ None → AnsweredApart reads (command.Edit n path g) old new (Ok (reply.Refused NoPath))

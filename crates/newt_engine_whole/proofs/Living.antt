@@ -66,7 +66,7 @@ module _ {C : Type 0} {reads : List ℕ → Option Store} {place : C → ℕ} {s
   living-same k = resolved-same laws it.world.units it.world.desk o s.world h.world m.world (alias_of_copy k)
 
   pub living-none : copy_at n it.works ≡ None → FindsLiving h n (Err NoCopy)
-  living-none no = ap {A = Option Copy} (λ o. first_of ((NoCopy, is_none o) ∷ (NoEntry, on_some o (λ k. is_none (living h k))) ∷ [])) (sym at-copies ∙ no)
+  living-none lacks = ap {A = Option Copy} (λ o. first_of ((NoCopy, is_none o) ∷ (NoEntry, on_some o (λ k. is_none (living h k))) ∷ [])) (sym at-copies ∙ lacks)
 
   module _ (k : Copy) (there : Some k ≡ copy_at n it.works) where
     here : copy h n ≡ Some k

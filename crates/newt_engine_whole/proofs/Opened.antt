@@ -78,6 +78,12 @@ open-turn h u uid s = refl
 
 -- ---- an alias is known
 
+apart-alias : (r : Refusal) (store soup uid : ℕ) → replies.Reply.refused r ≡ replies.Reply.alias store soup uid → ⊥
+apart-alias r store soup uid h = cc
+
+same-refusal : (x r : Refusal) → replies.Reply.refused x ≡ replies.Reply.refused r → Some x ≡ Some r
+same-refusal x r h = cc
+
 pub alias-known : (w v : World) (u uid store soup : ℕ) (s : List ℕ) → answer w (command.Alias u s uid) ≡ (v, replies.Reply.alias store soup uid)
     → (t : Store) × (mounted_store w u ≡ Some t) × (t.sig ≡ store) × (p : Soup) × (soup_in w u s ≡ Some p) × (p.sig ≡ soup)
 unfolding answer fields
@@ -95,7 +101,7 @@ alias-known w v u uid store soup s h = go (first_of (checks w (command.Alias u s
 
     go : (o : Option Refusal) → answered w (command.Alias u s uid) o ≡ (v, replies.Reply.alias store soup uid)
         → (t : Store) × (mounted_store w u ≡ Some t) × (t.sig ≡ store) × (p : Soup) × (soup_in w u s ≡ Some p) × (p.sig ≡ soup)
-    go (Some r) k = cc
+    go (Some r) k = absurd (apart-alias r store soup uid (ap (λ (a : World × replies.Reply). a.1) k))
     go None k = outer (mounted_store w u) refl (ap (λ (a : World × replies.Reply). a.1) k)
 
 -- or it is refused, as a command that reads the entry is
@@ -112,7 +118,7 @@ alias-refused w v u uid s r h = go (first_of (entry_tests w u s uid)) refl h
     outer (Some t) k = inner t (soup_in w u s) k
 
     go : (o : Option Refusal) → first_of (entry_tests w u s uid) ≡ o → answered w (command.Alias u s uid) o ≡ (v, replies.Reply.refused r) → o ≡ Some r
-    go (Some x) e k = cc
+    go (Some x) e k = same-refusal x r (ap (λ (a : World × replies.Reply). a.1) k)
     go None e k = absurd (outer (mounted_store w u) (ap (λ (a : World × replies.Reply). a.1) k))
 
 -- an entry that is found by its id has it
@@ -221,7 +227,7 @@ module _ {C : Type 0} {reads : List ℕ → Option Store} {place : C → ℕ} {s
         moments = moments;
       }
 
-      ended : Ended reads told (command.Open u s uid) old o p (Ok it)
+      ended : Ended reads told (command.Open u s uid) (asked_in_turn (known_whole reads old o) (command.Open u s uid)) old o p (Ok it)
       ended = reading-ended u uid s (λ w. refl) refl refl (λ t. ([], open-turn (known_whole reads old o) u uid s)) a.finished (λ t x other. a.finished.open_after t x (λ k. cc))
 
       pub open-put : (IsTrue told → (h : plain.Whole) × Means reads old o h × AllFormed h.world) → Applied reads place stands told (command.Open u s uid) old new o p (Ok it)

@@ -76,10 +76,10 @@ module _ (h : plain.Whole) (n : ℕ) (k : Copy) (there : copy h n ≡ Some k) (s
 
   -- it is, and there is no room, or there is
   pub save-full : based ≡ true → is_full ≡ true → whole_answer h (command.Save n) ≡ (h, replies.Reply.refused Full)
-  save-full same no =
+  save-full same lacks =
       save-by
       ∙ ap {A = Bool} (λ b. whole_answered h (command.Save n) (first_of ((Changed, not b) ∷ (Full, is_full) ∷ []))) same
-      ∙ ap {A = Bool} (λ b. whole_answered h (command.Save n) (first_of ((Full, b) ∷ []))) no
+      ∙ ap {A = Bool} (λ b. whole_answered h (command.Save n) (first_of ((Full, b) ∷ []))) lacks
 
   save-asks : based ≡ true → asks h (command.Save n) ≡ Some (change_of k s)
   unfolding asks
@@ -199,8 +199,8 @@ module _ {C : Type 0} {reads : List ℕ → Option Store} {place : C → ℕ} {s
             (subst (λ (v : World). P v (rest_asked reads (record old { world = mid }) p (command.Save n))) (same-known t) is)
 
         opens : IsTrue told → (r : Result Reply AllocError) → IfOk r (λ it. (x : ℕ) → (it ≡ reply.Thrown x → ⊥) → IsOpenOrSame x p.now q.now) → IfOk r (λ it. (x : ℕ) → (it ≡ reply.Thrown x → ⊥) → IsOpenOrSame x o.now q.now)
-        opens t (Ok it) then = λ x other. open-append x o.now p.now q.now (a.finished.open_after t x (λ k. cc)) (then x other)
-        opens t (Err e) then = tt
+        opens t (Ok it) last = λ x other. open-append x o.now p.now q.now (a.finished.open_after t x (λ k. cc)) (last x other)
+        opens t (Err e) last = tt
 
         go : IsTrue told → (h : plain.Whole) → Always (Answering reads h.world (command.Get u s uid) h.world o.now) o.now p.now
             → Stepped {E = AllocError} WholeStep reads (command.Save n) result h (Means reads last q) p.now q.now p.dev_faults q.dev_faults

@@ -124,6 +124,11 @@ pub record IsBase (h : plain.Whole) (n : ℕ) (at : Place) (draft : RawGraph) : 
   pub drafted : draft ≡ is.of.draft
   pub based : is_based is.spot.entry.time is.spot.entry.graph is.of ≡ true
 
+-- a change leaves the minute
+same-minute : (w : World) (u uid : ℕ) (s : List ℕ) (g : RawGraph) → (settle (changed w (command.Change u s uid g))).minute ≡ w.minute
+unfolding changed
+same-minute w u uid s g = refl
+
 -- the world behind a save is the one behind its change, done or refused
 saved-world : (h : plain.Whole) (n : ℕ) (at : Place) (draft : RawGraph) (b : IsBase h n at draft) → (answer h.world (change_of b.is.of b.is.spot)).0 ≡ (whole_answer h (command.Save n)).0.world
 unfolding answer
@@ -183,7 +188,7 @@ module _ {C : Type 0} {reads : List ℕ → Option Store} {place : C → ℕ} {s
       go b v (inl (no_room, same, says)) there moments = cc
       go b v (inr (inl (room, done, says))) there moments =
           let c = change_of b.is.of b.is.spot in
-          let minute : mid.units.minute ≡ h.world.minute = sym there.minute ∙ ap (λ (w : World). w.minute) done ∙ same-minute in
+          let minute : mid.units.minute ≡ h.world.minute = sym there.minute ∙ ap (λ (w : World). w.minute) done ∙ same-minute h.world b.is.spot.unit b.is.spot.entry.uid b.is.spot.soup.name b.is.of.draft in
           record {
             next = record {
               world = settle (changed h.world c);
@@ -206,11 +211,6 @@ module _ {C : Type 0} {reads : List ℕ → Option Store} {place : C → ℕ} {s
             );
             moments = subst (λ (w : World). Always (Answering reads h.world (command.Save n) w o.now) o.now p.now) done moments;
           }
-        where
-          -- a change leaves the minute
-          same-minute : (settle (changed h.world (change_of b.is.of b.is.spot))).minute ≡ h.world.minute
-          unfolding changed
-          same-minute = refl
       go b v (inr (inr (x, next, says))) there moments = cc
 
   -- ---- all that is promised
@@ -250,10 +250,10 @@ module _ {C : Type 0} {reads : List ℕ → Option Store} {place : C → ℕ} {s
       ended = save-ended a;
     }
 
-    pub save-over : {then new : Whole C} (k : Copy) → Some k ≡ copy_at n old.works → draft ≡ k.draft → Inner reads place stands told (command.Change at.unit at.name at.uid draft) old.world mid o p (Ok reply.Done)
-        → then.world ≡ mid → then.watches ≡ old.watches → then.works ≡ slice_set old.works n (option_map (rebased mid.units.minute draft) (copy_at n old.works)) → Tells (saved_event at ∷ []) then new
+    pub save-over : {mended new : Whole C} (k : Copy) → Some k ≡ copy_at n old.works → draft ≡ k.draft → Inner reads place stands told (command.Change at.unit at.name at.uid draft) old.world mid o p (Ok reply.Done)
+        → mended.world ≡ mid → mended.watches ≡ old.watches → mended.works ≡ slice_set old.works n (option_map (rebased mid.units.minute draft) (copy_at n old.works)) → Tells (saved_event at ∷ []) mended new
         → AppliedRest reads place stands told (command.Save n) old new o p (Ok reply.Done)
-    save-over {then} {new} k there same a world watches works tells = record {
+    save-over {mended} {new} k there same a world watches works tells = record {
       stands = record {
         world = subst (λ (e : Engine C). IsStanding reads place stands told e p) (sym (tells.world ∙ world)) a.stands;
         watches = let w = begun.watches in (note_all (saved_event at ∷ []) w.0, tells.watches w.0 (watches ∙ w.1));

@@ -1,7 +1,12 @@
 -- The alias of a copy that is there is looked up.
-use Rattle.std.proofs.Common.{ap, sym, ◌∙◌}
+use Rattle.std.proofs.Common.{◌≡◌, ap, subst, sym, ◌∙◌, true}
+use Rattle.newt_spec_world.specs.Alias.{resolved}
 use Rattle.newt_spec_world.specs.Answer.{or_nil}
 use Rattle.newt_spec_world.specs.Reply as replies
+use Rattle.newt_spec_whole.specs.Whole.{alias_of_copy}
+use Rattle.newt_engine_units.specs.Spots.{spot_reply}
+use Rattle.newt_engine_units.specs.Stands.{Stands, world_of}
+use Rattle.newt_engine_units.specs.declared.units.Units.{Units}
 use Rattle.newt_engine.specs.Laws.{laws_of}
 use Rattle.newt_engine_whole.proofs.Living.{living-at, living-gone, living-none}
 use Rattle.newt_engine_whole.proofs.whole.Whole.living.Goals as goal
@@ -13,10 +18,16 @@ returns-in_default-clause-found g c o h stands means =
 pub returns-in-Some-2-clause-found : goal.returns-in-Some-2-clause-found
 returns-in-Some-2-clause-found g c o h stands means =
     let x = c.in-Some-2 in
-    living-at (laws_of g.met.C.Card.formed g.met.C.Card.plain g.met.C.Card.durable g.met.C.Card.banks g.met.C.Card.kept) c.args.self.now o stands h means c.args.number c.in-Some.work.now c.in-Some.ensures
-    x.unit x.uid x.name (ap (λ found. or_nil (λ y. replies.Reply.where_is y.0 y.1 y.2) found) (sym x.is) ∙ c.in_ok-find_alias.ensures o stands.world.eight stands.world.stand)
+    let k = c.in-Some.work.now in
+    let here : Stands g.C.Card.place g.C.Card.stands true c.units.result.now o = subst (λ (u : Units g.row.C.Denot). Stands g.C.Card.place g.C.Card.stands true u o) (sym c.units.ensures) stands.world.stand in
+    living-at (laws_of g.met.C.Card.formed g.met.C.Card.plain g.met.C.Card.durable g.met.C.Card.banks g.met.C.Card.kept) c.args.self.now o stands h means c.args.number k c.in-Some.ensures
+    x.unit x.uid x.name (ap (λ found. or_nil (λ y. replies.Reply.where_is y.0 y.1 y.2) found) (sym x.is) ∙ c.in_ok-unit.ensures o stands.world.eight here
+    ∙ ap (λ (u : Units g.row.C.Denot). spot_reply (resolved (world_of g.C.Card.reads u o) (alias_of_copy k))) c.units.ensures)
 
 pub returns-in-None-clause-found : goal.returns-in-None-clause-found
 returns-in-None-clause-found g c o h stands means =
-    living-gone (laws_of g.met.C.Card.formed g.met.C.Card.plain g.met.C.Card.durable g.met.C.Card.banks g.met.C.Card.kept) c.args.self.now o stands h means c.args.number c.in-Some.work.now c.in-Some.ensures
-    (ap (λ found. or_nil (λ y. replies.Reply.where_is y.0 y.1 y.2) found) (sym c.in-None.is) ∙ c.in_ok-find_alias.ensures o stands.world.eight stands.world.stand)
+    let k = c.in-Some.work.now in
+    let here : Stands g.C.Card.place g.C.Card.stands true c.units.result.now o = subst (λ (u : Units g.row.C.Denot). Stands g.C.Card.place g.C.Card.stands true u o) (sym c.units.ensures) stands.world.stand in
+    living-gone (laws_of g.met.C.Card.formed g.met.C.Card.plain g.met.C.Card.durable g.met.C.Card.banks g.met.C.Card.kept) c.args.self.now o stands h means c.args.number k c.in-Some.ensures
+    (ap (λ found. or_nil (λ y. replies.Reply.where_is y.0 y.1 y.2) found) (sym c.in-None.is) ∙ c.in_ok-unit.ensures o stands.world.eight here
+    ∙ ap (λ (u : Units g.row.C.Denot). spot_reply (resolved (world_of g.C.Card.reads u o) (alias_of_copy k))) c.units.ensures)

@@ -30,7 +30,7 @@ abbrev laws : (g : Over) → Laws g.C.Card.reads g.C.Card.place g.C.Card.soups g
 laws g = laws_of g.met.C.Card.formed g.met.C.Card.plain g.met.C.Card.durable g.met.C.Card.banks g.met.C.Card.kept
 
 -- before the world is asked
-ends : (g : Over) {it : Whole g.C} {host : _} {n : _} {Q : AllocError → Type 0} → Standing g.C.Card.reads g.C.Card.place g.C.Card.stands g.H.Host.told it (g.H.Host.outside host) → (r : Result Reply AllocError) → (e : AllocError) × (r ≡ Err e) × Q e
+ends : (g : Over) {it : Whole g.row.C.Denot} {host : _} {n : _} {Q : AllocError → Type 0} → Standing g.C.Card.reads g.C.Card.place g.C.Card.stands g.H.Host.told it (g.H.Host.outside host) → (r : Result Reply AllocError) → (e : AllocError) × (r ≡ Err e) × Q e
     → AppliedRest g.C.Card.reads g.C.Card.place g.C.Card.stands g.H.Host.told (command.Save n) it it (g.H.Host.outside host) (g.H.Host.outside host) r
 unfolding is_plain
 ends g {it} {host} {n} begun r memory =
@@ -51,7 +51,7 @@ apply-requires g c = record {
 }
 
 -- the copies are of the draft, and the entry is as the base
-base : (g : Over) (it : Whole g.C) (host : _) (n time : _) (graph : RawGraph) (at : _) (begun : _) (k : Copy) → Some k ≡ copy_at n it.works → is_based time graph k ≡ true → (draft : RawGraph) → draft ≡ k.draft
+base : (g : Over) (it : Whole g.row.C.Denot) (host : _) (n time : _) (graph : RawGraph) (at : _) (begun : _) (k : Copy) → Some k ≡ copy_at n it.works → is_based time graph k ≡ true → (draft : RawGraph) → draft ≡ k.draft
     → (IsTrue g.H.Host.told → (h : plain.Whole) → Means g.C.Card.reads it (g.H.Host.outside host) h → IsRead h n at time graph)
     → IsTrue g.H.Host.told → (h : plain.Whole) → Means g.C.Card.reads it (g.H.Host.outside host) h → IsBase h n at draft
 base g it host n time graph at begun k there same draft is read t h m =
@@ -59,7 +59,7 @@ base g it host n time graph at begun k there same draft is read t h m =
     base-of (read t h m) k there same is m (all-formed (laws g) it.world.units it.world.desk (g.H.Host.outside host) s.world h.world m.world) (s.drafts refl)
 
 -- the whole that is known
-known : (g : Over) (it : Whole g.C) (host : _) → Standing g.C.Card.reads g.C.Card.place g.C.Card.stands g.H.Host.told it (g.H.Host.outside host)
+known : (g : Over) (it : Whole g.row.C.Denot) (host : _) → Standing g.C.Card.reads g.C.Card.place g.C.Card.stands g.H.Host.told it (g.H.Host.outside host)
     → IsTrue g.H.Host.told → (ws : List (Option Watching)) × Means g.C.Card.reads it (g.H.Host.outside host) (record (known_whole g.C.Card.reads it (g.H.Host.outside host)) { watches = ws })
 known g it host begun t = let s = whole-told begun t in (s.watches.0, known-means (laws g) it (g.H.Host.outside host) s)
 
