@@ -141,6 +141,19 @@ saved-world h n at draft b = go (full h.world b.is.spot.unit (change_of b.is.of 
     go false e = ap (λ (o : Option Refusal). (answered h.world (change_of b.is.of b.is.spot) o).0) (change-tests h b.formed b.is.of b.is.spot b.is.lives b.can ∙ ap (λ x. first_of ((Full, x) ∷ [])) e)
         ∙ sym (ap (λ (a : plain.Whole × replies.Reply). a.0.world) (save-done h n b.is.of b.is.there b.is.spot b.is.lives b.based e))
 
+module _ {C : Type 0} {reads : List ℕ → Option Store} {told : Bool} {old : Whole C} {o : Outside} (n : ℕ) (at : Place) (draft : RawGraph)
+    (base : IsTrue told → (h : plain.Whole) → Means reads old o h → IsBase h n at draft)
+    (known : IsTrue told → (ws : List (Option Watching)) × Means reads old o (record (known_whole reads old o) { watches = ws })) where
+  -- what is asked last is the change
+  last-turn : IsTrue told → rest_asked reads old o (command.Save n) ≡ command.Change at.unit at.name at.uid draft ∷ []
+  last-turn t =
+      let k = known t in
+      let h = record (known_whole reads old o) { watches = k.0 } in
+      let b = base t h k.1 in
+      ap {A = List Command} {B = List Command} (λ ds. drop 1 ds) (save-turn h n b.is.of b.is.there b.is.spot b.is.lives
+      ∙ ap {A = Bool} {B = List Command} (λ c. get_of b.is.spot ∷ (if c then change_of b.is.of b.is.spot ∷ [] else [])) b.based)
+      ∙ ap {A = Command} {B = List Command} (λ c. c ∷ []) (λ j. command.Change (sym b.is.unit j) (sym b.is.name j) (sym b.is.uid j) (sym b.drafted j))
+
 module _ {C : Type 0} {reads : List ℕ → Option Store} {place : C → ℕ} {stands : Bool → C → Outside → Type 0} {told : Bool} {old : Whole C} {mid : Engine C} {o p : Outside} (n : ℕ) (at : Place) (draft : RawGraph)
     (base : IsTrue told → (h : plain.Whole) → Means reads old o h → IsBase h n at draft) where
   -- it was refused, or a device failed: the copy and the watches stay
@@ -216,16 +229,6 @@ module _ {C : Type 0} {reads : List ℕ → Option Store} {place : C → ℕ} {s
   -- ---- all that is promised
 
   module _ (begun : Standing reads place stands told old o) (known : IsTrue told → (ws : List (Option Watching)) × Means reads old o (record (known_whole reads old o) { watches = ws })) where
-    -- what is asked last is the change
-    last-turn : IsTrue told → rest_asked reads old o (command.Save n) ≡ command.Change at.unit at.name at.uid draft ∷ []
-    last-turn t =
-        let k = known t in
-        let h = record (known_whole reads old o) { watches = k.0 } in
-        let b = base t h k.1 in
-        ap {A = List Command} {B = List Command} (λ ds. drop 1 ds) (save-turn h n b.is.of b.is.there b.is.spot b.is.lives
-        ∙ ap {A = Bool} {B = List Command} (λ c. get_of b.is.spot ∷ (if c then change_of b.is.of b.is.spot ∷ [] else [])) b.based)
-        ∙ ap {A = Command} {B = List Command} (λ c. c ∷ []) (λ j. command.Change (sym b.is.unit j) (sym b.is.name j) (sym b.is.uid j) (sym b.drafted j))
-
     save-ended : {result : Result Reply AllocError} → Inner reads place stands told (command.Change at.unit at.name at.uid draft) old.world mid o p result
         → Ended reads told (command.Save n) (rest_asked reads old o (command.Save n)) old o p result
     save-ended a =
@@ -233,8 +236,8 @@ module _ {C : Type 0} {reads : List ℕ → Option Store} {place : C → ℕ} {s
         let change = command.Change at.unit at.name at.uid draft in
         record {
           alone = a.finished.alone;
-          bound = λ t other x. subst (λ (ds : List Command). ProgramsInTurn w ds x o p) (sym (last-turn t)) (first-programs w change [] x (a.finished.bound t refl x));
-          fetched = λ t entries x. subst (λ (ds : List Command). IsOpenFor (most_put w ds x) (image x o.now) → p.fetched x ≤ o.fetched x + most_taken w ds x) (sym (last-turn t))
+          bound = λ t other x. subst (λ (ds : List Command). ProgramsInTurn w ds x o p) (sym (last-turn n at draft base known t)) (first-programs w change [] x (a.finished.bound t refl x));
+          fetched = λ t entries x. subst (λ (ds : List Command). IsOpenFor (most_put w ds x) (image x o.now) → p.fetched x ≤ o.fetched x + most_taken w ds x) (sym (last-turn n at draft base known t))
               (first-fetches w change [] x o p (a.finished.settling t refl x));
           step = λ t is. absurd (both-ways is);
           open_after = a.finished.open_after;

@@ -23,6 +23,7 @@ use Rattle.newt_engine_whole.specs.Standing.{known_whole}
 use Rattle.newt_engine_whole.proofs.Found.{known-means, whole-told}
 use Rattle.newt_engine_whole.proofs.Opening.{opening}
 use Rattle.newt_engine_whole.proofs.Meant.{all-formed, mounted-same, soup-same, tests-same}
+use Rattle.newt_engine_whole.proofs.Shown.{applied-as}
 use Rattle.newt_engine_whole.proofs.Opened.{alias-known, alias-refused, open-handed, open-turn, untimed}
 use Rattle.newt_engine_whole.proofs.Unanswered.{read-memory, rest-refused, still-read}
 use Rattle.newt_engine_whole.proofs.whole.Whole.open.Given.{Over}
@@ -75,7 +76,7 @@ returns-in-Timed g c =
     let o = g.H.Host.outside c.args.host.now in
     let it = c.args.self.now.world in
     let e = c.open_at.ensures in
-    opening c.args.unit c.args.uid c.args.name c.requires.stands c.in_ok-reply.ensures
+    opening c.args.unit c.args.uid c.args.name c.requires.stands (applied-as c.in-Timed.is c.in_ok-reply.ensures)
     (λ t h m.
     let s = standing-told c.requires.stands.world t in
     let w = world_of g.C.Card.reads it.units o in

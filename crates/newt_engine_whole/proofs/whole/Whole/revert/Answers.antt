@@ -1,8 +1,9 @@
 -- The entry of the copy is looked up and read, and the copy begins anew from it.
-use Rattle.std.proofs.Common.{◌≡◌, ap, refl, subst, sym, ◌∙◌, [], ◌∷◌, List, IsTrue}
+use Rattle.std.proofs.Common.{◌≡◌, ap, refl, subst, sym, ◌∙◌, ℕ, [], ◌∷◌, List, IsTrue}
 use Rattle.std.specs.Prelude.{Result, true}
 use Rattle.std.specs.declared.alloc.AllocError.{AllocError}
 use Rattle.std.proofs.lemmas.Result.{err_from_is_err_and}
+use Rattle.newt_base.specs.declared.Refusal.{Refusal}
 use Rattle.newt_reply.specs.declared.reply.Reply.{Reply}
 use Rattle.newt_spec_whole.specs.Whole as plain
 use Rattle.newt_spec_whole.specs.Whole.{asked_in_turn}
@@ -15,12 +16,13 @@ use Rattle.newt_engine_units.proofs.Known.{Laws}
 use Rattle.newt_engine.specs.Laws.{laws_of}
 use Rattle.newt_engine.proofs.Applying.{standing-told}
 use Rattle.newt_engine_whole.specs.Calls.{Applied}
-use Rattle.newt_engine_whole.specs.Copies.{IsAt}
+use Rattle.newt_engine_whole.specs.Copies.{FindsLiving, IsAt}
 use Rattle.newt_engine_whole.specs.Standing.{Means, Standing, known_whole}
 use Rattle.newt_engine_whole.specs.declared.saves.Place.{Place}
 use Rattle.newt_engine_whole.specs.declared.whole.Whole.{Whole}
 use Rattle.newt_engine_whole.proofs.Found.{known-means, whole-told}
 use Rattle.newt_engine_whole.proofs.Meant.{all-formed}
+use Rattle.newt_engine_whole.proofs.Shown.{applied-as}
 use Rattle.newt_engine_whole.proofs.Opened.{untimed}
 use Rattle.newt_engine_whole.proofs.Opening.{timed-stays}
 use Rattle.newt_engine_whole.proofs.Reverted.{revert-done, revert-handed, revert-turn}
@@ -32,7 +34,7 @@ abbrev laws : (g : Over) → Laws g.C.Card.reads g.C.Card.place g.C.Card.soups g
 laws g = laws_of g.met.C.Card.formed g.met.C.Card.plain g.met.C.Card.durable g.met.C.Card.banks g.met.C.Card.kept
 
 -- where the entry is, in each whole that is stood for
-abbrev Finds : (g : Over) → Whole g.row.C.Denot → _ → _ → Place → Type 0
+abbrev Finds : (g : Over) → Whole g.row.C.Denot → g.row.H.Denot → ℕ → Place → Type 0
 Finds g it host n at = IsTrue g.H.Host.told → (h : plain.Whole) → Means g.C.Card.reads it (g.H.Host.outside host) h → AllFormed h.world × IsAt h n at
 
 -- what is asked of the one that is known
@@ -57,7 +59,7 @@ pub returns-in-Err : goal.returns-in-Err
 unfolding is_plain
 returns-in-Err g c =
     rest-refused refl c.requires.stands c.in-Err.refusal (λ t h m. revert-nowhere h c.args.number c.in-Err.refusal
-    (c.in_ok-place.ensures.found (g.H.Host.outside c.args.host.now) h (whole-told c.requires.stands t) m))
+    (subst (λ (r : Result Place Refusal). FindsLiving h c.args.number r) c.in-Err.is (c.in_ok-place.ensures.found (g.H.Host.outside c.args.host.now) h (whole-told c.requires.stands t) m)))
 
 -- it is found
 found : (g : Over) (it : Whole g.row.C.Denot) (host : _) (n : _) (at : Place) (begun : Standing g.C.Card.reads g.C.Card.place g.C.Card.stands g.H.Host.told it (g.H.Host.outside host))
@@ -71,7 +73,7 @@ returns-in_default g c =
     let it = c.args.self.now in
     let host = c.args.host.now in
     let at = c.in-Ok.place in
-    let f = found g it host c.args.number at c.requires.stands (λ h s m. c.in_ok-place.ensures.found (g.H.Host.outside host) h s m) in
+    let f = found g it host c.args.number at c.requires.stands (λ h s m. subst (λ (r : Result Place Refusal). FindsLiving h c.args.number r) c.in-Ok.is (c.in_ok-place.ensures.found (g.H.Host.outside host) h s m)) in
     revert-handed c.args.number at c.requires.stands f (turn g it host c.args.number at c.requires.stands f) (untimed _ c.in_default.not-Timed) c.in_ok-reply.ensures
 
 pub returns-in_ok-draft-in-Timed : goal.returns-in_ok-draft-in-Timed
@@ -79,10 +81,10 @@ returns-in_ok-draft-in-Timed g c =
     let it = c.args.self.now in
     let host = c.args.host.now in
     let at = c.in-Ok.place in
-    let f = found g it host c.args.number at c.requires.stands (λ h s m. c.in_ok-place.ensures.found (g.H.Host.outside host) h s m) in
+    let f = found g it host c.args.number at c.requires.stands (λ h s m. subst (λ (r : Result Place Refusal). FindsLiving h c.args.number r) c.in-Ok.is (c.in_ok-place.ensures.found (g.H.Host.outside host) h s m)) in
     revert-done c.args.number at c.requires.stands f (turn g it host c.args.number at c.requires.stands f)
     (λ t. let s = whole-told c.requires.stands t in (record (known_whole g.C.Card.reads it (g.H.Host.outside host)) { watches = s.watches.0 }, known-means (laws g) it (g.H.Host.outside host) s))
-    refl refl c.rebase.ensures c.in_ok-reply.ensures
+    refl refl c.rebase.ensures (applied-as c.in-Timed.is c.in_ok-reply.ensures)
 
 pub returns-in_err-draft-in-Timed : goal.returns-in_err-draft-in-Timed
 unfolding is_plain
@@ -91,11 +93,11 @@ returns-in_err-draft-in-Timed g c =
     let it = c.args.self.now in
     let host = c.args.host.now in
     let at = c.in-Ok.place in
-    let f = found g it host c.args.number at c.requires.stands (λ h s m. c.in_ok-place.ensures.found (g.H.Host.outside host) h s m) in
+    let f = found g it host c.args.number at c.requires.stands (λ h s m. subst (λ (r : Result Place Refusal). FindsLiving h c.args.number r) c.in-Ok.is (c.in_ok-place.ensures.found (g.H.Host.outside host) h s m)) in
     subst (λ (r : Result Reply AllocError). Applied g.C.Card.reads g.C.Card.place g.C.Card.stands g.H.Host.told (command.Revert c.args.number) it (record it { world = c.apply.new.self }) (g.H.Host.outside host) (g.H.Host.outside c.apply.new.host) r)
     (sym memory.1)
-    (read-memory refl c.requires.stands at.unit at.uid at.name c.in_ok-reply.ensures memory.0 (λ w. refl) refl refl (λ t. ([], turn g it host c.args.number at c.requires.stands f t))
-    (still-read c.requires.stands at.unit at.uid at.name c.in_ok-reply.ensures (λ t h m v x e r. timed-stays h.world v at.unit at.uid at.name _ _ x e r)))
+    (read-memory refl c.requires.stands at.unit at.uid at.name (applied-as c.in-Timed.is c.in_ok-reply.ensures) memory.0 (λ w. refl) refl refl (λ t. ([], turn g it host c.args.number at c.requires.stands f t))
+    (still-read c.requires.stands at.unit at.uid at.name (applied-as c.in-Timed.is c.in_ok-reply.ensures) (λ t h m v x e r. timed-stays h.world v at.unit at.uid at.name _ _ x e r)))
 
 pub returns-in_err-reply : goal.returns-in_err-reply
 unfolding is_plain
@@ -104,7 +106,7 @@ returns-in_err-reply g c =
     let it = c.args.self.now in
     let host = c.args.host.now in
     let at = c.in-Ok.place in
-    let f = found g it host c.args.number at c.requires.stands (λ h s m. c.in_ok-place.ensures.found (g.H.Host.outside host) h s m) in
+    let f = found g it host c.args.number at c.requires.stands (λ h s m. subst (λ (r : Result Place Refusal). FindsLiving h c.args.number r) c.in-Ok.is (c.in_ok-place.ensures.found (g.H.Host.outside host) h s m)) in
     subst (λ (r : Result Reply AllocError). Applied g.C.Card.reads g.C.Card.place g.C.Card.stands g.H.Host.told (command.Revert c.args.number) it (record it { world = c.apply.new.self }) (g.H.Host.outside host) (g.H.Host.outside c.apply.new.host) r)
     (sym memory.1)
     (read-memory refl c.requires.stands at.unit at.uid at.name c.in_err-reply.ensures memory.0 (λ w. refl) refl refl (λ t. ([], turn g it host c.args.number at c.requires.stands f t))

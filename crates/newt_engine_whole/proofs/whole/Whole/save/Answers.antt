@@ -1,9 +1,11 @@
 -- The entry of the copy is looked up and read, and is saved over.
-use Rattle.std.proofs.Common.{◌≡◌, ap, refl, subst, sym, ◌∙◌, [], ◌∷◌, List, IsTrue}
-use Rattle.std.specs.Prelude.{Result, true}
+use Rattle.std.proofs.Common.{◌≡◌, ap, refl, subst, sym, ◌∙◌, ℕ, [], ◌∷◌, List, IsTrue}
+use Rattle.std.specs.Prelude.{IfOk, IsSome, Result, true}
 use Rattle.std.specs.declared.alloc.AllocError.{AllocError}
 use Rattle.std.proofs.lemmas.Result.{err_from_is_err_and}
+use Rattle.newt_base.specs.declared.Refusal.{Refusal}
 use Rattle.newt_reply.specs.declared.reply.Reply.{Reply}
+use Rattle.newt_work.specs.Work.{copy_at}
 use Rattle.newt_spec_whole.specs.Whole as plain
 use Rattle.newt_spec_whole.specs.Whole.{asked_in_turn}
 use Rattle.newt_spec_world.specs.declared.command.Command.{Command}
@@ -15,12 +17,13 @@ use Rattle.newt_engine_units.proofs.Known.{Laws}
 use Rattle.newt_engine.specs.Laws.{laws_of}
 use Rattle.newt_engine.proofs.Applying.{standing-told}
 use Rattle.newt_engine_whole.specs.Calls.{Applied}
-use Rattle.newt_engine_whole.specs.Copies.{IsAt}
+use Rattle.newt_engine_whole.specs.Copies.{FindsLiving, IsAt}
 use Rattle.newt_engine_whole.specs.Standing.{Means, Standing, known_whole}
 use Rattle.newt_engine_whole.specs.declared.saves.Place.{Place}
 use Rattle.newt_engine_whole.specs.declared.whole.Whole.{Whole}
 use Rattle.newt_engine_whole.proofs.Found.{known-means, whole-told}
 use Rattle.newt_engine_whole.proofs.Meant.{all-formed}
+use Rattle.newt_engine_whole.proofs.Shown.{applied-as}
 use Rattle.newt_engine_whole.proofs.Opened.{untimed}
 use Rattle.newt_engine_whole.proofs.Ahead.{first-turn, is-shown, read-handed, read-same}
 use Rattle.newt_engine_whole.proofs.Saved.{save-after}
@@ -32,7 +35,7 @@ abbrev laws : (g : Over) → Laws g.C.Card.reads g.C.Card.place g.C.Card.soups g
 laws g = laws_of g.met.C.Card.formed g.met.C.Card.plain g.met.C.Card.durable g.met.C.Card.banks g.met.C.Card.kept
 
 -- where the entry is, in each whole that is stood for
-abbrev Finds : (g : Over) → Whole g.row.C.Denot → _ → _ → Place → Type 0
+abbrev Finds : (g : Over) → Whole g.row.C.Denot → g.row.H.Denot → ℕ → Place → Type 0
 Finds g it host n at = IsTrue g.H.Host.told → (h : plain.Whole) → Means g.C.Card.reads it (g.H.Host.outside host) h → AllFormed h.world × IsAt h n at
 
 -- what is asked first of the one that is known
@@ -56,7 +59,7 @@ pub returns-in-Err : goal.returns-in-Err
 unfolding is_plain
 returns-in-Err g c =
     rest-refused refl c.requires.stands c.in-Err.refusal (λ t h m. save-nowhere h c.args.number c.in-Err.refusal
-    (c.in_ok-place.ensures.found (g.H.Host.outside c.args.host.now) h (whole-told c.requires.stands t) m))
+    (subst (λ (r : Result Place Refusal). FindsLiving h c.args.number r) c.in-Err.is (c.in_ok-place.ensures.found (g.H.Host.outside c.args.host.now) h (whole-told c.requires.stands t) m)))
 
 -- it is found
 found : (g : Over) (it : Whole g.row.C.Denot) (host : _) (n : _) (at : Place) (begun : Standing g.C.Card.reads g.C.Card.place g.C.Card.stands g.H.Host.told it (g.H.Host.outside host))
@@ -65,12 +68,12 @@ found g it host n at begun is t h m =
     let s = whole-told begun t in
     (all-formed (laws g) it.world.units it.world.desk (g.H.Host.outside host) s.world h.world m.world, is h s m)
 
-pub returns-in_default : goal.returns-in_default
-returns-in_default g c =
+pub returns : goal.returns
+returns g c =
     let it = c.args.self.now in
     let host = c.args.host.now in
     let at = c.in-Ok.place in
-    let f = found g it host c.args.number at c.requires.stands (λ h s m. c.in_ok-place.ensures.found (g.H.Host.outside host) h s m) in
+    let f = found g it host c.args.number at c.requires.stands (λ h s m. subst (λ (r : Result Place Refusal). FindsLiving h c.args.number r) c.in-Ok.is (c.in_ok-place.ensures.found (g.H.Host.outside host) h s m)) in
     read-handed c.args.number at c.requires.stands f (untimed _ c.in_default.not-Timed) (turn g it host c.args.number at c.requires.stands f) c.in_ok-reply.ensures
 
 pub returns-in_err-name : goal.returns-in_err-name
@@ -88,7 +91,7 @@ returns-in_err-reply g c =
     let it = c.args.self.now in
     let host = c.args.host.now in
     let at = c.in-Ok.place in
-    let f = found g it host c.args.number at c.requires.stands (λ h s m. c.in_ok-place.ensures.found (g.H.Host.outside host) h s m) in
+    let f = found g it host c.args.number at c.requires.stands (λ h s m. subst (λ (r : Result Place Refusal). FindsLiving h c.args.number r) c.in-Ok.is (c.in_ok-place.ensures.found (g.H.Host.outside host) h s m)) in
     subst (λ (r : Result Reply AllocError). Applied g.C.Card.reads g.C.Card.place g.C.Card.stands g.H.Host.told (command.Save c.args.number) it (record it { world = c.apply.new.self }) (g.H.Host.outside host) (g.H.Host.outside c.apply.new.host) r)
     (sym memory.1)
     (read-memory refl c.requires.stands at.unit at.uid at.name c.in_err-reply.ensures memory.0 (λ w. refl) refl refl (turn g it host c.args.number at c.requires.stands f)
@@ -100,11 +103,11 @@ save_over-requires g c =
     let it = c.args.self.now in
     let host = c.args.host.now in
     let at = c.in-Ok.place in
-    let a = c.in_ok-reply.ensures in
-    let f = found g it host c.args.number at c.requires.stands (λ h s m. c.in_ok-place.ensures.found (g.H.Host.outside host) h s m) in
+    let a = applied-as c.in-Timed.is c.in_ok-reply.ensures in
+    let f = found g it host c.args.number at c.requires.stands (λ h s m. subst (λ (r : Result Place Refusal). FindsLiving h c.args.number r) c.in-Ok.is (c.in_ok-place.ensures.found (g.H.Host.outside host) h s m)) in
     record {
       stands = record { world = a.stands; watches = c.requires.stands.watches; drafts = c.requires.stands.drafts };
-      there = c.in_ok-place.ensures.there;
+      there = subst (λ (r : Result Place Refusal). IfOk r (λ _. IsSome (copy_at c.args.number it.works))) c.in-Ok.is c.in_ok-place.ensures.there;
       read = λ t v mv.
           let s = whole-told c.requires.stands t in
           let h = record (known_whole g.C.Card.reads it (g.H.Host.outside host)) { watches = s.watches.0 } in
@@ -117,9 +120,10 @@ returns-in-Timed g c =
     let it = c.args.self.now in
     let host = c.args.host.now in
     let at = c.in-Ok.place in
-    let f = found g it host c.args.number at c.requires.stands (λ h s m. c.in_ok-place.ensures.found (g.H.Host.outside host) h s m) in
-    save-after at.unit at.uid at.name c.requires.stands c.in_ok-reply.ensures c.args.number (turn g it host c.args.number at c.requires.stands f)
-    (λ t h m. let r = is-shown c.args.number at c.requires.stands f c.in_ok-reply.ensures t h m in (r.1, r.2)) c.save_over.ensures
+    let f = found g it host c.args.number at c.requires.stands (λ h s m. subst (λ (r : Result Place Refusal). FindsLiving h c.args.number r) c.in-Ok.is (c.in_ok-place.ensures.found (g.H.Host.outside host) h s m)) in
+    let a = applied-as c.in-Timed.is c.in_ok-reply.ensures in
+    save-after at.unit at.uid at.name c.requires.stands a c.args.number (turn g it host c.args.number at c.requires.stands f)
+    (λ t h m. let r = is-shown c.args.number at c.requires.stands f a t h m in (r.1, r.2)) c.save_over.ensures
 
 pub apply-requires-clause-form : goal.apply-requires-clause-form
 unfolding has_form

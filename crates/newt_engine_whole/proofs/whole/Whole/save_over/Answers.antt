@@ -1,5 +1,5 @@
 -- Where the entry is as the base it is changed, and the copy begins anew from its draft.
-use Rattle.std.proofs.Common.{◌≡◌, ap, refl, subst, sym, ◌∙◌, true, IsTrue, List, Option, Some, option_map, slice_set}
+use Rattle.std.proofs.Common.{◌≡◌, ap, refl, subst, sym, ◌∙◌, ℕ, true, IsTrue, List, Option, Some, option_map, slice_set}
 use Rattle.std.specs.Prelude.{Err, Result, is_some}
 use Rattle.std.specs.declared.alloc.AllocError.{AllocError}
 use Rattle.std.proofs.lemmas.Result.{err_from_is_err_and}
@@ -18,10 +18,12 @@ use Rattle.newt_engine.specs.Laws.{laws_of}
 use Rattle.newt_engine_whole.specs.Calls.{AppliedRest}
 use Rattle.newt_engine_whole.specs.Copies.{IsRead}
 use Rattle.newt_engine_whole.specs.Standing.{Means, Standing, known_whole}
+use Rattle.newt_engine_whole.specs.declared.saves.Place.{Place}
 use Rattle.newt_engine_whole.specs.declared.whole.Whole.{Whole}
 use Rattle.newt_engine_whole.proofs.Found.{known-means, whole-told}
 use Rattle.newt_engine_whole.proofs.Meant.{all-formed}
 use Rattle.newt_engine_whole.proofs.Saving.{IsBase, base-of, change-memory, rest-changed, save-handed, save-over, undone}
+use Rattle.newt_engine_whole.proofs.Shown.{applied-as}
 use Rattle.newt_engine_whole.proofs.Unanswered.{rest-memory}
 use Rattle.newt_engine_whole.proofs.whole.Whole.save_over.Given.{Over}
 use Rattle.newt_engine_whole.proofs.whole.Whole.save_over.Goals as goal
@@ -47,11 +49,11 @@ pub apply-requires : goal.apply-requires
 unfolding has_form
 apply-requires g c = record {
   stands = c.requires.stands.world;
-  form = ap within_limits (c.in_ok-given.ensures ∙ c.draft-4.ensures) ∙ graph-within c.in-Some.work.now.draft (subst IsGraph c.draft.ensures c.root-_root.ensures.graph);
+  form = ap within_limits (c.in_ok-given.ensures ∙ c.draft-4.ensures) ∙ graph-within c.in-Some.work.now.draft (subst IsGraph c.draft.ensures c.root-root.ensures.graph);
 }
 
 -- the copies are of the draft, and the entry is as the base
-base : (g : Over) (it : Whole g.row.C.Denot) (host : _) (n time : _) (graph : RawGraph) (at : _) (begun : _) (k : Copy) → Some k ≡ copy_at n it.works → is_based time graph k ≡ true → (draft : RawGraph) → draft ≡ k.draft
+base : (g : Over) (it : Whole g.row.C.Denot) (host : g.row.H.Denot) (n time : ℕ) (graph : RawGraph) (at : Place) (begun : Standing g.C.Card.reads g.C.Card.place g.C.Card.stands g.H.Host.told it (g.H.Host.outside host)) (k : Copy) → Some k ≡ copy_at n it.works → is_based time graph k ≡ true → (draft : RawGraph) → draft ≡ k.draft
     → (IsTrue g.H.Host.told → (h : plain.Whole) → Means g.C.Card.reads it (g.H.Host.outside host) h → IsRead h n at time graph)
     → IsTrue g.H.Host.told → (h : plain.Whole) → Means g.C.Card.reads it (g.H.Host.outside host) h → IsBase h n at draft
 base g it host n time graph at begun k there same draft is read t h m =
@@ -66,13 +68,13 @@ known g it host begun t = let s = whole-told begun t in (s.watches.0, known-mean
 pub rebase-requires : goal.rebase-requires
 rebase-requires g c = record { there = c.requires.there; same = c.in_ok-base.ensures ∙ c.draft-2.ensures ∙ sym (c.in_ok-draft.ensures ∙ c.draft-3.ensures) }
 
-pub returns-in_default-2 : goal.returns-in_default-2
-returns-in_default-2 g c =
+pub returns-in_default-reply : goal.returns-in_default-reply
+returns-in_default-reply g c =
     let k = c.in-Some.work.now in
     let given = c.in_ok-given.ensures ∙ c.draft-4.ensures in
     save-handed c.args.number c.args.place.now c.in_ok-given.given
     (base g c.args.self.now c.args.host.now c.args.number c.args.time c.args.graph.now c.args.place.now c.requires.stands k c.in-Some.ensures (sym c.based.ensures.value ∙ c.if-not-based.false) c.in_ok-given.given given c.requires.read)
-    c.requires.stands (known g c.args.self.now c.args.host.now c.requires.stands) (undone _ c.in_default-2.not-Done) c.in_ok-reply.ensures
+    c.requires.stands (known g c.args.self.now c.args.host.now c.requires.stands) (undone _ c.in_default-reply.not-Done) c.in_ok-reply.ensures
 
 pub returns-in-Done : goal.returns-in-Done
 returns-in-Done g c =
@@ -84,7 +86,7 @@ returns-in-Done g c =
     let minute = c.minute.ensures ∙ ap (λ units. units.minute) c.units.ensures in
     save-over n c.args.place.now c.in_ok-given.given
     (base g c.args.self.now c.args.host.now n c.args.time c.args.graph.now c.args.place.now c.requires.stands k c.in-Some.ensures (sym c.based.ensures.value ∙ c.if-not-based.false) c.in_ok-given.given given c.requires.read)
-    c.requires.stands (known g c.args.self.now c.args.host.now c.requires.stands) k c.in-Some.ensures given c.in_ok-reply.ensures refl refl
+    c.requires.stands (known g c.args.self.now c.args.host.now c.requires.stands) k c.in-Some.ensures given (applied-as c.in-Done.is c.in_ok-reply.ensures) refl refl
     (c.rebase.ensures ∙ (λ i. slice_set works n (option_map (rebased (minute i) (same i)) (copy_at n works)))) c.tell_saved.ensures
 
 -- ---- memory is refused
