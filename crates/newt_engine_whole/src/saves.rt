@@ -49,8 +49,10 @@ impl<C: Card> Whole<C> {
     {
         let (store, soup) = match alias(self.world.units(), unit, &name, uid) {
             Ok(found) => found,
-            Err(StoreFault::Refused(refusal)) => return Ok(Reply::Refused(refusal)),
-            Err(StoreFault::Stop(_)) => return Err(AllocError),
+            Err(fault) => match fault {
+                StoreFault::Refused(refusal) => return Ok(Reply::Refused(refusal)),
+                StoreFault::Stop(_) => return Err(AllocError),
+            },
         };
         let reply = self.world.apply(host, Command::Get(unit, name, uid))?;
         match reply {
@@ -94,11 +96,11 @@ impl<C: Card> Whole<C> {
         };
         let (store, soup, uid) = work.alias();
         match self.world.units().find_alias(Alias { store, soup, uid })? {
-            Some((unit, name, uid)) => Ok(Ok(Place {
-                unit,
-                name,
+            Some(found) => Ok(Ok(Place {
+                unit: found.0,
+                name: found.1,
                 soup,
-                uid,
+                uid: found.2,
             })),
             None => Ok(Err(Refusal::Entry)),
         }

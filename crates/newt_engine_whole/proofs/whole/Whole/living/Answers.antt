@@ -29,12 +29,13 @@ found-as g o k units asked alias same is =
 pub returns-in-Some-2-clause-found : goal.returns-in-Some-2-clause-found
 returns-in-Some-2-clause-found g c o h stands means =
     let x = c.in-Some-2 in
+    let found = x.found in
     let k = c.in-Some.work.now in
     let units = c.args.self.now.world.units in
     let here : Stands g.C.Card.place g.C.Card.stands true c.units.result.now o = subst (λ (u : Units g.row.C.Denot). Stands g.C.Card.place g.C.Card.stands true u o) (sym c.units.ensures) stands.world.stand in
-    subst (λ (a : ℕ × ℕ × ℕ). FindsLiving h c.args.number (Ok (record { unit = x.unit; name = x.name; soup = a.1; uid = x.uid }))) (sym c.alias-store.ensures)
+    subst (λ (a : ℕ × ℕ × ℕ). FindsLiving h c.args.number (Ok (record { unit = found.0; name = found.1; soup = a.1; uid = found.2 }))) (sym c.alias-store.ensures)
     (living-at (laws_of g.met.C.Card.formed g.met.C.Card.plain g.met.C.Card.durable g.met.C.Card.banks g.met.C.Card.kept) c.args.self.now o stands h means c.args.number k c.in-Some.ensures
-    x.unit x.uid x.name (ap (λ found. or_nil (λ y. replies.Reply.where_is y.0 y.1 y.2) found) (sym x.is) ∙ c.in_ok-unit.ensures o stands.world.eight here
+    found.0 found.2 found.1 (ap (λ found. or_nil (λ y. replies.Reply.where_is y.0 y.1 y.2) found) (sym x.is) ∙ c.in_ok-found.ensures o stands.world.eight here
     ∙ found-as g o k units c.units.result.now c.alias-store.result c.units.ensures c.alias-store.ensures))
 
 pub returns-in-None-clause-found : goal.returns-in-None-clause-found
@@ -43,5 +44,5 @@ returns-in-None-clause-found g c o h stands means =
     let units = c.args.self.now.world.units in
     let here : Stands g.C.Card.place g.C.Card.stands true c.units.result.now o = subst (λ (u : Units g.row.C.Denot). Stands g.C.Card.place g.C.Card.stands true u o) (sym c.units.ensures) stands.world.stand in
     living-gone (laws_of g.met.C.Card.formed g.met.C.Card.plain g.met.C.Card.durable g.met.C.Card.banks g.met.C.Card.kept) c.args.self.now o stands h means c.args.number k c.in-Some.ensures
-    (ap (λ found. or_nil (λ y. replies.Reply.where_is y.0 y.1 y.2) found) (sym c.in-None.is) ∙ c.in_ok-unit.ensures o stands.world.eight here
+    (ap (λ found. or_nil (λ y. replies.Reply.where_is y.0 y.1 y.2) found) (sym c.in-None.is) ∙ c.in_ok-found.ensures o stands.world.eight here
     ∙ found-as g o k units c.units.result.now c.alias-store.result c.units.ensures c.alias-store.ensures)

@@ -39,23 +39,23 @@ by-units : (g : Over) (units asked : Units g.row.C.Denot) (c : Command) (reply :
 by-units g units asked c reply r same =
     subst (λ (u : Units g.row.C.Denot). (o : Outside) → Eight o → Stands g.C.Card.place g.C.Card.stands true u o → Answers (world_of g.C.Card.reads u o) (world_of g.C.Card.reads u o) c reply r) same
 
-pub returns-in-Err-Refused : goal.returns-in-Err-Refused
+pub returns-in-Refused : goal.returns-in-Refused
 unfolding is_plain
-returns-in-Err-Refused g c =
-    let e = c.in-Err-Refused in
+returns-in-Refused g c =
+    let refusal = c.in-Refused.refusal in
     let o = g.H.Host.outside c.args.host.now in
     let it = c.args.self.now.world in
-    rest-refused refl c.requires.stands e.refusal (λ t h m.
+    rest-refused refl c.requires.stands refusal (λ t h m.
     let s = standing-told c.requires.stands.world t in
     let w = world_of g.C.Card.reads it.units o in
     let alias = command.Alias c.args.unit c.args.name c.args.uid in
     let reply = λ (x : ℕ × ℕ). replies.Reply.alias x.0 x.1 c.args.uid in
-    let says = subst (λ f. Answers w w alias reply (Err f)) e.field-0-is (by-units g it.units c.units.result.now alias reply (Err e.field-0) c.units.ensures e.ensures.answered o s.eight s.stand) in
-    open-refused h c.args.unit c.args.name c.args.uid e.refusal
-    (tests-same (laws g) it.units it.desk o s h.world m.world c.args.unit c.args.uid c.args.name ∙ alias-refused w w c.args.unit c.args.uid c.args.name e.refusal says))
+    let says = subst (λ (f : StoreFault). Answers w w alias reply (Err f)) c.in-Refused.is (by-units g it.units c.units.result.now alias reply (Err c.in-Err.fault) c.units.ensures c.in-Err.ensures.answered o s.eight s.stand) in
+    open-refused h c.args.unit c.args.name c.args.uid refusal
+    (tests-same (laws g) it.units it.desk o s h.world m.world c.args.unit c.args.uid c.args.name ∙ alias-refused w w c.args.unit c.args.uid c.args.name refusal says))
 
-pub returns-in-Err-Stop : goal.returns-in-Err-Stop
-returns-in-Err-Stop g c = absurd (subst (λ f. IsRefusal f) c.in-Err-Stop.field-0-is c.in-Err-Stop.ensures.only)
+pub returns-in-Stop : goal.returns-in-Stop
+returns-in-Stop g c = absurd (subst (λ (f : StoreFault). IsRefusal f) c.in-Stop.is c.in-Err.ensures.only)
 
 pub returns-in_default : goal.returns-in_default
 returns-in_default g c = open-handed c.args.unit c.args.uid c.args.name c.requires.stands (untimed _ c.in_default.not-Timed) c.in_ok-reply.ensures

@@ -6,7 +6,7 @@ use Rattle.std.proofs.lemmas.Result.{err_from_is_err_and}
 use Rattle.newt_base.specs.declared.Refusal.{Refusal}
 use Rattle.newt_reply.specs.declared.reply.Reply.{Reply}
 use Rattle.newt_spec_whole.specs.Whole as plain
-use Rattle.newt_spec_whole.specs.Whole.{asked_in_turn}
+use Rattle.newt_spec_whole.specs.Whole.{asked_in_turn, asks}
 use Rattle.newt_spec_world.specs.declared.command.Command.{Command}
 use Rattle.newt_spec_world.specs.declared.command.Command.TheVariants as command
 use Rattle.newt_laws_world.specs.Worlds.{has_form, is_plain}
@@ -40,6 +40,7 @@ Finds g it host n at = IsTrue g.H.Host.told → (h : plain.Whole) → Means g.C.
 -- what is asked of the one that is known
 turn : (g : Over) (it : Whole g.row.C.Denot) (host : _) (n : _) (at : Place) → Standing g.C.Card.reads g.C.Card.place g.C.Card.stands g.H.Host.told it (g.H.Host.outside host) → Finds g it host n at
     → IsTrue g.H.Host.told → asked_in_turn (known_whole g.C.Card.reads it (g.H.Host.outside host)) (command.Revert n) ≡ command.Get at.unit at.name at.uid ∷ []
+unfolding asks
 turn g it host n at begun found t =
     let o = g.H.Host.outside host in
     let s = whole-told begun t in

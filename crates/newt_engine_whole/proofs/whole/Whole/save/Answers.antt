@@ -23,7 +23,7 @@ use Rattle.newt_engine_whole.specs.declared.saves.Place.{Place}
 use Rattle.newt_engine_whole.specs.declared.whole.Whole.{Whole}
 use Rattle.newt_engine_whole.proofs.Found.{known-means, whole-told}
 use Rattle.newt_engine_whole.proofs.Meant.{all-formed}
-use Rattle.newt_engine_whole.proofs.Shown.{applied-as}
+use Rattle.newt_engine_whole.proofs.Shown.{applied-as, applied-of}
 use Rattle.newt_engine_whole.proofs.Opened.{untimed}
 use Rattle.newt_engine_whole.proofs.Ahead.{first-turn, is-shown, read-handed, read-same}
 use Rattle.newt_engine_whole.proofs.Saved.{save-after}
@@ -74,7 +74,7 @@ returns g c =
     let host = c.args.host.now in
     let at = c.in-Ok.place in
     let f = found g it host c.args.number at c.requires.stands (λ h s m. subst (λ (r : Result Place Refusal). FindsLiving h c.args.number r) c.in-Ok.is (c.in_ok-place.ensures.found (g.H.Host.outside host) h s m)) in
-    read-handed c.args.number at c.requires.stands f (untimed _ c.in_default.not-Timed) (turn g it host c.args.number at c.requires.stands f) c.in_ok-reply.ensures
+    read-handed c.args.number at c.requires.stands f (untimed _ c.in_default.not-Timed) (turn g it host c.args.number at c.requires.stands f) (applied-of (ap (λ (s : List ℕ). command.Get at.unit s at.uid) c.in_ok-name.ensures) c.in_ok-reply.ensures)
 
 pub returns-in_err-name : goal.returns-in_err-name
 unfolding is_plain
@@ -94,8 +94,8 @@ returns-in_err-reply g c =
     let f = found g it host c.args.number at c.requires.stands (λ h s m. subst (λ (r : Result Place Refusal). FindsLiving h c.args.number r) c.in-Ok.is (c.in_ok-place.ensures.found (g.H.Host.outside host) h s m)) in
     subst (λ (r : Result Reply AllocError). Applied g.C.Card.reads g.C.Card.place g.C.Card.stands g.H.Host.told (command.Save c.args.number) it (record it { world = c.apply.new.self }) (g.H.Host.outside host) (g.H.Host.outside c.apply.new.host) r)
     (sym memory.1)
-    (read-memory refl c.requires.stands at.unit at.uid at.name c.in_err-reply.ensures memory.0 (λ w. refl) refl refl (turn g it host c.args.number at c.requires.stands f)
-    (still-read c.requires.stands at.unit at.uid at.name c.in_err-reply.ensures (λ t h m v x e. cc)))
+    (read-memory refl c.requires.stands at.unit at.uid at.name (applied-of (ap (λ (s : List ℕ). command.Get at.unit s at.uid) c.in_ok-name.ensures) c.in_err-reply.ensures) memory.0 (λ w. refl) refl refl (turn g it host c.args.number at c.requires.stands f)
+    (still-read c.requires.stands at.unit at.uid at.name (applied-of (ap (λ (s : List ℕ). command.Get at.unit s at.uid) c.in_ok-name.ensures) c.in_err-reply.ensures) (λ t h m v x e. cc)))
 
 -- the one that is known before has the entry as it was read, and so has each that is stood for then
 pub save_over-requires : goal.save_over-requires
@@ -103,7 +103,7 @@ save_over-requires g c =
     let it = c.args.self.now in
     let host = c.args.host.now in
     let at = c.in-Ok.place in
-    let a = applied-as c.in-Timed.is c.in_ok-reply.ensures in
+    let a = applied-as c.in-Timed.is (applied-of (ap (λ (s : List ℕ). command.Get at.unit s at.uid) c.in_ok-name.ensures) c.in_ok-reply.ensures) in
     let f = found g it host c.args.number at c.requires.stands (λ h s m. subst (λ (r : Result Place Refusal). FindsLiving h c.args.number r) c.in-Ok.is (c.in_ok-place.ensures.found (g.H.Host.outside host) h s m)) in
     record {
       stands = record { world = a.stands; watches = c.requires.stands.watches; drafts = c.requires.stands.drafts };
@@ -121,7 +121,7 @@ returns-in-Timed g c =
     let host = c.args.host.now in
     let at = c.in-Ok.place in
     let f = found g it host c.args.number at c.requires.stands (λ h s m. subst (λ (r : Result Place Refusal). FindsLiving h c.args.number r) c.in-Ok.is (c.in_ok-place.ensures.found (g.H.Host.outside host) h s m)) in
-    let a = applied-as c.in-Timed.is c.in_ok-reply.ensures in
+    let a = applied-as c.in-Timed.is (applied-of (ap (λ (s : List ℕ). command.Get at.unit s at.uid) c.in_ok-name.ensures) c.in_ok-reply.ensures) in
     save-after at.unit at.uid at.name c.requires.stands a c.args.number (turn g it host c.args.number at c.requires.stands f)
     (λ t h m. let r = is-shown c.args.number at c.requires.stands f a t h m in (r.1, r.2)) c.save_over.ensures
 

@@ -23,7 +23,7 @@ use Rattle.newt_engine_whole.specs.declared.whole.Whole.{Whole}
 use Rattle.newt_engine_whole.proofs.Found.{known-means, whole-told}
 use Rattle.newt_engine_whole.proofs.Meant.{all-formed}
 use Rattle.newt_engine_whole.proofs.Saving.{IsBase, base-of, change-memory, rest-changed, save-handed, save-over, undone}
-use Rattle.newt_engine_whole.proofs.Shown.{applied-as}
+use Rattle.newt_engine_whole.proofs.Shown.{applied-as, applied-of}
 use Rattle.newt_engine_whole.proofs.Unanswered.{rest-memory}
 use Rattle.newt_engine_whole.proofs.whole.Whole.save_over.Given.{Over}
 use Rattle.newt_engine_whole.proofs.whole.Whole.save_over.Goals as goal
@@ -74,7 +74,7 @@ returns-in_default-reply g c =
     let given = c.in_ok-given.ensures ∙ c.draft-4.ensures in
     save-handed c.args.number c.args.place.now c.in_ok-given.given
     (base g c.args.self.now c.args.host.now c.args.number c.args.time c.args.graph.now c.args.place.now c.requires.stands k c.in-Some.ensures (sym c.based.ensures.value ∙ c.if-not-based.false) c.in_ok-given.given given c.requires.read)
-    c.requires.stands (known g c.args.self.now c.args.host.now c.requires.stands) (undone _ c.in_default-reply.not-Done) c.in_ok-reply.ensures
+    c.requires.stands (known g c.args.self.now c.args.host.now c.requires.stands) (undone _ c.in_default-reply.not-Done) (applied-of (ap (λ (s : List ℕ). command.Change c.args.place.now.unit s c.args.place.now.uid c.in_ok-given.given) c.in_ok-name.ensures) c.in_ok-reply.ensures)
 
 pub returns-in-Done : goal.returns-in-Done
 returns-in-Done g c =
@@ -86,7 +86,7 @@ returns-in-Done g c =
     let minute = c.minute.ensures ∙ ap (λ units. units.minute) c.units.ensures in
     save-over n c.args.place.now c.in_ok-given.given
     (base g c.args.self.now c.args.host.now n c.args.time c.args.graph.now c.args.place.now c.requires.stands k c.in-Some.ensures (sym c.based.ensures.value ∙ c.if-not-based.false) c.in_ok-given.given given c.requires.read)
-    c.requires.stands (known g c.args.self.now c.args.host.now c.requires.stands) k c.in-Some.ensures given (applied-as c.in-Done.is c.in_ok-reply.ensures) refl refl
+    c.requires.stands (known g c.args.self.now c.args.host.now c.requires.stands) k c.in-Some.ensures given (applied-as c.in-Done.is (applied-of (ap (λ (s : List ℕ). command.Change c.args.place.now.unit s c.args.place.now.uid c.in_ok-given.given) c.in_ok-name.ensures) c.in_ok-reply.ensures)) refl refl
     (c.rebase.ensures ∙ (λ i. slice_set works n (option_map (rebased (minute i) (same i)) (copy_at n works)))) c.tell_saved.ensures
 
 -- ---- memory is refused
@@ -112,4 +112,4 @@ returns-in_err-reply g c =
     (g.H.Host.outside c.args.host.now) (g.H.Host.outside c.apply.new.host) r) (sym memory.1)
     (change-memory c.args.number c.args.place.now c.in_ok-given.given
     (base g c.args.self.now c.args.host.now c.args.number c.args.time c.args.graph.now c.args.place.now c.requires.stands k c.in-Some.ensures (sym c.based.ensures.value ∙ c.if-not-based.false) c.in_ok-given.given given c.requires.read)
-    c.requires.stands (known g c.args.self.now c.args.host.now c.requires.stands) memory.0 c.in_err-reply.ensures)
+    c.requires.stands (known g c.args.self.now c.args.host.now c.requires.stands) memory.0 (applied-of (ap (λ (s : List ℕ). command.Change c.args.place.now.unit s c.args.place.now.uid c.in_ok-given.given) c.in_ok-name.ensures) c.in_err-reply.ensures))
