@@ -159,11 +159,15 @@ module _ {C : Type 0} {reads : List ℕ → Option Store} {old new : Whole C} (n
     watches = subst AreKept (sym watches);
     drafts = λ fit m j at. gone-all (λ j. CanBeEntry j.draft) old.works (λ i j on. fit i j (flat-is (slice_get old.works i) ∙ on)) n m j
         (sym (flat-is (slice_get (slice_set old.works n None) m)) ∙ ap (copy_at m) (sym works) ∙ at);
-    answered = λ outside h m. (record h { copies = slice_set h.copies n None }, discard-answered h n k (there-in n old.works h k m.copies there), record {
-      world = subst (λ (w : Engine C). means reads w outside h.world) (sym world) m.world;
-      watches = watches ∙ m.watches;
-      copies = works ∙ ap (λ (ks : List (Option Copy)). slice_set ks n None) m.copies;
-    });
+    answered = λ outside h m. (
+      record h { copies = slice_set h.copies n None },
+      discard-answered h n k (there-in n old.works h k m.copies there),
+      record {
+        world = subst (λ (w : Engine C). means reads w outside h.world) (sym world) m.world;
+        watches = watches ∙ m.watches;
+        copies = works ∙ ap (λ (ks : List (Option Copy)). slice_set ks n None) m.copies;
+      },
+    );
     quiet = λ u. refl;
     memory = λ none. refl;
   }
@@ -215,9 +219,11 @@ module _ {C : Type 0} {reads : List ℕ → Option Store} {old new : Whole C} (n
             world = world;
             watches = subst AreKept (sym watches);
             drafts = subst DraftsFit (sym works);
-            answered = λ outside h m. (h,
+            answered = λ outside h m. (
+              h,
               edit-large h n path g k (there-in n old.works h k m.copies there) raw made x nf within size ∙ ap {B = plain.Whole × replies.Reply} (λ q. (h, q)) (sym says),
-              record { world = subst (λ (w : Engine C). means reads w outside h.world) (sym world) m.world; watches = watches ∙ m.watches; copies = works ∙ m.copies });
+              record { world = subst (λ (w : Engine C). means reads w outside h.world) (sym world) m.world; watches = watches ∙ m.watches; copies = works ∙ m.copies },
+            );
             quiet = quiet (replies.Reply.refused Size) says (λ u. refl);
             memory = λ none. refl;
           }
@@ -226,14 +232,16 @@ module _ {C : Type 0} {reads : List ℕ → Option Store} {old new : Whole C} (n
             watches = subst AreKept (sym watches);
             drafts = λ fit m j at. change-all (λ j. CanBeEntry j.draft) old.works (λ i j on. fit i j (flat-is (slice_get old.works i) ∙ on)) n (edited x)
                 (λ j on. can fit j on) m j (sym (flat-is (slice_get (change_at n (edited x) old.works) m)) ∙ ap (copy_at m) (sym (works ∙ set-change (edited x) old.works n)) ∙ at);
-            answered = λ outside h m. (record h { copies = change_at n (drafted path g) h.copies },
+            answered = λ outside h m. (
+              record h { copies = change_at n (drafted path g) h.copies },
               edit-done h n path g k (there-in n old.works h k m.copies there) raw made x nf within size ∙ ap {B = plain.Whole × replies.Reply} (λ q. (record h { copies = change_at n (drafted path g) h.copies }, q)) (sym says),
               record {
                 world = subst (λ (w : Engine C). means reads w outside h.world) (sym world) m.world;
                 watches = watches ∙ m.watches;
                 copies = works ∙ set-change (edited x) old.works n ∙ ap (change_at n (edited x)) m.copies
                     ∙ change-as (edited x) (drafted path g) h.copies n k (there-in n old.works h k m.copies there) (sym (drafted-is h n path g k (there-in n old.works h k m.copies there) raw made x nf within));
-              });
+              },
+            );
             quiet = quiet replies.Reply.done says (λ u. refl);
             memory = λ none. refl;
           }

@@ -89,11 +89,15 @@ module _ {C : Type 0} {reads : List ℕ → Option Store} {old new : Whole C} wh
     world = world;
     watches = λ ws. (after ws.0, kept ws.0 ws.1);
     drafts = λ fit. subst DraftsFit (sym works) fit;
-    answered = λ outside h m. (record h { watches = after h.watches }, answers h m.watches, record {
-      world = subst (λ (w : Engine C). means reads w outside h.world) (sym world) m.world;
-      watches = kept h.watches m.watches;
-      copies = works ∙ m.copies;
-    });
+    answered = λ outside h m. (
+      record h { watches = after h.watches },
+      answers h m.watches,
+      record {
+        world = subst (λ (w : Engine C). means reads w outside h.world) (sym world) m.world;
+        watches = kept h.watches m.watches;
+        copies = works ∙ m.copies;
+      },
+    );
     quiet = quiet;
     memory = λ none. refl;
   }

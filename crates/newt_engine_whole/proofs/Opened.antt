@@ -200,7 +200,12 @@ module _ {C : Type 0} {reads : List ℕ → Option Store} {place : C → ℕ} {s
                 × means reads mid p h.world × Always (Answering reads h.world (command.Open u s uid) h.world o.now) o.now p.now
             by (inl (r, first, same, says)) = cc
             by (inr (inl (e, first, entry, same, says))) = (
-              e, first, entry, cc, cc, subst (means reads mid p) same there,
+              e,
+              first,
+              entry,
+              cc,
+              cc,
+              subst (means reads mid p) same there,
               as-open reads u uid s o.now p.now h.world h.world (subst (λ (w : World). Always (Answering reads h.world (command.Get u s uid) w o.now) o.now p.now) same moments),
             )
             by (inr (inr (x, next, says))) = cc

@@ -64,11 +64,14 @@ module _ (h : plain.Whole) (n : ℕ) (k : Copy) (there : copy h n ≡ Some k) (s
   revert-answered settled =
       ap {A = Option Copy} (λ o. whole_answered h (command.Revert n) (first_of ((NoCopy, is_none o) ∷ (NoEntry, on_some o (λ k. is_none (living h k))) ∷ []))) there
       ∙ ap {A = Option Spot} (λ o. whole_answered h (command.Revert n) (first_of ((NoEntry, is_none o) ∷ []))) lives
-      ∙ ap {A = Option Command} {B = plain.Whole × replies.Reply} (λ a. (record {
+      ∙ ap {A = Option Command} {B = plain.Whole × replies.Reply} (λ a. (
+        record {
           world = world_after h.world a;
           watches = note_all (events_of h.world a) h.watches;
           copies = change_at n (reverted h) h.copies;
-        }, replies.Reply.done)) revert-asks
+        },
+        replies.Reply.done,
+      )) revert-asks
       ∙ ap {A = World} {B = plain.Whole × replies.Reply} (λ w. (record { world = w; watches = h.watches; copies = change_at n (reverted h) h.copies }, replies.Reply.done)) settled
       ∙ ap {A = List (Option Copy)} {B = plain.Whole × replies.Reply} (λ ks. (record h { copies = ks }, replies.Reply.done))
       (change-as (reverted h) (rebased s.entry.time s.entry.graph) h.copies n k there (ap {A = Option Spot} {B = Copy} (λ o. elim o [ None ↦ k | Some s ↦ rebased s.entry.time s.entry.graph k ]) lives))
@@ -156,9 +159,13 @@ module _ {C : Type 0} {reads : List ℕ → Option Store} {place : C → ℕ} {s
           go (v, turned, there, moments) = by (reads-entry n at h formed k v (replies.Reply.timed time graph) (gets h.world at.unit at.name at.uid v (replies.Reply.timed time graph) m.world.settled turned.step))
             where
               by : Reads n at h k v (replies.Reply.timed time graph) → (time ≡ k.spot.entry.time) × (graph ≡ k.spot.entry.graph) × means reads mid p h.world × Always (Answering reads h.world (command.Revert n) h.world o.now) o.now p.now
-              by (shown same says) = (cc, cc, subst (means reads mid p) same there,
+              by (shown same says) = (
+                cc,
+                cc,
+                subst (means reads mid p) same there,
                 as-other reads h.world h.world (command.Get at.unit at.name at.uid) (command.Revert n) o.now p.now (λ u. refl)
-                    (subst (λ (w : World). Always (Answering reads h.world (command.Get at.unit at.name at.uid) w o.now) o.now p.now) same moments))
+                    (subst (λ (w : World). Always (Answering reads h.world (command.Get at.unit at.name at.uid) w o.now) o.now p.now) same moments),
+              )
               by (failed x next says) = cc
 
       can : IsTrue told → CanBeEntry graph

@@ -59,12 +59,12 @@ module _ (h : plain.Whole) (n : ℕ) (k : Copy) (there : copy h n ≡ Some k) (s
   unfolding whole_answer whole_checks
   save-by =
       ap {A = Option Copy} (λ o. whole_answered h (command.Save n) (first_of (
-        (NoCopy, is_none o) ∷ (NoEntry, on_some o (λ k. is_none (living h k)))
-        ∷ (Changed, on_some o (λ k. on_some (living h k) (λ s. not (is_based s.entry.time s.entry.graph k))))
-        ∷ (Full, on_some o (λ k. on_some (living h k) (λ s. (full h.world s.unit (change_of k s)).1))) ∷ []))) there
+      (NoCopy, is_none o) ∷ (NoEntry, on_some o (λ k. is_none (living h k)))
+      ∷ (Changed, on_some o (λ k. on_some (living h k) (λ s. not (is_based s.entry.time s.entry.graph k))))
+      ∷ (Full, on_some o (λ k. on_some (living h k) (λ s. (full h.world s.unit (change_of k s)).1))) ∷ []))) there
       ∙ ap {A = Option Spot} (λ o. whole_answered h (command.Save n) (first_of (
-        (NoEntry, is_none o) ∷ (Changed, on_some o (λ s. not (is_based s.entry.time s.entry.graph k)))
-        ∷ (Full, on_some o (λ s. (full h.world s.unit (change_of k s)).1)) ∷ []))) lives
+      (NoEntry, is_none o) ∷ (Changed, on_some o (λ s. not (is_based s.entry.time s.entry.graph k)))
+      ∷ (Full, on_some o (λ s. (full h.world s.unit (change_of k s)).1)) ∷ []))) lives
 
   -- the entry is not as the base
   pub save-changed : based ≡ false → whole_answer h (command.Save n) ≡ (h, replies.Reply.changed s.entry.time)
@@ -88,21 +88,27 @@ module _ (h : plain.Whole) (n : ℕ) (k : Copy) (there : copy h n ≡ Some k) (s
       ∙ ap {A = Option Spot} {B = Option Command} (option_map (save_of k)) lives
       ∙ ap {A = Bool} {B = Option Command} (λ b. Some (if b then change_of k s else get_of s)) same
 
-  pub save-done : based ≡ true → is_full ≡ false → whole_answer h (command.Save n) ≡ (record {
-    world = settle (changed h.world (change_of k s));
-    watches = note_all (events h.world (change_of k s)) h.watches;
-    copies = change_at n (λ k. rebased h.world.minute k.draft k) h.copies;
-  }, replies.Reply.done)
+  pub save-done : based ≡ true → is_full ≡ false → whole_answer h (command.Save n) ≡ (
+    record {
+      world = settle (changed h.world (change_of k s));
+      watches = note_all (events h.world (change_of k s)) h.watches;
+      copies = change_at n (λ k. rebased h.world.minute k.draft k) h.copies;
+    },
+    replies.Reply.done,
+  )
   unfolding whole_fields watches_after copies_after
   save-done same room =
       save-by
       ∙ ap {A = Bool} (λ b. whole_answered h (command.Save n) (first_of ((Changed, not b) ∷ (Full, is_full) ∷ []))) same
       ∙ ap {A = Bool} (λ b. whole_answered h (command.Save n) (first_of ((Full, b) ∷ []))) room
-      ∙ ap {A = Option Command} {B = plain.Whole × replies.Reply} (λ a. (record {
-        world = world_after h.world a;
-        watches = note_all (events_of h.world a) h.watches;
-        copies = change_at n (λ k. rebased h.world.minute k.draft k) h.copies;
-      }, replies.Reply.done)) (save-asks same)
+      ∙ ap {A = Option Command} {B = plain.Whole × replies.Reply} (λ a. (
+        record {
+          world = world_after h.world a;
+          watches = note_all (events_of h.world a) h.watches;
+          copies = change_at n (λ k. rebased h.world.minute k.draft k) h.copies;
+        },
+        replies.Reply.done,
+      )) (save-asks same)
 
   -- what is asked one after another
   pub save-turn : asked_in_turn h (command.Save n) ≡ get_of s ∷ (if based then change_of k s ∷ [] else [])

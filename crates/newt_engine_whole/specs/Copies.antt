@@ -45,5 +45,7 @@ PutsCopy old new k reply = MatchOption (position is_none old)
 
 -- the note that the entry at a place was changed
 abbrev pub saved_event : Place → Event
-saved_event place = (place.name,
-    record { kind = Change; unit = place.unit; soup = place.soup; uid = place.uid })
+saved_event place = (
+  place.name,
+  record { kind = Change; unit = place.unit; soup = place.soup; uid = place.uid },
+)

@@ -107,11 +107,7 @@ impl<C: Card> Whole<C> {
     }
 
     /// Gives the entry the draft of its copy, where it is as the copy's base.
-    pub(crate) fn save<H: Host>(
-        &mut self,
-        host: &mut H,
-        number: u8,
-    ) -> Result<Reply, AllocError>
+    pub(crate) fn save<H: Host>(&mut self, host: &mut H, number: u8) -> Result<Reply, AllocError>
         requires stands { Standing C.reads C.place C.stands H.told self.old
             (H.outside host.old) }
         ensures { Applied C.reads C.place C.stands H.told (asked.Save number)
@@ -165,7 +161,8 @@ impl<C: Card> Whole<C> {
         let reply = self.world.apply(host, change)?;
         match reply {
             Reply::Done => {
-                self.works.rebase(number, self.world.units().minute(), base, draft);
+                self.works
+                    .rebase(number, self.world.units().minute(), base, draft);
                 self.tell_saved(place);
                 Ok(Reply::Done)
             }
@@ -187,11 +184,7 @@ impl<C: Card> Whole<C> {
     }
 
     /// Begins a copy anew from its entry as it is.
-    pub(crate) fn revert<H: Host>(
-        &mut self,
-        host: &mut H,
-        number: u8,
-    ) -> Result<Reply, AllocError>
+    pub(crate) fn revert<H: Host>(&mut self, host: &mut H, number: u8) -> Result<Reply, AllocError>
         requires stands { Standing C.reads C.place C.stands H.told self.old
             (H.outside host.old) }
         ensures { Applied C.reads C.place C.stands H.told (asked.Revert number)

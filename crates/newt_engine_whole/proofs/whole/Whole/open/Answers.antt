@@ -80,8 +80,8 @@ returns-in-Timed g c =
     (λ t h m.
     let s = standing-told c.requires.stands.world t in
     let w = world_of g.C.Card.reads it.units o in
-    let k = alias-known w w c.args.unit c.args.uid _ _ c.args.name 
-        (by-units g it.units c.units.result.now (command.Alias c.args.unit c.args.name c.args.uid) (λ x. replies.Reply.alias x.0 x.1 c.args.uid) (Ok c.in-Ok.found) c.units.ensures c.in-Ok.ensures.answered o s.eight s.stand) in
+    let k = alias-known w w c.args.unit c.args.uid _ _ c.args.name
+    (by-units g it.units c.units.result.now (command.Alias c.args.unit c.args.name c.args.uid) (λ x. replies.Reply.alias x.0 x.1 c.args.uid) (Ok c.in-Ok.found) c.units.ensures c.in-Ok.ensures.answered o s.eight s.stand) in
     (k.0, mounted-same (laws g) it.units it.desk o s h.world m.world c.args.unit ∙ k.1, k.2, k.3, soup-same (laws g) it.units it.desk o s h.world m.world c.args.unit c.args.name ∙ k.4, k.5))
     (λ t.
     let s = whole-told c.requires.stands t in
