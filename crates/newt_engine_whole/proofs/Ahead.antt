@@ -1,5 +1,5 @@
 -- What a save reads before it changes the entry.
-use Rattle.std.proofs.Common.{◌≡◌, inl, refl, ap, sym, ◌∙◌, subst, ℕ, List, [], ◌∷◌, Bool, true, IsTrue, Option, Some, if◌then◌else◌}
+use Rattle.std.proofs.Common.{◌≡◌, inl, refl, ap, sym, ◌∙◌, subst, ℕ, List, [], ◌∷◌, Bool, true, IsTrue, Option, if◌then◌else◌}
 use Rattle.std.specs.declared.alloc.AllocError.{AllocError}
 use Rattle.std.specs.Prelude.{Ok}
 use Rattle.newt_graph.specs.Graph.{RawGraph}

@@ -1,5 +1,5 @@
 -- A command that asks nothing of the world.
-use Rattle.std.proofs.Common.{◌≡◌, refl, ap, sym, ◌∙◌, subst, arith, ℕ, ◌+◌, ◌*◌, ◌≤◌, inr, List, length, Bool, true, false, Option, Some, None, option_and_then}
+use Rattle.std.proofs.Common.{◌≡◌, refl, ap, sym, ◌∙◌, subst, arith, ℕ, ◌+◌, ◌*◌, ◌≤◌, inr, List, length, Bool, false, Option, Some, None, option_and_then}
 use Rattle.std.specs.declared.alloc.AllocError.{AllocError}
 use Rattle.std.specs.Prelude.{IfOk, IsOk, OnOk, Result, Ok, Err}
 use Rattle.newt_base.specs.Refusals.{first_of}

@@ -2,7 +2,6 @@
 use Rattle.std.proofs.Common.{◌≡◌, refl, ap, sym, ◌∙◌, subst, ℕ, zero, suc, List, [], ◌∷◌, Bool, true, false, not, Option, Some, None, option_map, option_and_then, unwrap_or, slice_set, nat_lt, MatchBool}
 use Rattle.std.specs.Prelude.{Ok, slice_get, is_none, is_some}
 use Rattle.newt_base.specs.Refusals.{Checks, first_of}
-use Rattle.newt_base.specs.declared.Refusal.{Refusal}
 use Rattle.newt_base.specs.declared.Refusal.TheVariants.{Copy as NoCopy, Limit, Path as NoPath, Size}
 use Rattle.newt_graph.specs.Graph.{RawGraph}
 use Rattle.newt_graph.specs.Meeting.{normal_form}

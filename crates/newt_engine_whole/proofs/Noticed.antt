@@ -1,7 +1,7 @@
 -- A watch is made, asked or taken away.
-use Rattle.std.proofs.Common.{◌≡◌, refl, ap, sym, ◌∙◌, subst, ℕ, List, [], ◌∷◌, Bool, true, false, Option, Some, None, option_map, slice_set}
+use Rattle.std.proofs.Common.{◌≡◌, refl, ap, sym, ◌∙◌, subst, ℕ, List, [], ◌∷◌, true, false, Option, Some, None, option_map, slice_set}
 use Rattle.std.specs.declared.alloc.AllocError.{AllocError}
-use Rattle.std.specs.Prelude.{Result, Ok, Err, is_none, is_some}
+use Rattle.std.specs.Prelude.{Ok, Err, is_none, is_some}
 use Rattle.std.specs.List.{position}
 use Rattle.newt_base.specs.Refusals.{first_of}
 use Rattle.newt_base.specs.declared.Refusal.{Refusal}
@@ -19,7 +19,7 @@ use Rattle.newt_spec_whole.specs.Whole as plain
 use Rattle.newt_spec_whole.specs.Whole.{asks, watch}
 use Rattle.newt_spec_world.specs.Answer.{or_nil}
 use Rattle.newt_spec_world.specs.Reply as replies
-use Rattle.newt_spec_world.specs.World.{change_at, flat}
+use Rattle.newt_spec_world.specs.World.{change_at}
 use Rattle.newt_spec_world.specs.declared.command.Command.{Command}
 use Rattle.newt_spec_world.specs.declared.command.Command.TheVariants as command
 use Rattle.newt_engine.specs.Calls.{IsNotThrown}

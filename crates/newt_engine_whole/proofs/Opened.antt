@@ -1,7 +1,7 @@
 -- An entry is read, and a copy of it is opened.
-use Rattle.std.proofs.Common.{◌≡◌, ◌⊎◌, inl, inr, refl, ap, sym, ◌∙◌, subst, arith, ℕ, ◌+◌, ◌≤◌, List, [], ◌∷◌, Bool, true, false, IsTrue, ◌==◌, Option, Some, None, option_and_then, slice_set}
+use Rattle.std.proofs.Common.{◌≡◌, inl, inr, refl, ap, sym, ◌∙◌, subst, ℕ, ◌+◌, ◌≤◌, List, [], ◌∷◌, Bool, true, false, IsTrue, ◌==◌, Option, Some, None, option_and_then, slice_set}
 use Rattle.std.specs.declared.alloc.AllocError.{AllocError}
-use Rattle.std.specs.Prelude.{IfOk, MatchOption, Result, Ok, Err, is_none, slice_get}
+use Rattle.std.specs.Prelude.{IfOk, MatchOption, Result, Ok, is_none, slice_get}
 use Rattle.std.specs.List.{position}
 use Rattle.newt_base.specs.Refusals.{first_of}
 use Rattle.newt_base.specs.declared.Refusal.{Refusal}

@@ -1,10 +1,9 @@
 -- An entry is given the draft of its copy.
-use Rattle.std.proofs.Common.{arith, ◌≡◌, ◌⊎◌, inl, inr, refl, ap, sym, ◌∙◌, subst, ℕ, ◌+◌, ◌-◌, ◌^◌, ◌≤◌, List, [], ◌∷◌, Bool, true, false, not, IsTrue, Option, Some, None, option_map, option_and_then, slice_set, unwrap_or, if◌then◌else◌, drop}
+use Rattle.std.proofs.Common.{arith, ◌≡◌, ◌⊎◌, inl, inr, refl, ap, sym, ◌∙◌, subst, ℕ, ◌+◌, ◌-◌, ◌^◌, ◌≤◌, List, [], ◌∷◌, Bool, true, false, not, IsTrue, Option, Some, option_map, option_and_then, unwrap_or, if◌then◌else◌, drop}
 use Rattle.std.specs.declared.alloc.AllocError.{AllocError}
 use Rattle.std.specs.Prelude.{IfOk, Result, Ok, Err, is_none, min}
-use Rattle.newt_base.specs.Refusals.{Checks, first_of}
-use Rattle.newt_base.specs.declared.Refusal.{Refusal}
-use Rattle.newt_base.specs.declared.Refusal.TheVariants.{Changed, Copy as NoCopy, Entry as NoEntry, Full, Notframe, Size}
+use Rattle.newt_base.specs.Refusals.{first_of}
+use Rattle.newt_base.specs.declared.Refusal.TheVariants.{Changed, Copy as NoCopy, Entry as NoEntry, Full}
 use Rattle.newt_graph.specs.Graph.{RawGraph}
 use Rattle.newt_host.specs.Moments.{Always, Moment, bytes_after, image}
 use Rattle.newt_host.specs.Outside.{Outside}
@@ -15,9 +14,9 @@ use Rattle.newt_reply.specs.declared.reply.Reply.{Reply}
 use Rattle.newt_reply.specs.declared.reply.Reply.TheVariants as reply
 use Rattle.newt_script_session.specs.Steps.{Stepped}
 use Rattle.newt_spec_graph.proofs.Lists.{both-ways, none-some}
-use Rattle.newt_spec_store.specs.Store.{Soup, Store}
+use Rattle.newt_spec_store.specs.Store.{Store}
 use Rattle.newt_spec_whole.specs.Answer.{copies_after, watches_after, whole_answer, whole_answered, whole_fields, world_after}
-use Rattle.newt_spec_whole.specs.Events.{Event, entry_event, events, events_of, note_all}
+use Rattle.newt_spec_whole.specs.Events.{events, events_of, note_all}
 use Rattle.newt_spec_whole.specs.Refused.{whole_checks}
 use Rattle.newt_spec_whole.specs.Step.{WholeStep}
 use Rattle.newt_spec_whole.specs.Whole as plain
@@ -33,7 +32,7 @@ use Rattle.newt_spec_world.specs.declared.command.Command.{Command}
 use Rattle.newt_spec_world.specs.declared.command.Command.TheVariants as command
 use Rattle.newt_work.specs.Work.{Copy, is_based, rebased}
 use Rattle.newt_laws_steps.specs.Answering.{Answering}
-use Rattle.newt_laws_steps.specs.Thrown.{Failed, Threw}
+use Rattle.newt_laws_steps.specs.Thrown.{Failed}
 use Rattle.newt_engine_card.specs.Bounds.{IsOpenOrSame}
 use Rattle.newt_engine.specs.Calls.{Applied as Inner}
 use Rattle.newt_engine.specs.Standing.{means, stood_for}

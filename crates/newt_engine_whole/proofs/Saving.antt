@@ -1,5 +1,5 @@
 -- The change of a save: it is done, refused for room, or a device failed in it.
-use Rattle.std.proofs.Common.{◌≡◌, ◌⊎◌, inl, inr, refl, ap, sym, ◌∙◌, subst, ℕ, ◌+◌, ◌≤◌, List, [], ◌∷◌, Bool, true, false, not, IsTrue, Option, Some, None, option_map, slice_set, drop, unwrap_or, if◌then◌else◌}
+use Rattle.std.proofs.Common.{◌≡◌, inl, inr, refl, ap, sym, ◌∙◌, subst, ℕ, ◌+◌, ◌≤◌, List, [], ◌∷◌, Bool, true, false, not, IsTrue, Option, Some, option_map, slice_set, drop, unwrap_or, if◌then◌else◌}
 use Rattle.std.specs.declared.alloc.AllocError.{AllocError}
 use Rattle.std.specs.Prelude.{Ok, Err, Result, is_none, slice_get}
 use Rattle.newt_base.specs.Refusals.{Checks, first_of}
@@ -15,13 +15,11 @@ use Rattle.newt_reply.specs.Said.{said}
 use Rattle.newt_reply.specs.declared.reply.Reply.{Reply}
 use Rattle.newt_reply.specs.declared.reply.Reply.TheVariants as reply
 use Rattle.newt_script_session.specs.Steps.{Stepped}
-use Rattle.newt_spec_graph.specs.Graph.{is_frame, object}
 use Rattle.newt_spec_graph.specs.Lists.{Among}
 use Rattle.newt_spec_graph.proofs.Lists.{both-ways, some-same}
-use Rattle.newt_spec_store.specs.Cost.{skeleton_length}
 use Rattle.newt_spec_store.specs.Store.{Soup, Store}
 use Rattle.newt_spec_whole.specs.Answer.{whole_answer}
-use Rattle.newt_spec_whole.specs.Events.{Event, entry_event, events, note_all}
+use Rattle.newt_spec_whole.specs.Events.{Event, events, note_all}
 use Rattle.newt_spec_whole.specs.Step.{WholeStep, whole_thrown}
 use Rattle.newt_spec_whole.specs.Step as wholes
 use Rattle.newt_spec_whole.specs.Whole as plain
@@ -31,12 +29,10 @@ use Rattle.newt_spec_world.specs.Answer.{answer, answered}
 use Rattle.newt_spec_world.specs.Changed.{changed}
 use Rattle.newt_spec_world.specs.Refused.{checks, full, no_entry, no_soup, no_unit, not_mounted}
 use Rattle.newt_spec_world.specs.Reply as replies
-use Rattle.newt_spec_world.specs.Step.{world_thrown}
-use Rattle.newt_spec_world.specs.World.{World, change_at, entry_in, settle, soup_in}
+use Rattle.newt_spec_world.specs.World.{World, change_at, settle}
 use Rattle.newt_spec_world.specs.declared.command.Command.{Command}
 use Rattle.newt_spec_world.specs.declared.command.Command.TheVariants as command
 use Rattle.newt_work.specs.Work.{Copy, copy_at, is_based, rebased}
-use Rattle.newt_laws_world.specs.Named.{IsNamed}
 use Rattle.newt_laws_world.proofs.Units.{has-mounted}
 use Rattle.newt_laws_steps.specs.Answering.{Answering}
 use Rattle.newt_laws_steps.specs.StandsFor.{Obeys, seen}

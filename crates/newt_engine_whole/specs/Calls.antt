@@ -1,5 +1,5 @@
 -- What the whole promises of a command. All of it is this project's own.
-use Rattle.std.specs.Prelude.{◌≡◌, ◌≢◌, ℕ, Bool, true, false, IsTrue, List, Option, None, Result}
+use Rattle.std.specs.Prelude.{◌≡◌, ◌≢◌, ℕ, Bool, true, false, IsTrue, List, Option, Result}
 use Rattle.std.specs.Prelude.{IfOk, IsOk, OnOk, drop}
 use Rattle.std.specs.declared.alloc.AllocError.{AllocError}
 use Rattle.newt_host.specs.Outside.{Outside, OnDevices}

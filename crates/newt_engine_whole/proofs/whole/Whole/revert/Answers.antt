@@ -1,5 +1,5 @@
 -- The entry of the copy is looked up and read, and the copy begins anew from it.
-use Rattle.std.proofs.Common.{◌≡◌, ap, refl, subst, sym, ◌∙◌, ℕ, [], ◌∷◌, List, IsTrue}
+use Rattle.std.proofs.Common.{◌≡◌, ap, refl, subst, sym, ◌∙◌, ℕ, [], ◌∷◌, IsTrue}
 use Rattle.std.specs.Prelude.{Result, true}
 use Rattle.std.specs.declared.alloc.AllocError.{AllocError}
 use Rattle.std.proofs.lemmas.Result.{err_from_is_err_and}
@@ -14,7 +14,6 @@ use Rattle.newt_laws_whole.specs.Runs.{AllFormed}
 use Rattle.newt_laws_whole.proofs.Reading.{revert-nowhere}
 use Rattle.newt_engine_units.proofs.Known.{Laws}
 use Rattle.newt_engine.specs.Laws.{laws_of}
-use Rattle.newt_engine.proofs.Applying.{standing-told}
 use Rattle.newt_engine_whole.specs.Calls.{Applied}
 use Rattle.newt_engine_whole.specs.Copies.{FindsLiving, IsAt}
 use Rattle.newt_engine_whole.specs.Standing.{Means, Standing, known_whole}

@@ -1,5 +1,5 @@
 -- The entry of the copy is looked up and read, and is saved over.
-use Rattle.std.proofs.Common.{◌≡◌, ap, refl, subst, sym, ◌∙◌, ℕ, [], ◌∷◌, List, IsTrue}
+use Rattle.std.proofs.Common.{◌≡◌, ap, refl, subst, sym, ℕ, ◌∷◌, List, IsTrue}
 use Rattle.std.specs.Prelude.{IfOk, IsSome, Result, true}
 use Rattle.std.specs.declared.alloc.AllocError.{AllocError}
 use Rattle.std.proofs.lemmas.Result.{err_from_is_err_and}
