@@ -1,18 +1,23 @@
 -- The world is asked, and then the watches are told.
-use Rattle.std.proofs.Common.{refl, subst, sym, ℕ, IsTrue, Some}
+use Rattle.std.proofs.Common.{◌≡◌, refl, subst, sym, ℕ, IsTrue, Some, true}
 use Rattle.std.specs.Prelude.{IsSome, Result}
 use Rattle.std.specs.declared.alloc.AllocError.{AllocError}
 use Rattle.std.proofs.lemmas.Result.{err_from_is_err_and}
 use Rattle.newt_host.specs.Moments.{MayLeave, changes, image}
 use Rattle.newt_host.proofs.Histories.{history-leaves}
+use Rattle.newt_host.specs.Outside.{Outside}
 use Rattle.newt_reply.specs.declared.reply.Reply.{Reply}
 use Rattle.newt_spec_store.specs.Store.{Store}
 use Rattle.newt_spec_store.specs.Valid.{valid}
+use Rattle.newt_spec_whole.specs.Events.{events}
+use Rattle.newt_spec_world.specs.Reply.{Reply as Plain}
+use Rattle.newt_engine_units.specs.Stands.{Eight, Stands, world_of}
 use Rattle.newt_engine_units.proofs.Known.{Laws}
 use Rattle.newt_engine.specs.Laws.{laws_of}
 use Rattle.newt_engine.proofs.Applying.{standing-told}
 use Rattle.newt_engine_whole.specs.Calls.{Applied}
 use Rattle.newt_engine_whole.specs.Ends.{whole_takes_memory}
+use Rattle.newt_engine_whole.specs.Told.{HasSig, all_due}
 use Rattle.newt_engine_whole.proofs.Asking.{asked-applied, asked-ends, unasked-ends}
 use Rattle.newt_engine_whole.proofs.whole.Whole.ask.Given.{Over}
 use Rattle.newt_engine_whole.proofs.whole.Whole.ask.Goals as goal
@@ -47,4 +52,7 @@ pub returns : goal.returns
 returns g c =
     let o = g.H.Host.outside c.args.host.now in
     let s = c.requires.stands.world in
-    asked-applied (laws g) c.requires.of_world c.requires.stands c.in_ok-due.due (λ t. c.in_ok-due.ensures.due o s.eight (standing-told s t).stand) refl refl c.in_ok-reply.ensures c.tell.ensures
+    let due = subst (λ units. (outside : Outside) → Eight outside → Stands g.C.Card.place g.C.Card.stands true units outside
+        → (r : Plain) → HasSig (world_of g.C.Card.reads units outside) c.args.command r → all_due c.in_ok-due.due r ≡ events (world_of g.C.Card.reads units outside) c.args.command)
+        c.units.ensures c.in_ok-due.ensures.due in
+    asked-applied (laws g) c.requires.of_world c.requires.stands c.in_ok-due.due (λ t. due o s.eight (standing-told s t).stand) refl refl c.in_ok-reply.ensures c.tell.ensures
