@@ -175,3 +175,8 @@ apart-applied {C} {reads} {place} {stands} {told} {c} {old} {new} {o} {result} a
   stepped = λ t h m. apart-stepped reads old new o c h result apart m (a.answered o h m);
   ended = rest-ended reads told old o c result a.memory a.quiet;
 }
+
+-- what is promised of a command is promised of it by its other name
+pub applied-as : {C : Type 0} {reads : List ℕ → Option Store} {place : C → ℕ} {stands : Bool → C → Outside → Type 0} {told : Bool} {c d : Command} {old new : Whole C} {o p : Outside} {result : Result Reply AllocError}
+    → c ≡ d → Applied reads place stands told d old new o p result → Applied reads place stands told c old new o p result
+applied-as {reads = reads} {place} {stands} {told} {old = old} {new} {o} {p} {result} is a = subst (λ (x : Command). Applied reads place stands told x old new o p result) (sym is) a
