@@ -1,7 +1,7 @@
 -- What the whole promises of a command that it asks the world.
-use Rattle.std.proofs.Common.{◌≡◌, refl, ap, sym, ◌∙◌, subst, arith, ℕ, ◌+◌, ◌≤◌, List, [], ◌∷◌, ◌++◌, Bool, true, false, IsTrue, Option, Some, None, option_map, option_and_then, unwrap_or, sum_by}
+use Rattle.std.proofs.Common.{◌≡◌, refl, ap, sym, ◌∙◌, subst, arith, ℕ, ◌≤◌, List, [], ◌∷◌, Bool, true, IsTrue, Option, Some, option_map, option_and_then, unwrap_or}
 use Rattle.std.specs.declared.alloc.AllocError.{AllocError}
-use Rattle.std.specs.Prelude.{IsSome, Result, Ok, Err}
+use Rattle.std.specs.Prelude.{IsSome, Ok, Err}
 use Rattle.newt_host.specs.Moments.{Always, MayLeave, image}
 use Rattle.newt_host.specs.Outside.{Outside}
 use Rattle.newt_notify.specs.Watch.{Watching, kept_all}
@@ -13,7 +13,7 @@ use Rattle.newt_script_session.specs.Steps.{Stepped}
 use Rattle.newt_spec_graph.proofs.Lists.{both-ways}
 use Rattle.newt_spec_store.specs.Store.{Soup, Store, soup_named}
 use Rattle.newt_spec_store.specs.Valid.{valid}
-use Rattle.newt_spec_whole.specs.Events.{Event, add_event, entry_event, events, next_sig, note_all, soup_event, soup_sig}
+use Rattle.newt_spec_whole.specs.Events.{Event, add_event, entry_event, events, next_sig, note_all, soup_event}
 use Rattle.newt_spec_whole.specs.Step.{WholeStep}
 use Rattle.newt_spec_whole.specs.Whole as plain
 use Rattle.newt_spec_world.specs.Answer.{answer, new_uid}

@@ -14,7 +14,6 @@ use Rattle.newt_engine_units.specs.Stands.{Eight, Stands, world_of}
 use Rattle.newt_engine_units.specs.declared.units.Units.{Units}
 use Rattle.newt_engine_units.proofs.Known.{Laws, soup-is, uid-is}
 use Rattle.newt_engine_whole.specs.Told.{HasSig, all_due, event_of, made}
-use Rattle.newt_engine_whole.specs.declared.due.Due.{Due}
 use Rattle.newt_engine_whole.specs.declared.due.Due.TheVariants.{Nothing, Soup, One, Two}
 use Rattle.newt_engine_whole.specs.declared.due.Told.{Told}
 

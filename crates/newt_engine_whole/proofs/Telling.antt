@@ -14,8 +14,8 @@ use Rattle.newt_spec_world.specs.Step.{Step, plain, found, thrown, halfway, look
 use Rattle.newt_spec_world.specs.World.{World, mounted_store, soup_in}
 use Rattle.newt_spec_world.specs.declared.command.Command.{Command}
 use Rattle.newt_spec_world.specs.declared.command.Command.TheVariants as command
-use Rattle.newt_laws_world.proofs.Kept.{AllFalse, all-false, not-none}
-use Rattle.newt_laws_steps.proofs.Replying.{fields_good, is_fault}
+use Rattle.newt_laws_world.proofs.Kept.{all-false}
+use Rattle.newt_laws_steps.proofs.Replying.{is_fault}
 use Rattle.newt_laws_whole.specs.Steps.{has_taken, is_past, notes_behind}
 use Rattle.newt_engine_units.specs.Looks.{next_uid_on}
 use Rattle.newt_engine_units.specs.declared.units.Units.{Units}

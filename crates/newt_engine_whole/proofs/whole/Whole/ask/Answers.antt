@@ -16,7 +16,6 @@ use Rattle.newt_engine_units.proofs.Known.{Laws}
 use Rattle.newt_engine.specs.Laws.{laws_of}
 use Rattle.newt_engine.proofs.Applying.{standing-told}
 use Rattle.newt_engine_whole.specs.Calls.{Applied}
-use Rattle.newt_engine_whole.specs.Ends.{whole_takes_memory}
 use Rattle.newt_engine_whole.specs.Told.{HasSig, all_due}
 use Rattle.newt_engine_whole.proofs.Asking.{asked-applied, asked-ends, unasked-ends}
 use Rattle.newt_engine_whole.proofs.whole.Whole.ask.Given.{Over}
@@ -53,6 +52,6 @@ returns g c =
     let o = g.H.Host.outside c.args.host.now in
     let s = c.requires.stands.world in
     let due = subst (λ units. (outside : Outside) → Eight outside → Stands g.C.Card.place g.C.Card.stands true units outside
-        → (r : Plain) → HasSig (world_of g.C.Card.reads units outside) c.args.command r → all_due c.in_ok-due.due r ≡ events (world_of g.C.Card.reads units outside) c.args.command)
-        c.units.ensures c.in_ok-due.ensures.due in
+    → (r : Plain) → HasSig (world_of g.C.Card.reads units outside) c.args.command r → all_due c.in_ok-due.due r ≡ events (world_of g.C.Card.reads units outside) c.args.command)
+    c.units.ensures c.in_ok-due.ensures.due in
     asked-applied (laws g) c.requires.of_world c.requires.stands c.in_ok-due.due (λ t. due o s.eight (standing-told s t).stand) refl refl c.in_ok-reply.ensures c.tell.ensures

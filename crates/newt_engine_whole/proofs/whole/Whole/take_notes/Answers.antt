@@ -1,6 +1,6 @@
 -- The notes of a watch that is there are taken.
 use Rattle.std.proofs.Common.{List, Option, ap, refl, subst, sym, ◌∙◌}
-use Rattle.std.specs.Prelude.{Result, Err}
+use Rattle.std.specs.Prelude.{Result}
 use Rattle.std.specs.declared.alloc.AllocError.{AllocError}
 use Rattle.std.proofs.lemmas.Result.{err_from_is_err_and}
 use Rattle.newt_notify.specs.Watch.{Kept}
