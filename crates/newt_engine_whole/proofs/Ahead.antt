@@ -1,5 +1,5 @@
 -- What a save reads before it changes the entry.
-use Rattle.std.proofs.Common.{◌≡◌, inl, refl, ap, sym, ◌∙◌, subst, ℕ, List, [], ◌∷◌, Bool, true, IsTrue, Option, Some, if◌then◌else◌}
+use Rattle.std.proofs.Common.{◌≡◌, inl, refl, ap, sym, ◌∙◌, subst, ℕ, List, [], ◌∷◌, Bool, true, IsTrue, Option, if◌then◌else◌}
 use Rattle.std.specs.declared.alloc.AllocError.{AllocError}
 use Rattle.std.specs.Prelude.{Ok}
 use Rattle.newt_graph.specs.Graph.{RawGraph}
@@ -55,8 +55,8 @@ read-same laws it p s h v mh mv copies {n} r =
         soup = i.soup;
         uid = i.uid;
       };
-      time = r.time;
-      graph = r.graph;
+      timed = r.timed;
+      shows = r.shows;
     }
 
 -- what a save asks first
@@ -74,13 +74,13 @@ module _ {C : Type 0} {reads : List ℕ → Option Store} {place : C → ℕ} {s
       → IsRead h n at time graph × means reads mid p h.world × Always (Answering reads h.world (command.Get at.unit at.name at.uid) h.world o.now) o.now p.now
   is-shown {time} {graph} a t h m = go (found t h m) (a.obeyed t h.world m.world)
     where
-      go : AllFormed h.world × IsAt h n at → Obeys {R = Reply} {E = AllocError} reads said (means reads mid p) h.world (command.Get at.unit at.name at.uid) (Ok (reply.Timed time graph)) o.now p.now
+      go : AllFormed h.world × IsAt h n at → Obeys reads {R = Reply} {E = AllocError} said (means reads mid p) h.world (command.Get at.unit at.name at.uid) (Ok (reply.Timed time graph)) o.now p.now
           → IsRead h n at time graph × means reads mid p h.world × Always (Answering reads h.world (command.Get at.unit at.name at.uid) h.world o.now) o.now p.now
       go (formed, i) (v, turned, there, moments) = by (reads-entry n at h formed i v (replies.Reply.timed time graph) (gets h.world at.unit at.name at.uid v (replies.Reply.timed time graph) m.world.settled turned.step))
         where
           by : Reads n at h i v (replies.Reply.timed time graph) → IsRead h n at time graph × means reads mid p h.world × Always (Answering reads h.world (command.Get at.unit at.name at.uid) h.world o.now) o.now p.now
           by (shown same says) = (
-            record { at = i; time = cc; graph = cc },
+            record { at = i; timed = cc; shows = cc },
             subst (means reads mid p) same there,
             subst (λ (w : World). Always (Answering reads h.world (command.Get at.unit at.name at.uid) w o.now) o.now p.now) same moments,
           )
@@ -95,7 +95,7 @@ module _ {C : Type 0} {reads : List ℕ → Option Store} {place : C → ℕ} {s
     ended = reading-ended at.unit at.uid at.name (λ w. refl) refl refl turn a.finished a.finished.open_after;
   }
     where
-      go : (h : plain.Whole) → Means reads old o h → AllFormed h.world × IsAt h n at → Obeys {R = Reply} {E = AllocError} reads said (means reads mid p) h.world (command.Get at.unit at.name at.uid) (Ok it) o.now p.now
+      go : (h : plain.Whole) → Means reads old o h → AllFormed h.world × IsAt h n at → Obeys reads {R = Reply} {E = AllocError} said (means reads mid p) h.world (command.Get at.unit at.name at.uid) (Ok it) o.now p.now
           → Stepped {E = AllocError} WholeStep reads (command.Save n) (Ok it) h (Means reads (record old { world = mid }) p) o.now p.now o.dev_faults p.dev_faults
       go h m (formed, i) (v, turned, there, moments) = by (reads-entry n at h formed i v (said it) (gets h.world at.unit at.name at.uid v (said it) m.world.settled turned.step))
         where

@@ -1,5 +1,5 @@
 -- A command that asks nothing of the world.
-use Rattle.std.proofs.Common.{◌≡◌, refl, ap, sym, ◌∙◌, subst, arith, ℕ, ◌+◌, ◌≤◌, inr, List, Bool, true, false, Option, Some, None, option_and_then}
+use Rattle.std.proofs.Common.{◌≡◌, refl, ap, sym, ◌∙◌, subst, arith, ℕ, ◌+◌, ◌*◌, ◌≤◌, inr, List, length, Bool, false, Option, Some, None, option_and_then}
 use Rattle.std.specs.declared.alloc.AllocError.{AllocError}
 use Rattle.std.specs.Prelude.{IfOk, IsOk, OnOk, Result, Ok, Err}
 use Rattle.newt_base.specs.Refusals.{first_of}
@@ -7,7 +7,7 @@ use Rattle.newt_base.specs.declared.Refusal.{Refusal}
 use Rattle.newt_base.specs.declared.Refusal.TheVariants.{Changed}
 use Rattle.newt_host.specs.Moments.{Always, here}
 use Rattle.newt_host.specs.Outside.{Outside}
-use Rattle.newt_host.proofs.Outside.{OnDevices-refl}
+use Rattle.newt_host.proofs.Outside.{OnDevices-refl, Wears-refl, Wears-widen}
 use Rattle.newt_reply.specs.Said.{said}
 use Rattle.newt_reply.specs.declared.reply.Reply.{Reply}
 use Rattle.newt_script_session.specs.Steps.{Stepped}
@@ -33,7 +33,6 @@ use Rattle.newt_laws_steps.specs.Answering.{Answering}
 use Rattle.newt_laws_steps.specs.StandsFor.{Marks, StandsFor}
 use Rattle.newt_laws_steps.proofs.Held.{stands-left}
 use Rattle.newt_laws_world.specs.Worlds.{is_plain}
-use Rattle.newt_engine_units.proofs.Costs.{alone-bound, alone-refl}
 use Rattle.newt_engine.specs.Calls.{IsNotThrown}
 use Rattle.newt_engine.specs.Standing.{IsStanding, marks_of}
 use Rattle.newt_engine.specs.declared.world.World.{World as Engine}
@@ -153,11 +152,11 @@ no-more : (a b : ℕ) → a ≤ a + b
 no-more a b = omega arith
 
 -- nothing happens to the devices
-pub rest-ended : {C : Type 0} (reads : List ℕ → Option Store) (told : Bool) (old : Whole C) (o : Outside) (c : Command) (result : Result Reply AllocError) → (whole_takes_memory c ≡ false → IsOk result)
-    → IfOk result (λ it. IsNotThrown it) → Ended reads told c old o o result
-rest-ended reads told old o c result memory quiet = record {
+pub rest-ended : {C : Type 0} (reads : List ℕ → Option Store) (told : Bool) (old : Whole C) (o : Outside) (c : Command) {asked : List Command} (result : Result Reply AllocError) → (whole_takes_memory c ≡ false → IsOk result)
+    → IfOk result (λ it. IsNotThrown it) → Ended reads told c asked old o o result
+rest-ended reads told old o c {asked} result memory quiet = record {
   alone = OnDevices-refl o;
-  bound = λ t other u. alone-bound _ (alone-refl u o);
+  bound = λ t other u. record { programmed = λ room. no-more (o.programmed u) _; wears = λ room. Wears-widen 0 0 0 (2 * length asked) (omega arith) (omega arith) (Wears-refl u o) };
   fetched = λ t means u room. no-more (o.fetched u) _;
   step = λ t unread u. no-more (o.fetched u) _;
   open_after = λ t. each_ok result (λ it u other. inr refl);
@@ -176,3 +175,8 @@ apart-applied {C} {reads} {place} {stands} {told} {c} {old} {new} {o} {result} a
   stepped = λ t h m. apart-stepped reads old new o c h result apart m (a.answered o h m);
   ended = rest-ended reads told old o c result a.memory a.quiet;
 }
+
+-- what is promised of a command is promised of it by its other name
+pub applied-as : {C : Type 0} {reads : List ℕ → Option Store} {place : C → ℕ} {stands : Bool → C → Outside → Type 0} {told : Bool} {c d : Command} {old new : Whole C} {o p : Outside} {result : Result Reply AllocError}
+    → c ≡ d → Applied reads place stands told d old new o p result → Applied reads place stands told c old new o p result
+applied-as {reads = reads} {place} {stands} {told} {old = old} {new} {o} {p} {result} is a = subst (λ (x : Command). Applied reads place stands told x old new o p result) (sym is) a

@@ -1,8 +1,8 @@
 -- What the whole promises of a command that it asks the world.
-use Rattle.std.proofs.Common.{◌≡◌, refl, ap, sym, ◌∙◌, subst, arith, ℕ, ◌+◌, ◌≤◌, List, [], ◌∷◌, ◌++◌, Bool, true, false, IsTrue, Option, Some, None, option_map, option_and_then, unwrap_or, sum_by}
+use Rattle.std.proofs.Common.{◌≡◌, refl, ap, sym, ◌∙◌, subst, arith, ℕ, ◌≤◌, List, [], ◌∷◌, Bool, true, IsTrue, Option, Some, option_map, option_and_then, unwrap_or}
 use Rattle.std.specs.declared.alloc.AllocError.{AllocError}
-use Rattle.std.specs.Prelude.{IsSome, Result, Ok, Err}
-use Rattle.newt_host.specs.Moments.{MayLeave, image}
+use Rattle.std.specs.Prelude.{IsSome, Ok, Err}
+use Rattle.newt_host.specs.Moments.{Always, MayLeave, image}
 use Rattle.newt_host.specs.Outside.{Outside}
 use Rattle.newt_notify.specs.Watch.{Watching, kept_all}
 use Rattle.newt_notify.specs.declared.note.Kind.{Kind}
@@ -13,7 +13,7 @@ use Rattle.newt_script_session.specs.Steps.{Stepped}
 use Rattle.newt_spec_graph.proofs.Lists.{both-ways}
 use Rattle.newt_spec_store.specs.Store.{Soup, Store, soup_named}
 use Rattle.newt_spec_store.specs.Valid.{valid}
-use Rattle.newt_spec_whole.specs.Events.{Event, add_event, entry_event, events, next_sig, note_all, soup_event, soup_sig}
+use Rattle.newt_spec_whole.specs.Events.{Event, add_event, entry_event, events, next_sig, note_all, soup_event}
 use Rattle.newt_spec_whole.specs.Step.{WholeStep}
 use Rattle.newt_spec_whole.specs.Whole as plain
 use Rattle.newt_spec_world.specs.Answer.{answer, new_uid}
@@ -22,6 +22,7 @@ use Rattle.newt_spec_world.specs.Step.{Step}
 use Rattle.newt_spec_world.specs.World.{World, default_unit, mounted_store, soup_in}
 use Rattle.newt_spec_world.specs.declared.command.Command.{Command}
 use Rattle.newt_spec_world.specs.declared.command.Command.TheVariants as command
+use Rattle.newt_laws_steps.specs.Answering.{Answering}
 use Rattle.newt_laws_steps.specs.StandsFor.{Obeys, seen}
 use Rattle.newt_laws_steps.specs.Thrown.{Failed, Threw}
 use Rattle.newt_laws_steps.proofs.Seen.{seen-step}
@@ -101,7 +102,7 @@ module _ {C : Type 0} {reads : List ℕ → Option Store} {place : C → ℕ} {s
 -- ---- a step
 
 pub asked-step : {C : Type 0} (reads : List ℕ → Option Store) (old new : Whole C) (o p : Outside) (c : Command) (h : plain.Whole) (it : Reply) (notes : List Event) → is_plain c ≡ true → Means reads old o h
-    → Obeys {R = Reply} {E = AllocError} reads said (means reads new.world p) h.world c (Ok it) o.now p.now
+    → Obeys reads {R = Reply} {E = AllocError} said (means reads new.world p) h.world c (Ok it) o.now p.now
     → ((v : World) → Step h.world c v (said it) → means reads new.world p v → notes ≡ notes_behind h.world c v (said it))
     → ((watches : List (Option Watching)) → old.watches ≡ kept_all watches → new.watches ≡ kept_all (note_all notes watches)) → new.works ≡ old.works
     → Threw (said it) o.dev_faults p.dev_faults → Failed (said it) o.dev_faults p.dev_faults
@@ -126,7 +127,7 @@ asked-step reads old new o p c h it notes plain m (v, turned, stands, moments) t
 -- it was not answered, for want of memory
 pub asked-memory : {C : Type 0} (reads : List ℕ → Option Store) (old : Whole C) (o p : Outside) (c : Command) (h : plain.Whole) (error : AllocError) (After : plain.Whole → Type 0) → is_plain c ≡ true → Means reads old o h
     → ((u : ℕ) → IsSome (o.card u) → MayLeave u o.now (image u o.now)) → ((u : ℕ) (s : Store) → IsSome (o.card u) → reads (image u o.now) ≡ Some s → IsTrue (valid (o.blocks u) s))
-    → {P : World → Type 0} → Obeys {R = Reply} {E = AllocError} reads said P h.world c (Err error) o.now p.now → ((u : ℕ) → o.dev_faults u ≤ p.dev_faults u)
+    → Always (Answering reads h.world c (answer (seen reads h.world o.now c) c).0 o.now) o.now p.now → ((u : ℕ) → o.dev_faults u ≤ p.dev_faults u)
     → Stepped {E = AllocError} WholeStep reads c (Err error) h After o.now p.now o.dev_faults p.dev_faults
 asked-memory reads old o p c h error After plain m may good moments later =
     let a = answer (seen reads h.world o.now c) c in record {
@@ -154,7 +155,7 @@ module _ {C : Type 0} {reads : List ℕ → Option Store} {place : C → ℕ} {s
       drafts = λ t. subst DraftsFit (sym (tells.works ∙ works)) (begun.drafts t);
     };
     stepped = λ t h m. asked-step reads old new o p c h it (due_told soups mid.world.units due (said it)) itself m
-        (subst (λ (w : Engine C). Obeys {R = Reply} {E = AllocError} reads said (means reads w p) h.world c (Ok it) o.now p.now) (sym tells.world) (a.obeyed t h.world m.world))
+        (subst (λ (w : Engine C). Obeys reads {R = Reply} {E = AllocError} said (means reads w p) h.world c (Ok it) o.now p.now) (sym tells.world) (a.obeyed t h.world m.world))
         (λ v step there. told-behind laws old.world mid.world o p (standing-told begun.world t) (standing-told a.stands t) c due (is t) h.world v (said it) m.world
         (subst (λ (w : Engine C). means reads w p v) tells.world there) step)
         (λ ws kept. tells.watches ws (watches ∙ kept)) (tells.works ∙ works) a.finished.threw a.finished.failed;
@@ -164,7 +165,7 @@ module _ {C : Type 0} {reads : List ℕ → Option Store} {place : C → ℕ} {s
   module _ (may : IsTrue told → (u : ℕ) → IsSome (o.card u) → MayLeave u o.now (image u o.now))
       (good : IsTrue told → (u : ℕ) (s : Store) → IsSome (o.card u) → reads (image u o.now) ≡ Some s → IsTrue (valid (o.blocks u) s)) where
     -- memory was refused in the world
-    pub asked-ends : {mid new : Whole C} {p : Outside} (error : AllocError) → Inner reads place stands told c old.world mid.world o p (Err error) → Applied reads place stands told c old new o p (Err error)
+    pub asked-ends : {mid : Engine C} {new : Whole C} {p : Outside} (error : AllocError) → Inner reads place stands told c old.world mid o p (Err error) → Applied reads place stands told c old new o p (Err error)
     asked-ends {mid} {new} {p} error a = record {
       stands = tt;
       stepped = λ t h m. asked-memory reads old o p c h error (Means reads new p) itself m (may t) (good t) (a.obeyed t h.world m.world) a.finished.later;

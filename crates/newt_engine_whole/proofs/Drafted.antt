@@ -1,8 +1,7 @@
 -- A draft is shown, edited or discarded.
-use Rattle.std.proofs.Common.{◌≡◌, refl, ap, sym, ◌∙◌, subst, ℕ, zero, suc, List, [], ◌∷◌, Bool, true, false, not, Option, Some, None, option_map, option_and_then, unwrap_or, slice_set, if◌then◌else◌, nat_lt}
+use Rattle.std.proofs.Common.{◌≡◌, refl, ap, sym, ◌∙◌, subst, ℕ, zero, suc, List, [], ◌∷◌, Bool, true, false, not, Option, Some, None, option_map, option_and_then, unwrap_or, slice_set, nat_lt, MatchBool}
 use Rattle.std.specs.Prelude.{Ok, slice_get, is_none, is_some}
 use Rattle.newt_base.specs.Refusals.{Checks, first_of}
-use Rattle.newt_base.specs.declared.Refusal.{Refusal}
 use Rattle.newt_base.specs.declared.Refusal.TheVariants.{Copy as NoCopy, Limit, Path as NoPath, Size}
 use Rattle.newt_graph.specs.Graph.{RawGraph}
 use Rattle.newt_graph.specs.Meeting.{normal_form}
@@ -69,7 +68,7 @@ module _ (h : plain.Whole) (n : ℕ) where
 
   draft-none : copy h n ≡ None → whole_answer h (command.Draft n) ≡ (h, replies.Reply.refused NoCopy)
   unfolding whole_answer whole_checks
-  draft-none no = ap {A = Option Copy} (λ o. whole_answered h (command.Draft n) (first_of ((NoCopy, is_none o) ∷ []))) no
+  draft-none lacks = ap {A = Option Copy} (λ o. whole_answered h (command.Draft n) (first_of ((NoCopy, is_none o) ∷ []))) lacks
 
   discard-answered : (k : Copy) → copy h n ≡ Some k → whole_answer h (command.Discard n) ≡ (record h { copies = slice_set h.copies n None }, replies.Reply.done)
   unfolding whole_answer whole_checks whole_fields watches_after copies_after asks
@@ -77,16 +76,16 @@ module _ (h : plain.Whole) (n : ℕ) where
 
   discard-none : copy h n ≡ None → whole_answer h (command.Discard n) ≡ (h, replies.Reply.refused NoCopy)
   unfolding whole_answer whole_checks
-  discard-none no = ap {A = Option Copy} (λ o. whole_answered h (command.Discard n) (first_of ((NoCopy, is_none o) ∷ []))) no
+  discard-none lacks = ap {A = Option Copy} (λ o. whole_answered h (command.Discard n) (first_of ((NoCopy, is_none o) ∷ []))) lacks
 
   module _ (path : Path) (g : RawGraph) where
-    tests : Option Copy → Checks
+    abbrev tests : Option Copy → Checks
     tests o = (NoCopy, is_none o) ∷ (NoPath, on_some o (λ k. is_none (draft_with path g k)))
         ∷ (Limit, on_some o (λ k. on_some (draft_with path g k) (λ r. not (is_within (normal_form r)))))
         ∷ (Size, on_some o (λ k. nat_lt 64_000 (skeleton_length (drafted path g k).draft))) ∷ []
 
     -- those of a copy, by what is made and whether it is too large
-    rest : Option RawGraph → Bool → Checks
+    abbrev rest : Option RawGraph → Bool → Checks
     rest made large = (NoPath, is_none made) ∷ (Limit, on_some made (λ r. not (is_within (normal_form r)))) ∷ (Size, large) ∷ []
 
     edit-by : (o : Option Copy) → copy h n ≡ o → whole_answer h (command.Edit n path g) ≡ whole_answered h (command.Edit n path g) (first_of (tests o))
@@ -94,10 +93,10 @@ module _ (h : plain.Whole) (n : ℕ) where
     edit-by o there = ap {A = Option Copy} (λ o. whole_answered h (command.Edit n path g) (first_of (tests o))) there
 
     edit-none : copy h n ≡ None → whole_answer h (command.Edit n path g) ≡ (h, replies.Reply.refused NoCopy)
-    edit-none no = edit-by None no
+    edit-none lacks = edit-by None lacks
 
     module _ (k : Copy) (there : copy h n ≡ Some k) where
-      large : Bool
+      abbrev large : Bool
       large = nat_lt 64_000 (skeleton_length (drafted path g k).draft)
 
       edit-nowhere : put k.draft path g ≡ None → whole_answer h (command.Edit n path g) ≡ (h, replies.Reply.refused NoPath)
@@ -132,25 +131,25 @@ module _ (h : plain.Whole) (n : ℕ) where
 
 -- ---- what is promised
 
+at-copies : (n : ℕ) (works : List (Option Copy)) (h : plain.Whole) → works ≡ h.copies → copy_at n works ≡ copy h n
+at-copies n works h copies = ap (copy_at n) copies ∙ flat-is (slice_get h.copies n)
+
+there-in : (n : ℕ) (works : List (Option Copy)) (h : plain.Whole) (k : Copy) → works ≡ h.copies → Some k ≡ copy_at n works → copy h n ≡ Some k
+there-in n works h k copies there = sym (at-copies n works h copies) ∙ sym there
+
 module _ {C : Type 0} {reads : List ℕ → Option Store} {old new : Whole C} (n : ℕ) where
-  at-copies : (h : plain.Whole) → old.works ≡ h.copies → copy_at n old.works ≡ copy h n
-  at-copies h copies = ap (copy_at n) copies ∙ flat-is (slice_get h.copies n)
-
-  there-in : (h : plain.Whole) (k : Copy) → old.works ≡ h.copies → Some k ≡ copy_at n old.works → copy h n ≡ Some k
-  there-in h k copies there = sym (at-copies h copies) ∙ sym there
-
   pub shown : (k : Copy) → Some k ≡ copy_at n old.works → new ≡ old → AnsweredApart reads (command.Draft n) old new (Ok (reply.Literal k.draft))
   shown k there same = record {
     world = ap (λ (x : Whole C). x.world) same;
     watches = subst (λ (x : Whole C). AreKept x.watches) (sym same);
     drafts = subst (λ (x : Whole C). DraftsFit x.works) (sym same);
-    answered = λ outside h m. (h, draft-answered h n k (there-in h k m.copies there), subst (λ (x : Whole C). Means reads x outside h) (sym same) m);
+    answered = λ outside h m. (h, draft-answered h n k (there-in n old.works h k m.copies there), subst (λ (x : Whole C). Means reads x outside h) (sym same) m);
     quiet = λ u. refl;
     memory = λ none. refl;
   }
 
   pub none-shown : new ≡ old → copy_at n old.works ≡ None → AnsweredApart reads (command.Draft n) old new (Ok (reply.Refused NoCopy))
-  none-shown same no = apart-refused (command.Draft n) NoCopy same (λ h kept copies. draft-none h n (sym (at-copies h copies) ∙ no))
+  none-shown same lacks = apart-refused (command.Draft n) NoCopy same (λ h kept copies. draft-none h n (sym (at-copies n old.works h copies) ∙ lacks))
 
   pub discarded : (k : Copy) → Some k ≡ copy_at n old.works → new.world ≡ old.world → new.watches ≡ old.watches → new.works ≡ slice_set old.works n None
       → AnsweredApart reads (command.Discard n) old new (Ok reply.Done)
@@ -159,47 +158,51 @@ module _ {C : Type 0} {reads : List ℕ → Option Store} {old new : Whole C} (n
     watches = subst AreKept (sym watches);
     drafts = λ fit m j at. gone-all (λ j. CanBeEntry j.draft) old.works (λ i j on. fit i j (flat-is (slice_get old.works i) ∙ on)) n m j
         (sym (flat-is (slice_get (slice_set old.works n None) m)) ∙ ap (copy_at m) (sym works) ∙ at);
-    answered = λ outside h m. (record h { copies = slice_set h.copies n None }, discard-answered h n k (there-in h k m.copies there), record {
-      world = subst (λ (w : Engine C). means reads w outside h.world) (sym world) m.world;
-      watches = watches ∙ m.watches;
-      copies = works ∙ ap (λ (ks : List (Option Copy)). slice_set ks n None) m.copies;
-    });
+    answered = λ outside h m. (
+      record h { copies = slice_set h.copies n None },
+      discard-answered h n k (there-in n old.works h k m.copies there),
+      record {
+        world = subst (λ (w : Engine C). means reads w outside h.world) (sym world) m.world;
+        watches = watches ∙ m.watches;
+        copies = works ∙ ap (λ (ks : List (Option Copy)). slice_set ks n None) m.copies;
+      },
+    );
     quiet = λ u. refl;
     memory = λ none. refl;
   }
 
   -- the same, by what was found at its number
-  pub discarded-there : {X : Type 0} {f : X → Copy} {o : Option X} → copy_at n old.works ≡ option_map f o → is_some o ≡ true → new.world ≡ old.world → new.watches ≡ old.watches → new.works ≡ slice_set old.works n None
+  pub discarded-there : {X : Type 0} (f : X → Copy) (o : Option X) → copy_at n old.works ≡ option_map f o → is_some o ≡ true → new.world ≡ old.world → new.watches ≡ old.watches → new.works ≡ slice_set old.works n None
       → AnsweredApart reads (command.Discard n) old new (Ok reply.Done)
-  discarded-there {X} {f} {o} is some world watches works = go o is some
+  discarded-there {X} f o is some world watches works = go o is some
     where
       go : (o : Option X) → copy_at n old.works ≡ option_map f o → is_some o ≡ true → AnsweredApart reads (command.Discard n) old new (Ok reply.Done)
       go None is some = absurd (both-ways some)
       go (Some x) is some = discarded (f x) (sym is) world watches works
 
   pub none-discarded : new ≡ old → copy_at n old.works ≡ None → AnsweredApart reads (command.Discard n) old new (Ok (reply.Refused NoCopy))
-  none-discarded same no = apart-refused (command.Discard n) NoCopy same (λ h kept copies. discard-none h n (sym (at-copies h copies) ∙ no))
+  none-discarded same lacks = apart-refused (command.Discard n) NoCopy same (λ h kept copies. discard-none h n (sym (at-copies n old.works h copies) ∙ lacks))
 
   -- ---- an edit
 
   module _ (path : Path) (g : RawGraph) where
     pub none-edited : new ≡ old → copy_at n old.works ≡ None → AnsweredApart reads (command.Edit n path g) old new (Ok (reply.Refused NoCopy))
-    none-edited same no = apart-refused (command.Edit n path g) NoCopy same (λ h kept copies. edit-none h n path g (sym (at-copies h copies) ∙ no))
+    none-edited same lacks = apart-refused (command.Edit n path g) NoCopy same (λ h kept copies. edit-none h n path g (sym (at-copies n old.works h copies) ∙ lacks))
 
     module _ (k : Copy) (there : Some k ≡ copy_at n old.works) where
       pub no-path : new ≡ old → put k.draft path g ≡ None → AnsweredApart reads (command.Edit n path g) old new (Ok (reply.Refused NoPath))
-      no-path same none = apart-refused (command.Edit n path g) NoPath same (λ h kept copies. edit-nowhere h n path g k (there-in h k copies there) none)
+      no-path same none = apart-refused (command.Edit n path g) NoPath same (λ h kept copies. edit-nowhere h n path g k (there-in n old.works h k copies there) none)
 
       pub past-limit : new ≡ old → PassesALimit (put k.draft path g) → AnsweredApart reads (command.Edit n path g) old new (Ok (reply.Refused Limit))
-      past-limit same passes = apart-refused (command.Edit n path g) Limit same (λ h kept copies. go h (there-in h k copies there) (put k.draft path g) refl passes)
+      past-limit same passes = apart-refused (command.Edit n path g) Limit same (λ h kept copies. go h (there-in n old.works h k copies there) (put k.draft path g) refl passes)
         where
           go : (h : plain.Whole) → copy h n ≡ Some k → (o : Option RawGraph) → put k.draft path g ≡ o → PassesALimit o → whole_answer h (command.Edit n path g) ≡ (h, replies.Reply.refused Limit)
           go h at None made passes = absurd passes
           go h at (Some raw) made passes = edit-past h n path g k at raw made passes.1
 
       pub edit-put : (x : RawGraph) (r : Reply) → IsFormOf (put k.draft path g) x → new.world ≡ old.world → new.watches ≡ old.watches
-          → (if nat_lt 64_000 (skeleton_length x) then (said r ≡ replies.Reply.refused Size) × (new.works ≡ old.works)
-          else (said r ≡ replies.Reply.done) × (new.works ≡ slice_set old.works n (option_map (edited x) (copy_at n old.works))))
+          → MatchBool (nat_lt 64_000 (skeleton_length x)) ((said r ≡ replies.Reply.refused Size) × (new.works ≡ old.works))
+          ((said r ≡ replies.Reply.done) × (new.works ≡ slice_set old.works n (option_map (edited x) (copy_at n old.works))))
           → AnsweredApart reads (command.Edit n path g) old new (Ok r)
       edit-put x r form world watches is =
           let f = raw-of x (put k.draft path g) form in
@@ -209,15 +212,17 @@ module _ {C : Type 0} {reads : List ℕ → Option Store} {old new : Whole C} (n
           quiet q is none u = ap (throws u) is ∙ none u
 
           go : (raw : RawGraph) → put k.draft path g ≡ Some raw → normal_form raw ≡ Some x → within_limits x ≡ true → (b : Bool) → nat_lt 64_000 (skeleton_length x) ≡ b
-              → (if b then (said r ≡ replies.Reply.refused Size) × (new.works ≡ old.works) else (said r ≡ replies.Reply.done) × (new.works ≡ slice_set old.works n (option_map (edited x) (copy_at n old.works))))
+              → MatchBool b ((said r ≡ replies.Reply.refused Size) × (new.works ≡ old.works)) ((said r ≡ replies.Reply.done) × (new.works ≡ slice_set old.works n (option_map (edited x) (copy_at n old.works))))
               → AnsweredApart reads (command.Edit n path g) old new (Ok r)
           go raw made nf within true size (says, works) = record {
             world = world;
             watches = subst AreKept (sym watches);
             drafts = subst DraftsFit (sym works);
-            answered = λ outside h m. (h,
-              edit-large h n path g k (there-in h k m.copies there) raw made x nf within size ∙ ap {B = plain.Whole × replies.Reply} (λ q. (h, q)) (sym says),
-              record { world = subst (λ (w : Engine C). means reads w outside h.world) (sym world) m.world; watches = watches ∙ m.watches; copies = works ∙ m.copies });
+            answered = λ outside h m. (
+              h,
+              edit-large h n path g k (there-in n old.works h k m.copies there) raw made x nf within size ∙ ap {B = plain.Whole × replies.Reply} (λ q. (h, q)) (sym says),
+              record { world = subst (λ (w : Engine C). means reads w outside h.world) (sym world) m.world; watches = watches ∙ m.watches; copies = works ∙ m.copies },
+            );
             quiet = quiet (replies.Reply.refused Size) says (λ u. refl);
             memory = λ none. refl;
           }
@@ -226,14 +231,16 @@ module _ {C : Type 0} {reads : List ℕ → Option Store} {old new : Whole C} (n
             watches = subst AreKept (sym watches);
             drafts = λ fit m j at. change-all (λ j. CanBeEntry j.draft) old.works (λ i j on. fit i j (flat-is (slice_get old.works i) ∙ on)) n (edited x)
                 (λ j on. can fit j on) m j (sym (flat-is (slice_get (change_at n (edited x) old.works) m)) ∙ ap (copy_at m) (sym (works ∙ set-change (edited x) old.works n)) ∙ at);
-            answered = λ outside h m. (record h { copies = change_at n (drafted path g) h.copies },
-              edit-done h n path g k (there-in h k m.copies there) raw made x nf within size ∙ ap {B = plain.Whole × replies.Reply} (λ q. (record h { copies = change_at n (drafted path g) h.copies }, q)) (sym says),
+            answered = λ outside h m. (
+              record h { copies = change_at n (drafted path g) h.copies },
+              edit-done h n path g k (there-in n old.works h k m.copies there) raw made x nf within size ∙ ap {B = plain.Whole × replies.Reply} (λ q. (record h { copies = change_at n (drafted path g) h.copies }, q)) (sym says),
               record {
                 world = subst (λ (w : Engine C). means reads w outside h.world) (sym world) m.world;
                 watches = watches ∙ m.watches;
                 copies = works ∙ set-change (edited x) old.works n ∙ ap (change_at n (edited x)) m.copies
-                    ∙ change-as (edited x) (drafted path g) h.copies n k (there-in h k m.copies there) (sym (drafted-is h n path g k (there-in h k m.copies there) raw made x nf within));
-              });
+                    ∙ change-as (edited x) (drafted path g) h.copies n k (there-in n old.works h k m.copies there) (sym (drafted-is h n path g k (there-in n old.works h k m.copies there) raw made x nf within));
+              },
+            );
             quiet = quiet replies.Reply.done says (λ u. refl);
             memory = λ none. refl;
           }

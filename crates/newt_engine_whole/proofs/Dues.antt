@@ -1,5 +1,5 @@
 -- The notes that are due of a command are its events.
-use Rattle.std.proofs.Common.{◌≡◌, refl, ap, sym, ◌∙◌, subst, ℕ, List, [], ◌∷◌, true, Option, unwrap_or}
+use Rattle.std.proofs.Common.{◌≡◌, refl, ap, sym, ◌∙◌, subst, ℕ, List, [], ◌∷◌, true, Bool, Option, unwrap_or}
 use Rattle.newt_host.specs.Outside.{Outside}
 use Rattle.newt_notify.specs.declared.note.Kind.{Kind}
 use Rattle.newt_notify.specs.declared.note.Kind.TheVariants.{Add}
@@ -14,20 +14,19 @@ use Rattle.newt_engine_units.specs.Stands.{Eight, Stands, world_of}
 use Rattle.newt_engine_units.specs.declared.units.Units.{Units}
 use Rattle.newt_engine_units.proofs.Known.{Laws, soup-is, uid-is}
 use Rattle.newt_engine_whole.specs.Told.{HasSig, all_due, event_of, made}
-use Rattle.newt_engine_whole.specs.declared.due.Due.{Due}
 use Rattle.newt_engine_whole.specs.declared.due.Due.TheVariants.{Nothing, Soup, One, Two}
 use Rattle.newt_engine_whole.specs.declared.due.Told.{Told}
 
-module _ {C : Type 0} {reads : List ℕ → Option Store} {place : C → ℕ} {soups : C → Store} {stands : _} (laws : Laws reads place soups stands) (units : Units C) (o : Outside) (eight : Eight o) (stand : Stands place stands true units o) where
+module _ {C : Type 0} {reads : List ℕ → Option Store} {place : C → ℕ} {soups : C → Store} {stands : Bool → C → Outside → Type 0} (laws : Laws reads place soups stands) (units : Units C) (o : Outside) (eight : Eight o) (stand : Stands place stands true units o) where
   -- the signature and the id are those of the world that is known
-  pub entry-due : (kind : Kind) (u : ℕ) (name : List ℕ) (uid : ℕ) (told : Told) → told ≡ record { name = name; note = record { kind = kind; unit = u; soup = unwrap_or (soup_on soups units u name) 0; uid = uid } }
-      → event_of told ≡ entry_event (world_of reads units o) kind u name uid
-  entry-due kind u name uid told is =
-      ap event_of is
-      ∙ ap {A = Option ℕ} {B = Event} (λ n. (name, record { kind = kind; unit = u; soup = unwrap_or n 0; uid = uid })) (sym (soup-is laws units o eight stand u name))
+  pub entry-due : (kind : Kind) (u : ℕ) (name : List ℕ) (uid : ℕ) (given : List ℕ) (soup : ℕ) → given ≡ name → soup ≡ unwrap_or (soup_on soups units u name) 0
+      → event_of (record { name = given; note = record { kind = kind; unit = u; soup = soup; uid = uid } }) ≡ entry_event (world_of reads units o) kind u name uid
+  entry-due kind u name uid given soup same is =
+      ap {A = List ℕ} {B = Event} (λ n. (n, record { kind = kind; unit = u; soup = soup; uid = uid })) same
+      ∙ ap {A = ℕ} {B = Event} (λ n. (name, record { kind = kind; unit = u; soup = n; uid = uid })) (is ∙ ap (λ (n : Option ℕ). unwrap_or n 0) (sym (soup-is laws units o eight stand u name)))
 
-  pub add-due : (u : ℕ) (name : List ℕ) (e : Event) → e ≡ entry_event (world_of reads units o) Add u name (unwrap_or (next_uid_on soups units u name) 0) → e ≡ add_event (world_of reads units o) u name
-  add-due u name e is = is ∙ ap {A = Option ℕ} {B = Event} (λ n. entry_event (world_of reads units o) Add u name (unwrap_or n 0)) (sym (uid-is laws units o eight stand u name))
+  pub add-due : (u : ℕ) (name : List ℕ) (uid : ℕ) (e : Event) → uid ≡ unwrap_or (next_uid_on soups units u name) 0 → e ≡ entry_event (world_of reads units o) Add u name uid → e ≡ add_event (world_of reads units o) u name
+  add-due u name uid e next is = is ∙ ap {A = ℕ} {B = Event} (entry_event (world_of reads units o) Add u name) (next ∙ ap (λ (n : Option ℕ). unwrap_or n 0) (sym (uid-is laws units o eight stand u name)))
 
 module _ (w : World) {c : Command} where
   pub no-due : (d : Command) → c ≡ d → events w d ≡ [] → (r : Reply) → HasSig w c r → all_due Nothing r ≡ events w c

@@ -17,13 +17,13 @@ watch-form s most h =
 pub plain-others : (c : Command) → ((s m : _) → c ≡ command.Watch s m → ⊥) → ((n : _) → c ≡ command.Notes n → ⊥) → ((n : _) → c ≡ command.Unwatch n → ⊥) → ((u s i : _) → c ≡ command.Open u s i → ⊥) → ((n : _) → c ≡ command.Draft n → ⊥)
     → ((n path g : _) → c ≡ command.Edit n path g → ⊥) → ((n : _) → c ≡ command.Save n → ⊥) → ((n : _) → c ≡ command.Revert n → ⊥) → ((n : _) → c ≡ command.Discard n → ⊥) → is_plain c ≡ true
 unfolding is_plain
-plain-others (command.Watch s m) watch notes unwatch open draft edit save revert discard = absurd (watch s m refl)
-plain-others (command.Notes n) watch notes unwatch open draft edit save revert discard = absurd (notes n refl)
-plain-others (command.Unwatch n) watch notes unwatch open draft edit save revert discard = absurd (unwatch n refl)
-plain-others (command.Open u s i) watch notes unwatch open draft edit save revert discard = absurd (open u s i refl)
-plain-others (command.Draft n) watch notes unwatch open draft edit save revert discard = absurd (draft n refl)
-plain-others (command.Edit n path g) watch notes unwatch open draft edit save revert discard = absurd (edit n path g refl)
-plain-others (command.Save n) watch notes unwatch open draft edit save revert discard = absurd (save n refl)
-plain-others (command.Revert n) watch notes unwatch open draft edit save revert discard = absurd (revert n refl)
-plain-others (command.Discard n) watch notes unwatch open draft edit save revert discard = absurd (discard n refl)
-plain-others _ watch notes unwatch open draft edit save revert discard = refl
+plain-others (command.Watch s m) watch notes unwatch opens draft edit save revert discard = absurd (watch s m refl)
+plain-others (command.Notes n) watch notes unwatch opens draft edit save revert discard = absurd (notes n refl)
+plain-others (command.Unwatch n) watch notes unwatch opens draft edit save revert discard = absurd (unwatch n refl)
+plain-others (command.Open u s i) watch notes unwatch opens draft edit save revert discard = absurd (opens u s i refl)
+plain-others (command.Draft n) watch notes unwatch opens draft edit save revert discard = absurd (draft n refl)
+plain-others (command.Edit n path g) watch notes unwatch opens draft edit save revert discard = absurd (edit n path g refl)
+plain-others (command.Save n) watch notes unwatch opens draft edit save revert discard = absurd (save n refl)
+plain-others (command.Revert n) watch notes unwatch opens draft edit save revert discard = absurd (revert n refl)
+plain-others (command.Discard n) watch notes unwatch opens draft edit save revert discard = absurd (discard n refl)
+plain-others _ watch notes unwatch opens draft edit save revert discard = refl

@@ -1,4 +1,6 @@
 pub mod Groups
+pub mod Costing
+pub mod Shown
 pub mod Starting
 pub mod Meant
 pub mod Telling

@@ -1,5 +1,5 @@
 -- Where the entry of a copy is.
-use Rattle.std.proofs.Common.{◌≡◌, refl, ap, sym, ◌∙◌, ℕ, List, [], ◌∷◌, Bool, true, false, Option, Some, None, option_map, drop}
+use Rattle.std.proofs.Common.{◌≡◌, refl, ap, sym, ◌∙◌, ℕ, List, [], ◌∷◌, Bool, true, false, Option, Some, None, drop}
 use Rattle.std.specs.Prelude.{Ok, Err, is_none, slice_get}
 use Rattle.newt_base.specs.Refusals.{Checks, first_of}
 use Rattle.newt_base.specs.declared.Refusal.{Refusal}
@@ -11,7 +11,7 @@ use Rattle.newt_spec_whole.specs.Whole.{alias_of_copy, copy, living}
 use Rattle.newt_spec_world.specs.Alias.{Spot, resolved}
 use Rattle.newt_spec_world.specs.Refused.{no_entry, no_soup, no_unit, not_mounted, on_some}
 use Rattle.newt_spec_world.specs.Reply as replies
-use Rattle.newt_spec_world.specs.World.{World, entry_in, soup_in}
+use Rattle.newt_spec_world.specs.World.{entry_in, soup_in}
 use Rattle.newt_work.specs.Work.{Copy, copy_at}
 use Rattle.newt_laws_images.proofs.Chosen.{soup-good, there-entry, there-named}
 use Rattle.newt_laws_world.specs.Named.{IsNamed}
@@ -66,7 +66,7 @@ module _ {C : Type 0} {reads : List ℕ → Option Store} {place : C → ℕ} {s
   living-same k = resolved-same laws it.world.units it.world.desk o s.world h.world m.world (alias_of_copy k)
 
   pub living-none : copy_at n it.works ≡ None → FindsLiving h n (Err NoCopy)
-  living-none no = ap {A = Option Copy} (λ o. first_of ((NoCopy, is_none o) ∷ (NoEntry, on_some o (λ k. is_none (living h k))) ∷ [])) (sym at-copies ∙ no)
+  living-none lacks = ap {A = Option Copy} (λ o. first_of ((NoCopy, is_none o) ∷ (NoEntry, on_some o (λ k. is_none (living h k))) ∷ [])) (sym at-copies ∙ lacks)
 
   module _ (k : Copy) (there : Some k ≡ copy_at n it.works) where
     here : copy h n ≡ Some k

@@ -13,7 +13,7 @@ use Rattle.newt_spec_world.specs.Refused.{checks}
 use Rattle.newt_spec_world.specs.declared.command.Command.TheVariants as command
 use Rattle.newt_laws_whole.specs.Runs.{AllFormed}
 use Rattle.newt_laws_whole.proofs.Reading.{entry_tests}
-use Rattle.newt_laws_steps.specs.Meant.{MountedSure, media_on, meant_by}
+use Rattle.newt_laws_steps.specs.Meant.{MountedSure, media_on}
 use Rattle.newt_laws_steps.specs.StandsFor.{StandsFor, known}
 use Rattle.newt_laws_steps.proofs.Held.{stands-sure}
 use Rattle.newt_laws_steps.proofs.Meant.{store-m}

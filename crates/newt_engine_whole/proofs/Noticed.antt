@@ -1,7 +1,7 @@
 -- A watch is made, asked or taken away.
-use Rattle.std.proofs.Common.{◌≡◌, refl, ap, sym, ◌∙◌, subst, ℕ, List, [], ◌∷◌, Bool, true, false, Option, Some, None, option_map, slice_set}
+use Rattle.std.proofs.Common.{◌≡◌, refl, ap, sym, ◌∙◌, subst, ℕ, List, [], ◌∷◌, true, false, Option, Some, None, option_map, slice_set}
 use Rattle.std.specs.declared.alloc.AllocError.{AllocError}
-use Rattle.std.specs.Prelude.{Result, Ok, Err, is_none, is_some}
+use Rattle.std.specs.Prelude.{Ok, Err, is_none, is_some}
 use Rattle.std.specs.List.{position}
 use Rattle.newt_base.specs.Refusals.{first_of}
 use Rattle.newt_base.specs.declared.Refusal.{Refusal}
@@ -19,7 +19,7 @@ use Rattle.newt_spec_whole.specs.Whole as plain
 use Rattle.newt_spec_whole.specs.Whole.{asks, watch}
 use Rattle.newt_spec_world.specs.Answer.{or_nil}
 use Rattle.newt_spec_world.specs.Reply as replies
-use Rattle.newt_spec_world.specs.World.{change_at, flat}
+use Rattle.newt_spec_world.specs.World.{change_at}
 use Rattle.newt_spec_world.specs.declared.command.Command.{Command}
 use Rattle.newt_spec_world.specs.declared.command.Command.TheVariants as command
 use Rattle.newt_engine.specs.Calls.{IsNotThrown}
@@ -54,7 +54,7 @@ module _ (h : plain.Whole) where
 
     notes-none : watch h n ≡ None → whole_answer h (command.Notes n) ≡ (h, replies.Reply.refused NoWatch)
     unfolding whole_answer whole_checks
-    notes-none no = ap {A = Option Watching} (λ o. whole_answered h (command.Notes n) (first_of ((NoWatch, is_none o) ∷ []))) no
+    notes-none lacks = ap {A = Option Watching} (λ o. whole_answered h (command.Notes n) (first_of ((NoWatch, is_none o) ∷ []))) lacks
 
     unwatch-answered : (w : Watching) → watch h n ≡ Some w → whole_answer h (command.Unwatch n) ≡ (record h { watches = slice_set h.watches n None }, replies.Reply.done)
     unfolding whole_answer whole_checks whole_fields watches_after copies_after asks
@@ -62,7 +62,7 @@ module _ (h : plain.Whole) where
 
     unwatch-none : watch h n ≡ None → whole_answer h (command.Unwatch n) ≡ (h, replies.Reply.refused NoWatch)
     unfolding whole_answer whole_checks
-    unwatch-none no = ap {A = Option Watching} (λ o. whole_answered h (command.Unwatch n) (first_of ((NoWatch, is_none o) ∷ []))) no
+    unwatch-none lacks = ap {A = Option Watching} (λ o. whole_answered h (command.Unwatch n) (first_of ((NoWatch, is_none o) ∷ []))) lacks
 
 -- ---- a watch that is there or is not
 
@@ -73,6 +73,10 @@ none-of f (Some x) h = absurd (both-ways (sym h))
 some-of : {X Y : Type 0} (f : X → Y) (o : Option X) → is_some (option_map f o) ≡ true → (x : X) × (o ≡ Some x)
 some-of f None h = absurd (both-ways h)
 some-of f (Some x) h = (x, refl)
+
+-- the watch of the whole, by what is kept
+at-kept : (n : ℕ) (h : plain.Whole) (kept : List (Option Kept)) → kept ≡ kept_all h.watches → watch_at n kept ≡ option_map kept_of (watch h n)
+at-kept n h kept is = ap (watch_at n) is ∙ kept-at h.watches n
 
 module _ {C : Type 0} {reads : List ℕ → Option Store} {old new : Whole C} where
   -- ---- a command that changes the watches alone
@@ -85,11 +89,15 @@ module _ {C : Type 0} {reads : List ℕ → Option Store} {old new : Whole C} wh
     world = world;
     watches = λ ws. (after ws.0, kept ws.0 ws.1);
     drafts = λ fit. subst DraftsFit (sym works) fit;
-    answered = λ outside h m. (record h { watches = after h.watches }, answers h m.watches, record {
-      world = subst (λ (w : Engine C). means reads w outside h.world) (sym world) m.world;
-      watches = kept h.watches m.watches;
-      copies = works ∙ m.copies;
-    });
+    answered = λ outside h m. (
+      record h { watches = after h.watches },
+      answers h m.watches,
+      record {
+        world = subst (λ (w : Engine C). means reads w outside h.world) (sym world) m.world;
+        watches = kept h.watches m.watches;
+        copies = works ∙ m.copies;
+      },
+    );
     quiet = quiet;
     memory = λ none. refl;
   }
@@ -131,16 +139,12 @@ module _ {C : Type 0} {reads : List ℕ → Option Store} {old new : Whole C} wh
       (λ h kept copies. watch-full h s most (sym (kept-free h.watches) ∙ ap (position is_none) (sym kept) ∙ full))
 
   module _ (n : ℕ) where
-    -- the watch of the whole, by what is kept
-    at-kept : (h : plain.Whole) → old.watches ≡ kept_all h.watches → watch_at n old.watches ≡ option_map kept_of (watch h n)
-    at-kept h kept = ap (watch_at n) kept ∙ kept-at h.watches n
-
     pub notes-taken : (notes : Notes) → new.world ≡ old.world → new.works ≡ old.works
         → Some notes.lost ≡ option_map (λ k. k.lost) (watch_at n old.watches) → Some notes.list ≡ option_map (λ k. k.last) (watch_at n old.watches)
         → new.watches ≡ slice_set old.watches n (option_map as_new (watch_at n old.watches)) → AnsweredApart reads (command.Notes n) old new (Ok (reply.Notes notes))
     notes-taken notes world works lost last empty = noticed (command.Notes n) (reply.Notes notes) (change_at n emptied) world works
         (λ ws kept. empty ∙ ap (λ (ks : List (Option Kept)). slice_set ks n (option_map as_new (watch_at n ks))) kept ∙ kept-emptied ws n)
-        (λ h kept. go h (watch h n) refl (lost ∙ ap (option_map (λ (k : Kept). k.lost)) (at-kept h kept)) (last ∙ ap (option_map (λ (k : Kept). k.last)) (at-kept h kept)))
+        (λ h kept. go h (watch h n) refl (lost ∙ ap (option_map (λ (k : Kept). k.lost)) (at-kept n h old.watches kept)) (last ∙ ap (option_map (λ (k : Kept). k.last)) (at-kept n h old.watches kept)))
         (λ u. refl)
       where
         go : (h : plain.Whole) (o : Option Watching) → watch h n ≡ o → Some notes.lost ≡ option_map (λ k. k.lost) (option_map kept_of o) → Some notes.list ≡ option_map (λ k. k.last) (option_map kept_of o)
@@ -152,14 +156,14 @@ module _ {C : Type 0} {reads : List ℕ → Option Store} {old new : Whole C} wh
             ∙ ap {B = plain.Whole × replies.Reply} (λ l. (record h { watches = change_at n emptied h.watches }, replies.Reply.notes notes.lost l)) (sym (some-same notes.list (kept_of w).last last))
 
     pub no-notes : new ≡ old → is_some (watch_at n old.watches) ≡ false → AnsweredApart reads (command.Notes n) old new (Ok (reply.Refused NoWatch))
-    no-notes same no = apart-refused (command.Notes n) NoWatch same (λ h kept copies. notes-none h n (none-of kept_of (watch h n) (ap is_some (sym (at-kept h kept)) ∙ no)))
+    no-notes same lacks = apart-refused (command.Notes n) NoWatch same (λ h kept copies. notes-none h n (none-of kept_of (watch h n) (ap is_some (sym (at-kept n h old.watches kept)) ∙ lacks)))
 
     pub unwatched : new.world ≡ old.world → new.works ≡ old.works → is_some (watch_at n old.watches) ≡ true → new.watches ≡ slice_set old.watches n None
         → AnsweredApart reads (command.Unwatch n) old new (Ok reply.Done)
     unwatched world works there is = noticed (command.Unwatch n) reply.Done (λ ws. slice_set ws n None) world works
         (λ ws kept. is ∙ ap (λ (ks : List (Option Kept)). slice_set ks n None) kept ∙ kept-set ws n None)
-        (λ h kept. let w = some-of kept_of (watch h n) (ap is_some (sym (at-kept h kept)) ∙ there) in unwatch-answered h n w.0 w.1)
+        (λ h kept. let w = some-of kept_of (watch h n) (ap is_some (sym (at-kept n h old.watches kept)) ∙ there) in unwatch-answered h n w.0 w.1)
         (λ u. refl)
 
     pub not-watched : new ≡ old → is_some (watch_at n old.watches) ≡ false → AnsweredApart reads (command.Unwatch n) old new (Ok (reply.Refused NoWatch))
-    not-watched same no = apart-refused (command.Unwatch n) NoWatch same (λ h kept copies. unwatch-none h n (none-of kept_of (watch h n) (ap is_some (sym (at-kept h kept)) ∙ no)))
+    not-watched same lacks = apart-refused (command.Unwatch n) NoWatch same (λ h kept copies. unwatch-none h n (none-of kept_of (watch h n) (ap is_some (sym (at-kept n h old.watches kept)) ∙ lacks)))

@@ -1,14 +1,15 @@
 -- An entry is read, and a copy of it is opened.
-use Rattle.std.proofs.Common.{◌≡◌, ◌⊎◌, inl, inr, refl, ap, sym, ◌∙◌, subst, arith, ℕ, ◌+◌, ◌≤◌, List, [], ◌∷◌, Bool, true, false, IsTrue, ◌==◌, Option, Some, None, option_and_then, slice_set, sum_by}
+use Rattle.std.proofs.Common.{◌≡◌, inl, inr, refl, ap, sym, ◌∙◌, subst, ℕ, ◌+◌, ◌≤◌, List, [], ◌∷◌, Bool, true, false, IsTrue, ◌==◌, Option, Some, None, option_and_then, slice_set}
 use Rattle.std.specs.declared.alloc.AllocError.{AllocError}
-use Rattle.std.specs.Prelude.{IfOk, MatchOption, Result, Ok, Err, is_none, slice_get}
+use Rattle.std.specs.Prelude.{IfOk, MatchOption, Result, Ok, is_none, slice_get}
 use Rattle.std.specs.List.{position}
 use Rattle.newt_base.specs.Refusals.{first_of}
 use Rattle.newt_base.specs.declared.Refusal.{Refusal}
 use Rattle.newt_base.specs.declared.Refusal.TheVariants.{Limit}
 use Rattle.newt_graph.specs.Graph.{RawGraph}
-use Rattle.newt_host.specs.Moments.{Always}
+use Rattle.newt_host.specs.Moments.{Always, Moment, image}
 use Rattle.newt_host.specs.Outside.{Outside}
+use Rattle.newt_pagebook.specs.Book.{IsOpenFor}
 use Rattle.newt_reply.specs.Said.{said}
 use Rattle.newt_reply.specs.declared.reply.Reply.{Reply}
 use Rattle.newt_reply.specs.declared.reply.Reply.TheVariants as reply
@@ -29,7 +30,6 @@ use Rattle.newt_spec_world.specs.World.{World, entry_in, mounted_store, soup_in}
 use Rattle.newt_spec_world.specs.declared.command.Command.{Command}
 use Rattle.newt_spec_world.specs.declared.command.Command.TheVariants as command
 use Rattle.newt_work.specs.Work.{Copy, copy_at, opened}
-use Rattle.newt_laws_answers.specs.Bounds.{most_programmed}
 use Rattle.newt_laws_world.proofs.Settled.{find-passes}
 use Rattle.newt_laws_steps.specs.Answering.{Answering}
 use Rattle.newt_laws_steps.specs.StandsFor.{Obeys}
@@ -37,52 +37,52 @@ use Rattle.newt_laws_whole.specs.Runs.{AllFormed, CanBeEntry}
 use Rattle.newt_laws_whole.proofs.Fits.{entry-in-can, put-all}
 use Rattle.newt_laws_whole.proofs.Reading.{GetsOr, entry_tests, gets, open-done, open-full, open-refused, open-thrown}
 use Rattle.newt_engine_card.specs.Bounds.{IsOpenOrSame}
-use Rattle.newt_engine_units.proofs.Costs.{room-for-less, widened}
 use Rattle.newt_engine_cursors.specs.Unread.{steps_unread}
-use Rattle.newt_engine.specs.Bounds.{most_settled}
 use Rattle.newt_engine.specs.Calls.{Applied as Inner, Finished}
-use Rattle.newt_engine.specs.Standing.{IsStanding, means}
+use Rattle.newt_engine.specs.Standing.{IsStanding, means, stood_for}
 use Rattle.newt_engine.specs.declared.world.World.{World as Engine}
-use Rattle.newt_engine_whole.specs.Bounds.{most_put, most_taken}
+use Rattle.newt_engine_whole.specs.Bounds.{ProgramsInTurn, most_put, most_taken}
 use Rattle.newt_engine_whole.specs.Calls.{Applied, Ended}
 use Rattle.newt_engine_whole.specs.Copies.{PutsCopy}
 use Rattle.newt_engine_whole.specs.Ends.{whole_takes_memory, whole_uses_device}
 use Rattle.newt_engine_whole.specs.Standing.{AreKept, DraftsFit, Means, Standing, known_whole}
 use Rattle.newt_engine_whole.specs.declared.whole.Whole.{Whole}
+use Rattle.newt_engine_whole.proofs.Costing.{first-fetches, first-programs}
 use Rattle.newt_engine_whole.proofs.Drafted.{flat-is}
 use Rattle.newt_engine_whole.proofs.Turns.{as-other}
 
 -- ---- how a command ends that asks to read one entry, and nothing more was done
 
-least : (a b : ℕ) → a ≤ a + b
-least a b = omega arith
-
 pub reading-ended : {C : Type 0} {reads : List ℕ → Option Store} {told : Bool} {c : Command} {old : Whole C} {o p : Outside} {inner result : Result Reply AllocError} (u uid : ℕ) (s : List ℕ)
     → ((w : World) → steps_unread w c ≡ false) → whole_takes_memory c ≡ true → whole_uses_device c ≡ true
     → (IsTrue told → (rest : List Command) × (asked_in_turn (known_whole reads old o) c ≡ command.Get u s uid ∷ rest))
-    → Finished reads told (command.Get u s uid) old.world o p inner → (IsTrue told → IfOk result (λ it. (x : ℕ) → (it ≡ reply.Thrown x → ⊥) → IsOpenOrSame x o.now p.now)) → Ended reads told c old o p result
+    → Finished reads told (command.Get u s uid) old.world o p inner → (IsTrue told → IfOk result (λ it. (x : ℕ) → (it ≡ reply.Thrown x → ⊥) → IsOpenOrSame x o.now p.now))
+    → Ended reads told c (asked_in_turn (known_whole reads old o) c) old o p result
 reading-ended {C} {reads} {told} {c} {old} {o} {p} {inner} {result} u uid s unread memory device turn f opens =
-    let h = known_whole reads old o in
+    let w = stood_for reads old.world o in
     let get = command.Get u s uid in
-    let put : IsTrue told → (x : ℕ) → most_programmed h.world get x ≤ most_put h c x = λ t x.
-        subst (λ n. most_programmed h.world get x ≤ n) (sym (ap (sum_by (λ d. most_programmed h.world d x)) (turn t).1)) (least (most_programmed h.world get x) (sum_by (λ d. most_programmed h.world d x) (turn t).0)) in
-    let taken : IsTrue told → (x : ℕ) → most_settled h.world get x ≤ most_taken h c x = λ t x.
-        subst (λ n. most_settled h.world get x ≤ n) (sym (ap (sum_by (λ d. most_settled h.world d x)) (turn t).1)) (least (most_settled h.world get x) (sum_by (λ d. most_settled h.world d x) (turn t).0)) in
     record {
       alone = f.alone;
-      bound = λ t other x. widened (put t x) (f.bound t refl x);
-      fetched = λ t entries x room. let k = f.settling t refl x (room-for-less (put t x) room) in let more = taken t x in omega (arith, k, more);
-      step = λ t steps. absurd (both-ways (sym (unread h.world) ∙ steps));
+      bound = λ t other x. let k = turn t in subst (λ (ds : List Command). ProgramsInTurn w ds x o p) (sym k.1) (first-programs w get k.0 x (f.bound t refl x));
+      fetched = λ t entries x. let k = turn t in
+          subst (λ (ds : List Command). IsOpenFor (most_put w ds x) (image x o.now) → p.fetched x ≤ o.fetched x + most_taken w ds x) (sym k.1) (first-fetches w get k.0 x o p (f.settling t refl x));
+      step = λ t steps. absurd (both-ways (sym (unread w) ∙ steps));
       open_after = opens;
       never_memory = λ none. absurd (both-ways (sym none ∙ memory));
       never_thrown = λ none. absurd (both-ways (sym none ∙ device));
     }
 
-open-turn : (h : plain.Whole) (u uid : ℕ) (s : List ℕ) → asked_in_turn h (command.Open u s uid) ≡ command.Get u s uid ∷ []
+pub open-turn : (h : plain.Whole) (u uid : ℕ) (s : List ℕ) → asked_in_turn h (command.Open u s uid) ≡ command.Get u s uid ∷ []
 unfolding asks
 open-turn h u uid s = refl
 
 -- ---- an alias is known
+
+apart-alias : (r : Refusal) (store soup uid : ℕ) → replies.Reply.refused r ≡ replies.Reply.alias store soup uid → ⊥
+apart-alias r store soup uid h = cc
+
+same-refusal : (x r : Refusal) → replies.Reply.refused x ≡ replies.Reply.refused r → Some x ≡ Some r
+same-refusal x r h = cc
 
 pub alias-known : (w v : World) (u uid store soup : ℕ) (s : List ℕ) → answer w (command.Alias u s uid) ≡ (v, replies.Reply.alias store soup uid)
     → (t : Store) × (mounted_store w u ≡ Some t) × (t.sig ≡ store) × (p : Soup) × (soup_in w u s ≡ Some p) × (p.sig ≡ soup)
@@ -101,7 +101,7 @@ alias-known w v u uid store soup s h = go (first_of (checks w (command.Alias u s
 
     go : (o : Option Refusal) → answered w (command.Alias u s uid) o ≡ (v, replies.Reply.alias store soup uid)
         → (t : Store) × (mounted_store w u ≡ Some t) × (t.sig ≡ store) × (p : Soup) × (soup_in w u s ≡ Some p) × (p.sig ≡ soup)
-    go (Some r) k = cc
+    go (Some r) k = absurd (apart-alias r store soup uid (ap (λ (a : World × replies.Reply). a.1) k))
     go None k = outer (mounted_store w u) refl (ap (λ (a : World × replies.Reply). a.1) k)
 
 -- or it is refused, as a command that reads the entry is
@@ -118,7 +118,7 @@ alias-refused w v u uid s r h = go (first_of (entry_tests w u s uid)) refl h
     outer (Some t) k = inner t (soup_in w u s) k
 
     go : (o : Option Refusal) → first_of (entry_tests w u s uid) ≡ o → answered w (command.Alias u s uid) o ≡ (v, replies.Reply.refused r) → o ≡ Some r
-    go (Some x) e k = cc
+    go (Some x) e k = same-refusal x r (ap (λ (a : World × replies.Reply). a.1) k)
     go None e k = absurd (outer (mounted_store w u) (ap (λ (a : World × replies.Reply). a.1) k))
 
 -- an entry that is found by its id has it
@@ -136,21 +136,21 @@ untimed _ other t g says = cc
 
 -- ---- a copy is put at a free place
 
-pub puts-at : {old new : List (Option Copy)} {k : Copy} {r : replies.Reply} (n : ℕ) → position is_none old ≡ Some n → new ≡ slice_set old n (Some k) → r ≡ replies.Reply.number n → PutsCopy old new k r
-puts-at {old} {new} {k} {r} n free is says =
+pub puts-at : (old new : List (Option Copy)) (k : Copy) (r : replies.Reply) (n : ℕ) → position is_none old ≡ Some n → new ≡ slice_set old n (Some k) → r ≡ replies.Reply.number n → PutsCopy old new k r
+puts-at old new k r n free is says =
     subst (λ (o : Option ℕ). MatchOption o ((r ≡ replies.Reply.refused Limit) × (new ≡ old)) (λ n. (r ≡ replies.Reply.number n) × (new ≡ slice_set old n (Some k)))) (sym free) (says, is)
 
-pub puts-nowhere : {old new : List (Option Copy)} {k : Copy} {r : replies.Reply} → position is_none old ≡ None → new ≡ old → r ≡ replies.Reply.refused Limit → PutsCopy old new k r
-puts-nowhere {old} {new} {k} {r} free is says =
+pub puts-nowhere : (old new : List (Option Copy)) (k : Copy) (r : replies.Reply) → position is_none old ≡ None → new ≡ old → r ≡ replies.Reply.refused Limit → PutsCopy old new k r
+puts-nowhere old new k r free is says =
     subst (λ (o : Option ℕ). MatchOption o ((r ≡ replies.Reply.refused Limit) × (new ≡ old)) (λ n. (r ≡ replies.Reply.number n) × (new ≡ slice_set old n (Some k)))) (sym free) (says, is)
 
 -- ---- what is promised
 
+as-open : (reads : List ℕ → Option Store) (u uid : ℕ) (s : List ℕ) (old now : Moment) (w v : World) → Always (Answering reads w (command.Get u s uid) v old) old now → Always (Answering reads w (command.Open u s uid) v old) old now
+as-open reads u uid s old now w v a = as-other reads w v (command.Get u s uid) (command.Open u s uid) old now (λ x. refl) a
+
 module _ {C : Type 0} {reads : List ℕ → Option Store} {place : C → ℕ} {stands : Bool → C → Outside → Type 0} {told : Bool} {old : Whole C} {mid : Engine C} {o p : Outside} (u uid : ℕ) (s : List ℕ)
     (begun : Standing reads place stands told old o) where
-  as-open : (w v : World) → Always (Answering reads w (command.Get u s uid) v o.now) o.now p.now → Always (Answering reads w (command.Open u s uid) v o.now) o.now p.now
-  as-open w v a = as-other reads w v (command.Get u s uid) (command.Open u s uid) o.now p.now (λ x. refl) a
-
   -- a refusal is handed on, and so is it that a device failed
   pub open-handed : {it : Reply} → ((time : ℕ) (graph : RawGraph) → said it ≡ replies.Reply.timed time graph → ⊥) → Inner reads place stands told (command.Get u s uid) old.world mid o p (Ok it)
       → Applied reads place stands told (command.Open u s uid) old (record old { world = mid }) o p (Ok it)
@@ -160,7 +160,7 @@ module _ {C : Type 0} {reads : List ℕ → Option Store} {place : C → ℕ} {s
     ended = reading-ended u uid s (λ w. refl) refl refl (λ t. ([], open-turn (known_whole reads old o) u uid s)) a.finished a.finished.open_after;
   }
     where
-      go : (h : plain.Whole) → Means reads old o h → Obeys {R = Reply} {E = AllocError} reads said (means reads mid p) h.world (command.Get u s uid) (Ok it) o.now p.now
+      go : (h : plain.Whole) → Means reads old o h → Obeys reads {R = Reply} {E = AllocError} said (means reads mid p) h.world (command.Get u s uid) (Ok it) o.now p.now
           → Stepped {E = AllocError} WholeStep reads (command.Open u s uid) (Ok it) h (Means reads (record old { world = mid }) p) o.now p.now o.dev_faults p.dev_faults
       go h m (v, turned, there, moments) = by (gets h.world u s uid v (said it) m.world.settled turned.step)
         where
@@ -171,7 +171,7 @@ module _ {C : Type 0} {reads : List ℕ → Option Store} {place : C → ℕ} {s
             steps = wholes.plain refl (open-refused h u s uid r first ∙ ap {B = plain.Whole × replies.Reply} (λ q. (h, q)) (sym says));
             threw = a.finished.threw;
             answered = (refl, record { world = subst (means reads mid p) same there; watches = m.watches; copies = m.copies }, a.finished.failed);
-            moments = as-open h.world h.world (subst (λ (w : World). Always (Answering reads h.world (command.Get u s uid) w o.now) o.now p.now) same moments);
+            moments = as-open reads u uid s o.now p.now h.world h.world (subst (λ (w : World). Always (Answering reads h.world (command.Get u s uid) w o.now) o.now p.now) same moments);
           }
           by (inr (inl (e, first, entry, same, says))) = absurd (other e.time e.graph says)
           by (inr (inr (x, next, says))) = record {
@@ -180,7 +180,7 @@ module _ {C : Type 0} {reads : List ℕ → Option Store} {place : C → ℕ} {s
             steps = subst (WholeStep h (command.Open u s uid) (whole_thrown h (command.Get u s uid) x)) (sym says) (open-thrown h u s uid x);
             threw = a.finished.threw;
             answered = (refl, record { world = subst (means reads mid p) next there; watches = m.watches; copies = m.copies }, a.finished.failed);
-            moments = as-open h.world (whole_thrown h (command.Get u s uid) x).world (subst (λ (w : World). Always (Answering reads h.world (command.Get u s uid) w o.now) o.now p.now) next moments);
+            moments = as-open reads u uid s o.now p.now h.world (whole_thrown h (command.Get u s uid) x).world (subst (λ (w : World). Always (Answering reads h.world (command.Get u s uid) w o.now) o.now p.now) next moments);
           }
 
   -- the entry is there
@@ -191,7 +191,7 @@ module _ {C : Type 0} {reads : List ℕ → Option Store} {place : C → ℕ} {s
         × means reads mid p h.world × Always (Answering reads h.world (command.Open u s uid) h.world o.now) o.now p.now
     open-found t h m = go (a.obeyed t h.world m.world)
       where
-        go : Obeys {R = Reply} {E = AllocError} reads said (means reads mid p) h.world (command.Get u s uid) (Ok (reply.Timed time graph)) o.now p.now
+        go : Obeys reads {R = Reply} {E = AllocError} said (means reads mid p) h.world (command.Get u s uid) (Ok (reply.Timed time graph)) o.now p.now
             → (e : Entry) × (first_of (entry_tests h.world u s uid) ≡ None) × (entry_in h.world u s uid ≡ Some e) × (e.time ≡ time) × (e.graph ≡ graph)
             × means reads mid p h.world × Always (Answering reads h.world (command.Open u s uid) h.world o.now) o.now p.now
         go (v, turned, there, moments) = by (gets h.world u s uid v (replies.Reply.timed time graph) m.world.settled turned.step)
@@ -200,13 +200,18 @@ module _ {C : Type 0} {reads : List ℕ → Option Store} {place : C → ℕ} {s
                 × means reads mid p h.world × Always (Answering reads h.world (command.Open u s uid) h.world o.now) o.now p.now
             by (inl (r, first, same, says)) = cc
             by (inr (inl (e, first, entry, same, says))) = (
-              e, first, entry, cc, cc, subst (means reads mid p) same there,
-              as-open h.world h.world (subst (λ (w : World). Always (Answering reads h.world (command.Get u s uid) w o.now) o.now p.now) same moments),
+              e,
+              first,
+              entry,
+              cc,
+              cc,
+              subst (means reads mid p) same there,
+              as-open reads u uid s o.now p.now h.world h.world (subst (λ (w : World). Always (Answering reads h.world (command.Get u s uid) w o.now) o.now p.now) same moments),
             )
             by (inr (inr (x, next, says))) = cc
 
     -- the ids are those that were asked
-    module _ {new : Whole C} (world : new.world ≡ mid) (watches : new.watches ≡ old.watches) (it : Reply) (put : PutsCopy old.works new.works (opened store soup uid time graph) (said it)) where
+    module _ (new : Whole C) (world : new.world ≡ mid) (watches : new.watches ≡ old.watches) (it : Reply) (put : PutsCopy old.works new.works (opened store soup uid time graph) (said it)) where
       now-means : (h : plain.Whole) (copies : List (Option Copy)) → Means reads old o h → means reads mid p h.world → new.works ≡ copies → Means reads new p (record h { copies = copies })
       now-means h copies m there is = record {
         world = subst (λ (e : Engine C). means reads e p h.world) (sym world) there;
@@ -227,7 +232,7 @@ module _ {C : Type 0} {reads : List ℕ → Option Store} {place : C → ℕ} {s
         moments = moments;
       }
 
-      ended : Ended reads told (command.Open u s uid) old o p (Ok it)
+      ended : Ended reads told (command.Open u s uid) (asked_in_turn (known_whole reads old o) (command.Open u s uid)) old o p (Ok it)
       ended = reading-ended u uid s (λ w. refl) refl refl (λ t. ([], open-turn (known_whole reads old o) u uid s)) a.finished (λ t x other. a.finished.open_after t x (λ k. cc))
 
       pub open-put : (IsTrue told → (h : plain.Whole) × Means reads old o h × AllFormed h.world) → Applied reads place stands told (command.Open u s uid) old new o p (Ok it)

@@ -43,7 +43,7 @@ module _ {C : Type 0} {reads : List ℕ → Option Store} {place : C → ℕ} {s
       → (IsTrue told → (h : plain.Whole) × Means reads old o h × AllFormed h.world) → {new : Whole C} → new.world ≡ mid → new.watches ≡ old.watches
       → (r : Result Reply AllocError) → IfOk r (λ it. PutsCopy old.works new.works (opened store soup uid time graph) (said it)) → Applied reads place stands told (command.Open u s uid) old new o p r
   unfolding is_plain
-  opening known has world watches (Ok it) put = open-put u uid s begun a known world watches it put has
-  opening known has world watches (Err error) put =
+  opening known has {new} world watches (Ok it) put = open-put u uid s begun a known new world watches it put has
+  opening known has {new} world watches (Err error) put =
       read-memory refl begun u uid s a error (λ w. refl) refl refl (λ t. ([], open-turn (known_whole reads old o) u uid s))
-      (still-read refl begun u uid s a (λ t h m v it e g. timed-stays h.world v u uid s time graph it e g))
+      (still-read begun u uid s a (λ t h m v it e g. timed-stays h.world v u uid s time graph it e g))

@@ -1,9 +1,8 @@
 -- A copy is begun anew from its entry, or there is none.
-use Rattle.std.proofs.Common.{◌≡◌, ◌⊎◌, inl, inr, refl, ap, sym, ◌∙◌, subst, ℕ, List, [], ◌∷◌, Bool, true, false, IsTrue, Option, Some, None, option_map, option_and_then, slice_set, unwrap_or}
+use Rattle.std.proofs.Common.{◌≡◌, inl, inr, refl, ap, sym, ◌∙◌, subst, ℕ, List, [], ◌∷◌, Bool, IsTrue, Option, Some, None, option_map, option_and_then, slice_set}
 use Rattle.std.specs.declared.alloc.AllocError.{AllocError}
-use Rattle.std.specs.Prelude.{Ok, Err, is_none, slice_get}
+use Rattle.std.specs.Prelude.{Ok, is_none, slice_get}
 use Rattle.newt_base.specs.Refusals.{first_of}
-use Rattle.newt_base.specs.declared.Refusal.{Refusal}
 use Rattle.newt_base.specs.declared.Refusal.TheVariants.{Copy as NoCopy, Entry as NoEntry}
 use Rattle.newt_graph.specs.Graph.{RawGraph}
 use Rattle.newt_host.specs.Moments.{Always}
@@ -26,7 +25,7 @@ use Rattle.newt_spec_world.specs.Alias.{Spot}
 use Rattle.newt_spec_world.specs.Changed.{changed}
 use Rattle.newt_spec_world.specs.Refused.{on_some}
 use Rattle.newt_spec_world.specs.Reply as replies
-use Rattle.newt_spec_world.specs.World.{World, change_at, entry_in, flat, settle}
+use Rattle.newt_spec_world.specs.World.{World, change_at, entry_in, settle}
 use Rattle.newt_spec_world.specs.declared.command.Command.{Command}
 use Rattle.newt_spec_world.specs.declared.command.Command.TheVariants as command
 use Rattle.newt_work.specs.Work.{Copy, copy_at, rebased}
@@ -64,11 +63,14 @@ module _ (h : plain.Whole) (n : ℕ) (k : Copy) (there : copy h n ≡ Some k) (s
   revert-answered settled =
       ap {A = Option Copy} (λ o. whole_answered h (command.Revert n) (first_of ((NoCopy, is_none o) ∷ (NoEntry, on_some o (λ k. is_none (living h k))) ∷ []))) there
       ∙ ap {A = Option Spot} (λ o. whole_answered h (command.Revert n) (first_of ((NoEntry, is_none o) ∷ []))) lives
-      ∙ ap {A = Option Command} {B = plain.Whole × replies.Reply} (λ a. (record {
+      ∙ ap {A = Option Command} {B = plain.Whole × replies.Reply} (λ a. (
+        record {
           world = world_after h.world a;
           watches = note_all (events_of h.world a) h.watches;
           copies = change_at n (reverted h) h.copies;
-        }, replies.Reply.done)) revert-asks
+        },
+        replies.Reply.done,
+      )) revert-asks
       ∙ ap {A = World} {B = plain.Whole × replies.Reply} (λ w. (record { world = w; watches = h.watches; copies = change_at n (reverted h) h.copies }, replies.Reply.done)) settled
       ∙ ap {A = List (Option Copy)} {B = plain.Whole × replies.Reply} (λ ks. (record h { copies = ks }, replies.Reply.done))
       (change-as (reverted h) (rebased s.entry.time s.entry.graph) h.copies n k there (ap {A = Option Spot} {B = Copy} (λ o. elim o [ None ↦ k | Some s ↦ rebased s.entry.time s.entry.graph k ]) lives))
@@ -114,7 +116,7 @@ module _ {C : Type 0} {reads : List ℕ → Option Store} {place : C → ℕ} {s
     ended = reading-ended at.unit at.uid at.name (λ w. refl) refl refl (λ t. ([], known-turn t)) a.finished a.finished.open_after;
   }
     where
-      go : (h : plain.Whole) → Means reads old o h → AllFormed h.world × IsAt h n at → Obeys {R = Reply} {E = AllocError} reads said (means reads mid p) h.world (command.Get at.unit at.name at.uid) (Ok it) o.now p.now
+      go : (h : plain.Whole) → Means reads old o h → AllFormed h.world × IsAt h n at → Obeys reads {R = Reply} {E = AllocError} said (means reads mid p) h.world (command.Get at.unit at.name at.uid) (Ok it) o.now p.now
           → Stepped {E = AllocError} WholeStep reads (command.Revert n) (Ok it) h (Means reads (record old { world = mid }) p) o.now p.now o.dev_faults p.dev_faults
       go h m (formed, k) (v, turned, there, moments) = by (reads-entry n at h formed k v (said it) (gets h.world at.unit at.name at.uid v (said it) m.world.settled turned.step))
         where
@@ -151,14 +153,18 @@ module _ {C : Type 0} {reads : List ℕ → Option Store} {place : C → ℕ} {s
           → (time ≡ f.1.spot.entry.time) × (graph ≡ f.1.spot.entry.graph) × means reads mid p h.world × Always (Answering reads h.world (command.Revert n) h.world o.now) o.now p.now
       read-so t h m (formed, k) = go (a.obeyed t h.world m.world)
         where
-          go : Obeys {R = Reply} {E = AllocError} reads said (means reads mid p) h.world (command.Get at.unit at.name at.uid) (Ok (reply.Timed time graph)) o.now p.now
+          go : Obeys reads {R = Reply} {E = AllocError} said (means reads mid p) h.world (command.Get at.unit at.name at.uid) (Ok (reply.Timed time graph)) o.now p.now
               → (time ≡ k.spot.entry.time) × (graph ≡ k.spot.entry.graph) × means reads mid p h.world × Always (Answering reads h.world (command.Revert n) h.world o.now) o.now p.now
           go (v, turned, there, moments) = by (reads-entry n at h formed k v (replies.Reply.timed time graph) (gets h.world at.unit at.name at.uid v (replies.Reply.timed time graph) m.world.settled turned.step))
             where
               by : Reads n at h k v (replies.Reply.timed time graph) → (time ≡ k.spot.entry.time) × (graph ≡ k.spot.entry.graph) × means reads mid p h.world × Always (Answering reads h.world (command.Revert n) h.world o.now) o.now p.now
-              by (shown same says) = (cc, cc, subst (means reads mid p) same there,
+              by (shown same says) = (
+                cc,
+                cc,
+                subst (means reads mid p) same there,
                 as-other reads h.world h.world (command.Get at.unit at.name at.uid) (command.Revert n) o.now p.now (λ u. refl)
-                    (subst (λ (w : World). Always (Answering reads h.world (command.Get at.unit at.name at.uid) w o.now) o.now p.now) same moments))
+                    (subst (λ (w : World). Always (Answering reads h.world (command.Get at.unit at.name at.uid) w o.now) o.now p.now) same moments),
+              )
               by (failed x next says) = cc
 
       can : IsTrue told → CanBeEntry graph

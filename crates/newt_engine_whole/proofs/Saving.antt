@@ -1,26 +1,25 @@
 -- The change of a save: it is done, refused for room, or a device failed in it.
-use Rattle.std.proofs.Common.{◌≡◌, ◌⊎◌, inl, inr, refl, ap, sym, ◌∙◌, subst, ℕ, ◌≤◌, List, [], ◌∷◌, Bool, true, false, not, IsTrue, Option, Some, None, option_map, slice_set, drop, unwrap_or, if◌then◌else◌}
+use Rattle.std.proofs.Common.{◌≡◌, inl, inr, refl, ap, sym, ◌∙◌, subst, ℕ, ◌+◌, ◌≤◌, List, [], ◌∷◌, Bool, true, false, not, IsTrue, Option, Some, option_map, slice_set, drop, unwrap_or, if◌then◌else◌}
 use Rattle.std.specs.declared.alloc.AllocError.{AllocError}
 use Rattle.std.specs.Prelude.{Ok, Err, Result, is_none, slice_get}
 use Rattle.newt_base.specs.Refusals.{Checks, first_of}
 use Rattle.newt_base.specs.declared.Refusal.{Refusal}
 use Rattle.newt_base.specs.declared.Refusal.TheVariants.{Full, Notframe, Size}
 use Rattle.newt_graph.specs.Graph.{RawGraph}
-use Rattle.newt_host.specs.Moments.{Always}
+use Rattle.newt_host.specs.Moments.{Always, image}
 use Rattle.newt_host.specs.Outside.{Outside}
+use Rattle.newt_pagebook.specs.Book.{IsOpenFor}
 use Rattle.newt_notify.specs.Watch.{Watching, kept_all}
 use Rattle.newt_notify.specs.declared.note.Kind.TheVariants.{Change}
 use Rattle.newt_reply.specs.Said.{said}
 use Rattle.newt_reply.specs.declared.reply.Reply.{Reply}
 use Rattle.newt_reply.specs.declared.reply.Reply.TheVariants as reply
 use Rattle.newt_script_session.specs.Steps.{Stepped}
-use Rattle.newt_spec_graph.specs.Graph.{is_frame, object}
 use Rattle.newt_spec_graph.specs.Lists.{Among}
 use Rattle.newt_spec_graph.proofs.Lists.{both-ways, some-same}
-use Rattle.newt_spec_store.specs.Cost.{skeleton_length}
 use Rattle.newt_spec_store.specs.Store.{Soup, Store}
 use Rattle.newt_spec_whole.specs.Answer.{whole_answer}
-use Rattle.newt_spec_whole.specs.Events.{Event, entry_event, events, note_all}
+use Rattle.newt_spec_whole.specs.Events.{Event, events, note_all}
 use Rattle.newt_spec_whole.specs.Step.{WholeStep, whole_thrown}
 use Rattle.newt_spec_whole.specs.Step as wholes
 use Rattle.newt_spec_whole.specs.Whole as plain
@@ -30,28 +29,28 @@ use Rattle.newt_spec_world.specs.Answer.{answer, answered}
 use Rattle.newt_spec_world.specs.Changed.{changed}
 use Rattle.newt_spec_world.specs.Refused.{checks, full, no_entry, no_soup, no_unit, not_mounted}
 use Rattle.newt_spec_world.specs.Reply as replies
-use Rattle.newt_spec_world.specs.Step.{world_thrown}
-use Rattle.newt_spec_world.specs.World.{World, change_at, entry_in, settle, soup_in}
+use Rattle.newt_spec_world.specs.World.{World, change_at, settle}
 use Rattle.newt_spec_world.specs.declared.command.Command.{Command}
 use Rattle.newt_spec_world.specs.declared.command.Command.TheVariants as command
 use Rattle.newt_work.specs.Work.{Copy, copy_at, is_based, rebased}
-use Rattle.newt_laws_world.specs.Named.{IsNamed}
 use Rattle.newt_laws_world.proofs.Units.{has-mounted}
 use Rattle.newt_laws_steps.specs.Answering.{Answering}
 use Rattle.newt_laws_steps.specs.StandsFor.{Obeys, seen}
 use Rattle.newt_laws_whole.specs.Runs.{AllFormed, CanBeEntry}
 use Rattle.newt_laws_whole.proofs.Fits.{change-all}
 use Rattle.newt_engine.specs.Calls.{Applied as Inner}
-use Rattle.newt_engine.specs.Standing.{IsStanding, means}
+use Rattle.newt_engine.specs.Standing.{IsStanding, means, stood_for}
 use Rattle.newt_engine.specs.declared.world.World.{World as Engine}
 use Rattle.newt_laws_world.specs.Worlds.{is_plain}
-use Rattle.newt_engine_whole.specs.Calls.{Applied, Ended}
+use Rattle.newt_engine_whole.specs.Bounds.{ProgramsInTurn, most_put, most_taken}
+use Rattle.newt_engine_whole.specs.Calls.{AppliedRest, Ended, rest_asked}
 use Rattle.newt_engine_whole.specs.Copies.{IsAt, IsRead, saved_event}
-use Rattle.newt_engine_whole.specs.Standing.{DraftsFit, Means, Standing}
+use Rattle.newt_engine_whole.specs.Standing.{DraftsFit, Means, Standing, known_whole}
 use Rattle.newt_engine_whole.specs.Told.{Tells}
 use Rattle.newt_engine_whole.proofs.Apart.{apart-quiet, apart-stepped, rest-ended}
 use Rattle.newt_engine_whole.specs.declared.saves.Place.{Place}
 use Rattle.newt_engine_whole.specs.declared.whole.Whole.{Whole}
+use Rattle.newt_engine_whole.proofs.Costing.{first-fetches, first-programs}
 use Rattle.newt_engine_whole.proofs.Drafted.{change-as, flat-is, set-change}
 use Rattle.newt_engine_whole.proofs.Living.{entry-there, named, soup-there}
 use Rattle.newt_engine_whole.proofs.Saved.{ChangesOr, changes, save-changed, save-done, save-full, save-turn}
@@ -86,7 +85,7 @@ module _ (h : plain.Whole) (formed : AllFormed h.world) (k : Copy) (s : Spot) (l
 
 -- ---- what became of the change
 
-module _ {C : Type 0} {reads : List ℕ → Option Store} {told : Bool} {place : C → ℕ} {stands : Bool → C → Outside → Type 0} {old new : Whole C} {mid : Engine C} {o p : Outside} (n : ℕ) (at : Place) (draft : RawGraph) {it : Reply}
+module _ {C : Type 0} {reads : List ℕ → Option Store} {told : Bool} {place : C → ℕ} {stands : Bool → C → Outside → Type 0} {old : Whole C} {mid : Engine C} {o p : Outside} (n : ℕ) (at : Place) (draft : RawGraph) {it : Reply}
     (a : Inner reads place stands told (command.Change at.unit at.name at.uid draft) old.world mid o p (Ok it)) (t : IsTrue told)
     (h : plain.Whole) (m : Means reads old o h) (formed : AllFormed h.world) (i : IsAt h n at) (can : CanBeEntry i.of.draft) (drafted : draft ≡ i.of.draft) (based : is_based i.spot.entry.time i.spot.entry.graph i.of ≡ true) where
   abbrev asked : Command
@@ -97,9 +96,9 @@ module _ {C : Type 0} {reads : List ℕ → Option Store} {told : Bool} {place :
 
   -- it turned the world, as the change that is asked
   pub turned : (v : World) × ChangesOr h.world asked (full h.world i.spot.unit asked).1 v (said it) × means reads mid p v × Always (Answering reads h.world (command.Save n) v o.now) o.now p.now
-  turned = go (subst (λ (c : Command). Obeys {R = Reply} {E = AllocError} reads said (means reads mid p) h.world c (Ok it) o.now p.now) asked-is (a.obeyed t h.world m.world))
+  turned = go (subst (λ (c : Command). Obeys reads {R = Reply} {E = AllocError} said (means reads mid p) h.world c (Ok it) o.now p.now) asked-is (a.obeyed t h.world m.world))
     where
-      go : Obeys {R = Reply} {E = AllocError} reads said (means reads mid p) h.world asked (Ok it) o.now p.now
+      go : Obeys reads {R = Reply} {E = AllocError} said (means reads mid p) h.world asked (Ok it) o.now p.now
           → (v : World) × ChangesOr h.world asked (full h.world i.spot.unit asked).1 v (said it) × means reads mid p v × Always (Answering reads h.world (command.Save n) v o.now) o.now p.now
       go (v, turn, there, moments) = (
         v,
@@ -121,6 +120,11 @@ pub record IsBase (h : plain.Whole) (n : ℕ) (at : Place) (draft : RawGraph) : 
   pub drafted : draft ≡ is.of.draft
   pub based : is_based is.spot.entry.time is.spot.entry.graph is.of ≡ true
 
+-- a change leaves the minute
+same-minute : (w : World) (u uid : ℕ) (s : List ℕ) (g : RawGraph) → (settle (changed w (command.Change u s uid g))).minute ≡ w.minute
+unfolding changed
+same-minute w u uid s g = refl
+
 -- the world behind a save is the one behind its change, done or refused
 saved-world : (h : plain.Whole) (n : ℕ) (at : Place) (draft : RawGraph) (b : IsBase h n at draft) → (answer h.world (change_of b.is.of b.is.spot)).0 ≡ (whole_answer h (command.Save n)).0.world
 unfolding answer
@@ -132,6 +136,19 @@ saved-world h n at draft b = go (full h.world b.is.spot.unit (change_of b.is.of 
         ∙ sym (ap (λ (a : plain.Whole × replies.Reply). a.0.world) (save-full h n b.is.of b.is.there b.is.spot b.is.lives b.based e))
     go false e = ap (λ (o : Option Refusal). (answered h.world (change_of b.is.of b.is.spot) o).0) (change-tests h b.formed b.is.of b.is.spot b.is.lives b.can ∙ ap (λ x. first_of ((Full, x) ∷ [])) e)
         ∙ sym (ap (λ (a : plain.Whole × replies.Reply). a.0.world) (save-done h n b.is.of b.is.there b.is.spot b.is.lives b.based e))
+
+module _ {C : Type 0} {reads : List ℕ → Option Store} {told : Bool} {old : Whole C} {o : Outside} (n : ℕ) (at : Place) (draft : RawGraph)
+    (base : IsTrue told → (h : plain.Whole) → Means reads old o h → IsBase h n at draft)
+    (known : IsTrue told → (ws : List (Option Watching)) × Means reads old o (record (known_whole reads old o) { watches = ws })) where
+  -- what is asked last is the change
+  last-turn : IsTrue told → rest_asked reads old o (command.Save n) ≡ command.Change at.unit at.name at.uid draft ∷ []
+  last-turn t =
+      let k = known t in
+      let h = record (known_whole reads old o) { watches = k.0 } in
+      let b = base t h k.1 in
+      ap {A = List Command} {B = List Command} (λ ds. drop 1 ds) (save-turn h n b.is.of b.is.there b.is.spot b.is.lives
+      ∙ ap {A = Bool} {B = List Command} (λ c. get_of b.is.spot ∷ (if c then change_of b.is.of b.is.spot ∷ [] else [])) b.based)
+      ∙ ap {A = Command} {B = List Command} (λ c. c ∷ []) (λ j. command.Change (sym b.is.unit j) (sym b.is.name j) (sym b.is.uid j) (sym b.drafted j))
 
 module _ {C : Type 0} {reads : List ℕ → Option Store} {place : C → ℕ} {stands : Bool → C → Outside → Type 0} {told : Bool} {old : Whole C} {mid : Engine C} {o p : Outside} (n : ℕ) (at : Place) (draft : RawGraph)
     (base : IsTrue told → (h : plain.Whole) → Means reads old o h → IsBase h n at draft) where
@@ -180,7 +197,7 @@ module _ {C : Type 0} {reads : List ℕ → Option Store} {place : C → ℕ} {s
       go b v (inl (no_room, same, says)) there moments = cc
       go b v (inr (inl (room, done, says))) there moments =
           let c = change_of b.is.of b.is.spot in
-          let minute : mid.units.minute ≡ h.world.minute = sym there.minute ∙ ap (λ (w : World). w.minute) done ∙ same-minute in
+          let minute : mid.units.minute ≡ h.world.minute = sym there.minute ∙ ap (λ (w : World). w.minute) done ∙ same-minute h.world b.is.spot.unit b.is.spot.entry.uid b.is.spot.soup.name b.is.of.draft in
           record {
             next = record {
               world = settle (changed h.world c);
@@ -203,39 +220,39 @@ module _ {C : Type 0} {reads : List ℕ → Option Store} {place : C → ℕ} {s
             );
             moments = subst (λ (w : World). Always (Answering reads h.world (command.Save n) w o.now) o.now p.now) done moments;
           }
-        where
-          -- a change leaves the minute
-          same-minute : (settle (changed h.world (change_of b.is.of b.is.spot))).minute ≡ h.world.minute
-          unfolding changed
-          same-minute = refl
       go b v (inr (inr (x, next, says))) there moments = cc
 
   -- ---- all that is promised
 
-  save-ended : {result : Result Reply AllocError} → Inner reads place stands told (command.Change at.unit at.name at.uid draft) old.world mid o p result → Ended reads told (command.Save n) old o p result
-  save-ended a = record {
-    alone = a.finished.alone;
-    bound = λ t is. absurd (both-ways is);
-    fetched = λ t is. absurd (both-ways is);
-    step = λ t is. absurd (both-ways is);
-    open_after = a.finished.open_after;
-    never_memory = λ none. absurd (both-ways (sym none));
-    never_thrown = λ none. absurd (both-ways (sym none));
-  }
+  module _ (begun : Standing reads place stands told old o) (known : IsTrue told → (ws : List (Option Watching)) × Means reads old o (record (known_whole reads old o) { watches = ws })) where
+    save-ended : {result : Result Reply AllocError} → Inner reads place stands told (command.Change at.unit at.name at.uid draft) old.world mid o p result
+        → Ended reads told (command.Save n) (rest_asked reads old o (command.Save n)) old o p result
+    save-ended a =
+        let w = stood_for reads old.world o in
+        let change = command.Change at.unit at.name at.uid draft in
+        record {
+          alone = a.finished.alone;
+          bound = λ t other x. subst (λ (ds : List Command). ProgramsInTurn w ds x o p) (sym (last-turn n at draft base known t)) (first-programs w change [] x (a.finished.bound t refl x));
+          fetched = λ t entries x. subst (λ (ds : List Command). IsOpenFor (most_put w ds x) (image x o.now) → p.fetched x ≤ o.fetched x + most_taken w ds x) (sym (last-turn n at draft base known t))
+              (first-fetches w change [] x o p (a.finished.settling t refl x));
+          step = λ t is. absurd (both-ways is);
+          open_after = a.finished.open_after;
+          never_memory = λ none. absurd (both-ways (sym none));
+          never_thrown = λ none. absurd (both-ways (sym none));
+        }
 
-  module _ (begun : Standing reads place stands told old o) where
     pub save-handed : {it : Reply} → (said it ≡ replies.Reply.done → ⊥) → Inner reads place stands told (command.Change at.unit at.name at.uid draft) old.world mid o p (Ok it)
-        → Applied reads place stands told (command.Save n) old (record old { world = mid }) o p (Ok it)
+        → AppliedRest reads place stands told (command.Save n) old (record old { world = mid }) o p (Ok it)
     save-handed other a = record {
       stands = record { world = a.stands; watches = begun.watches; drafts = begun.drafts };
       stepped = change-handed other a;
       ended = save-ended a;
     }
 
-    pub save-over : {then new : Whole C} (k : Copy) → Some k ≡ copy_at n old.works → draft ≡ k.draft → Inner reads place stands told (command.Change at.unit at.name at.uid draft) old.world mid o p (Ok reply.Done)
-        → then.world ≡ mid → then.watches ≡ old.watches → then.works ≡ slice_set old.works n (option_map (rebased mid.units.minute draft) (copy_at n old.works)) → Tells (saved_event at ∷ []) then new
-        → Applied reads place stands told (command.Save n) old new o p (Ok reply.Done)
-    save-over {then} {new} k there same a world watches works tells = record {
+    pub save-over : {mended new : Whole C} (k : Copy) → Some k ≡ copy_at n old.works → draft ≡ k.draft → Inner reads place stands told (command.Change at.unit at.name at.uid draft) old.world mid o p (Ok reply.Done)
+        → mended.world ≡ mid → mended.watches ≡ old.watches → mended.works ≡ slice_set old.works n (option_map (rebased mid.units.minute draft) (copy_at n old.works)) → Tells (saved_event at ∷ []) mended new
+        → AppliedRest reads place stands told (command.Save n) old new o p (Ok reply.Done)
+    save-over {mended} {new} k there same a world watches works tells = record {
       stands = record {
         world = subst (λ (e : Engine C). IsStanding reads place stands told e p) (sym (tells.world ∙ world)) a.stands;
         watches = let w = begun.watches in (note_all (saved_event at ∷ []) w.0, tells.watches w.0 (watches ∙ w.1));
@@ -249,7 +266,7 @@ module _ {C : Type 0} {reads : List ℕ → Option Store} {place : C → ℕ} {s
 
     -- memory was refused in it
     pub change-memory : {new : Whole C} (error : AllocError) → Inner reads place stands told (command.Change at.unit at.name at.uid draft) old.world mid o p (Err error)
-        → Applied reads place stands told (command.Save n) old new o p (Err error)
+        → AppliedRest reads place stands told (command.Save n) old new o p (Err error)
     unfolding is_plain
     change-memory {new} error a = record {
       stands = tt;
@@ -272,7 +289,7 @@ module _ {C : Type 0} {reads : List ℕ → Option Store} {place : C → ℕ} {s
 
 pub rest-changed : {C : Type 0} {reads : List ℕ → Option Store} {place : C → ℕ} {stands : Bool → C → Outside → Type 0} {told : Bool} {old : Whole C} {o : Outside} {n time : ℕ} {graph : RawGraph} {at : Place} (k : Copy) → Some k ≡ copy_at n old.works
     → is_based time graph k ≡ false → Standing reads place stands told old o → (IsTrue told → (h : plain.Whole) → Means reads old o h → IsRead h n at time graph)
-    → Applied reads place stands told (command.Save n) old old o o (Ok (reply.Changed time))
+    → AppliedRest reads place stands told (command.Save n) old old o o (Ok (reply.Changed time))
 unfolding is_plain
 rest-changed {C} {reads} {place} {stands} {told} {old} {o} {n} {time} {graph} {at} k there other begun read = record {
   stands = begun;
@@ -284,8 +301,8 @@ rest-changed {C} {reads} {place} {stands} {told} {old} {o} {n} {time} {graph} {a
     says h m r =
         let i = r.at in
         let same : i.of ≡ k = some-same i.of k (sym i.there ∙ sym (ap (copy_at n) m.copies ∙ flat-is (slice_get h.copies n)) ∙ sym there) in
-        save-changed h n i.of i.there i.spot i.lives ((λ j. is_based (r.time j) (r.graph j) (same j)) ∙ other)
-        ∙ ap {A = ℕ} {B = plain.Whole × replies.Reply} (λ x. (h, replies.Reply.changed x)) r.time
+        save-changed h n i.of i.there i.spot i.lives ((λ j. is_based (r.timed j) (r.shows j) (same j)) ∙ other)
+        ∙ ap {A = ℕ} {B = plain.Whole × replies.Reply} (λ x. (h, replies.Reply.changed x)) r.timed
 
 -- ---- the entry is as the base
 
@@ -299,7 +316,7 @@ base-of {old = old} {h = h} {n} r k there same is m formed fit =
       is = i;
       can = subst (λ (c : Copy). CanBeEntry c.draft) (sym copies) (fit n k (sym there));
       drafted = is ∙ ap (λ (c : Copy). c.draft) (sym copies);
-      based = (λ j. is_based (r.time j) (r.graph j) (copies j)) ∙ same;
+      based = (λ j. is_based (r.timed j) (r.shows j) (copies j)) ∙ same;
     }
 
 -- no other reply says that it was done

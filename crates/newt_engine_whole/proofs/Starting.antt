@@ -1,6 +1,5 @@
 -- Where there is no copy, all drafts fit.
 use Rattle.std.proofs.Common.{◌≡◌, ap, sym, ◌∙◌, ℕ, zero, suc, List, Option, Some, None, replicate}
-use Rattle.std.specs.Prelude.{slice_get}
 use Rattle.newt_spec_graph.proofs.Lists.{none-some}
 use Rattle.newt_work.specs.Work.{Copy, copy_at}
 use Rattle.newt_engine_whole.specs.Standing.{DraftsFit}

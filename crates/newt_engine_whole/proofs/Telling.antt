@@ -14,8 +14,8 @@ use Rattle.newt_spec_world.specs.Step.{Step, plain, found, thrown, halfway, look
 use Rattle.newt_spec_world.specs.World.{World, mounted_store, soup_in}
 use Rattle.newt_spec_world.specs.declared.command.Command.{Command}
 use Rattle.newt_spec_world.specs.declared.command.Command.TheVariants as command
-use Rattle.newt_laws_world.proofs.Kept.{AllFalse, all-false, not-none}
-use Rattle.newt_laws_steps.proofs.Replying.{fields_good, is_fault}
+use Rattle.newt_laws_world.proofs.Kept.{all-false}
+use Rattle.newt_laws_steps.proofs.Replying.{is_fault}
 use Rattle.newt_laws_whole.specs.Steps.{has_taken, is_past, notes_behind}
 use Rattle.newt_engine_units.specs.Looks.{next_uid_on}
 use Rattle.newt_engine_units.specs.declared.units.Units.{Units}
@@ -127,10 +127,10 @@ module _ {C : Type 0} (soups : C → Store) (units : Units C) (w v : World) wher
 
     failed-same : (c : Command) → ((r : Reply) → HasSig w c r → all_due due r ≡ events w c) → (u : ℕ) → failed_due soups units due u ≡ notes_behind w c v (Reply.thrown u)
     failed-same (command.Move t s uid x y) is u = failed-move t uid x s y is u
-    failed-same _ is u = failed-other _ refl is u
+    failed-same c is u = failed-other c refl is u
 
     pub told-same : (c : Command) (r : Reply) → ((r : Reply) → HasSig w c r → all_due due r ≡ events w c) → (is_fault r ≡ false → HasSig w c r)
         → due_told soups units due r ≡ notes_behind w c v r
     told-same c (Reply.refused x) is sig = refl
     told-same c (Reply.thrown u) is sig = failed-same c is u
-    told-same c _ is sig = is _ (sig refl)
+    told-same c r is sig = is r (sig refl)

@@ -47,8 +47,8 @@ module _ {C : Type 0} (soups : C → Store) (units : Units C) where
   no-two (Two a b) u other = absurd (other a b refl)
 
   -- the first of two is, or is not
-  pub first-told : (a b : Told) (u : ℕ) → is_halfway soups units a b u ≡ true → failed_due soups units (Two a b) u ≡ event_of a ∷ []
-  first-told a b u is = ap (λ (t : Bool). if t then event_of a ∷ [] else []) is
+  pub first-told : (due : Due) (a b : Told) (u : ℕ) → due ≡ Two a b → is_halfway soups units a b u ≡ true → event_of a ∷ [] ≡ failed_due soups units due u
+  first-told due a b u two is = sym (ap (λ (d : Due). failed_due soups units d u) two ∙ ap (λ (t : Bool). if t then event_of a ∷ [] else []) is)
 
-  pub none-told : (a b : Told) (u : ℕ) → is_halfway soups units a b u ≡ false → failed_due soups units (Two a b) u ≡ []
-  none-told a b u is = ap (λ (t : Bool). if t then event_of a ∷ [] else []) is
+  pub none-told : (due : Due) (a b : Told) (u : ℕ) → due ≡ Two a b → is_halfway soups units a b u ≡ false → failed_due soups units due u ≡ []
+  none-told due a b u two is = ap (λ (d : Due). failed_due soups units d u) two ∙ ap (λ (t : Bool). if t then event_of a ∷ [] else []) is

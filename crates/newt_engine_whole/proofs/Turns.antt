@@ -1,11 +1,11 @@
 -- Two commands one after the other, of which the first leaves the world.
-use Rattle.std.proofs.Common.{◌≡◌, ◌⊎◌, inl, inr, refl, sym, ◌∙◌, ap, ℕ, List, [], ◌∷◌, ◌++◌, false, Option}
-use Rattle.newt_host.specs.Moments.{Moment, MayLeave, Always, image, taken, output as output_of}
+use Rattle.std.proofs.Common.{◌≡◌, ◌⊎◌, inl, inr, ◌∙◌, ℕ, List, [], ◌∷◌, ◌++◌, false, Option}
+use Rattle.newt_host.specs.Moments.{Moment, Always}
 use Rattle.newt_host.proofs.Moments.{Always-append, Always-last, Always-map}
 use Rattle.newt_spec_graph.specs.Lists.{Among}
 use Rattle.newt_spec_graph.proofs.Lists.{among-left}
 use Rattle.newt_spec_store.specs.Store.{Store}
-use Rattle.newt_spec_world.specs.World.{World, stores_on, IsBlankOn}
+use Rattle.newt_spec_world.specs.World.{World, stores_on}
 use Rattle.newt_spec_world.specs.Step.{formats}
 use Rattle.newt_spec_world.specs.declared.command.Command.{Command}
 use Rattle.newt_laws_steps.specs.Answering.{Answering, ReadsOneOf}

@@ -1,5 +1,5 @@
 -- A command of watches or working copies that is refused at once, or for which memory was refused.
-use Rattle.std.proofs.Common.{◌≡◌, inl, inr, refl, ap, sym, ◌∙◌, subst, ℕ, List, [], ◌∷◌, Bool, true, false, IsTrue, Option, Some, None, option_and_then}
+use Rattle.std.proofs.Common.{◌≡◌, inl, inr, refl, ap, sym, ◌∙◌, subst, ℕ, List, ◌∷◌, Bool, true, false, IsTrue, Option, option_and_then}
 use Rattle.std.specs.declared.alloc.AllocError.{AllocError}
 use Rattle.std.specs.Prelude.{Result, Ok, Err}
 use Rattle.std.proofs.lemmas.Bool.{eq-eqb}
@@ -33,7 +33,7 @@ use Rattle.newt_engine.specs.Calls.{Applied as Inner}
 use Rattle.newt_engine.specs.Standing.{means}
 use Rattle.newt_engine.specs.declared.world.World.{World as Engine}
 use Rattle.newt_engine.proofs.Refusing.{answer_quiet}
-use Rattle.newt_engine_whole.specs.Calls.{Applied}
+use Rattle.newt_engine_whole.specs.Calls.{Applied, AppliedBy}
 use Rattle.newt_engine_whole.specs.Ends.{whole_takes_memory, whole_uses_device}
 use Rattle.newt_engine_whole.specs.Standing.{Means, Standing, known_whole}
 use Rattle.newt_engine_whole.specs.declared.whole.Whole.{Whole}
@@ -50,6 +50,19 @@ get-stays w u uid s settled = go (gets w u s uid (answer w (command.Get u s uid)
     go (inr (inl (e, first, entry, same, says))) = same
     go (inr (inr (x, next, says))) = absurd (both-ways (sym (answer_quiet w (command.Get u s uid) x) ∙ ap (throws x) says ∙ eq-eqb x x refl))
 
+module _ {C : Type 0} {reads : List ℕ → Option Store} {place : C → ℕ} {stands : Bool → C → Outside → Type 0} {told : Bool} {old : Whole C} {o : Outside} (begun : Standing reads place stands told old o)
+    {mid : Engine C} {p : Outside} (u uid : ℕ) (s : List ℕ) {inner : Result Reply AllocError} (a : Inner reads place stands told (command.Get u s uid) old.world mid o p inner) where
+  -- while it was read a crash leaves each unit as it was, whatever became of it but a failed device
+  pub still-read : (IsTrue told → (h : plain.Whole) → Means reads old o h → (v : World) (it : Reply) → inner ≡ Ok it → GetsOr h.world u s uid v (said it) → v ≡ h.world)
+      → IsTrue told → (h : plain.Whole) → Means reads old o h → Always (Answering reads h.world (command.Get u s uid) h.world o.now) o.now p.now
+  still-read same t h m = go inner refl (a.obeyed t h.world m.world)
+    where
+      go : (r : Result Reply AllocError) → inner ≡ r → Obeys reads {R = Reply} {E = AllocError} said (means reads mid p) h.world (command.Get u s uid) r o.now p.now
+          → Always (Answering reads h.world (command.Get u s uid) h.world o.now) o.now p.now
+      go (Ok it) e (v, turned, there, moments) =
+          subst (λ (w : World). Always (Answering reads h.world (command.Get u s uid) w o.now) o.now p.now) (same t h m v it e (gets h.world u s uid v (said it) m.world.settled turned.step)) moments
+      go (Err error) e moments = subst (λ (w : World). Always (Answering reads h.world (command.Get u s uid) w o.now) o.now p.now) (get-stays h.world u uid s m.world.settled) moments
+
 module _ {C : Type 0} {reads : List ℕ → Option Store} {place : C → ℕ} {stands : Bool → C → Outside → Type 0} {told : Bool} {c : Command} {old : Whole C} {o : Outside} (apart : is_plain c ≡ false)
     (begun : Standing reads place stands told old o) where
   -- nothing was asked yet
@@ -60,7 +73,7 @@ module _ {C : Type 0} {reads : List ℕ → Option Store} {place : C → ℕ} {s
     ended = rest-ended reads told old o c (Ok (reply.Refused r)) (λ none. refl) (λ u. refl);
   }
 
-  pub rest-memory : {new : Whole C} (error : AllocError) → whole_takes_memory c ≡ true → Applied reads place stands told c old new o o (Err error)
+  pub rest-memory : {new : Whole C} {asked : List Command} (error : AllocError) → whole_takes_memory c ≡ true → AppliedBy reads place stands asked told c old new o o (Err error)
   rest-memory {new} error takes = record {
     stands = tt;
     stepped = λ t h m. apart-stepped reads old new o c h (Err error) apart m tt;
@@ -69,17 +82,6 @@ module _ {C : Type 0} {reads : List ℕ → Option Store} {place : C → ℕ} {s
 
   -- an entry is read first
   module _ {mid : Engine C} {p : Outside} (u uid : ℕ) (s : List ℕ) {inner : Result Reply AllocError} (a : Inner reads place stands told (command.Get u s uid) old.world mid o p inner) where
-    -- while it was read a crash leaves each unit as it was, whatever became of it but a failed device
-    pub still-read : (IsTrue told → (h : plain.Whole) → Means reads old o h → (v : World) (it : Reply) → inner ≡ Ok it → GetsOr h.world u s uid v (said it) → v ≡ h.world)
-        → IsTrue told → (h : plain.Whole) → Means reads old o h → Always (Answering reads h.world (command.Get u s uid) h.world o.now) o.now p.now
-    still-read same t h m = go inner refl (a.obeyed t h.world m.world)
-      where
-        go : (r : Result Reply AllocError) → inner ≡ r → Obeys {R = Reply} {E = AllocError} reads said (means reads mid p) h.world (command.Get u s uid) r o.now p.now
-            → Always (Answering reads h.world (command.Get u s uid) h.world o.now) o.now p.now
-        go (Ok it) e (v, turned, there, moments) =
-            subst (λ (w : World). Always (Answering reads h.world (command.Get u s uid) w o.now) o.now p.now) (same t h m v it e (gets h.world u s uid v (said it) m.world.settled turned.step)) moments
-        go (Err error) e moments = subst (λ (w : World). Always (Answering reads h.world (command.Get u s uid) w o.now) o.now p.now) (get-stays h.world u uid s m.world.settled) moments
-
     pub read-memory : {new : Whole C} (error : AllocError) → ((w : World) → steps_unread w c ≡ false) → whole_takes_memory c ≡ true → whole_uses_device c ≡ true
         → (IsTrue told → (rest : List Command) × (asked_in_turn (known_whole reads old o) c ≡ command.Get u s uid ∷ rest))
         → (IsTrue told → (h : plain.Whole) → Means reads old o h → Always (Answering reads h.world (command.Get u s uid) h.world o.now) o.now p.now)

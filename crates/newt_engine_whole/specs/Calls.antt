@@ -1,10 +1,11 @@
 -- What the whole promises of a command. All of it is this project's own.
-use Rattle.std.specs.Prelude.{◌≡◌, ◌≢◌, ℕ, Bool, true, false, IsTrue, List, Option, None, Result}
-use Rattle.std.specs.Prelude.{IfOk, IsOk, OnOk}
+use Rattle.std.specs.Prelude.{◌≡◌, ◌≢◌, ℕ, Bool, true, false, IsTrue, List, Option, Result}
+use Rattle.std.specs.Prelude.{IfOk, IsOk, OnOk, drop}
 use Rattle.std.specs.declared.alloc.AllocError.{AllocError}
 use Rattle.newt_host.specs.Outside.{Outside, OnDevices}
 use Rattle.newt_spec_store.specs.Store.{Store}
 use Rattle.newt_spec_whole.specs.Whole as plain
+use Rattle.newt_spec_whole.specs.Whole.{asked_in_turn}
 use Rattle.newt_spec_whole.specs.Answer.{whole_answer}
 use Rattle.newt_spec_whole.specs.Step.{WholeStep}
 use Rattle.newt_spec_world.specs.declared.command.Command.{Command}
@@ -13,31 +14,38 @@ use Rattle.newt_reply.specs.declared.reply.Reply.{Reply}
 use Rattle.newt_reply.specs.declared.reply.Reply.TheVariants as reply
 use Rattle.newt_script_session.specs.Steps.{Stepped}
 use Rattle.newt_engine_card.specs.Bounds.{FetchesAtMost, FetchesWithin, IsOpenOrSame}
-use Rattle.newt_engine_card.specs.Bounds.{ProgramsAtMost}
 use Rattle.newt_engine_cursors.specs.Unread.{steps_unread}
-use Rattle.newt_engine.specs.Bounds.{most_stepped}
+use Rattle.newt_engine.specs.Bounds.{is_format, most_stepped}
 use Rattle.newt_engine.specs.Calls.{IsNotThrown}
-use Rattle.newt_engine_whole.specs.Bounds.{has_bound, most_put, most_taken, whole_means_entries}
+use Rattle.newt_engine.specs.Standing.{stood_for}
+use Rattle.newt_engine_whole.specs.Bounds.{ProgramsInTurn, most_put, most_taken}
+use Rattle.newt_engine_whole.specs.Bounds.{whole_means_entries}
 use Rattle.newt_engine_whole.specs.Ends.{whole_takes_memory, whole_uses_device}
 use Rattle.newt_engine_whole.specs.Standing.{AreKept, DraftsFit, Means, Standing, known_whole}
 use Rattle.newt_engine_whole.specs.declared.whole.Whole.{Whole}
 
+-- what a command asks behind the first, in the known whole
+abbrev pub rest_asked : {C : Type 0} → (List ℕ → Option Store) → Whole C → Outside → Command
+    → List Command
+rest_asked reads old before command = drop 1 (asked_in_turn (known_whole reads old before) command)
+
 module _ {C : Type 0} (reads : List ℕ → Option Store) where
-  -- How a command ends. What is attached, the input and the output are as they were. But for a
-  -- format and a save each unit that has room is programmed by no more than what is asked of the
-  -- world may; where that is a command of entries, no more is fetched there than by it; one that
-  -- opens, shows, moves or counts a cursor fetches no more than it does in the world. After a reply
-  -- each bank is not closed or is as it was, but for a unit that was thrown out. Only what may take
-  -- memory ends in want of it, and only what uses a device throws a unit out.
-  pub record Ended (told : Bool) (command : Command) (old : Whole C) (before after : Outside)
-      (result : Result Reply AllocError) : Type 0 where
+  -- How a command ends that asks these commands of the world, one after another. What is attached,
+  -- the input and the output are as they were. But for a format each unit that has room is
+  -- programmed by no more than what is asked may; where that is of entries, no more is fetched there
+  -- than by it; one that opens, shows, moves or counts a cursor fetches no more than it does in the
+  -- world. After a reply each bank is not closed or is as it was, but for a unit that was thrown
+  -- out. Only what may take memory ends in want of it, and only what uses a device throws a unit
+  -- out.
+  pub record Ended (told : Bool) (command : Command) (asked : List Command) (old : Whole C)
+      (before after : Outside) (result : Result Reply AllocError) : Type 0 where
     pub alone : OnDevices before after
-    pub bound : IsTrue told → has_bound command ≡ true → let h = known_whole reads old before in
-        (u : ℕ) → ProgramsAtMost (most_put h command u) u before after
+    pub bound : IsTrue told → is_format command ≡ false →
+        (u : ℕ) → ProgramsInTurn (stood_for reads old.world before) asked u before after
     pub fetched : IsTrue told → whole_means_entries command ≡ true →
-        let h = known_whole reads old before in
-        FetchesWithin (most_put h command) (most_taken h command) before after
-    pub step : IsTrue told → let w = (known_whole reads old before).world in
+        let w = stood_for reads old.world before in
+        FetchesWithin (most_put w asked) (most_taken w asked) before after
+    pub step : IsTrue told → let w = stood_for reads old.world before in
         steps_unread w command ≡ true → FetchesAtMost (most_stepped w command) before after
     pub open_after : IsTrue told → IfOk result
         (λ it. (u : ℕ) → it ≢ reply.Thrown u → IsOpenOrSame u before.now after.now)
@@ -59,13 +67,26 @@ module _ {C : Type 0} (reads : List ℕ → Option Store) where
 
 module _ {C : Type 0} (reads : List ℕ → Option Store) (place : C → ℕ)
     (standing : Bool → C → Outside → Type 0) where
-  -- What the whole promises of any command. From each whole that it stood for it has made a step to
-  -- one that it stands for, and at each moment a crash leaves each unit as in the one or in the
-  -- other.
-  pub record Applied (told : Bool) (command : Command) (old new : Whole C) (before after : Outside)
-      (result : Result Reply AllocError) : Type 0 where
+  -- What the whole promises of a command that asks these commands of the world. From each whole that
+  -- it stood for it has made a step to one that it stands for, and at each moment a crash leaves each
+  -- unit as in the one or in the other.
+  pub record AppliedBy (asked : List Command) (told : Bool) (command : Command) (old new : Whole C)
+      (before after : Outside) (result : Result Reply AllocError) : Type 0 where
     pub stands : OnOk result (Standing reads place standing told new after)
     pub stepped : IsTrue told → (h : plain.Whole) → Means reads old before h
         → Stepped WholeStep reads command result h (Means reads new after) before.now after.now
         before.dev_faults after.dev_faults
-    pub ended : Ended reads told command old before after result
+    pub ended : Ended reads told command asked old before after result
+
+  -- any command, by what it asks in the known whole
+  abbrev pub Applied : Bool → Command → (old new : Whole C) → (before after : Outside)
+      → Result Reply AllocError → Type 0
+  Applied told command old new before after result =
+      AppliedBy (asked_in_turn (known_whole reads old before) command)
+      told command old new before after result
+
+  -- the rest of a command, once the first that it asks was asked, and left the world
+  abbrev pub AppliedRest : Bool → Command → (old new : Whole C) → (before after : Outside)
+      → Result Reply AllocError → Type 0
+  AppliedRest told command old new before after result =
+      AppliedBy (rest_asked reads old before command) told command old new before after result

@@ -34,8 +34,8 @@ FindsLiving h n (Err refusal) = first_of (no_copy h n ∷ entry_gone h n ∷ [])
 -- The same, and the entry has this time and this graph.
 pub record IsRead (h : Whole) (n : ℕ) (place : Place) (time : ℕ) (graph : RawGraph) : Type 0 where
   pub at : IsAt h n place
-  pub time : at.spot.entry.time ≡ time
-  pub graph : at.spot.entry.graph ≡ graph
+  pub timed : at.spot.entry.time ≡ time
+  pub shows : at.spot.entry.graph ≡ graph
 
 -- a copy is put at the least free place, whose number is replied; or all sixteen are there
 abbrev pub PutsCopy : (old new : List (Option Copy)) → Copy → Reply → Type 0
@@ -45,5 +45,7 @@ PutsCopy old new k reply = MatchOption (position is_none old)
 
 -- the note that the entry at a place was changed
 abbrev pub saved_event : Place → Event
-saved_event place = (place.name,
-    record { kind = Change; unit = place.unit; soup = place.soup; uid = place.uid })
+saved_event place = (
+  place.name,
+  record { kind = Change; unit = place.unit; soup = place.soup; uid = place.uid },
+)

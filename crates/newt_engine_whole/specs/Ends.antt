@@ -1,5 +1,5 @@
 -- Which commands of the whole may end the run. This project's own.
-use Rattle.std.specs.Prelude.{Bool, true, false}
+use Rattle.std.specs.Prelude.{Bool, true}
 use Rattle.newt_spec_world.specs.declared.command.Command.{Command}
 use Rattle.newt_spec_world.specs.declared.command.Command.TheVariants as command
 use Rattle.newt_engine.specs.Ends.{takes_memory, uses_device}

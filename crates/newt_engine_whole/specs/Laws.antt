@@ -44,9 +44,10 @@ pub stood_for : {C : Type 0} {reads : List ℕ → Option Store} {place : C → 
     → (h : plain.Whole) × Means reads it outside h
 stood_for formed plain_store durable banks kept it outside s =
     let laws = world.laws_of formed plain_store durable banks kept in
-    let w = world.has_world laws it.world.units it.world.desk outside s.world in
-    (record { world = w.0; watches = s.watches.0; copies = it.works },
-    record { world = w.1; watches = s.watches.1; copies = refl })
+    let w = world.has_world laws it.world.units it.world.desk outside s.world in (
+      record { world = w.0; watches = s.watches.0; copies = it.works },
+      record { world = w.1; watches = s.watches.1; copies = refl },
+    )
 
 pub still_means : {C : Type 0} (reads : List ℕ → Option Store) (it : Whole C) (old new : Outside)
     (h : plain.Whole) → SameDevices true old new → Means reads it old h → Means reads it new h

@@ -1,6 +1,6 @@
 -- The notes that are due, by what is known before a command and the reply to it. All of it is this
 -- project's own.
-use Rattle.std.specs.Prelude.{◌≡◌, ℕ, Bool, true, false, not, ◌==◌, ◌&&◌, List, [], ◌∷◌}
+use Rattle.std.specs.Prelude.{◌≡◌, ℕ, Bool, false, not, ◌==◌, ◌&&◌, List, [], ◌∷◌}
 use Rattle.std.specs.Prelude.{Option, Some, None, if◌then◌else◌}
 use Rattle.newt_notify.specs.Watch.{Watching, kept_all}
 use Rattle.newt_notify.specs.declared.note.Kind.TheVariants.{Make}

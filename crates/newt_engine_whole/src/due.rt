@@ -48,7 +48,7 @@ pub(crate) fn due_of<C: Card>(units: &Units<C>, command: &Command) -> Result<Due
     match command {
         Command::Soup(unit, name) => Ok(Due::Soup(*unit, name.copy()?)),
         Command::Drop(unit, name) => {
-            Ok(Due::One(told(units, Kind::Gone, *unit, name, Uid(0))?))
+            Ok(Due::One(told_of(units, Kind::Gone, *unit, name, Uid(0))?))
         }
         Command::Add(unit, name, _) => Ok(Due::One(added(units, *unit, name)?)),
         Command::Addx(unit, name, _) => Ok(Due::One(added(units, *unit, name)?)),
@@ -58,27 +58,27 @@ pub(crate) fn due_of<C: Card>(units: &Units<C>, command: &Command) -> Result<Due
         }
         Command::Copy(_, _, _, to, target) => Ok(Due::One(added(units, *to, target)?)),
         Command::Set(unit, name, uid, _, _) => {
-            Ok(Due::One(told(units, Kind::Change, *unit, name, *uid)?))
+            Ok(Due::One(told_of(units, Kind::Change, *unit, name, *uid)?))
         }
         Command::Change(unit, name, uid, _) => {
-            Ok(Due::One(told(units, Kind::Change, *unit, name, *uid)?))
+            Ok(Due::One(told_of(units, Kind::Change, *unit, name, *uid)?))
         }
         Command::Vwrite(unit, name, uid, _, _, _) => {
-            Ok(Due::One(told(units, Kind::Change, *unit, name, *uid)?))
+            Ok(Due::One(told_of(units, Kind::Change, *unit, name, *uid)?))
         }
         Command::Remove(unit, name, uid) => {
-            Ok(Due::One(told(units, Kind::Remove, *unit, name, *uid)?))
+            Ok(Due::One(told_of(units, Kind::Remove, *unit, name, *uid)?))
         }
         Command::Move(unit, name, uid, to, target) => Ok(Due::Two(
             added(units, *to, target)?,
-            told(units, Kind::Remove, *unit, name, *uid)?,
+            told_of(units, Kind::Remove, *unit, name, *uid)?,
         )),
         _ => Ok(Due::Nothing),
     }
 }
 
 /// That an entry of a soup, or the soup itself, is not as it was.
-fn told<C: Card>(
+fn told_of<C: Card>(
     units: &Units<C>,
     kind: Kind,
     unit: Unit,
@@ -109,5 +109,5 @@ fn added<C: Card>(units: &Units<C>, unit: Unit, name: &Name) -> Result<Told, All
         event_of told ≡ add_event (world_of C.reads units.now outside) unit name.now) }
 {
     let uid = units.next_uid(unit, name).unwrap_or(0);
-    told(units, Kind::Add, unit, name, Uid(uid))
+    told_of(units, Kind::Add, unit, name, Uid(uid))
 }

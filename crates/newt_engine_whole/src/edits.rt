@@ -1,5 +1,5 @@
 //! Working copies apart from the store: they are shown, edited and discarded.
-ghost use Rattle.std.specs.Prelude.{◌≡◌, IsSome, nat_lt, option_map, slice_set, if◌then◌else◌};
+ghost use Rattle.std.specs.Prelude.{◌≡◌, IsSome, MatchBool, nat_lt, option_map, slice_set};
 ghost use Rattle.newt_base.specs.declared.Refusal.TheVariants.{Size};
 ghost use Rattle.newt_reply.specs.Said.{said};
 ghost use Rattle.newt_spec_store.specs.Cost.{skeleton_length};
@@ -58,10 +58,10 @@ impl<C: Card> Whole<C> {
         requires { IsSome (copy_at number self.old.works) }
         ensures world { self.new.world ≡ self.old.world }
         ensures watches { self.new.watches ≡ self.old.watches }
-        ensures put { if nat_lt 64_000 (skeleton_length draft)
-            then (said result ≡ spec.refused Size) × (self.new.works ≡ self.old.works)
-            else (said result ≡ spec.done) × (self.new.works ≡ slice_set self.old.works number
-            (option_map (edited draft) (copy_at number self.old.works))) }
+        ensures put { MatchBool (nat_lt 64_000 (skeleton_length draft))
+            ((said result ≡ spec.refused Size) × (self.new.works ≡ self.old.works))
+            ((said result ≡ spec.done) × (self.new.works ≡ slice_set self.old.works number
+            (option_map (edited draft) (copy_at number self.old.works)))) }
     {
         if skeleton_len(&draft) > MOST_TEXT {
             return Reply::Refused(Refusal::Size);

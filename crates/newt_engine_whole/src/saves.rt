@@ -5,7 +5,7 @@ ghost use Rattle.newt_reply.specs.Said.{said};
 ghost use Rattle.newt_spec_whole.specs.Whole as plain;
 ghost use Rattle.newt_spec_world.specs.declared.command.Command.TheVariants as asked;
 ghost use Rattle.newt_work.specs.Work.{copy_at, opened};
-ghost use Rattle.newt_engine_whole.specs.Calls.{Applied};
+ghost use Rattle.newt_engine_whole.specs.Calls.{Applied, AppliedRest};
 ghost use Rattle.newt_engine_whole.specs.Copies.{FindsLiving, IsRead, PutsCopy, saved_event};
 ghost use Rattle.newt_engine_whole.specs.Standing.{Means, Standing};
 ghost use Rattle.newt_engine_whole.specs.Told.{Tells};
@@ -49,8 +49,10 @@ impl<C: Card> Whole<C> {
     {
         let (store, soup) = match alias(self.world.units(), unit, &name, uid) {
             Ok(found) => found,
-            Err(StoreFault::Refused(refusal)) => return Ok(Reply::Refused(refusal)),
-            Err(StoreFault::Stop(_)) => return Err(AllocError),
+            Err(fault) => match fault {
+                StoreFault::Refused(refusal) => return Ok(Reply::Refused(refusal)),
+                StoreFault::Stop(_) => return Err(AllocError),
+            },
         };
         let reply = self.world.apply(host, Command::Get(unit, name, uid))?;
         match reply {
@@ -94,22 +96,18 @@ impl<C: Card> Whole<C> {
         };
         let (store, soup, uid) = work.alias();
         match self.world.units().find_alias(Alias { store, soup, uid })? {
-            Some((unit, name, uid)) => Ok(Ok(Place {
-                unit,
-                name,
+            Some(found) => Ok(Ok(Place {
+                unit: found.0,
+                name: found.1,
                 soup,
-                uid,
+                uid: found.2,
             })),
             None => Ok(Err(Refusal::Entry)),
         }
     }
 
     /// Gives the entry the draft of its copy, where it is as the copy's base.
-    pub(crate) fn save<H: Host>(
-        &mut self,
-        host: &mut H,
-        number: u8,
-    ) -> Result<Reply, AllocError>
+    pub(crate) fn save<H: Host>(&mut self, host: &mut H, number: u8) -> Result<Reply, AllocError>
         requires stands { Standing C.reads C.place C.stands H.told self.old
             (H.outside host.old) }
         ensures { Applied C.reads C.place C.stands H.told (asked.Save number)
@@ -144,7 +142,7 @@ impl<C: Card> Whole<C> {
         requires read { IsTrue H.told → (h : plain.Whole)
             → Means C.reads self.old (H.outside host.old) h
             → IsRead h number place.now time graph.now }
-        ensures { Applied C.reads C.place C.stands H.told (asked.Save number)
+        ensures { AppliedRest C.reads C.place C.stands H.told (asked.Save number)
             self.old self.new (H.outside host.old) (H.outside host.new) result }
     {
         let Some(work) = self.works.at(number) else {
@@ -163,7 +161,8 @@ impl<C: Card> Whole<C> {
         let reply = self.world.apply(host, change)?;
         match reply {
             Reply::Done => {
-                self.works.rebase(number, self.world.units().minute(), base, draft);
+                self.works
+                    .rebase(number, self.world.units().minute(), base, draft);
                 self.tell_saved(place);
                 Ok(Reply::Done)
             }
@@ -185,11 +184,7 @@ impl<C: Card> Whole<C> {
     }
 
     /// Begins a copy anew from its entry as it is.
-    pub(crate) fn revert<H: Host>(
-        &mut self,
-        host: &mut H,
-        number: u8,
-    ) -> Result<Reply, AllocError>
+    pub(crate) fn revert<H: Host>(&mut self, host: &mut H, number: u8) -> Result<Reply, AllocError>
         requires stands { Standing C.reads C.place C.stands H.told self.old
             (H.outside host.old) }
         ensures { Applied C.reads C.place C.stands H.told (asked.Revert number)

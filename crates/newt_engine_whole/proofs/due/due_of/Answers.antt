@@ -1,5 +1,5 @@
 -- Each arm has the notes of its command.
-use Rattle.std.proofs.Common.{◌≡◌, refl, subst, ℕ, Option, unwrap_or}
+use Rattle.std.proofs.Common.{◌≡◌, ap, refl, subst, sym, ◌∙◌, ℕ, Option, unwrap_or}
 use Rattle.newt_notify.specs.declared.note.Kind.TheVariants.{Change, Gone, Remove}
 use Rattle.newt_spec_whole.specs.Events.{add_event, entry_event, events}
 use Rattle.newt_spec_world.specs.World.{default_unit}
@@ -11,35 +11,36 @@ use Rattle.newt_engine_whole.proofs.due.due_of.Goals as goal
 
 pub returns-in_ok-copy-in-Soup-clause-due : goal.returns-in_ok-copy-in-Soup-clause-due
 returns-in_ok-copy-in-Soup-clause-due g c o eight stand =
-    soup-due (world_of g.C.Card.reads c.args.units.now o) c.in-Soup.unit c.in-Soup.name.now c.in-Soup.is
+    soup-due (world_of g.C.Card.reads c.args.units.now o) c.in-Soup.unit c.in_ok-copy-in-Soup.field-0 (c.in-Soup.is ∙ ap (command.Soup c.in-Soup.unit) (sym c.in_ok-copy-in-Soup.ensures))
 
-pub returns-in_ok-told-in-Drop-clause-due : goal.returns-in_ok-told-in-Drop-clause-due
+pub returns-in_ok-told_of-in-Drop-clause-due : goal.returns-in_ok-told_of-in-Drop-clause-due
 unfolding events
-returns-in_ok-told-in-Drop-clause-due g c o eight stand =
+returns-in_ok-told_of-in-Drop-clause-due g c o eight stand =
     let w = world_of g.C.Card.reads c.args.units.now o in
-    one-due w (command.Drop c.in-Drop.unit c.in-Drop.name.now) (entry_event w Gone c.in-Drop.unit c.in-Drop.name.now 0) c.in-Drop.is refl
-    c.in_ok-told-in-Drop.field-0 (c.in_ok-told-in-Drop.ensures o eight stand)
+    one-due w (command.Drop c.in-Drop.unit c.in-Drop.name) (entry_event w Gone c.in-Drop.unit c.in-Drop.name 0) c.in-Drop.is refl
+    c.in_ok-told_of-in-Drop.field-0 (c.in_ok-told_of-in-Drop.ensures o eight stand)
 
 pub returns-in_ok-added-in-Add-clause-due : goal.returns-in_ok-added-in-Add-clause-due
 unfolding events
 returns-in_ok-added-in-Add-clause-due g c o eight stand =
     let w = world_of g.C.Card.reads c.args.units.now o in
-    one-due w (command.Add c.in-Add.unit c.in-Add.name.now _) (add_event w c.in-Add.unit c.in-Add.name.now) c.in-Add.is refl
+    one-due w (command.Add c.in-Add.unit c.in-Add.name _) (add_event w c.in-Add.unit c.in-Add.name) c.in-Add.is refl
     c.in_ok-added-in-Add.field-0 (c.in_ok-added-in-Add.ensures o eight stand)
 
 pub returns-in_ok-added-in-Addx-clause-due : goal.returns-in_ok-added-in-Addx-clause-due
 unfolding events
 returns-in_ok-added-in-Addx-clause-due g c o eight stand =
     let w = world_of g.C.Card.reads c.args.units.now o in
-    one-due w (command.Addx c.in-Addx.unit c.in-Addx.name.now _) (add_event w c.in-Addx.unit c.in-Addx.name.now) c.in-Addx.is refl
+    one-due w (command.Addx c.in-Addx.unit c.in-Addx.name _) (add_event w c.in-Addx.unit c.in-Addx.name) c.in-Addx.is refl
     c.in_ok-added-in-Addx.field-0 (c.in_ok-added-in-Addx.ensures o eight stand)
 
 pub returns-in_ok-added-in-Addu-clause-due : goal.returns-in_ok-added-in-Addu-clause-due
 unfolding events
 returns-in_ok-added-in-Addu-clause-due g c o eight stand =
     let w = world_of g.C.Card.reads c.args.units.now o in
-    one-due w (command.Addu c.in-Addu.name.now _) (add_event w (default_unit w) c.in-Addu.name.now) c.in-Addu.is refl
-    c.in_ok-added-in-Addu.field-0 (subst (λ (u : Option ℕ). event_of c.in_ok-added-in-Addu.field-0 ≡ add_event w (unwrap_or u 8) c.in-Addu.name.now) c.default_unit.ensures (c.in_ok-added-in-Addu.ensures o eight stand))
+    one-due w (command.Addu c.in-Addu.name _) (add_event w (default_unit w) c.in-Addu.name) c.in-Addu.is refl
+    c.in_ok-added-in-Addu.field-0 (subst (λ (u : ℕ). event_of c.in_ok-added-in-Addu.field-0 ≡ add_event w u c.in-Addu.name)
+    (c.unwrap_or-unit.ensures ∙ ap (λ (u : Option ℕ). unwrap_or u 8) c.default_unit.ensures) (c.in_ok-added-in-Addu.ensures o eight stand))
 
 pub returns-in_default-clause-due : goal.returns-in_default-clause-due
 returns-in_default-clause-due g c o eight stand =
@@ -51,41 +52,41 @@ pub returns-in_ok-added-in-Copy-clause-due : goal.returns-in_ok-added-in-Copy-cl
 unfolding events
 returns-in_ok-added-in-Copy-clause-due g c o eight stand =
     let w = world_of g.C.Card.reads c.args.units.now o in
-    one-due w (command.Copy _ _ _ c.in-Copy.to c.in-Copy.target.now) (add_event w c.in-Copy.to c.in-Copy.target.now) c.in-Copy.is refl
+    one-due w (command.Copy _ _ _ c.in-Copy.to c.in-Copy.target) (add_event w c.in-Copy.to c.in-Copy.target) c.in-Copy.is refl
     c.in_ok-added-in-Copy.field-0 (c.in_ok-added-in-Copy.ensures o eight stand)
 
-pub returns-in_ok-told-in-Set-clause-due : goal.returns-in_ok-told-in-Set-clause-due
+pub returns-in_ok-told_of-in-Set-clause-due : goal.returns-in_ok-told_of-in-Set-clause-due
 unfolding events
-returns-in_ok-told-in-Set-clause-due g c o eight stand =
+returns-in_ok-told_of-in-Set-clause-due g c o eight stand =
     let w = world_of g.C.Card.reads c.args.units.now o in
-    one-due w (command.Set c.in-Set.unit c.in-Set.name.now c.in-Set.uid _ _) (entry_event w Change c.in-Set.unit c.in-Set.name.now c.in-Set.uid) c.in-Set.is refl
-    c.in_ok-told-in-Set.field-0 (c.in_ok-told-in-Set.ensures o eight stand)
+    one-due w (command.Set c.in-Set.unit c.in-Set.name c.in-Set.uid _ _) (entry_event w Change c.in-Set.unit c.in-Set.name c.in-Set.uid) c.in-Set.is refl
+    c.in_ok-told_of-in-Set.field-0 (c.in_ok-told_of-in-Set.ensures o eight stand)
 
-pub returns-in_ok-told-in-Change-clause-due : goal.returns-in_ok-told-in-Change-clause-due
+pub returns-in_ok-told_of-in-Change-clause-due : goal.returns-in_ok-told_of-in-Change-clause-due
 unfolding events
-returns-in_ok-told-in-Change-clause-due g c o eight stand =
+returns-in_ok-told_of-in-Change-clause-due g c o eight stand =
     let w = world_of g.C.Card.reads c.args.units.now o in
-    one-due w (command.Change c.in-Change.unit c.in-Change.name.now c.in-Change.uid _) (entry_event w Change c.in-Change.unit c.in-Change.name.now c.in-Change.uid) c.in-Change.is refl
-    c.in_ok-told-in-Change.field-0 (c.in_ok-told-in-Change.ensures o eight stand)
+    one-due w (command.Change c.in-Change.unit c.in-Change.name c.in-Change.uid _) (entry_event w Change c.in-Change.unit c.in-Change.name c.in-Change.uid) c.in-Change.is refl
+    c.in_ok-told_of-in-Change.field-0 (c.in_ok-told_of-in-Change.ensures o eight stand)
 
-pub returns-in_ok-told-in-Vwrite-clause-due : goal.returns-in_ok-told-in-Vwrite-clause-due
+pub returns-in_ok-told_of-in-Vwrite-clause-due : goal.returns-in_ok-told_of-in-Vwrite-clause-due
 unfolding events
-returns-in_ok-told-in-Vwrite-clause-due g c o eight stand =
+returns-in_ok-told_of-in-Vwrite-clause-due g c o eight stand =
     let w = world_of g.C.Card.reads c.args.units.now o in
-    one-due w (command.Vwrite c.in-Vwrite.unit c.in-Vwrite.name.now c.in-Vwrite.uid _ _ _) (entry_event w Change c.in-Vwrite.unit c.in-Vwrite.name.now c.in-Vwrite.uid) c.in-Vwrite.is refl
-    c.in_ok-told-in-Vwrite.field-0 (c.in_ok-told-in-Vwrite.ensures o eight stand)
+    one-due w (command.Vwrite c.in-Vwrite.unit c.in-Vwrite.name c.in-Vwrite.uid _ _ _) (entry_event w Change c.in-Vwrite.unit c.in-Vwrite.name c.in-Vwrite.uid) c.in-Vwrite.is refl
+    c.in_ok-told_of-in-Vwrite.field-0 (c.in_ok-told_of-in-Vwrite.ensures o eight stand)
 
-pub returns-in_ok-told-in-Remove-clause-due : goal.returns-in_ok-told-in-Remove-clause-due
+pub returns-in_ok-told_of-in-Remove-clause-due : goal.returns-in_ok-told_of-in-Remove-clause-due
 unfolding events
-returns-in_ok-told-in-Remove-clause-due g c o eight stand =
+returns-in_ok-told_of-in-Remove-clause-due g c o eight stand =
     let w = world_of g.C.Card.reads c.args.units.now o in
-    one-due w (command.Remove c.in-Remove.unit c.in-Remove.name.now c.in-Remove.uid) (entry_event w Remove c.in-Remove.unit c.in-Remove.name.now c.in-Remove.uid) c.in-Remove.is refl
-    c.in_ok-told-in-Remove.field-0 (c.in_ok-told-in-Remove.ensures o eight stand)
+    one-due w (command.Remove c.in-Remove.unit c.in-Remove.name c.in-Remove.uid) (entry_event w Remove c.in-Remove.unit c.in-Remove.name c.in-Remove.uid) c.in-Remove.is refl
+    c.in_ok-told_of-in-Remove.field-0 (c.in_ok-told_of-in-Remove.ensures o eight stand)
 
-pub returns-in_ok-told-in-Move-clause-due : goal.returns-in_ok-told-in-Move-clause-due
+pub returns-in_ok-told_of-in-Move-clause-due : goal.returns-in_ok-told_of-in-Move-clause-due
 unfolding events
-returns-in_ok-told-in-Move-clause-due g c o eight stand =
+returns-in_ok-told_of-in-Move-clause-due g c o eight stand =
     let w = world_of g.C.Card.reads c.args.units.now o in
-    two-due w (command.Move c.in-Move.unit c.in-Move.name.now c.in-Move.uid c.in-Move.to c.in-Move.target.now)
-    (add_event w c.in-Move.to c.in-Move.target.now) (entry_event w Remove c.in-Move.unit c.in-Move.name.now c.in-Move.uid) c.in-Move.is refl
-    c.in_ok-added-in-Move.field-0 c.in_ok-told-in-Move.field-0 (c.in_ok-added-in-Move.ensures o eight stand) (c.in_ok-told-in-Move.ensures o eight stand)
+    two-due w (command.Move c.in-Move.unit c.in-Move.name c.in-Move.uid c.in-Move.to c.in-Move.target)
+    (add_event w c.in-Move.to c.in-Move.target) (entry_event w Remove c.in-Move.unit c.in-Move.name c.in-Move.uid) c.in-Move.is refl
+    c.in_ok-added-in-Move.field-0 c.in_ok-told_of-in-Move.field-0 (c.in_ok-added-in-Move.ensures o eight stand) (c.in_ok-told_of-in-Move.ensures o eight stand)

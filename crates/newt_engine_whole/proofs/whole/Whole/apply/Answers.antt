@@ -1,9 +1,7 @@
 -- A command is of watches, of copies or of the world.
-use Rattle.std.proofs.Common.{◌≡◌, ap, refl, subst, sym, ◌∙◌}
-use Rattle.newt_spec_world.specs.declared.command.Command.{Command}
+use Rattle.std.proofs.Common.{ap, refl, sym, ◌∙◌}
 use Rattle.newt_laws_world.specs.Worlds.{has_form, is_plain}
-use Rattle.newt_engine_whole.specs.Calls.{Applied}
-use Rattle.newt_engine_whole.proofs.Apart.{apart-applied}
+use Rattle.newt_engine_whole.proofs.Apart.{applied-as, apart-applied}
 use Rattle.newt_engine_whole.proofs.Groups.{plain-others, watch-form}
 use Rattle.newt_engine_whole.proofs.whole.Whole.apply.Goals as goal
 
@@ -15,41 +13,41 @@ watch-requires g c =
 pub returns-in-Watch : goal.returns-in-Watch
 unfolding is_plain
 returns-in-Watch g c =
-    subst (λ (d : Command). Applied g.C.Card.reads g.C.Card.place g.C.Card.stands g.H.Host.told d _ _ _ _ _) (sym c.in-Watch.is) (apart-applied refl c.requires.stands c.watch.ensures)
+    applied-as c.in-Watch.is (apart-applied refl c.requires.stands c.watch.ensures)
 
 pub returns-in-Notes : goal.returns-in-Notes
 unfolding is_plain
 returns-in-Notes g c =
-    subst (λ (d : Command). Applied g.C.Card.reads g.C.Card.place g.C.Card.stands g.H.Host.told d _ _ _ _ _) (sym c.in-Notes.is) (apart-applied refl c.requires.stands c.take_notes.ensures)
+    applied-as c.in-Notes.is (apart-applied refl c.requires.stands c.take_notes.ensures)
 
 pub returns-in-Unwatch : goal.returns-in-Unwatch
 unfolding is_plain
 returns-in-Unwatch g c =
-    subst (λ (d : Command). Applied g.C.Card.reads g.C.Card.place g.C.Card.stands g.H.Host.told d _ _ _ _ _) (sym c.in-Unwatch.is) (apart-applied refl c.requires.stands c.unwatch.ensures)
+    applied-as c.in-Unwatch.is (apart-applied refl c.requires.stands c.unwatch.ensures)
 
 pub returns-in-Open : goal.returns-in-Open
-returns-in-Open g c = subst (λ (d : Command). Applied g.C.Card.reads g.C.Card.place g.C.Card.stands g.H.Host.told d _ _ _ _ _) (sym c.in-Open.is) c.open.ensures
+returns-in-Open g c = applied-as c.in-Open.is c.open.ensures
 
 pub returns-in-Draft : goal.returns-in-Draft
 unfolding is_plain
 returns-in-Draft g c =
-    subst (λ (d : Command). Applied g.C.Card.reads g.C.Card.place g.C.Card.stands g.H.Host.told d _ _ _ _ _) (sym c.in-Draft.is) (apart-applied refl c.requires.stands c.draft.ensures)
+    applied-as c.in-Draft.is (apart-applied refl c.requires.stands c.draft.ensures)
 
 pub returns-in-Edit : goal.returns-in-Edit
 unfolding is_plain
 returns-in-Edit g c =
-    subst (λ (d : Command). Applied g.C.Card.reads g.C.Card.place g.C.Card.stands g.H.Host.told d _ _ _ _ _) (sym c.in-Edit.is) (apart-applied refl c.requires.stands c.edit.ensures)
+    applied-as c.in-Edit.is (apart-applied refl c.requires.stands c.edit.ensures)
 
 pub returns-in-Save : goal.returns-in-Save
-returns-in-Save g c = subst (λ (d : Command). Applied g.C.Card.reads g.C.Card.place g.C.Card.stands g.H.Host.told d _ _ _ _ _) (sym c.in-Save.is) c.save.ensures
+returns-in-Save g c = applied-as c.in-Save.is c.save.ensures
 
 pub returns-in-Revert : goal.returns-in-Revert
-returns-in-Revert g c = subst (λ (d : Command). Applied g.C.Card.reads g.C.Card.place g.C.Card.stands g.H.Host.told d _ _ _ _ _) (sym c.in-Revert.is) c.revert.ensures
+returns-in-Revert g c = applied-as c.in-Revert.is c.revert.ensures
 
 pub returns-in-Discard : goal.returns-in-Discard
 unfolding is_plain
 returns-in-Discard g c =
-    subst (λ (d : Command). Applied g.C.Card.reads g.C.Card.place g.C.Card.stands g.H.Host.told d _ _ _ _ _) (sym c.in-Discard.is) (apart-applied refl c.requires.stands c.discard.ensures)
+    applied-as c.in-Discard.is (apart-applied refl c.requires.stands c.discard.ensures)
 
 pub ask-requires : goal.ask-requires
 ask-requires g c =

@@ -1,7 +1,5 @@
 -- Nothing is watched, and no copy is open.
-use Rattle.std.proofs.Common.{ap, refl, sym, ◌∙◌, replicate, List, Option, None, Some}
-use Rattle.newt_notify.specs.Watch.{Kept, Watching, kept_all}
-use Rattle.newt_work.specs.Work.{Copy, copy_at}
+use Rattle.std.proofs.Common.{replicate, None}
 use Rattle.newt_engine_whole.proofs.Starting.{none-fit}
 use Rattle.newt_engine_whole.proofs.whole.Whole.new.Goals as goal
 
