@@ -142,6 +142,19 @@ def names() -> list[str]:
     return [*lines, *[f"soup 0 {it}" for it in given], "soups 0", "stores", 'drop 0 "A"', "soups 0"]
 
 
+def watches() -> list[str]:
+    lines = [*START, *["watch S 1"] * 8, "watch N 2", "unwatch 3", "watch N 64", "watch N 1", "watch N 0", "watch N 65"]
+    lines += ["soup 0 N", *["add 0 N {}"] * 66, "notes 3", "notes 3", "add 0 S {}", "remove 0 S 0", "notes 0", "notes 7"]
+    return lines + ["move 0 N 5 0 S", "notes 3", "notes 0", "drop 0 N", "drop 0 N", "notes 3", "notes 8", "unwatch 9"]
+
+
+def copies() -> list[str]:
+    lines = [*START, "add 0 S {a: 1}", *["open 0 S 0"] * 17, "discard 4", "open 0 S 0", "open 0 S 1", "edit 4 a 2"]
+    lines += ["save 4", "save 5", "revert 5", "edit 5 b.c 1", "edit 5 b {c: 2}", "save 5", "draft 5", "time 9", "save 5"]
+    lines += ["edit 5 t " + string(15_000), "edit 5 u " + string(16_500), "save 5", "edit 6 d " + nested(64), "save 6"]
+    return lines + ["unmount 0", "save 5", "draft 5", "mount 0", "save 5", "remove 0 S 0", "revert 5", "save 5", "discard 5"]
+
+
 EDGES = [
     (stores, (13,) * 6),
     (cursors, (13,)),
@@ -156,4 +169,6 @@ EDGES = [
     (larges, (4099,)),
     (blocks, (12, 13, 4099, 4100, 0, 1)),
     (names, (20,)),
+    (watches, (20,)),
+    (copies, (40,)),
 ]

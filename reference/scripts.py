@@ -53,6 +53,15 @@ COMMANDS = {
     "which": (2, "cursor"),
     "clone": (1, "cursor"),
     "close": (1, "cursor"),
+    "watch": (2, "name limit"),
+    "notes": (4, "watch"),
+    "unwatch": (1, "watch"),
+    "open": (4, "place"),
+    "draft": (2, "copy"),
+    "edit": (6, "copy path set_value"),
+    "save": (6, "copy"),
+    "revert": (2, "copy"),
+    "discard": (2, "copy"),
     "time": (2, "minute"),
     "format": (1, "unit label"),
     "mount": (3, "any_unit"),
@@ -251,8 +260,7 @@ class Writer(Values):
         return f"{soups} {{{', '.join(slots)}}}"
 
     def cursor(self) -> str:
-        is_open = [at for at, it in enumerate(self.world.cursors) if it]
-        return str(self.one(*is_open) if is_open and self.often() else self.random.randrange(32))
+        return self.among(self.world.cursors)
 
     def goal(self) -> str:
         """A cursor, and the unit and id of an entry, mostly of one that it finds."""
@@ -280,6 +288,22 @@ class Writer(Values):
             )
         number, soup, entry = self.one(*entries)
         return f"[alias: {self.world.units[number].store.sig}, {soup.sig}, {entry.uid}]"
+
+    # Watches and working copies.
+
+    def limit(self) -> str:
+        return str(self.one(1, 1, 2, 3, 8, 64, 0, 65))
+
+    def among(self, places: list) -> str:
+        """The number of a place, mostly of one where something is."""
+        taken = [at for at, it in enumerate(places) if it]
+        return str(self.one(*taken) if taken and self.often() else self.random.randrange(len(places)))
+
+    def watch(self) -> str:
+        return self.among(self.world.watches)
+
+    def copy(self) -> str:
+        return self.among(self.world.copies)
 
     # Lines.
 

@@ -1,26 +1,24 @@
 -- A working copy while commands go on.
-use Rattle.std.proofs.Common.{◌≡◌, refl, ap, sym, ◌∙◌, subst, ℕ, zero, suc, List, [], ◌∷◌, ◌++◌, true, false, Bool, cond, not, ◌⊎◌, inl, inr, Option, Some, None, option_map, option_and_then, slice_set, if◌then◌else◌}
-use Rattle.std.specs.Prelude.{slice_get, is_none, ◌==◌, ◌&&◌}
+use Rattle.std.proofs.Common.{◌≡◌, refl, ap, sym, ◌∙◌, subst, ℕ, List, [], ◌∷◌, ◌++◌, true, false, Bool, cond, not, Option, Some, None, option_map, option_and_then, if◌then◌else◌}
+use Rattle.std.specs.Prelude.{slice_get, is_none, ◌==◌}
 use Rattle.std.specs.List.{position}
 use Rattle.std.proofs.lemmas.Bool.Decides.{Decides-eqb, Decides-and}
 use Rattle.newt_base.specs.Refusals.{Checks, first_of}
 use Rattle.newt_base.specs.declared.Refusal.{Refusal}
 use Rattle.newt_graph.specs.Graph.{RawGraph}
 use Rattle.newt_work.specs.Work.{Copy, opened, edited, rebased, is_based}
-use Rattle.newt_work.specs.Same.{same_graph}
 use Rattle.newt_work.proofs.Same.{graph_decides}
-use Rattle.newt_spec_graph.proofs.Lists.{some-same, none-some}
 use Rattle.newt_spec_store.specs.Store.{Entry, Soup, Store}
-use Rattle.newt_spec_world.specs.World.{World, flat, change_at, mounted_store, soup_in, entry_in, settle}
-use Rattle.newt_spec_world.specs.Changed.{changed, graph_after_set}
-use Rattle.newt_spec_world.specs.Refused.{on_some, Check}
+use Rattle.newt_spec_world.specs.World.{flat, change_at, mounted_store, soup_in, entry_in}
+use Rattle.newt_spec_world.specs.Changed.{graph_after_set}
+use Rattle.newt_spec_world.specs.Refused.{on_some}
 use Rattle.newt_spec_world.specs.Alias.{Spot}
 use Rattle.newt_spec_world.specs.declared.command.Command.{Command}
 use Rattle.newt_spec_world.specs.declared.command.Command.TheVariants as command
 use Rattle.newt_laws_world.proofs.Units.{at-same, at-other}
 use Rattle.newt_spec_whole.specs.Whole.{Whole, copy, free_copy, living, asks, save_of, change_of, get_of}
 use Rattle.newt_spec_whole.specs.Refused.{whole_checks, no_copy, entry_gone, entry_changed, no_room}
-use Rattle.newt_spec_whole.specs.Answer.{whole_answer, whole_answered, whole_after, whole_later, copies_after, put_copy, put_at, opened_of, reverted, world_after}
+use Rattle.newt_spec_whole.specs.Answer.{whole_answer, whole_answered, whole_later, copies_after, put_copy, put_at, opened_of, reverted, world_after}
 use Rattle.newt_laws_whole.specs.Since.{Edit, put_all, IsDone, edit_by, if_done, edits_since, ends_edits, GoesOn, Saves}
 use Rattle.newt_laws_whole.proofs.Places.{set-other, set-free, free-other}
 

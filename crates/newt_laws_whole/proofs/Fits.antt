@@ -1,8 +1,8 @@
 -- Each working copy's draft can be an entry's graph.
-use Rattle.std.proofs.Common.{arith, ◌≡◌, refl, ap, sym, ◌∙◌, subst, ℕ, zero, suc, List, [], ◌∷◌, true, false, Bool, not, ◌&&◌, ◌⊎◌, inl, inr, Option, Some, None, option_map, option_and_then, unwrap_or, slice_set, nat_lt, nat_le, cond, find}
+use Rattle.std.proofs.Common.{arith, ◌≡◌, refl, ap, sym, ◌∙◌, subst, ℕ, zero, suc, List, [], ◌∷◌, true, false, Bool, not, ◌&&◌, ◌⊎◌, inl, inr, Option, Some, None, option_and_then, unwrap_or, slice_set, nat_lt, nat_le}
 use Rattle.std.specs.Prelude.{slice_get, is_none, ◌==◌}
 use Rattle.std.proofs.lemmas.Bool.{and_parts}
-use Rattle.newt_base.specs.Refusals.{Checks, first_of}
+use Rattle.newt_base.specs.Refusals.{first_of}
 use Rattle.newt_base.specs.declared.Refusal.{Refusal}
 use Rattle.newt_graph.specs.Graph.{RawGraph}
 use Rattle.newt_graph.specs.Meeting.{normal_form}
@@ -24,7 +24,7 @@ use Rattle.newt_spec_world.specs.Refused.{on_some}
 use Rattle.newt_spec_world.specs.Alias.{Spot}
 use Rattle.newt_spec_world.specs.declared.command.Command.{Command}
 use Rattle.newt_spec_world.specs.declared.command.Command.TheVariants as command
-use Rattle.newt_laws_world.proofs.Units.{at-same, at-other, same-or-not, mapped, soup-has}
+use Rattle.newt_laws_world.proofs.Units.{at-same, at-other, same-or-not, mapped}
 use Rattle.newt_laws_world.proofs.Aliases.{named-by}
 use Rattle.newt_laws_world.specs.Named.{IsNamed}
 use Rattle.newt_laws_images.proofs.Chosen.{there-named, there-entry, soup-good}

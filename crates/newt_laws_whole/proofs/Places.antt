@@ -1,5 +1,5 @@
 -- Places at which something is put, or taken away.
-use Rattle.std.proofs.Common.{arith, ◌≡◌, ◌<◌, ◌≤◌, ◌+◌, refl, ap, sym, ◌∙◌, subst, ℕ, zero, suc, List, [], ◌∷◌, true, false, Bool, cond, length, Option, Some, None, slice_set, nat_lt}
+use Rattle.std.proofs.Common.{arith, ◌≡◌, ◌<◌, ◌+◌, refl, ap, sym, ◌∙◌, subst, ℕ, zero, suc, List, [], ◌∷◌, true, false, Bool, cond, length, Option, Some, None, slice_set, nat_lt}
 use Rattle.std.specs.Prelude.{slice_get, is_none, not}
 use Rattle.std.specs.List.{position, prefix_len}
 use Rattle.std.proofs.lemmas.Bool.Decides.{Decides-ltb}

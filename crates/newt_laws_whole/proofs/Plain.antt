@@ -1,15 +1,14 @@
 -- Commands that are asked of the world as they are.
-use Rattle.std.proofs.Common.{◌≡◌, refl, ap, sym, ◌∙◌, [], ◌∷◌, true, false, Option, Some, None}
+use Rattle.std.proofs.Common.{◌≡◌, refl, ap, ◌∙◌, [], ◌∷◌, true, Option, Some, None}
 use Rattle.newt_base.specs.Refusals.{first_of}
 use Rattle.newt_base.specs.declared.Refusal.{Refusal}
-use Rattle.newt_spec_world.specs.World.{World}
 use Rattle.newt_spec_world.specs.Reply.{Reply}
 use Rattle.newt_spec_world.specs.Refused.{checks}
 use Rattle.newt_spec_world.specs.Answer.{answer, answered}
 use Rattle.newt_spec_world.specs.declared.command.Command.{Command}
 use Rattle.newt_spec_world.specs.declared.command.Command.TheVariants as command
 use Rattle.newt_spec_whole.specs.Whole.{Whole, asked_in_turn, asks}
-use Rattle.newt_spec_whole.specs.Events.{Event, events}
+use Rattle.newt_spec_whole.specs.Events.{events}
 use Rattle.newt_spec_whole.specs.Refused.{whole_checks}
 use Rattle.newt_spec_whole.specs.Answer.{whole_answer, whole_answered, whole_fields, watches_after, copies_after}
 use Rattle.newt_laws_whole.specs.Since.{if_done}

@@ -1,25 +1,24 @@
 -- Commands that read an entry of the world: what the world may answer, and what the whole does then.
-use Rattle.std.proofs.Common.{◌≡◌, ◌⊎◌, inl, inr, refl, ap, sym, ◌∙◌, subst, ℕ, List, [], ◌∷◌, ◌++◌, true, false, Bool, not, IsTrue, Option, Some, None, option_map, option_and_then, slice_set, if◌then◌else◌}
+use Rattle.std.proofs.Common.{◌≡◌, ◌⊎◌, inl, inr, refl, ap, sym, ◌∙◌, subst, ℕ, List, [], ◌∷◌, ◌++◌, true, false, Bool, Option, Some, None, slice_set}
 use Rattle.std.specs.Prelude.{is_none}
 use Rattle.newt_base.specs.Refusals.{Checks, first_of}
 use Rattle.newt_base.specs.declared.Refusal.{Refusal}
-use Rattle.newt_base.specs.declared.Refusal.TheVariants.{Changed, Copy as NoCopy, Entry as NoEntry, Limit}
+use Rattle.newt_base.specs.declared.Refusal.TheVariants.{Copy as NoCopy, Entry as NoEntry, Limit}
 use Rattle.newt_spec_graph.proofs.Lists.{both-ways, none-some, some-same}
-use Rattle.newt_spec_store.specs.Store.{Entry, Soup, Store, entry_of, soup_named}
-use Rattle.newt_work.specs.Work.{Copy, is_based, opened, rebased}
-use Rattle.newt_spec_world.specs.Alias.{Spot}
+use Rattle.newt_spec_store.specs.Store.{Entry, Soup, Store}
+use Rattle.newt_work.specs.Work.{Copy, opened}
 use Rattle.newt_spec_world.specs.Answer.{answer, answered, fields, or_nil}
 use Rattle.newt_spec_world.specs.Changed.{changed}
-use Rattle.newt_spec_world.specs.Refused.{checks, no_unit, not_mounted, no_soup, no_entry, on_some}
+use Rattle.newt_spec_world.specs.Refused.{checks, no_unit, not_mounted, no_soup, no_entry}
 use Rattle.newt_spec_world.specs.Reply.{Reply}
 use Rattle.newt_spec_world.specs.Step.{Step, plain, found, thrown, halfway, world_thrown}
 use Rattle.newt_spec_world.specs.World.{World, mounted_store, soup_in, entry_in, settle}
-use Rattle.newt_spec_world.specs.declared.command.Command.{Command}
 use Rattle.newt_spec_world.specs.declared.command.Command.TheVariants as command
-use Rattle.newt_laws_world.proofs.Kept.{all-false, not-none}
-use Rattle.newt_spec_whole.specs.Whole.{Whole, asks, copy, free_copy, get_of, in_world, living}
+use Rattle.newt_laws_world.proofs.Kept.{all-false}
+use Rattle.newt_spec_whole.specs.Whole.{Whole, asks, copy, free_copy}
 use Rattle.newt_spec_whole.specs.Refused.{entry_changed, entry_gone, no_copy, no_free_copy, no_room, whole_checks}
-use Rattle.newt_spec_whole.specs.Answer.{copies_after, opened_of, put_copy, time_now, whole_answer, whole_answered, whole_fields}
+use Rattle.newt_spec_whole.specs.Answer.{copies_after, opened_of, put_copy, watches_after, whole_answer, whole_answered, whole_fields}
+use Rattle.newt_spec_whole.specs.Events.{events}
 use Rattle.newt_spec_whole.specs.Step as wholes
 use Rattle.newt_spec_whole.specs.Step.{WholeStep, whole_thrown}
 
@@ -80,7 +79,7 @@ module _ (h : Whole) (u : ℕ) (s : List ℕ) (uid : ℕ) where
   pub open-done : (n : ℕ) (t : Store) (p : Soup) (x : Entry) → settle h.world ≡ h.world → first_of (entry_tests h.world u s uid) ≡ None → free_copy h ≡ Some n
       → mounted_store h.world u ≡ Some t → soup_in h.world u s ≡ Some p → entry_in h.world u s uid ≡ Some x
       → whole_answer h (command.Open u s uid) ≡ (record h { copies = slice_set h.copies n (Some (opened t.sig p.sig x.uid x.time x.graph)) }, Reply.number n)
-  unfolding whole_answer whole_checks whole_fields copies_after asks changed
+  unfolding whole_answer whole_checks whole_fields copies_after watches_after asks changed events
   open-done n t p x settled e free st sp se =
       ap (whole_answered h (command.Open u s uid)) (none_first (entry_tests h.world u s uid) (no_free_copy h ∷ []) e ∙ ap (λ (o : Option ℕ). first_of ((Limit, is_none o) ∷ [])) free)
       ∙ ap {A = World} {B = Whole × Reply} (λ w. (record { world = w; watches = h.watches; copies = new (free_copy h) (mounted_store h.world u) (soup_in h.world u s) (entry_in h.world u s uid) }, or_nil Reply.number (free_copy h))) settled

@@ -1,17 +1,14 @@
 -- Commands that ask nothing of the world, and a save.
-use Rattle.std.proofs.Common.{◌≡◌, refl, ap, sym, ◌∙◌, subst, ℕ, List, [], ◌∷◌, true, false, Bool, not, Option, Some, None, option_map, option_and_then, nat_lt, drop}
+use Rattle.std.proofs.Common.{◌≡◌, refl, ap, sym, ◌∙◌, ℕ, [], ◌∷◌, true, false, Bool, not, Option, Some, None, drop}
 use Rattle.std.specs.Prelude.{is_none}
 use Rattle.newt_base.specs.Refusals.{Checks, first_of}
 use Rattle.newt_base.specs.declared.Refusal.{Refusal}
 use Rattle.newt_base.specs.declared.Refusal.TheVariants.{Notframe, Size, Full}
-use Rattle.newt_spec_graph.specs.Graph.{is_frame, object}
-use Rattle.newt_spec_store.specs.Cost.{skeleton_length}
-use Rattle.newt_spec_store.specs.Store.{Entry, Soup, Store}
+use Rattle.newt_spec_store.specs.Store.{Store}
 use Rattle.newt_spec_store.specs.Valid.{well_formed}
 use Rattle.newt_work.specs.Work.{Copy}
-use Rattle.newt_spec_world.specs.World.{World, settle, device, mounted_store, soup_in, entry_in}
-use Rattle.newt_spec_world.specs.Changed.{changed}
-use Rattle.newt_spec_world.specs.Refused.{checks, on_some, full, no_unit, not_mounted, no_soup, no_entry, not_frame, too_large}
+use Rattle.newt_spec_world.specs.World.{World, mounted_store, soup_in, entry_in}
+use Rattle.newt_spec_world.specs.Refused.{checks, on_some, full, no_unit, not_mounted, no_soup, no_entry}
 use Rattle.newt_spec_world.specs.Answer.{answer, answered}
 use Rattle.newt_spec_world.specs.Alias.{Spot}
 use Rattle.newt_spec_world.specs.declared.command.Command.{Command}

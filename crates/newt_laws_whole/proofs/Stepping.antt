@@ -1,5 +1,5 @@
 -- Steps of the whole, by steps of its world.
-use Rattle.std.proofs.Common.{◌≡◌, refl, ap, sym, ◌∙◌, subst, ℕ, List, [], ◌∷◌, true, false, Option, Some, None}
+use Rattle.std.proofs.Common.{◌≡◌, refl, ap, sym, ◌∙◌, subst, ℕ, List, [], ◌∷◌, true, Option, Some, None}
 use Rattle.std.specs.Prelude.{Ok, Err}
 use Rattle.newt_base.specs.Refusals.{first_of}
 use Rattle.newt_base.specs.declared.Refusal.{Refusal}
@@ -57,9 +57,10 @@ quiet-whole-run h (x ∷ xs) [] sure run quiet = absurd run
 quiet-whole-run h (x ∷ xs) (row ∷ rows) sure run quiet =
     let is = quiet-goes h x row.0 row.1 sure run.0 quiet.0 in
     let later = subst (λ (p : Whole × Reply). AllSure p.0.world) is (step-sure h x sure) in
-    let rest = quiet-whole-run row.0 xs rows later run.1 quiet.1 in
-    (ap (λ (rs : List Reply). row.1 ∷ rs) rest.0 ∙ sym (ap (λ (p : Whole × Reply). p.1 ∷ replies_to whole_answer p.0 xs) is),
-    rest.1 ∙ sym (ap (λ (p : Whole × Reply). world_after whole_answer p.0 xs) is))
+    let rest = quiet-whole-run row.0 xs rows later run.1 quiet.1 in (
+      ap (λ (rs : List Reply). row.1 ∷ rs) rest.0 ∙ sym (ap (λ (p : Whole × Reply). p.1 ∷ replies_to whole_answer p.0 xs) is),
+      rest.1 ∙ sym (ap (λ (p : Whole × Reply). world_after whole_answer p.0 xs) is),
+    )
 
 -- ---- commands of the world
 

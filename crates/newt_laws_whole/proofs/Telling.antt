@@ -1,20 +1,19 @@
 -- Which notes a step of the world tells, by the world behind it.
-use Rattle.std.proofs.Common.{◌≡◌, ◌≢◌, inl, refl, ap, sym, ◌∙◌, subst, arith, ℕ, suc, ◌+◌, List, [], ◌∷◌, true, false, Bool, not, cond, ◌==◌, ◌&&◌, ◌||◌, IsTrue, Option, Some, None, option_map, option_and_then, unwrap_or, take, find, if◌then◌else◌}
-use Rattle.std.specs.Prelude.{is_none}
+use Rattle.std.proofs.Common.{◌≡◌, inl, refl, ap, sym, ◌∙◌, subst, arith, ℕ, ◌+◌, List, [], ◌∷◌, true, false, Bool, not, cond, ◌==◌, ◌&&◌, Option, Some, None, option_map, option_and_then, unwrap_or, take, find, if◌then◌else◌}
 use Rattle.std.proofs.lemmas.Bool.{eqb-true}
 use Rattle.std.proofs.lemmas.Bool.Decides.{Decides-eqb}
 use Rattle.newt_base.specs.Names.{equal_text}
-use Rattle.newt_base.specs.Refusals.{Checks, first_of}
+use Rattle.newt_base.specs.Refusals.{first_of}
 use Rattle.newt_base.specs.declared.Refusal.{Refusal}
 use Rattle.newt_spec_graph.specs.Lists.{Among}
-use Rattle.newt_spec_graph.proofs.Lists.{both-ways, none-some, some-same}
+use Rattle.newt_spec_graph.proofs.Lists.{both-ways, none-some}
 use Rattle.newt_spec_store.specs.Store.{Entry, Soup, Store, add_entry, change_first, change_soup, remove_entry, soup_named}
-use Rattle.newt_spec_world.specs.World.{World, Device, Media, blank, one, two, lost, store_of, on_unit, change_media, change_device, change_store, change_soup_in, device, mounted_store, soup_in, entry_in, settle, store_on_unit}
+use Rattle.newt_spec_world.specs.World.{World, Device, Media, blank, one, two, lost, store_of, on_unit, change_media, change_store, device, mounted_store, soup_in, entry_in, settle, store_on_unit}
 use Rattle.newt_spec_world.specs.Changed.{changed, copy_to}
-use Rattle.newt_spec_world.specs.Refused.{checks, no_soup, not_mounted}
+use Rattle.newt_spec_world.specs.Refused.{checks, no_soup}
 use Rattle.newt_spec_world.specs.Reply.{Reply}
 use Rattle.newt_spec_world.specs.Answer.{answer, answered, fields, new_uid}
-use Rattle.newt_spec_world.specs.Step.{Step, plain, found, thrown, halfway, Found, is_accepted, looks_anew, looks_at, moves_away, unsure_look, thrown_out, torn, world_thrown, world_halfway, either_of}
+use Rattle.newt_spec_world.specs.Step.{Step, plain, found, thrown, halfway, looks_anew, looks_at, moves_away, unsure_look, thrown_out, torn, world_halfway, either_of}
 use Rattle.newt_spec_world.specs.declared.command.Command.{Command}
 use Rattle.newt_spec_world.specs.declared.command.Command.TheVariants as command
 use Rattle.newt_laws_world.specs.Worlds.{is_plain}

@@ -1,15 +1,13 @@
 -- A watch while commands go on.
-use Rattle.std.proofs.Common.{◌≡◌, refl, ap, sym, ◌∙◌, subst, ℕ, zero, suc, List, [], ◌∷◌, ◌++◌, true, false, Bool, if◌then◌else◌, Option, Some, None, option_map, map, slice_set, append_assoc}
-use Rattle.std.specs.Prelude.{slice_get, is_none, ◌==◌}
+use Rattle.std.proofs.Common.{◌≡◌, refl, ap, sym, ◌∙◌, ℕ, zero, suc, List, [], ◌∷◌, ◌++◌, true, false, Bool, if◌then◌else◌, Option, Some, None, option_map, map, append_assoc}
+use Rattle.std.specs.Prelude.{slice_get, is_none}
 use Rattle.std.specs.List.{position}
-use Rattle.std.proofs.lemmas.Bool.Decides.{Decides-eqb}
 use Rattle.newt_base.specs.Names.{equal_text}
 use Rattle.newt_base.specs.Refusals.{first_of}
 use Rattle.newt_base.specs.declared.Refusal.{Refusal}
 use Rattle.newt_notify.specs.declared.note.Note.{Note}
 use Rattle.newt_notify.specs.Watch.{Watching, taking, noted, watching, emptied}
-use Rattle.newt_spec_world.specs.World.{flat, change_at}
-use Rattle.newt_spec_world.specs.Reply.{Reply}
+use Rattle.newt_spec_world.specs.World.{flat}
 use Rattle.newt_spec_world.specs.Answer.{or_nil}
 use Rattle.newt_spec_world.specs.declared.command.Command.{Command}
 use Rattle.newt_spec_world.specs.declared.command.Command.TheVariants as command

@@ -1,14 +1,13 @@
 -- A run over the devices of names.
-use Rattle.std.proofs.Common.{◌≡◌, inl, inr, ℕ, zero, suc, ◌⊎◌, ◌+◌, ◌*◌, ◌/◌, ◌<◌, Bool, true, false, IsTrue, IsSome, List, [], ◌∷◌, ◌++◌, length, map, Option, Some, None, MatchOption, Result, OnOk, IfErr, refl, sym, ◌∙◌, ap, subst, arith}
+use Rattle.std.proofs.Common.{◌≡◌, inl, inr, ℕ, zero, suc, ◌⊎◌, ◌+◌, ◌*◌, Bool, true, false, IsSome, List, [], ◌∷◌, ◌++◌, length, Option, Some, None, Result, OnOk, IfErr, refl, sym, ◌∙◌, ap, subst, arith}
 use Rattle.std.specs.Prelude.{slice_get, option_map, option_and_then, drop}
-use Rattle.std.proofs.Math.Nat.{mul-div_cancel}
-use Rattle.std.proofs.lemmas.Bool.{cases_lt, false≢true}
+use Rattle.std.proofs.lemmas.Bool.{cases_lt}
 use Rattle.std.proofs.lemmas.Option.{slice_get-map}
 use Rattle.newt_host_attach.specs.Named.{AreAttached, if_known}
 use Rattle.newt_host_attach.proofs.Since.{since_attached}
 use Rattle.std.proofs.lemmas.Result.{on_ok_weaker}
 use Rattle.newt_host.specs.Meanings.{left_since, out_of, since}
-use Rattle.newt_host.specs.Moments.{Attached, Change, IsDurable, IsHistory, LeftBy, MayLeave, Moment, Always, here, later, bytes_after, changes, image, moment_at, output as printed}
+use Rattle.newt_host.specs.Moments.{Attached, Change, IsDurable, IsHistory, LeftBy, MayLeave, Moment, Always, here, later, changes, image, moment_at, output as printed}
 use Rattle.newt_host.specs.Outside.{Outside}
 use Rattle.newt_host.proofs.Extending.{extends-always}
 use Rattle.newt_host.proofs.Histories.{untouched-attached}
@@ -17,12 +16,11 @@ use Rattle.newt_host.proofs.Since.{Always-at}
 use Rattle.newt_laws_steps.specs.Answering.{ReadsOneOf}
 use Rattle.newt_spec_graph.specs.Lists.{Among}
 use Rattle.newt_spec_script.specs.Script.{Item}
-use Rattle.newt_spec_store.specs.OfImage.{blocks_of}
 use Rattle.newt_spec_store.specs.Store.{Store}
-use Rattle.newt_spec_world.specs.First.{media_of, unit_numbers, unit_of}
+use Rattle.newt_spec_world.specs.First.{media_of, unit_numbers}
 use Rattle.newt_spec_whole.specs.First.{whole_of}
 use Rattle.newt_spec_whole.specs.Whole.{Whole, bare_whole, stores_on}
-use Rattle.newt_spec_world.specs.World.{Device, flat, first_world as world_with, stores_of}
+use Rattle.newt_spec_world.specs.World.{Device, flat, stores_of}
 use Rattle.newt_script_session.specs.Answered.{Given}
 use Rattle.newt_script_session.specs.Causes.{NoStreamFault}
 use Rattle.newt_script_session.specs.Counted.{Counted, CountedAt, HasLeftCounted}
@@ -36,7 +34,7 @@ use Rattle.newt_script_session.specs.Run.{Halted, IsReadThrough, SummaryHalted}
 use Rattle.newt_script_session.specs.Script.{script_items}
 use Rattle.newt_script_session.specs.Session.{Session}
 use Rattle.newt_laws_steps.specs.Devices.{device_now}
-use Rattle.newt_laws_steps.proofs.Beginning.{attached-durable, attached-world}
+use Rattle.newt_laws_steps.proofs.Beginning.{attached-world}
 use Rattle.newt_laws_steps.specs.Thrown.{RowsFailed, RowsThrew}
 use Rattle.newt_script_session.specs.declared.halt.Halt.{Halt}
 use Rattle.newt_script_session.proofs.Crashing.{AtRest, at_rest, left_same}

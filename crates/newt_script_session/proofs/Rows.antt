@@ -29,7 +29,7 @@ pub output_append : (a b : List (Row Whole)) → output_of (a ++ b) ≡ output_o
 unfolding output_of
 output_append a b = flat_map-append (λ (row : Row Whole). reply_text row.1) a b
 
-pub output_none : output_of {Whole} [] ≡ []
+pub output_none : output_of {W = Whole} [] ≡ []
 unfolding output_of
 output_none = refl
 

@@ -43,7 +43,7 @@ failed_one row was is failed unit none = go (throws unit row.1) refl
 both_rose : (a b was mid is : ℕ) → was ≤ mid → mid ≤ is → RoseBy a was mid → RoseBy b mid is → RoseBy (a + b) was is
 both_rose a b was mid is low high first second = omega (arith, first, second)
 
-pub threw_none : (was is : ℕ → ℕ) → ((unit : ℕ) → is unit ≡ was unit) → RowsThrew {Whole} [] was is
+pub threw_none : (was is : ℕ → ℕ) → ((unit : ℕ) → is unit ≡ was unit) → RowsThrew {W = Whole} [] was is
 threw_none was is same = record { later = λ unit. omega (arith, same unit); rose = λ unit. omega (arith, same unit) }
 
 pub threw_both : (a b : List (Row Whole)) (was mid is : ℕ → ℕ) → RowsThrew a was mid → RowsThrew b mid is → RowsThrew (a ++ b) was is

@@ -1,6 +1,6 @@
 -- What a crash leaves at each moment of a script whose replies are counted. All of it is this
 -- project's own.
-use Rattle.std.specs.Prelude.{◌≡◌, ℕ, ◌+◌, ◌<◌, List, [], ◌++◌, length, Option, Some, Result, OnOk, IfErr}
+use Rattle.std.specs.Prelude.{◌≡◌, ℕ, ◌<◌, List, [], ◌++◌, length, Option, Some, Result, OnOk, IfErr}
 use Rattle.newt_host.specs.Meanings.{out_of}
 use Rattle.newt_host.specs.Moments.{Moment, MayLeave, Always, output as printed}
 use Rattle.newt_host.specs.Outside.{Outside}

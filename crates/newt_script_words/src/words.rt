@@ -13,8 +13,9 @@ use crate::blanks::{skip_blanks, split_word, trimmed};
 use crate::fault::WordFault;
 use crate::listed::{parts_in, paths_in, symbols_in};
 use crate::names::name_from;
-use crate::numbers::{copy_number, cursor_number, most_notes, read_length, signature};
-use crate::numbers::{unit_digit, watch_number};
+use crate::numbers::{
+    copy_number, cursor_number, most_notes, read_length, signature, unit_digit, watch_number,
+};
 use newt_base::{Name, Sig, Uid, decimal, signed};
 use newt_host::Unit;
 use newt_path::{Path, PathFault};

@@ -64,13 +64,19 @@ no_path_in h n path g = (NoPath, on_some (copy h n) (λ k. is_none (draft_with p
 
 -- the edited draft would pass a limit of one graph (this project's own)
 abbrev pub draft_past_limits : Whole → ℕ → Path → RawGraph → Check
-draft_past_limits h n path g = (Limit, on_some (copy h n)
-    (λ k. on_some (draft_with path g k) (λ r. not (is_within (normal_form r)))))
+draft_past_limits h n path g = (
+  Limit,
+  on_some (copy h n)
+      (λ k. on_some (draft_with path g k) (λ r. not (is_within (normal_form r)))),
+)
 
 -- the skeleton of the edited draft is too large (this project's own)
 abbrev pub draft_too_large : Whole → ℕ → Path → RawGraph → Check
-draft_too_large h n path g = (Size, on_some (copy h n)
-    (λ k. nat_lt 64_000 (skeleton_length (drafted path g k).draft)))
+draft_too_large h n path g = (
+  Size,
+  on_some (copy h n)
+      (λ k. nat_lt 64_000 (skeleton_length (drafted path g k).draft)),
+)
 
 -- ---- the table
 

@@ -25,13 +25,13 @@ pub data Fate : Type 0 where
   -- the card of the source of a move fails, when the target has the entry
   halves : ℕ → Fate
 
-abbrev row_of : World → Command → Fate → Row
+abbrev row_of : World → Command → Fate → Row World
 row_of w c goes = answer w c
 row_of w c (finds u m) = answer (with_media w u m) c
 row_of w c (throws u) = (world_thrown w c u, Reply.thrown u)
 row_of w c (halves u) = (world_halfway w c u, Reply.thrown u)
 
-abbrev rows_of : World → List (Command × Fate) → List Row
+abbrev rows_of : World → List (Command × Fate) → List (Row World)
 rows_of w [] = []
 rows_of w (x ∷ xs) = row_of w x.0 x.1 ∷ rows_of (row_of w x.0 x.1).0 xs
 
@@ -39,7 +39,7 @@ abbrev items : List (Command × Fate) → List Item
 items xs = map (λ (x : Command × Fate). let item : Item = Ok x.0 in item) xs
 
 abbrev lines : World → List (Command × Fate) → List (List ℕ)
-lines w xs = map (λ (row : Row). reply_line row.1) (rows_of w xs)
+lines w xs = map (λ (row : Row World). reply_line row.1) (rows_of w xs)
 
 -- ---- an add whose card fails
 
@@ -95,7 +95,7 @@ kept_is_run = (
 )
 
 -- what the unit may have, and how often it was thrown out
-two_stores : map (λ (row : Row). stores_on row.0 0) (rows_of with_soup (failed_add (one one_entry)))
+two_stores : map (λ (row : Row World). stores_on row.0 0) (rows_of with_soup (failed_add (one one_entry)))
     ≡ (empty_soup ∷ one_entry ∷ []) ∷ (empty_soup ∷ one_entry ∷ []) ∷ (one_entry ∷ []) ∷ (one_entry ∷ []) ∷ []
 unfolding open_tables
 two_stores = refl
