@@ -32,8 +32,8 @@ rest_asked reads old before command = drop 1 (asked_in_turn (known_whole reads o
 module _ {C : Type 0} (reads : List ℕ → Option Store) where
   -- How a command ends that asks these commands of the world, one after another. What is attached,
   -- the input and the output are as they were. But for a format each unit that has room is
-  -- programmed by no more than what is asked may; where that is of entries, no more is fetched there
-  -- than by it; one that opens, shows, moves or counts a cursor fetches no more than it does in the
+  -- programmed by no more than what is asked may; where that is of entries, no more is fetched
+  -- there than by it; one that opens, shows, moves or counts a cursor fetches no more than it does in the
   -- world. After a reply each bank is not closed or is as it was, but for a unit that was thrown
   -- out. Only what may take memory ends in want of it, and only what uses a device throws a unit
   -- out.
@@ -52,8 +52,8 @@ module _ {C : Type 0} (reads : List ℕ → Option Store) where
     pub never_memory : whole_takes_memory command ≡ false → IsOk result
     pub never_thrown : whole_uses_device command ≡ false → IfOk result (λ it. IsNotThrown it)
 
-  -- A command that asks nothing of the world, whatever the devices hold: it is answered as the whole
-  -- answers it that is stood for, and only what may take memory ends in want of it.
+  -- A command that asks nothing of the world, whatever the devices hold: it is answered as the
+  -- whole answers it that is stood for, and only what may take memory ends in want of it.
   pub record AnsweredApart (command : Command) (old new : Whole C)
       (result : Result Reply AllocError) : Type 0 where
     pub world : new.world ≡ old.world
@@ -67,9 +67,9 @@ module _ {C : Type 0} (reads : List ℕ → Option Store) where
 
 module _ {C : Type 0} (reads : List ℕ → Option Store) (place : C → ℕ)
     (standing : Bool → C → Outside → Type 0) where
-  -- What the whole promises of a command that asks these commands of the world. From each whole that
-  -- it stood for it has made a step to one that it stands for, and at each moment a crash leaves each
-  -- unit as in the one or in the other.
+  -- What the whole promises of a command that asks these commands of the world. From each whole
+  -- that it stood for it has made a step to one that it stands for, and at each moment a crash
+  -- leaves each unit as in the one or in the other.
   pub record AppliedBy (asked : List Command) (told : Bool) (command : Command) (old new : Whole C)
       (before after : Outside) (result : Result Reply AllocError) : Type 0 where
     pub stands : OnOk result (Standing reads place standing told new after)

@@ -26,8 +26,8 @@ module _ {C : Type 0} (reads : List ℕ → Option Store) (place : C → ℕ)
     pub watches : AreKept it.watches
     pub drafts : IsTrue told → DraftsFit it.works
 
--- It and the devices stand for this whole, among others: its world stands for the world, its watches
--- keep the last notes of the watches, and its copies are the copies.
+-- It and the devices stand for this whole, among others: its world stands for the world, its
+-- watches keep the last notes of the watches, and its copies are the copies.
 pub record Means {C : Type 0} (reads : List ℕ → Option Store) (it : Whole C) (outside : Outside)
     (h : plain.Whole) : Type 0 where
   pub world : means reads it.world outside h.world

@@ -114,8 +114,8 @@ impl<C: Card> Whole<C> {
         }
     }
 
-    /// Tells of the add of a move to another unit, where it was done before the device of the source
-    /// failed.
+    /// Tells of the add of a move to another unit, where it was done before the device of the
+    /// source failed.
     fn tell_halfway(&mut self, due: &Due, failed: Unit)
         ensures { Tells (failed_due C.soups self.old.world.units due.now failed)
             self.old self.new }

@@ -82,8 +82,8 @@ impl<C: Card> Whole<C> {
         }
     }
 
-    /// Where the entry of a copy is, or why it is nowhere: there is no such copy, or its entry is in
-    /// no mounted store.
+    /// Where the entry of a copy is, or why it is nowhere: there is no such copy, or its entry is
+    /// in no mounted store.
     fn living(&self, number: u8) -> Result<Result<Place, Refusal>, AllocError>
         ensures found { (outside : Outside) (h : plain.Whole)
             → Standing C.reads C.place C.stands true self.now outside
