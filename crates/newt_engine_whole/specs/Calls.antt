@@ -33,10 +33,10 @@ module _ {C : Type 0} (reads : List ℕ → Option Store) where
   -- How a command ends that asks these commands of the world, one after another. What is attached,
   -- the input and the output are as they were. But for a format each unit that has room is
   -- programmed by no more than what is asked may; where that is of entries, no more is fetched
-  -- there than by it; one that opens, shows, moves or counts a cursor fetches no more than it does in the
-  -- world. After a reply each bank is not closed or is as it was, but for a unit that was thrown
-  -- out. Only what may take memory ends in want of it, and only what uses a device throws a unit
-  -- out.
+  -- there than by it; one that opens, shows, moves or counts a cursor fetches no more than it does
+  -- in the world. After a reply each bank is not closed or is as it was, but for a unit that was
+  -- thrown out. Only what may take memory ends in want of it, and only what uses a device throws a
+  -- unit out.
   pub record Ended (told : Bool) (command : Command) (asked : List Command) (old : Whole C)
       (before after : Outside) (result : Result Reply AllocError) : Type 0 where
     pub alone : OnDevices before after
