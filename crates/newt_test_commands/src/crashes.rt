@@ -46,6 +46,31 @@ fn leaves_a_store_before_or_after_each_change(rt: HostRuntime) -> Result<(), Fai
     expect_all_safe(rt.alloc(), LINES, LOOK, &[Unit(0)], PICKS)
 }
 
+/// Each save of a working copy, while a watch is told of it.
+const SAVES: &str = "
+format 0 A 7 => ok
+mount 0 => ok 7 A
+soup 0 S => ok 0
+watch S 2 => ok 0
+add 0 S {v: <<wave:*600>>, n: 1} => ok 0
+open 0 S 0 => ok 0
+edit 0 n 2 => ok
+save 0 => ok
+edit 0 v <<wave:0102>> => ok
+save 0 => ok
+set 0 S 0 n 3 => ok
+save 0 => error 45 changed 0
+revert 0 => ok
+edit 0 n 4 => ok
+save 0 => ok
+notes 0 => ok 3 change 0 0 0, change 0 0 0
+";
+
+#[test]
+fn leaves_a_store_before_or_after_each_save(rt: HostRuntime) -> Result<(), Fail> {
+    expect_all_safe(rt.alloc(), SAVES, LOOK, &[Unit(0)], PICKS)
+}
+
 /// Patches that fill the first bank, so that one of them goes on in the other bank.
 const PATCHES: &str = "
 format 0 A 7 => ok
