@@ -4,6 +4,8 @@
 #![tactic(auto)]
 
 #[cfg(test)]
+mod backups;
+#[cfg(test)]
 mod crashes;
 #[cfg(test)]
 mod declared;

@@ -14,6 +14,8 @@ const OTHERS: &[&str] = &[
     "show x",
     "pack x",
     "--help",
+    "backup",
+    "backup a b",
     "gen",
     "gen 1 1",
     "gen 1 1 a b",

@@ -1,5 +1,5 @@
 -- Why a conversion halts, and a run of a script.
-use Rattle.std.proofs.Common.{◌≡◌, ◌≢◌, inl, ℕ, ◌<◌, List, [], length, Some, None, Ok, Err, refl, sym, ◌∙◌, append-nil}
+use Rattle.std.proofs.Common.{◌≡◌, ◌≢◌, inl, ℕ, ◌<◌, List, [], length, Option, Some, None, Err, refl, sym, ◌∙◌, append-nil}
 use Rattle.newt_host.specs.Meanings.{since}
 use Rattle.newt_host.specs.Outside.{Outside, Rose}
 use Rattle.newt_script_session.specs.Calls.{Faults}
@@ -12,7 +12,9 @@ use Rattle.newt_script_session.specs.declared.halt.Halt.TheVariants.{Memory, Sou
 use Rattle.newt_spec_whole.specs.Step.{WholeStep}
 use Rattle.newt_store_catalog.specs.Readable.{readable}
 use Rattle.newt_top.specs.Calls.{RunEnds}
-use Rattle.newt_top.specs.Status.{HasStatusCause, IsFaultFree, IsFaultless, StatusFaults, status_of}
+use Rattle.newt_top.specs.Status.{HasDeviceCause, HasRunThrough, HasStatusCause, IsFaultFree, IsFaultless, StatusFaults, status_of}
+use Rattle.newt_top.specs.declared.status.Mode.{Mode}
+use Rattle.newt_top.specs.declared.status.Mode.TheVariants.{Run, Convert, Generate, Backup}
 use Rattle.newt_top.specs.declared.status.Status.{Status}
 use Rattle.newt_top.specs.declared.status.Status.TheVariants as statuses
 use Rattle.newt_top.specs.Whole.{converted, HaltedWhole, HasReadCause}
@@ -28,33 +30,42 @@ halted_reading conversion limit Sink before after input old now cause long same 
 
 -- ---- faults
 
-module _ (old new : Outside) where
-  complete_of : (status : Status) → HasStatusCause status old new → ¬ Rose old.in_faults new.in_faults → ¬ Rose old.out_faults new.out_faults → IsFaultless status
-  complete_of statuses.Ok cause source sink = tt
-  complete_of statuses.Usage cause source sink = tt
-  complete_of statuses.Memory cause source sink = tt
-  complete_of statuses.TooLong cause source sink = tt
-  complete_of (statuses.Device unit) cause source sink = cause
-  complete_of statuses.Source cause source sink = absurd (source cause)
-  complete_of statuses.Sink cause source sink = absurd (sink cause)
+module _ (mode : Option Mode) (old new : Outside) where
+  no_device : (mode : Option Mode) (unit : ℕ) → HasDeviceCause mode unit old new → (mode ≡ Some Backup → ¬ Rose (old.dev_faults 0) (new.dev_faults 0)) → ⊥
+  no_device None unit cause device = cause
+  no_device (Some Run) unit cause device = cause
+  no_device (Some (Convert conversion)) unit cause device = cause
+  no_device (Some (Generate seed count)) unit cause device = cause
+  no_device (Some Backup) unit cause device = device refl cause.1
 
-  pub ends_ok : {T E : Type 0} {Cause : E → (old new : Outside) → Type 0} {x : T} → Faults Cause (Ok x) old new → RunEnds statuses.Ok old new
-  ends_ok f = record { faults = record { later = f.later; cause = tt; no_fault = f.no_fault; complete = complete_of statuses.Ok tt }; not_usage = λ same. absurd (cc) }
+  complete_of : (status : Status) → HasStatusCause mode status old new → ¬ Rose old.in_faults new.in_faults → ¬ Rose old.out_faults new.out_faults
+      → (mode ≡ Some Backup → ¬ Rose (old.dev_faults 0) (new.dev_faults 0)) → IsFaultless status
+  complete_of statuses.Ok cause source sink device = tt
+  complete_of statuses.Usage cause source sink device = tt
+  complete_of statuses.Memory cause source sink device = tt
+  complete_of statuses.TooLong cause source sink device = tt
+  complete_of (statuses.Device unit) cause source sink device = no_device mode unit cause device
+  complete_of statuses.Source cause source sink device = absurd (source cause)
+  complete_of statuses.Sink cause source sink device = absurd (sink cause)
 
   -- nothing was done
-  pub faults_quiet : (status : Status) → HasStatusCause status old new → IsFaultFree status old new → NeverLess old new → StatusFaults status old new
+  pub faults_quiet : (status : Status) → HasStatusCause mode status old new → IsFaultFree mode status old new → NeverLess old new → StatusFaults mode status old new
   faults_quiet status cause free later = record { later = later; cause = cause; no_fault = free; complete = complete_of status cause }
 
-  pub ends_quiet : (status : Status) → HasStatusCause status old new → IsFaultFree status old new → status ≢ statuses.Usage → NeverLess old new → RunEnds status old new
-  ends_quiet status cause free other later = record { faults = faults_quiet status cause free later; not_usage = other }
+module _ (mode : Mode) (old new : Outside) where
+  pub ends_quiet : (status : Status) → HasStatusCause (Some mode) status old new → IsFaultFree (Some mode) status old new → status ≢ statuses.Usage → NeverLess old new → RunEnds mode status old new
+  ends_quiet status cause free other later = record { faults = faults_quiet (Some mode) old new status cause free later; not_usage = other }
 
-  pub ends_halted : {T : Type 0} (halt : Halt) → Faults {T = T} HasCause (Err halt) old new → RunEnds (status_of halt) old new
+  pub ends_ok : HasRunThrough (Some mode) old new → NeverLess old new → RunEnds mode statuses.Ok old new
+  ends_ok through later = ends_quiet statuses.Ok tt through (λ same. absurd (cc)) later
+
+  pub ends_halted : {T : Type 0} (halt : Halt) → Faults {T = T} HasCause (Err halt) old new → RunEnds mode (status_of halt) old new
   ends_halted Memory f = ends_quiet statuses.Memory tt tt (λ same. absurd (cc)) f.later
   ends_halted Source f = ends_quiet statuses.Source f.cause tt (λ same. absurd (cc)) f.later
   ends_halted Sink f = ends_quiet statuses.Sink f.cause tt (λ same. absurd (cc)) f.later
   ends_halted TooLong f = ends_quiet statuses.TooLong tt tt (λ same. absurd (cc)) f.later
 
-  pub ends_counting : {T : Type 0} (halt : Halt) → Faults {T = T} HasSinkCause (Err halt) old new → RunEnds (status_of halt) old new
+  pub ends_counting : {T : Type 0} (halt : Halt) → Faults {T = T} HasSinkCause (Err halt) old new → RunEnds mode (status_of halt) old new
   ends_counting Memory f = ends_quiet statuses.Memory tt tt (λ same. absurd (cc)) f.later
   ends_counting Source f = absurd f.cause
   ends_counting Sink f = ends_quiet statuses.Sink f.cause tt (λ same. absurd (cc)) f.later

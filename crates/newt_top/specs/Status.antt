@@ -1,9 +1,11 @@
 -- Statuses, their numbers and their causes.
-use Rattle.std.specs.Prelude.{ℕ, Result, Ok as Answered, Err as Ended}
+use Rattle.std.specs.Prelude.{◌≡◌, ℕ, Option, Some, None, Result, Ok as Answered, Err as Ended}
 use Rattle.newt_host.specs.Outside.{Outside, NoFault, Rose}
 use Rattle.newt_script_session.specs.Causes.{NeverLess, NoStreamFault}
 use Rattle.newt_script_session.specs.declared.halt.Halt.{Halt}
 use Rattle.newt_script_session.specs.declared.halt.Halt.TheVariants.{Memory as NoMemory, Source as BadSource, Sink as BadSink, TooLong as LongInput}
+use Rattle.newt_top.specs.declared.status.Mode.{Mode}
+use Rattle.newt_top.specs.declared.status.Mode.TheVariants.{Run, Convert, Generate, Backup}
 use Rattle.newt_top.specs.declared.status.Status.{Status}
 use Rattle.newt_top.specs.declared.status.Status.TheVariants.{Ok, Usage, Memory, Device, Source, Sink, TooLong}
 
@@ -29,15 +31,23 @@ abbrev pub ended_as : {T : Type 0} → Result T Halt → Status
 ended_as (Answered x) = Ok
 ended_as (Ended halt) = status_of halt
 
--- A fault was counted where one is told. A device that fails ends no run.
-abbrev pub HasStatusCause : Status → (old new : Outside) → Type 0
-HasStatusCause Ok old new = Unit {0}
-HasStatusCause Usage old new = Unit {0}
-HasStatusCause Memory old new = Unit {0}
-HasStatusCause TooLong old new = Unit {0}
-HasStatusCause (Device unit) old new = ⊥
-HasStatusCause Source old new = Rose old.in_faults new.in_faults
-HasStatusCause Sink old new = Rose old.out_faults new.out_faults
+-- the device of unit 0 failed in a backup; in the other modes a device that fails ends no run
+abbrev pub HasDeviceCause : Option Mode → ℕ → (old new : Outside) → Type 0
+HasDeviceCause None unit old new = ⊥
+HasDeviceCause (Some Run) unit old new = ⊥
+HasDeviceCause (Some (Convert conversion)) unit old new = ⊥
+HasDeviceCause (Some (Generate seed count)) unit old new = ⊥
+HasDeviceCause (Some Backup) unit old new = (unit ≡ 0) × Rose (old.dev_faults 0) (new.dev_faults 0)
+
+-- a fault was counted where one is told
+abbrev pub HasStatusCause : Option Mode → Status → (old new : Outside) → Type 0
+HasStatusCause mode Ok old new = Unit {0}
+HasStatusCause mode Usage old new = Unit {0}
+HasStatusCause mode Memory old new = Unit {0}
+HasStatusCause mode TooLong old new = Unit {0}
+HasStatusCause mode (Device unit) old new = HasDeviceCause mode unit old new
+HasStatusCause mode Source old new = Rose old.in_faults new.in_faults
+HasStatusCause mode Sink old new = Rose old.out_faults new.out_faults
 
 -- a status that tells of no fault
 abbrev pub IsFaultless : Status → Type 0
@@ -46,17 +56,27 @@ IsFaultless Source = ⊥
 IsFaultless Sink = ⊥
 IsFaultless status = Unit {0}
 
--- with Usage no fault was counted, and with Ok none of the input or of the output
-abbrev pub IsFaultFree : Status → (old new : Outside) → Type 0
-IsFaultFree Ok old new = NoStreamFault old new
-IsFaultFree Usage old new = NoFault old new
-IsFaultFree status old new = Unit {0}
+-- no fault was counted that would have ended a run: in a backup none, in the other modes none of the
+-- input or of the output
+abbrev pub HasRunThrough : Option Mode → (old new : Outside) → Type 0
+HasRunThrough None old new = NoStreamFault old new
+HasRunThrough (Some Run) old new = NoStreamFault old new
+HasRunThrough (Some (Convert conversion)) old new = NoStreamFault old new
+HasRunThrough (Some (Generate seed count)) old new = NoStreamFault old new
+HasRunThrough (Some Backup) old new = NoFault old new
+
+-- with Usage no fault was counted, and with Ok none that would have ended the run
+abbrev pub IsFaultFree : Option Mode → Status → (old new : Outside) → Type 0
+IsFaultFree mode Ok old new = HasRunThrough mode old new
+IsFaultFree mode Usage old new = NoFault old new
+IsFaultFree mode status old new = Unit {0}
 
 -- What a run promises of faults. No count has fallen. A fault is told only where it was counted;
--- with Ok none of a stream was counted, and with Usage none at all; and where none of a stream was
--- counted, none is told.
-pub record StatusFaults (status : Status) (old new : Outside) : Type 0 where
+-- with Ok none of a stream was counted, nor in a backup one of a device, and with Usage none at all;
+-- and where none of a stream was counted, nor in a backup one of its device, none is told.
+pub record StatusFaults (mode : Option Mode) (status : Status) (old new : Outside) : Type 0 where
   pub later : NeverLess old new
-  pub cause : HasStatusCause status old new
-  pub no_fault : IsFaultFree status old new
-  pub complete : ¬ Rose old.in_faults new.in_faults → ¬ Rose old.out_faults new.out_faults → IsFaultless status
+  pub cause : HasStatusCause mode status old new
+  pub no_fault : IsFaultFree mode status old new
+  pub complete : ¬ Rose old.in_faults new.in_faults → ¬ Rose old.out_faults new.out_faults
+      → (mode ≡ Some Backup → ¬ Rose (old.dev_faults 0) (new.dev_faults 0)) → IsFaultless status

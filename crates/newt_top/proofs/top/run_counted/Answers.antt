@@ -19,7 +19,7 @@ pub returns-in-Err-clause-ran : goal.returns-in-Err-clause-ran
 returns-in-Err-clause-ran g c = λ told. record { result = Err c.in-Err.halt; ends = c.halted.ensures; ran = c.in-Err.ensures.counted told }
 
 pub returns-in-Ok-clause-ends : goal.returns-in-Ok-clause-ends
-returns-in-Ok-clause-ends g c = ends_ok _ _ c.in-Ok.ensures.faults
+returns-in-Ok-clause-ends g c = λ seed count. ends_ok _ _ _ c.in-Ok.ensures.faults.no_fault c.in-Ok.ensures.faults.later
 
 pub returns-in-Err-clause-ends : goal.returns-in-Err-clause-ends
-returns-in-Err-clause-ends g c = rw c.halted.ensures (ends_counting _ _ c.in-Err.halt c.in-Err.ensures.faults)
+returns-in-Err-clause-ends g c = λ seed count. rw c.halted.ensures (ends_counting _ _ _ c.in-Err.halt c.in-Err.ensures.faults)

@@ -22,7 +22,7 @@ returns-in_default-clause-ran g c = λ told.
     }
 
 pub returns-in_default-clause-ends : goal.returns-in_default-clause-ends
-returns-in_default-clause-ends g c = ends_quiet _ _ Memory tt tt (λ same. absurd (cc)) (never-refl _)
+returns-in_default-clause-ends g c = ends_quiet _ _ _ Memory tt tt (λ same. absurd (cc)) (never-refl _)
 
 -- ---- the script
 
@@ -32,3 +32,6 @@ returns-clause-ran g c = λ told.
     let script_is : c.deref.result.now ≡ gen_script c.args.seed c.args.count = grind (arith, common_steps) in
     let P : List ℕ → Type 0 = λ script. RanCounted script names c.run_counted.result (g.H.Host.outside c.args.host.now) (g.H.Host.outside c.run_counted.new.host) in
     subst P script_is (c.run_counted.ensures.ran told)
+
+pub returns-clause-ends : goal.returns-clause-ends
+returns-clause-ends g c = c.run_counted.ensures.ends c.args.seed c.args.count

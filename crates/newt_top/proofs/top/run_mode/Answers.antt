@@ -1,5 +1,6 @@
 use Rattle.std.proofs.Common.{Some, Global, map, string_bytes, sym, subst}
 use Rattle.newt_spec_script.specs.Generator.{gen_script}
+use Rattle.newt_top.specs.Calls.{RunEnds}
 use Rattle.newt_top.specs.Modes.{IsPlain, LeavesDevices, Ran, RanCounted, RanScript}
 use Rattle.newt_top.specs.declared.status.Mode.{Mode}
 use Rattle.newt_top.specs.declared.status.Status.{Status}
@@ -15,6 +16,11 @@ pub returns-in-Generate-clause-ran : goal.returns-in-Generate-clause-ran
 returns-in-Generate-clause-ran g c = λ told.
     let P : Mode → Type 0 = λ mode. Ran (Some mode) (map (string_bytes {Z = Global}) c.args.names.now) c.args.limit c.run_generated.result (g.H.Host.outside c.args.host.now) (g.H.Host.outside c.run_generated.new.host) in
     subst P (sym c.in-Generate.is) (c.run_generated.ensures.left, c.run_generated.ensures.ran told)
+
+pub returns-in-Backup-clause-ran : goal.returns-in-Backup-clause-ran
+returns-in-Backup-clause-ran g c = λ told.
+    let P : Mode → Type 0 = λ mode. Ran (Some mode) (map (string_bytes {Z = Global}) c.args.names.now) c.args.limit c.run_backup.result (g.H.Host.outside c.args.host.now) (g.H.Host.outside c.run_backup.new.host) in
+    subst P (sym c.in-Backup.is) (c.run_backup.ensures.ran told)
 
 -- ---- where no device failed
 
@@ -42,6 +48,11 @@ returns-in-Generate-clause-plain g c = λ told ok none.
     let P : Mode → Type 0 = λ mode. IsPlain (Some mode) names before after in
     subst P (sym c.in-Generate.is) (plain_counted names before after none script (subst R ok (c.run_generated.ensures.ran told)))
 
+pub returns-in-Backup-clause-plain : goal.returns-in-Backup-clause-plain
+returns-in-Backup-clause-plain g c = λ told ok none.
+    let P : Mode → Type 0 = λ mode. IsPlain (Some mode) (map (string_bytes {Z = Global}) c.args.names.now) (g.H.Host.outside c.args.host.now) (g.H.Host.outside c.run_backup.new.host) in
+    subst P (sym c.in-Backup.is) tt
+
 -- ---- devices
 
 pub returns-in-Run-clause-devices : goal.returns-in-Run-clause-devices
@@ -58,3 +69,30 @@ pub returns-in-Convert-clause-devices : goal.returns-in-Convert-clause-devices
 returns-in-Convert-clause-devices g c =
     let P : Mode → Type 0 = λ mode. LeavesDevices g.H.Host.told (Some mode) (g.H.Host.outside c.args.host.now) (g.H.Host.outside c.run_conversion.new.host) in
     subst P (sym c.in-Convert.is) c.run_conversion.ensures.devices
+
+pub returns-in-Backup-clause-devices : goal.returns-in-Backup-clause-devices
+returns-in-Backup-clause-devices g c =
+    let P : Mode → Type 0 = λ mode. LeavesDevices g.H.Host.told (Some mode) (g.H.Host.outside c.args.host.now) (g.H.Host.outside c.run_backup.new.host) in
+    subst P (sym c.in-Backup.is) c.run_backup.ensures.devices
+
+-- ---- how it ends
+
+pub returns-in-Run-clause-ends : goal.returns-in-Run-clause-ends
+returns-in-Run-clause-ends g c =
+    let P : Mode → Type 0 = λ mode. RunEnds mode c.run_script.result (g.H.Host.outside c.args.host.now) (g.H.Host.outside c.run_script.new.host) in
+    subst P (sym c.in-Run.is) c.run_script.ensures.ends
+
+pub returns-in-Convert-clause-ends : goal.returns-in-Convert-clause-ends
+returns-in-Convert-clause-ends g c =
+    let P : Mode → Type 0 = λ mode. RunEnds mode c.run_conversion.result (g.H.Host.outside c.args.host.now) (g.H.Host.outside c.run_conversion.new.host) in
+    subst P (sym c.in-Convert.is) c.run_conversion.ensures.ends
+
+pub returns-in-Generate-clause-ends : goal.returns-in-Generate-clause-ends
+returns-in-Generate-clause-ends g c =
+    let P : Mode → Type 0 = λ mode. RunEnds mode c.run_generated.result (g.H.Host.outside c.args.host.now) (g.H.Host.outside c.run_generated.new.host) in
+    subst P (sym c.in-Generate.is) c.run_generated.ensures.ends
+
+pub returns-in-Backup-clause-ends : goal.returns-in-Backup-clause-ends
+returns-in-Backup-clause-ends g c =
+    let P : Mode → Type 0 = λ mode. RunEnds mode c.run_backup.result (g.H.Host.outside c.args.host.now) (g.H.Host.outside c.run_backup.new.host) in
+    subst P (sym c.in-Backup.is) c.run_backup.ensures.ends

@@ -1,0 +1,100 @@
+//! The backup of the store on a device, with texts that were written by hand.
+
+use newt_host::Unit;
+use newt_memhost::MemHost;
+use newt_test_scripts::{blocks, expect_end, image, over, run_on, run_table};
+use newt_top::Status;
+use std::alloc::Global;
+use std::test::Fail;
+
+/// Runs a table over the device `a` of 13 blocks of zero bytes, and looks for its backup then.
+fn expect_backup(alloc: Global, table: &str, output: &[u8]) -> Result<(), Fail> {
+    let first = run_table(alloc, "run a", table)?;
+    let bytes = image(alloc, &first, Unit(0))?;
+    let mut host = over(alloc, b"", &bytes, &[])?;
+    expect_end(alloc, "backup a", &mut host, Status::Ok, output)
+}
+
+#[test]
+fn writes_a_fresh_store(rt: HostRuntime) -> Result<(), Fail> {
+    expect_backup(
+        rt.alloc(),
+        "format 0 Internal 7 => ok",
+        b"\x02\x06\x02\x07\x09directory\x07\x07entries\x05\x01\x03\x10\x07\x05bytes\
+        \x08Internal\0\0\0\x07\0\0\0\x05\0",
+    )
+}
+
+/// A soup with one entry of minute 5.
+const ONE_ENTRY: &str = "
+format 0 Internal 7 => ok
+mount 0 => ok 7 Internal
+soup 0 S => ok 0
+time 5 => ok
+add 0 S {a: 1} => ok 0
+";
+
+#[test]
+fn writes_an_entry_with_its_id_and_its_minute(rt: HostRuntime) -> Result<(), Fail> {
+    expect_backup(
+        rt.alloc(),
+        ONE_ENTRY,
+        b"\x02\x06\x02\x07\x09directory\x07\x07entries\x05\x01\x03\x1a\x07\x05bytes\
+        \x08Internal\0\0\0\x07\0\x01\x01\x01S\0\0\0\0\0\x01\0\0\
+        \x05\x01\x05\x01\x03\x12\x09\x05\0\0\0\0\0\0\0\0\0\x05\x02\x06\x01\x07\x01a\0\x04",
+    )
+}
+
+#[test]
+fn says_why_there_is_none(rt: HostRuntime) -> Result<(), Fail> {
+    let alloc = rt.alloc();
+    let (small, blank) = (blocks(alloc, 12)?, blocks(alloc, 13)?);
+    let cases: [(&str, &[u8]); 3] = [
+        ("backup c", b"error 20 unit\n"),
+        ("backup a", b"error 27 blocks\n"),
+        ("backup b", b"error 22 nostore\n"),
+    ];
+    for (text, output) in cases {
+        let mut host = over(alloc, b"", &small, &blank)?;
+        expect_end(alloc, text, &mut host, Status::Ok, output)?;
+    }
+    Ok(())
+}
+
+/// Where the call of a number fails a backup ends there: with Device where it is on the device, else
+/// with Sink. What was written is what the sound run had written before, and the device stays.
+fn expect_halted(alloc: Global, bytes: &[u8], sound: &MemHost, call: u64) -> Result<(), Fail> {
+    if sound.calls() <= call {
+        return Ok(());
+    }
+    let wanted = match sound.unit_of(call) {
+        Some(unit) => Status::Device(unit),
+        None => Status::Sink,
+    };
+    let mut host = over(alloc, b"", bytes, &[])?;
+    host.piece(40);
+    host.fail(call)?;
+    let status = run_on(alloc, "backup a", &mut host)?;
+    let is_begun = sound.output().starts_with(host.output())
+        && host.output().len() as u64 == sound.out_before(call);
+    if status != wanted || !is_begun || image(alloc, &host, Unit(0))?.as_slice() != bytes {
+        return Err(Fail::new(format_args!("not halted at call {call}")));
+    }
+    Ok(())
+}
+
+#[test]
+fn halts_at_each_call_that_fails(rt: HostRuntime) -> Result<(), Fail> {
+    let alloc = rt.alloc();
+    let first = run_table(alloc, "run a", ONE_ENTRY)?;
+    let bytes = image(alloc, &first, Unit(0))?;
+    let mut sound = over(alloc, b"", &bytes, &[])?;
+    sound.piece(40);
+    if run_on(alloc, "backup a", &mut sound)? != Status::Ok {
+        return Err(Fail::new("no backup"));
+    }
+    for call in 0..sound.calls() {
+        expect_halted(alloc, &bytes, &sound, call)?;
+    }
+    Ok(())
+}
