@@ -16,7 +16,7 @@ mod write;
 pub use live::{Table, kept_of, live_after, next_page};
 pub use make::format;
 pub use opening::open_journal;
-pub use places::replay;
+pub use places::{replay, replay_record};
 pub use write::{
     append_batch, begin_alone, has_room, write_counts, write_put, write_puts, written,
 };

@@ -167,8 +167,8 @@ fn replay_deletes<H: Host>(
     Ok(true)
 }
 
-// Takes over what one record says. False where its payload breaks a rule.
-fn replay_record<H: Host>(
+/// Takes over what one record says. False where its payload breaks a rule.
+pub fn replay_record<H: Host>(
     alloc: Global,
     journal: &Journal,
     host: &mut H,
