@@ -1,0 +1,9 @@
+pub mod Gates
+pub mod Voted
+pub mod Damages
+pub mod Listed
+pub mod Records
+pub mod Whole
+pub mod Stores
+pub mod Loops
+pub mod Walked

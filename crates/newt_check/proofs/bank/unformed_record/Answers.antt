@@ -1,0 +1,179 @@
+use Rattle.std.proofs.Common.{◌≡◌, ◌+◌, ◌*◌, ◌≤◌, ℕ, nat_eq, true, false, List, [], ◌∷◌, length, take, drop, Option, Some, None, Err, refl, sym, ◌∙◌, ap, subst, arith, rules}
+use Rattle.std.specs.Map.{lookup}
+use Rattle.newt_host.specs.Moments.{Moment, image}
+use Rattle.newt_host.specs.Outside.{Outside}
+use Rattle.newt_host.proofs.Outside.{OnlyReads-append, OnlyReads-refl}
+use Rattle.newt_spec_image.specs.Records.{with_first}
+use Rattle.newt_spec_image.specs.Pages.{change_in, is_change}
+use Rattle.newt_journal.specs.Bank.{limit_of}
+use Rattle.newt_journal.specs.Places.{payloads_from, IsPlace}
+use Rattle.newt_journal.specs.declared.reading.Found.{Found}
+use Rattle.newt_pagebook.specs.declared.book.BookFault.TheVariants.{Device, NotStore}
+use Rattle.newt_pagelog.proofs.Failing.{no-opening, not-err, rose-over, same-err}
+use Rattle.newt_pagelog.proofs.Placing.{looks-stands, looks-image, looks-read}
+use Rattle.newt_pagelog.proofs.Replaying.{at_some, at_none, if_some}
+use Rattle.newt_check.proofs.Gates.{ended}
+use Rattle.newt_check.proofs.Walked.{begun, next-some, walked-formed, walked-unformed, says-change, says-none}
+use Rattle.newt_check.proofs.bank.unformed_record.Goals as goal
+
+pub loop-places-init : goal.loop-places-init
+loop-places-init g c =
+    let o = g.H.Host.outside c.args.host.now in
+    let j = c.args.journal.now in
+    let nothing = c.new-places.ensures.empty in
+    record {
+      low = omega (arith, c.first-at.ensures.place);
+      high = c.first-at.ensures.before_end;
+      looks = OnlyReads-refl j.unit o;
+      no_fault = refl;
+      place = λ tells. c.first-at.ensures.is_place g.H.Host.told o c.requires tells;
+      table = record {
+        unique = c.new-places.ensures.unique;
+        placed = λ q at is. absurd (let none : Some at ≡ None = sym is ∙ ap (λ (es : List (ℕ × ℕ)). lookup (nat_eq q) es) nothing in cc);
+      };
+      some = λ tells.
+          let p = c.first-at.ensures.is_place g.H.Host.told o c.requires tells in
+          (_, c.first-at.ensures.reads_all g.H.Host.told o c.requires tells ∙ p.all);
+      row = λ tells. begun j c.first-at.result (image j.unit o.now) c.first-at.ensures.place;
+    }
+
+pub walk-requires-clause-low : goal.walk-requires-clause-low
+walk-requires-clause-low g c = c.loop-places.invariant.low
+
+pub walk-requires-clause-high : goal.walk-requires-clause-high
+walk-requires-clause-high g c = c.loop-places.invariant.high
+
+pub walk-requires-clause-stands : goal.walk-requires-clause-stands
+walk-requires-clause-stands g c = let o = g.H.Host.outside in looks-stands g.H.Host.told c.args.journal.now (o c.args.host.now) (o c.loop-places.host) c.loop-places.invariant.looks c.requires
+
+pub walk-requires-clause-place : goal.walk-requires-clause-place
+walk-requires-clause-place g c = λ tells. subst (λ (l : List ℕ). IsPlace c.args.journal.now c.loop-places.at l) (sym (looks-image c.args.journal.now.unit (g.H.Host.outside c.args.host.now) (g.H.Host.outside c.loop-places.host) c.loop-places.invariant.looks)) (c.loop-places.invariant.place tells)
+
+pub replay_record-requires : goal.replay_record-requires
+replay_record-requires g c =
+    let o = g.H.Host.outside in
+    let inv = c.loop-places.invariant in
+    let inside = if_some _ c.in_ok-found.field-0 c.in-Some.found c.in-Some.is c.in_ok-found.ensures.finds.inside in
+    record {
+      replaying = record {
+        within = record {
+          low = omega (arith, inv.low, inside.0);
+          inside = omega arith;
+          high = omega (arith, inside.1, inside.2);
+        };
+        stands = looks-stands g.H.Host.told c.args.journal.now (o c.args.host.now) (o c.walk.new.host) (OnlyReads-append inv.looks (looks-read c.walk.ensures.reads)) c.requires;
+        table = inv.table;
+      };
+    }
+
+pub loop-places-smaller : goal.loop-places-smaller
+loop-places-smaller g c = let inside = if_some _ c.in_ok-found.field-0 c.in-Some.found c.in-Some.is c.in_ok-found.ensures.finds.inside in omega (arith, inside.0, inside.1, inside.2)
+
+pub loop-places-preserved : goal.loop-places-preserved
+loop-places-preserved g c =
+    let o = g.H.Host.outside in
+    let j = c.args.journal.now in
+    let u = j.unit in
+    let inv = c.loop-places.invariant in
+    let f = c.in-Some.found in
+    let inside = if_some _ c.in_ok-found.field-0 f c.in-Some.is c.in_ok-found.ensures.finds.inside in
+    let e = c.in_ok-replay_record.ensures in
+    let img : List ℕ = image u (o c.args.host.now).now in
+    let low : image u (o c.loop-places.host).now ≡ img = looks-image u (o c.args.host.now) (o c.loop-places.host) inv.looks in
+    let walked : image u (o c.walk.new.host).now ≡ img = ap (λ (m : Moment). image u m) c.walk.ensures.reads.moment ∙ low in
+    record {
+      low = omega (arith, inv.low, inside.0, inside.1);
+      high = inside.2;
+      looks = OnlyReads-append (OnlyReads-append inv.looks (looks-read c.walk.ensures.reads)) c.replay_record.ensures.reads.looks;
+      no_fault = e.reads.no_fault ∙ c.in_ok-found.ensures.reads.faults.no_fault ∙ inv.no_fault;
+      place = λ tells. subst (λ (l : List ℕ). IsPlace j f.next l) low (if_some _ c.in_ok-found.field-0 f c.in-Some.is (c.in_ok-found.ensures.finds.next tells));
+      table = e.fills.table;
+      some = λ tells.
+          let found : payloads_from j c.loop-places.at img ≡ with_first (take f.len (drop f.at img)) (payloads_from j f.next img) =
+          subst (λ (l : List ℕ). payloads_from j c.loop-places.at l ≡ with_first (take f.len (drop f.at l)) (payloads_from j f.next l)) low (at_some _ _ c.in_ok-found.field-0 f c.in-Some.is (c.in_ok-found.ensures.finds.told_of tells)) in
+          next-some j c.loop-places.at f img (inv.some tells).0 (inv.some tells).1 found;
+      row = λ tells.
+          let found : payloads_from j c.loop-places.at img ≡ with_first (take f.len (drop f.at img)) (payloads_from j f.next img) =
+          subst (λ (l : List ℕ). payloads_from j c.loop-places.at l ≡ with_first (take f.len (drop f.at l)) (payloads_from j f.next l)) low (at_some _ _ c.in_ok-found.field-0 f c.in-Some.is (c.in_ok-found.ensures.finds.told_of tells)) in
+          let says : is_change (take f.len (drop f.at img)) ≡ true =
+          says-change img c.loop-places.places.entries c.replay_record.new.places.entries f (image u (o c.walk.new.host).now) walked ((e.replays tells).true_says c.if-not-branch.false) in
+          inv.row tells ∙ walked-formed g.H.Host.told j (o c.args.host.now) (g.met.H.Host.sized c.args.host.now u tells) c.requires c.loop-places.at f inside.0 inside.1 inside.2 (inv.some tells).0 (inv.some tells).1 found says;
+    }
+
+pub returns-then-not-branch-clause-row : goal.returns-then-not-branch-clause-row
+returns-then-not-branch-clause-row g c tells =
+    let o = g.H.Host.outside in
+    let j = c.args.journal.now in
+    let u = j.unit in
+    let inv = c.loop-places.invariant in
+    let f = c.in-Some.found in
+    let e = c.in_ok-replay_record.ensures in
+    let img : List ℕ = image u (o c.args.host.now).now in
+    let low : image u (o c.loop-places.host).now ≡ img = looks-image u (o c.args.host.now) (o c.loop-places.host) inv.looks in
+    let walked : image u (o c.walk.new.host).now ≡ img = ap (λ (m : Moment). image u m) c.walk.ensures.reads.moment ∙ low in
+    let found : payloads_from j c.loop-places.at img ≡ with_first (take f.len (drop f.at img)) (payloads_from j f.next img) =
+    subst (λ (l : List ℕ). payloads_from j c.loop-places.at l ≡ with_first (take f.len (drop f.at l)) (payloads_from j f.next l)) low (at_some _ _ c.in_ok-found.field-0 f c.in-Some.is (c.in_ok-found.ensures.finds.told_of tells)) in
+    let says : is_change (take f.len (drop f.at img)) ≡ false =
+    says-none img f (image u (o c.walk.new.host).now) walked ((e.replays tells).false_says c.if-not-branch.true) in
+    sym (inv.row tells ∙ walked-unformed j c.loop-places.at f img (inv.some tells).0 (inv.some tells).1 found says)
+
+pub returns-clause-row : goal.returns-clause-row
+returns-clause-row g c tells =
+    let o = g.H.Host.outside in
+    let j = c.args.journal.now in
+    let u = j.unit in
+    let inv = c.loop-places.invariant in
+    let img : List ℕ = image u (o c.args.host.now).now in
+    let low : image u (o c.loop-places.host).now ≡ img = looks-image u (o c.args.host.now) (o c.loop-places.host) inv.looks in
+    let end : payloads_from j c.loop-places.at img ≡ Some [] = subst (λ (l : List ℕ). payloads_from j c.loop-places.at l ≡ Some []) low (at_none _ _ c.in_ok-found.field-0 c.in_default.is (c.in_ok-found.ensures.finds.told_of tells)) in
+    sym (inv.row tells ∙ ended c.loop-places.at (limit_of j.blocks j.bank) img end)
+
+pub returns-in_err-found-clause-reads : goal.returns-in_err-found-clause-reads
+returns-in_err-found-clause-reads g c =
+    let o = g.H.Host.outside in
+    let u = c.args.journal.now.unit in
+    let inv = c.loop-places.invariant in
+    record {
+      looks = OnlyReads-append inv.looks (looks-read c.walk.ensures.reads);
+      no_other = search rules;
+      cause = λ bad. rose-over u u (o c.args.host.now) (o c.loop-places.host) (o c.walk.new.host) refl
+          inv.looks.alone c.in_err-found.ensures.reads.faults.cause;
+      no_fault = search rules;
+    }
+
+pub returns-in_err-replay_record-clause-reads : goal.returns-in_err-replay_record-clause-reads
+returns-in_err-replay_record-clause-reads g c =
+    let o = g.H.Host.outside in
+    let u = c.args.journal.now.unit in
+    let before = OnlyReads-append c.loop-places.invariant.looks (looks-read c.walk.ensures.reads) in
+    let r = c.from_residual-in_err-replay_record.result in
+    let e = c.in_err-replay_record.field-0.0 in
+    let is = c.from_residual-in_err-replay_record.ensures in
+    let reads = c.in_err-replay_record.ensures.reads in
+    record {
+      looks = OnlyReads-append before c.replay_record.ensures.reads.looks;
+      no_other = λ bad. reads.no_other (ap Err (same-err r e NotStore is.1 bad));
+      cause = λ bad. rose-over u u (o c.args.host.now) (o c.walk.new.host) (o c.replay_record.new.host)
+          refl before.alone (reads.cause (ap Err (same-err r e Device is.1 bad)));
+      no_fault = search rules;
+    }
+
+pub returns-then-not-branch-clause-reads : goal.returns-then-not-branch-clause-reads
+returns-then-not-branch-clause-reads g c =
+    let inv = c.loop-places.invariant in
+    record {
+      looks = OnlyReads-append (OnlyReads-append inv.looks (looks-read c.walk.ensures.reads))
+          c.replay_record.ensures.reads.looks;
+      no_other = λ bad. absurd (not-err bad);
+      cause = λ bad. absurd (not-err bad);
+      no_fault = c.in_ok-replay_record.ensures.reads.no_fault
+          ∙ c.in_ok-found.ensures.reads.faults.no_fault ∙ inv.no_fault;
+    }
+
+pub returns-clause-reads : goal.returns-clause-reads
+returns-clause-reads g c = record {
+  looks = OnlyReads-append c.loop-places.invariant.looks (looks-read c.walk.ensures.reads);
+  no_other = λ bad. absurd (not-err bad);
+  cause = λ bad. absurd (not-err bad);
+  no_fault = c.in_ok-found.ensures.reads.faults.no_fault ∙ c.loop-places.invariant.no_fault;
+}

@@ -1,0 +1,4 @@
+pub mod Reports
+pub mod Gates
+pub mod Parts
+pub mod Seen
