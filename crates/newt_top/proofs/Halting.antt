@@ -12,9 +12,8 @@ use Rattle.newt_script_session.specs.declared.halt.Halt.TheVariants.{Memory, Sou
 use Rattle.newt_spec_whole.specs.Step.{WholeStep}
 use Rattle.newt_store_catalog.specs.Readable.{readable}
 use Rattle.newt_top.specs.Calls.{RunEnds}
-use Rattle.newt_top.specs.Status.{HasDeviceCause, HasRunThrough, HasStatusCause, IsFaultFree, IsFaultless, StatusFaults, status_of}
+use Rattle.newt_top.specs.Status.{HasRunThrough, HasStatusCause, IsFaultFree, IsFaultless, ReadsDevice, StatusFaults, status_of}
 use Rattle.newt_top.specs.declared.status.Mode.{Mode}
-use Rattle.newt_top.specs.declared.status.Mode.TheVariants.{Run, Convert, Generate, Backup}
 use Rattle.newt_top.specs.declared.status.Status.{Status}
 use Rattle.newt_top.specs.declared.status.Status.TheVariants as statuses
 use Rattle.newt_top.specs.Whole.{converted, HaltedWhole, HasReadCause}
@@ -31,20 +30,13 @@ halted_reading conversion limit Sink before after input old now cause long same 
 -- ---- faults
 
 module _ (mode : Option Mode) (old new : Outside) where
-  no_device : (mode : Option Mode) (unit : ℕ) → HasDeviceCause mode unit old new → (mode ≡ Some Backup → ¬ Rose (old.dev_faults 0) (new.dev_faults 0)) → ⊥
-  no_device None unit cause device = cause
-  no_device (Some Run) unit cause device = cause
-  no_device (Some (Convert conversion)) unit cause device = cause
-  no_device (Some (Generate seed count)) unit cause device = cause
-  no_device (Some Backup) unit cause device = device refl cause.1
-
   complete_of : (status : Status) → HasStatusCause mode status old new → ¬ Rose old.in_faults new.in_faults → ¬ Rose old.out_faults new.out_faults
-      → (mode ≡ Some Backup → ¬ Rose (old.dev_faults 0) (new.dev_faults 0)) → IsFaultless status
+      → (ReadsDevice mode → ¬ Rose (old.dev_faults 0) (new.dev_faults 0)) → IsFaultless status
   complete_of statuses.Ok cause source sink device = tt
   complete_of statuses.Usage cause source sink device = tt
   complete_of statuses.Memory cause source sink device = tt
   complete_of statuses.TooLong cause source sink device = tt
-  complete_of (statuses.Device unit) cause source sink device = no_device mode unit cause device
+  complete_of (statuses.Device unit) cause source sink device = absurd (device cause.0 cause.2)
   complete_of statuses.Source cause source sink device = absurd (source cause)
   complete_of statuses.Sink cause source sink device = absurd (sink cause)
 

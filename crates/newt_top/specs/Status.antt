@@ -5,7 +5,7 @@ use Rattle.newt_script_session.specs.Causes.{NeverLess, NoStreamFault}
 use Rattle.newt_script_session.specs.declared.halt.Halt.{Halt}
 use Rattle.newt_script_session.specs.declared.halt.Halt.TheVariants.{Memory as NoMemory, Source as BadSource, Sink as BadSink, TooLong as LongInput}
 use Rattle.newt_top.specs.declared.status.Mode.{Mode}
-use Rattle.newt_top.specs.declared.status.Mode.TheVariants.{Run, Convert, Generate, Backup}
+use Rattle.newt_top.specs.declared.status.Mode.TheVariants.{Run, Convert, Generate, Read}
 use Rattle.newt_top.specs.declared.status.Status.{Status}
 use Rattle.newt_top.specs.declared.status.Status.TheVariants.{Ok, Usage, Memory, Device, Source, Sink, TooLong}
 
@@ -31,13 +31,18 @@ abbrev pub ended_as : {T : Type 0} → Result T Halt → Status
 ended_as (Answered x) = Ok
 ended_as (Ended halt) = status_of halt
 
--- the device of unit 0 failed in a backup; in the other modes a device that fails ends no run
+-- a device is read in this mode, and where it fails the run ends
+abbrev pub ReadsDevice : Option Mode → Type 0
+ReadsDevice None = ⊥
+ReadsDevice (Some Run) = ⊥
+ReadsDevice (Some (Convert conversion)) = ⊥
+ReadsDevice (Some (Generate seed count)) = ⊥
+ReadsDevice (Some (Read reading)) = Unit {0}
+
+-- the device of unit 0 failed where it was read; in the other modes a device that fails ends no run
 abbrev pub HasDeviceCause : Option Mode → ℕ → (old new : Outside) → Type 0
-HasDeviceCause None unit old new = ⊥
-HasDeviceCause (Some Run) unit old new = ⊥
-HasDeviceCause (Some (Convert conversion)) unit old new = ⊥
-HasDeviceCause (Some (Generate seed count)) unit old new = ⊥
-HasDeviceCause (Some Backup) unit old new = (unit ≡ 0) × Rose (old.dev_faults 0) (new.dev_faults 0)
+HasDeviceCause mode unit old new =
+    ReadsDevice mode × (unit ≡ 0) × Rose (old.dev_faults 0) (new.dev_faults 0)
 
 -- a fault was counted where one is told
 abbrev pub HasStatusCause : Option Mode → Status → (old new : Outside) → Type 0
@@ -56,14 +61,14 @@ IsFaultless Source = ⊥
 IsFaultless Sink = ⊥
 IsFaultless status = Unit {0}
 
--- no fault was counted that would have ended a run: in a backup none, in the other modes none of the
--- input or of the output
+-- no fault was counted that would have ended a run: where a device is read none, in the other modes
+-- none of the input or of the output
 abbrev pub HasRunThrough : Option Mode → (old new : Outside) → Type 0
 HasRunThrough None old new = NoStreamFault old new
 HasRunThrough (Some Run) old new = NoStreamFault old new
 HasRunThrough (Some (Convert conversion)) old new = NoStreamFault old new
 HasRunThrough (Some (Generate seed count)) old new = NoStreamFault old new
-HasRunThrough (Some Backup) old new = NoFault old new
+HasRunThrough (Some (Read reading)) old new = NoFault old new
 
 -- with Usage no fault was counted, and with Ok none that would have ended the run
 abbrev pub IsFaultFree : Option Mode → Status → (old new : Outside) → Type 0
@@ -72,11 +77,12 @@ IsFaultFree mode Usage old new = NoFault old new
 IsFaultFree mode status old new = Unit {0}
 
 -- What a run promises of faults. No count has fallen. A fault is told only where it was counted;
--- with Ok none of a stream was counted, nor in a backup one of a device, and with Usage none at all;
--- and where none of a stream was counted, nor in a backup one of its device, none is told.
+-- with Ok none of a stream was counted, nor where a device is read one of a device, and with Usage
+-- none at all; and where none of a stream was counted, nor one of the device that is read, none is
+-- told.
 pub record StatusFaults (mode : Option Mode) (status : Status) (old new : Outside) : Type 0 where
   pub later : NeverLess old new
   pub cause : HasStatusCause mode status old new
   pub no_fault : IsFaultFree mode status old new
   pub complete : ¬ Rose old.in_faults new.in_faults → ¬ Rose old.out_faults new.out_faults
-      → (mode ≡ Some Backup → ¬ Rose (old.dev_faults 0) (new.dev_faults 0)) → IsFaultless status
+      → (ReadsDevice mode → ¬ Rose (old.dev_faults 0) (new.dev_faults 0)) → IsFaultless status

@@ -17,10 +17,10 @@ returns-in-Generate-clause-ran g c = λ told.
     let P : Mode → Type 0 = λ mode. Ran (Some mode) (map (string_bytes {Z = Global}) c.args.names.now) c.args.limit c.run_generated.result (g.H.Host.outside c.args.host.now) (g.H.Host.outside c.run_generated.new.host) in
     subst P (sym c.in-Generate.is) (c.run_generated.ensures.left, c.run_generated.ensures.ran told)
 
-pub returns-in-Backup-clause-ran : goal.returns-in-Backup-clause-ran
-returns-in-Backup-clause-ran g c = λ told.
-    let P : Mode → Type 0 = λ mode. Ran (Some mode) (map (string_bytes {Z = Global}) c.args.names.now) c.args.limit c.run_backup.result (g.H.Host.outside c.args.host.now) (g.H.Host.outside c.run_backup.new.host) in
-    subst P (sym c.in-Backup.is) (c.run_backup.ensures.ran told)
+pub returns-in-Read-clause-ran : goal.returns-in-Read-clause-ran
+returns-in-Read-clause-ran g c = λ told.
+    let P : Mode → Type 0 = λ mode. Ran (Some mode) (map (string_bytes {Z = Global}) c.args.names.now) c.args.limit c.run_reading.result (g.H.Host.outside c.args.host.now) (g.H.Host.outside c.run_reading.new.host) in
+    subst P (sym c.in-Read.is) (c.run_reading.ensures.ran told)
 
 -- ---- where no device failed
 
@@ -48,10 +48,10 @@ returns-in-Generate-clause-plain g c = λ told ok none.
     let P : Mode → Type 0 = λ mode. IsPlain (Some mode) names before after in
     subst P (sym c.in-Generate.is) (plain_counted names before after none script (subst R ok (c.run_generated.ensures.ran told)))
 
-pub returns-in-Backup-clause-plain : goal.returns-in-Backup-clause-plain
-returns-in-Backup-clause-plain g c = λ told ok none.
-    let P : Mode → Type 0 = λ mode. IsPlain (Some mode) (map (string_bytes {Z = Global}) c.args.names.now) (g.H.Host.outside c.args.host.now) (g.H.Host.outside c.run_backup.new.host) in
-    subst P (sym c.in-Backup.is) tt
+pub returns-in-Read-clause-plain : goal.returns-in-Read-clause-plain
+returns-in-Read-clause-plain g c = λ told ok none.
+    let P : Mode → Type 0 = λ mode. IsPlain (Some mode) (map (string_bytes {Z = Global}) c.args.names.now) (g.H.Host.outside c.args.host.now) (g.H.Host.outside c.run_reading.new.host) in
+    subst P (sym c.in-Read.is) tt
 
 -- ---- devices
 
@@ -70,10 +70,10 @@ returns-in-Convert-clause-devices g c =
     let P : Mode → Type 0 = λ mode. LeavesDevices g.H.Host.told (Some mode) (g.H.Host.outside c.args.host.now) (g.H.Host.outside c.run_conversion.new.host) in
     subst P (sym c.in-Convert.is) c.run_conversion.ensures.devices
 
-pub returns-in-Backup-clause-devices : goal.returns-in-Backup-clause-devices
-returns-in-Backup-clause-devices g c =
-    let P : Mode → Type 0 = λ mode. LeavesDevices g.H.Host.told (Some mode) (g.H.Host.outside c.args.host.now) (g.H.Host.outside c.run_backup.new.host) in
-    subst P (sym c.in-Backup.is) c.run_backup.ensures.devices
+pub returns-in-Read-clause-devices : goal.returns-in-Read-clause-devices
+returns-in-Read-clause-devices g c =
+    let P : Mode → Type 0 = λ mode. LeavesDevices g.H.Host.told (Some mode) (g.H.Host.outside c.args.host.now) (g.H.Host.outside c.run_reading.new.host) in
+    subst P (sym c.in-Read.is) c.run_reading.ensures.devices
 
 -- ---- how it ends
 
@@ -92,7 +92,7 @@ returns-in-Generate-clause-ends g c =
     let P : Mode → Type 0 = λ mode. RunEnds mode c.run_generated.result (g.H.Host.outside c.args.host.now) (g.H.Host.outside c.run_generated.new.host) in
     subst P (sym c.in-Generate.is) c.run_generated.ensures.ends
 
-pub returns-in-Backup-clause-ends : goal.returns-in-Backup-clause-ends
-returns-in-Backup-clause-ends g c =
-    let P : Mode → Type 0 = λ mode. RunEnds mode c.run_backup.result (g.H.Host.outside c.args.host.now) (g.H.Host.outside c.run_backup.new.host) in
-    subst P (sym c.in-Backup.is) c.run_backup.ensures.ends
+pub returns-in-Read-clause-ends : goal.returns-in-Read-clause-ends
+returns-in-Read-clause-ends g c =
+    let P : Mode → Type 0 = λ mode. RunEnds mode c.run_reading.result (g.H.Host.outside c.args.host.now) (g.H.Host.outside c.run_reading.new.host) in
+    subst P (sym c.in-Read.is) c.run_reading.ensures.ends

@@ -1,4 +1,4 @@
--- A backup: the device is attached, read, and its text put out.
+-- A device is attached and read, and what is said of it put out.
 use Rattle.std.proofs.Common.{◌≡◌, inl, inr, ℕ, zero, suc, ◌*◌, ◌≤◌, Bool, true, false, List, [], ◌∷◌, ◌++◌, length, Option, Some, None, IsSome, Result, Ok as Good, Err as Bad, is_err, refl, sym, ◌∙◌, ap, subst, arith}
 use Rattle.std.specs.Prelude.{slice_get, option_map, option_and_then}
 use Rattle.std.proofs.lemmas.Bool.{cases_lt}
@@ -20,10 +20,11 @@ use Rattle.newt_script_session.specs.Named.{AtEachMoment, held_by}
 use Rattle.newt_script_session.specs.Stream.{Puts, WroteSome}
 use Rattle.newt_script_session.specs.declared.halt.Halt.TheVariants.{Sink as NoSink}
 use Rattle.newt_script_session.proofs.Counting.{faults_err, never_of, none-append}
-use Rattle.newt_store_backup.specs.Written.{backed_up, device_on}
-use Rattle.newt_top.specs.Backup.{RanBackup, WroteBackup}
+use Rattle.newt_store_backup.specs.Written.{device_on}
 use Rattle.newt_top.specs.Calls.{RunEnds}
-use Rattle.newt_top.specs.declared.status.Mode.TheVariants.{Backup}
+use Rattle.newt_top.specs.Reading.{IsSaid, RanReading, WroteSaid}
+use Rattle.newt_top.specs.declared.status.Mode.TheVariants.{Read}
+use Rattle.newt_top.specs.declared.status.Reading.{Reading}
 use Rattle.newt_top.specs.declared.status.Status.{Status}
 use Rattle.newt_top.specs.declared.status.Status.TheVariants.{Ok, Memory, Device, Sink}
 use Rattle.newt_top.proofs.Halting.{ends_halted, ends_ok, ends_quiet}
@@ -81,7 +82,7 @@ module _ (names : List (List ℕ)) (old mid : Outside) (a : AreAttached true nam
 
 -- ---- what is left
 
-module _ (names : List (List ℕ)) (old mid looked : Outside) (a : AreAttached true names old mid) (looks : OnlyReads 0 mid looked) (fresh : (unit : ℕ) → changes unit old.now ≡ []) where
+module _ (reading : Reading) (names : List (List ℕ)) (old mid looked : Outside) (a : AreAttached true names old mid) (looks : OnlyReads 0 mid looked) (fresh : (unit : ℕ) → changes unit old.now ≡ []) where
   -- nothing was put out before the device was read
   quiet-held : out_of looked ≡ out_of old
   quiet-held = ap (λ (m : Moment). output m) looks.moment ∙ a.quiet refl
@@ -94,19 +95,19 @@ module _ (names : List (List ℕ)) (old mid looked : Outside) (a : AreAttached t
         crash-held names old mid a new (still names old mid a text new since_mid) (λ unit. cards unit ∙ looks.alone.cards.card unit) fresh unknown history
 
     -- the text was put out, or the output failed
-    pub ran-put : {T E : Type 0} (result : Result T E) (text : List ℕ) → text ≡ backed_up (held_by names old 0) → Puts result text looked.now new.now → WriteCall true OutputFailed result looked new
-        → (is_err result ≡ true → RanBackup names Sink old new) × (is_err result ≡ false → RanBackup names Ok old new)
+    pub ran-put : {T E : Type 0} (result : Result T E) (text : List ℕ) → IsSaid reading (held_by names old 0) text → Puts result text looked.now new.now → WriteCall true OutputFailed result looked new
+        → (is_err result ≡ true → RanReading reading names Sink old new) × (is_err result ≡ false → RanReading reading names Ok old new)
     ran-put (Good x) text is puts call = (
       λ fails. absurd (cc),
       λ works. record {
-        wrote = puts.whole ∙ ap (λ (o : List ℕ). o ++ text) quiet-held ∙ ap (λ (t : List ℕ). out_of old ++ t) is;
+        wrote = (text, is, puts.whole ∙ ap (λ (o : List ℕ). o ++ text) quiet-held);
         left = call.unread.input ∙ looks.alone.input ∙ a.input;
         crash = crash-since text puts.moments call.devices.cards.card;
       },
     )
     ran-put (Bad e) text is puts call = (
       λ fails. record {
-        wrote = subst (λ (t : List ℕ). WroteSome t (out_of old) (out_of new)) is (subst (λ (o : List ℕ). WroteSome text o (out_of new)) quiet-held puts.failed);
+        wrote = (text, is, subst (λ (o : List ℕ). WroteSome text o (out_of new)) quiet-held puts.failed);
         left = call.unread.input ∙ looks.alone.input ∙ a.input;
         crash = crash-since text puts.moments call.devices.cards.card;
       },
@@ -115,7 +116,7 @@ module _ (names : List (List ℕ)) (old mid looked : Outside) (a : AreAttached t
 
   -- nothing was put out
   pub ran-unput : ((unit : ℕ) → looked.card unit ≡ None → changes unit looked.now ≡ []) → ((unit : ℕ) → IsSome (looked.card unit) → IsHistory (looked.blocks unit * 4096) (changes unit looked.now))
-      → (status : Status) → (out_of looked ≡ out_of old → WroteBackup status (backed_up (held_by names old 0)) (out_of old) (out_of looked)) → RanBackup names status old looked
+      → (status : Status) → (out_of looked ≡ out_of old → WroteSaid status (IsSaid reading (held_by names old 0)) (out_of old) (out_of looked)) → RanReading reading names status old looked
   ran-unput unknown history status wrote = record {
     wrote = wrote quiet-held;
     left = looks.alone.input ∙ a.input;
@@ -154,24 +155,24 @@ pub none-attached : (told : Bool) (names : List (List ℕ)) (old mid : Outside) 
 none-attached told names old mid a = record { in_faults = a.in_faults; out_faults = a.out_faults; dev_faults = a.counts.dev_faults }
 
 -- out of memory
-pub ends-memory : (old looked : Outside) → NoStreamFault old looked → RunEnds Backup Memory old looked
-ends-memory old looked free = ends_quiet Backup old looked Memory tt tt (λ same. absurd (cc)) (never_of free)
+pub ends-memory : (reading : Reading) (old looked : Outside) → NoStreamFault old looked → RunEnds (Read reading) Memory old looked
+ends-memory reading old looked free = ends_quiet (Read reading) old looked Memory tt tt (λ same. absurd (cc)) (never_of free)
 
 -- the device failed
-pub ends-device : (old mid looked : Outside) → NoStreamFault old looked → mid.dev_faults 0 ≡ old.dev_faults 0 → Rose (mid.dev_faults 0) (looked.dev_faults 0) → RunEnds Backup (Device 0) old looked
-ends-device old mid looked free same rose =
-    ends_quiet Backup old looked (Device 0) (refl, subst (λ (n : ℕ). Rose n (looked.dev_faults 0)) same rose) tt (λ other. absurd (cc)) (never_of free)
+pub ends-device : (reading : Reading) (old mid looked : Outside) → NoStreamFault old looked → mid.dev_faults 0 ≡ old.dev_faults 0 → Rose (mid.dev_faults 0) (looked.dev_faults 0) → RunEnds (Read reading) (Device 0) old looked
+ends-device reading old mid looked free same rose =
+    ends_quiet (Read reading) old looked (Device 0) (tt, refl, subst (λ (n : ℕ). Rose n (looked.dev_faults 0)) same rose) tt (λ other. absurd (cc)) (never_of free)
 
 -- the text was put out, or the output failed
-pub ends-put : {T E : Type 0} (told : Bool) (result : Result T E) (old looked new : Outside) → NoStreamFault old looked → NoFault old looked → WriteCall told OutputFailed result looked new
-    → (is_err result ≡ true → RunEnds Backup Sink old new) × (is_err result ≡ false → RunEnds Backup Ok old new)
-ends-put {T} {E} told (Good x) old looked new free none call =
+pub ends-put : {T E : Type 0} (reading : Reading) (told : Bool) (result : Result T E) (old looked new : Outside) → NoStreamFault old looked → NoFault old looked → WriteCall told OutputFailed result looked new
+    → (is_err result ≡ true → RunEnds (Read reading) Sink old new) × (is_err result ≡ false → RunEnds (Read reading) Ok old new)
+ends-put {T} {E} reading told (Good x) old looked new free none call =
     let last : NoFault looked new = record { in_faults = call.faults.no_fault.in_faults; out_faults = call.faults.no_fault.out_faults; dev_faults = call.devices.counts.dev_faults } in (
       λ fails. absurd (cc),
-      λ works. ends_ok Backup old new (NoFault-append none last) (never_of (none-append free call.faults.no_fault)),
+      λ works. ends_ok (Read reading) old new (NoFault-append none last) (never_of (none-append free call.faults.no_fault)),
     )
-ends-put {T} {E} told (Bad e) old looked new free none call = (
-  λ fails. ends_halted Backup old new {T = T} NoSink
+ends-put {T} {E} reading told (Bad e) old looked new free none call = (
+  λ fails. ends_halted (Read reading) old new {T = T} NoSink
       (faults_err (OutputFailed {E = E}) HasCause old looked new free {T = T} {U = T} (Bad NoSink) e NoSink refl (λ rose. omega (arith, rose, free.out_faults)) call.faults),
   λ works. absurd (cc),
 )
