@@ -1,8 +1,8 @@
 //! The backup of the store on a device, with texts that were written by hand.
 
+use crate::trial::expect_reading_halts;
 use newt_host::Unit;
-use newt_memhost::MemHost;
-use newt_test_scripts::{blocks, expect_end, image, over, run_on, run_table};
+use newt_test_scripts::{blocks, expect_end, image, over, run_table};
 use newt_top::Status;
 use std::alloc::Global;
 use std::test::Fail;
@@ -61,40 +61,9 @@ fn says_why_there_is_none(rt: HostRuntime) -> Result<(), Fail> {
     Ok(())
 }
 
-/// Where the call of a number fails a backup ends there: with Device where it is on the device, else
-/// with Sink. What was written is what the sound run had written before, and the device stays.
-fn expect_halted(alloc: Global, bytes: &[u8], sound: &MemHost, call: u64) -> Result<(), Fail> {
-    if sound.calls() <= call {
-        return Ok(());
-    }
-    let wanted = match sound.unit_of(call) {
-        Some(unit) => Status::Device(unit),
-        None => Status::Sink,
-    };
-    let mut host = over(alloc, b"", bytes, &[])?;
-    host.piece(40);
-    host.fail(call)?;
-    let status = run_on(alloc, "backup a", &mut host)?;
-    let is_begun = sound.output().starts_with(host.output())
-        && host.output().len() as u64 == sound.out_before(call);
-    if status != wanted || !is_begun || image(alloc, &host, Unit(0))?.as_slice() != bytes {
-        return Err(Fail::new(format_args!("not halted at call {call}")));
-    }
-    Ok(())
-}
-
 #[test]
 fn halts_at_each_call_that_fails(rt: HostRuntime) -> Result<(), Fail> {
     let alloc = rt.alloc();
     let first = run_table(alloc, "run a", ONE_ENTRY)?;
-    let bytes = image(alloc, &first, Unit(0))?;
-    let mut sound = over(alloc, b"", &bytes, &[])?;
-    sound.piece(40);
-    if run_on(alloc, "backup a", &mut sound)? != Status::Ok {
-        return Err(Fail::new("no backup"));
-    }
-    for call in 0..sound.calls() {
-        expect_halted(alloc, &bytes, &sound, call)?;
-    }
-    Ok(())
+    expect_reading_halts(alloc, "backup a", &image(alloc, &first, Unit(0))?)
 }

@@ -6,6 +6,8 @@
 #[cfg(test)]
 mod backups;
 #[cfg(test)]
+mod checks;
+#[cfg(test)]
 mod crashes;
 #[cfg(test)]
 mod declared;

@@ -1,7 +1,8 @@
 //! Runs whose input comes in pieces, and the numbers of statuses.
 
 use newt_host::Unit;
-use newt_test_scripts::{expect_end, host, lines_of};
+use newt_memhost::MemHost;
+use newt_test_scripts::{expect_end, host, image, lines_of, over, run_on};
 use newt_top::Status;
 use std::alloc::Global;
 use std::process::Abort;
@@ -52,4 +53,46 @@ fn numbers_the_statuses(rt: HostRuntime) {
 
 fn assert_exit(rt: &impl Abort, status: Status, number: u8) {
     assert!(rt; status.exit() == number, "at {number}");
+}
+
+/// Where the call of a number fails, words that read the device `a` of these bytes end there: with
+/// Device where it is on the device, else with Sink. What was written is what the sound run had
+/// written before, and the device stays.
+fn expect_reading_halted(
+    alloc: Global,
+    text: &str,
+    bytes: &[u8],
+    sound: &MemHost,
+    call: u64,
+) -> Result<(), Fail> {
+    if sound.calls() <= call {
+        return Ok(());
+    }
+    let wanted = match sound.unit_of(call) {
+        Some(unit) => Status::Device(unit),
+        None => Status::Sink,
+    };
+    let mut host = over(alloc, b"", bytes, &[])?;
+    host.piece(40);
+    host.fail(call)?;
+    let status = run_on(alloc, text, &mut host)?;
+    let is_begun = sound.output().starts_with(host.output())
+        && host.output().len() as u64 == sound.out_before(call);
+    if status != wanted || !is_begun || image(alloc, &host, Unit(0))?.as_slice() != bytes {
+        return Err(Fail::new(format_args!("{text} is not halted at call {call}")));
+    }
+    Ok(())
+}
+
+/// The same of each call of a run of these words.
+pub fn expect_reading_halts(alloc: Global, text: &str, bytes: &[u8]) -> Result<(), Fail> {
+    let mut sound = over(alloc, b"", bytes, &[])?;
+    sound.piece(40);
+    if run_on(alloc, text, &mut sound)? != Status::Ok {
+        return Err(Fail::new(format_args!("{text} does not end well")));
+    }
+    for call in 0..sound.calls() {
+        expect_reading_halted(alloc, text, bytes, &sound, call)?;
+    }
+    Ok(())
 }
