@@ -23,12 +23,7 @@ fn layer_word(layer: Layer) -> &'static str
 }
 
 /// The line of a clean image.
-fn clean_line(
-    alloc: Global,
-    soups: u32,
-    entries: u32,
-    pages: u32,
-) -> Result<Vec<u8>, AllocError>
+fn clean_line(alloc: Global, soups: u32, entries: u32, pages: u32) -> Result<Vec<u8>, AllocError>
     ensures { IfOk result (λ line. line.items ≡ spec.clean_line soups entries pages) }
 {
     Ok(format!(in alloc; "ok clean {soups} {entries} {pages}\n")?.into_bytes())

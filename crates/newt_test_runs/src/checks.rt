@@ -81,8 +81,10 @@ fn names_the_first_damage(rt: HostRuntime) -> Result<(), Fail> {
 fn says_why_nothing_is_looked_through(rt: HostRuntime) -> Result<(), Fail> {
     let alloc = rt.alloc();
     let small = blocks(alloc, 12)?;
-    let cases: [(&str, &[u8]); 2] =
-        [("check c", b"error 20 unit\n"), ("check a", b"error 27 blocks\n")];
+    let cases: [(&str, &[u8]); 2] = [
+        ("check c", b"error 20 unit\n"),
+        ("check a", b"error 27 blocks\n"),
+    ];
     for (text, output) in cases {
         let mut host = over(alloc, b"", &small, &[])?;
         expect_end(alloc, text, &mut host, Status::Ok, output)?;

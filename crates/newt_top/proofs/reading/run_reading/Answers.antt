@@ -87,8 +87,8 @@ returns-then-is_err-clause-ran g c = λ told.
     let new = o c.write_all.new.host in
     let a = subst (λ (t : Bool). AreAttached t names (o c.args.host.now) mid) told c.attach_names-attached.ensures.attached in
     let text : IsSaid c.args.reading (held_by names (o c.args.host.now) 0) c.deref.result.now =
-        subst (λ (d : Option (List ℕ)). IsSaid c.args.reading d c.deref.result.now) (device-held names (o c.args.host.now) mid a 0)
-        (subst (λ (t : List ℕ). IsSaid c.args.reading (device_on 0 mid) t) (sym c.deref.ensures.value) (c.in-Ok.ensures.text told)) in
+    subst (λ (d : Option (List ℕ)). IsSaid c.args.reading d c.deref.result.now) (device-held names (o c.args.host.now) mid a 0)
+    (subst (λ (t : List ℕ). IsSaid c.args.reading (device_on 0 mid) t) (sym c.deref.ensures.value) (c.in-Ok.ensures.text told)) in
     let call = subst (λ (t : Bool). WriteCall t OutputFailed c.write_all.result looked new) told c.write_all.ensures.call in
     (ran-put c.args.reading names (o c.args.host.now) mid looked a c.said.ensures.looks (λ unit. g.met.H.Host.untouched c.args.host.now unit told (c.requires.may.free unit))
     new (λ unit none. g.met.H.Host.untouched c.write_all.new.host unit told none) (λ unit some. g.met.H.Host.history c.write_all.new.host unit told some)
@@ -116,8 +116,8 @@ returns-clause-ran g c = λ told.
     let new = o c.write_all.new.host in
     let a = subst (λ (t : Bool). AreAttached t names (o c.args.host.now) mid) told c.attach_names-attached.ensures.attached in
     let text : IsSaid c.args.reading (held_by names (o c.args.host.now) 0) c.deref.result.now =
-        subst (λ (d : Option (List ℕ)). IsSaid c.args.reading d c.deref.result.now) (device-held names (o c.args.host.now) mid a 0)
-        (subst (λ (t : List ℕ). IsSaid c.args.reading (device_on 0 mid) t) (sym c.deref.ensures.value) (c.in-Ok.ensures.text told)) in
+    subst (λ (d : Option (List ℕ)). IsSaid c.args.reading d c.deref.result.now) (device-held names (o c.args.host.now) mid a 0)
+    (subst (λ (t : List ℕ). IsSaid c.args.reading (device_on 0 mid) t) (sym c.deref.ensures.value) (c.in-Ok.ensures.text told)) in
     let call = subst (λ (t : Bool). WriteCall t OutputFailed c.write_all.result looked new) told c.write_all.ensures.call in
     (ran-put c.args.reading names (o c.args.host.now) mid looked a c.said.ensures.looks (λ unit. g.met.H.Host.untouched c.args.host.now unit told (c.requires.may.free unit))
     new (λ unit none. g.met.H.Host.untouched c.write_all.new.host unit told none) (λ unit some. g.met.H.Host.history c.write_all.new.host unit told some)
