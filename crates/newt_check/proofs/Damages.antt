@@ -1,5 +1,5 @@
 -- The rows of objects of an image, by the objects that it holds.
-use Rattle.std.proofs.Common.{arith, ◌≡◌, refl, sym, ◌∙◌, ap, subst, ℕ, ◌%◌, ◌<◌, ◌≤◌, ◌⊎◌, inl, inr, Bool, true, false, List, [], ◌∷◌, length, cond, nat_le, filter, Option, Some, None, option_and_then}
+use Rattle.std.proofs.Common.{arith, ◌≡◌, refl, sym, ◌∙◌, ap, ℕ, ◌%◌, ◌<◌, ◌≤◌, ◌⊎◌, Bool, true, false, List, length, cond, nat_le, filter, Option, Some, None, option_and_then}
 use Rattle.std.specs.FinMap as map
 use Rattle.std.proofs.lemmas.Bool.{le-leb, leb-true, and_parts}
 use Rattle.newt_nsof_flat.specs.Stream.{stream_graph}
@@ -15,7 +15,6 @@ use Rattle.newt_laws_images.proofs.Totals.{lies-total}
 use Rattle.newt_laws_images.proofs.Assembled.{read-valid}
 use Rattle.newt_spec_nsof.specs.Text.{AreBytes}
 use Rattle.newt_objects.specs.Changing.{HoldsObjects}
-use Rattle.newt_spec_graph.proofs.Lists.{some-same, none-some}
 use Rattle.newt_spec_store.specs.Cost.{cost}
 use Rattle.newt_spec_store.specs.Image.{Objects as Rows, all_entries}
 use Rattle.newt_spec_store.specs.ImageStore.{objects_of, store_of_image}
@@ -24,12 +23,12 @@ use Rattle.newt_spec_store.specs.Lies.{directory_read}
 use Rattle.newt_spec_store.specs.OfImage.{blocks_of}
 use Rattle.newt_spec_store.specs.Store.{Store}
 use Rattle.newt_spec_store.specs.StoreOf.{store_of}
-use Rattle.newt_spec_store.specs.Valid.{well_formed, valid, fits}
+use Rattle.newt_spec_store.specs.Valid.{well_formed, fits}
 use Rattle.newt_spec_check.specs.declared.Layer.TheVariants as layer
-use Rattle.newt_spec_check.specs.Damage.{Damage, damage, if_missing, if_above, broken_object, least, broken_ids, of_objects, directory_in, no_directory, bad_entry, bad_large, too_costly, pages_taken, is_odd}
+use Rattle.newt_spec_check.specs.Damage.{damage, if_missing, if_above, broken_object, least, broken_ids, of_objects, directory_in, no_directory, bad_entry, bad_large, too_costly, pages_taken, is_odd}
 use Rattle.newt_laws_check.proofs.Complete.{complete}
 use Rattle.newt_laws_check.proofs.Entries.{entries-count}
-use Rattle.newt_laws_check.proofs.Journal.{IsWhole, pages-whole}
+use Rattle.newt_laws_check.proofs.Journal.{pages-whole}
 use Rattle.newt_laws_check.proofs.Objects.{objects-whole, whole-objects}
 use Rattle.newt_check.proofs.Voted.{skip, hit}
 

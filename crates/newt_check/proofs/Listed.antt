@@ -3,16 +3,15 @@ use Rattle.std.proofs.Common.{arith, ◌≡◌, ◌≢◌, refl, ap, sym, ◌∙
 use Rattle.std.specs.FinMap as map
 use Rattle.std.proofs.lemmas.List.{append-nil}
 use Rattle.std.proofs.lemmas.Bool.{eq-eqb, eqb-true, lt-ltb, ltb-true, cases_lt, cases_order}
-use Rattle.newt_spec_image.specs.Objects.{Objects, Extent, Table, pages_for}
-use Rattle.newt_objects.specs.Extents.{IsNextIn}
+use Rattle.newt_spec_image.specs.Objects.{Objects, Extent, Table}
 use Rattle.newt_objects.specs.Listed.{AreNexts}
 use Rattle.newt_laws_images.proofs.Made.{even-or-odd}
 use Rattle.newt_laws_images.proofs.Finite.{entries-rising, entry-get, get-entry}
-use Rattle.newt_spec_graph.specs.Lists.{Each, Pairs, Among}
-use Rattle.newt_spec_graph.proofs.Lists.{each-at, each-from, among-filter, filter-among, pairs-filter, both-ways, none-some}
+use Rattle.newt_spec_graph.specs.Lists.{Pairs, Among}
+use Rattle.newt_spec_graph.proofs.Lists.{each-at, among-filter, filter-among, pairs-filter, both-ways, none-some}
 use Rattle.newt_spec_store.specs.StoreOf.{entry_row}
-use Rattle.newt_spec_check.specs.Damage.{all_named, count_of, first_object, ids_in, is_odd, is_stray, bad_large, pages_taken}
-use Rattle.newt_check.specs.Seen.{is_stray_id, names_in, names_at, named_to}
+use Rattle.newt_spec_check.specs.Damage.{all_named, count_of, ids_in, is_odd}
+use Rattle.newt_check.specs.Seen.{is_stray_id, named_to}
 
 -- objects that stand in the order of their ids
 abbrev pub Rising : List (ℕ × List ℕ) → Type 0

@@ -1,6 +1,5 @@
 -- The rows of the directory and of the records of entries, by what is seen of them.
-use Rattle.std.proofs.Common.{arith, ◌≡◌, ◌≢◌, refl, ap, sym, ◌∙◌, subst, ℕ, ◌+◌, ◌%◌, ◌<◌, ◌≤◌, ◌==◌, ◌&&◌, nat_lt, ◌⊎◌, inl, inr, Bool, true, false, not, cond, List, [], ◌∷◌, ◌++◌, length, find, Option, Some, None, IsTrue, option_map, option_and_then, MatchOption, map as list_map}
-use Rattle.std.specs.List.{list_any, list_all}
+use Rattle.std.proofs.Common.{arith, ◌≡◌, refl, ap, sym, ◌∙◌, subst, ℕ, ◌+◌, ◌%◌, ◌<◌, ◌≤◌, ◌==◌, ◌&&◌, nat_lt, ◌⊎◌, inl, inr, Bool, true, false, not, cond, List, [], ◌∷◌, ◌++◌, find, Option, Some, None, IsTrue, option_map, option_and_then, MatchOption, map as list_map}
 use Rattle.std.specs.FinMap as map
 use Rattle.std.specs.BTreeMap.{BTreeMap}
 use Rattle.std.proofs.lemmas.Bool.{eq-eqb, eqb-true, lt-ltb, ltb-true, and_parts, cases_lt, cases_eq}
@@ -20,12 +19,12 @@ use Rattle.newt_entries.specs.declared.row.EntryRow.{EntryRow}
 use Rattle.newt_entries.specs.declared.row.LargeAt.{LargeAt}
 use Rattle.newt_soupdir.specs.Bare.{bare_store}
 use Rattle.newt_soupdir.specs.declared.rows.Directory.{Directory}
-use Rattle.newt_spec_graph.specs.Lists.{Each, Pairs, Among}
-use Rattle.newt_spec_graph.proofs.Lists.{each-at, each-from, none-some, some-same, both-ways}
+use Rattle.newt_spec_graph.specs.Lists.{Pairs, Among}
+use Rattle.newt_spec_graph.proofs.Lists.{each-at, each-from, none-some, some-same}
 use Rattle.newt_spec_store.specs.Lies.{Places, directory_read, entry_read, record_read}
 use Rattle.newt_spec_store.specs.Store.{Entry, Store}
 use Rattle.newt_spec_graph.specs.Graph.{every}
-use Rattle.newt_spec_store.specs.StoreOf.{LargeRow, large_object}
+use Rattle.newt_spec_store.specs.StoreOf.{large_object}
 use Rattle.newt_laws_images.specs.Found.{HasGiven}
 use Rattle.newt_laws_images.proofs.Alone.{missing, bad-alone, among, entry_with}
 use Rattle.newt_laws_images.proofs.Finite.{object-get, entries-rising, entry-get, get-entry}
@@ -35,7 +34,7 @@ use Rattle.newt_laws_check.proofs.Finds.{none-find, any-true, among-any}
 use Rattle.newt_laws_check.proofs.Sound.{both, given-true, again-some}
 use Rattle.newt_spec_check.specs.Damage.{directory_in, first_object, is_odd, is_again, is_given, is_named_before, is_sound, is_bad_record, entry_of, bad_entry, all_named}
 use Rattle.newt_store_catalog.specs.Calls.{IsDirectory}
-use Rattle.newt_store_catalog.specs.Opening.{AreFoundTo, HasObject, IsRoot, IsRow, OfObjects, objects_named, has_length}
+use Rattle.newt_store_catalog.specs.Opening.{AreFoundTo, HasObject, IsRoot, OfObjects, objects_named}
 use Rattle.newt_store_catalog.proofs.Opening.{kept-none, kept-length, names-are, even-rows, now-formed}
 use Rattle.newt_store_catalog.proofs.OpeningPlaces.{even-next, row-next, found-none}
 use Rattle.newt_store_catalog.proofs.Owning.{all-there, not-there}
@@ -281,16 +280,16 @@ module _ (told : Bool) (objects : Held) (numbers : Numbers) (unit : ℕ) (outsid
 
 -- ---- none yet, and all
 
-pub seen-none : (told : Bool) (now : List ℕ) (d : Store) (place : Places) (counts : BTreeMap ℕ Bool) → ((sig uid : ℕ) → place sig uid ≡ None) → AreCounts [] counts → HasSeen told now 0 d place counts
-seen-none told now d place counts none are = record {
+pub seen-none : (told : Bool) (img : List ℕ) (d : Store) (place : Places) (counts : BTreeMap ℕ Bool) → ((sig uid : ℕ) → place sig uid ≡ None) → AreCounts [] counts → HasSeen told img 0 d place counts
+seen-none told img d place counts none are = record {
   below = λ sig uid id at. absurd (none-some id (sym (none sig uid) ∙ at));
   found = λ tells texts h. found-none texts d place (names_in texts) none;
   counted = λ tells texts h. subst (λ (ns : List ℕ). AreCounts ns counts) (sym (named-none texts)) are;
 }
 
-pub seen-all : (told : Bool) (now : List ℕ) (d : Store) (last : ℕ) (place : Places) (counts : BTreeMap ℕ Bool) → HasSeen told now last d place counts → IsTrue told → (texts : Objects) → HoldsObjects now texts
+pub seen-all : (told : Bool) (img : List ℕ) (d : Store) (last : ℕ) (place : Places) (counts : BTreeMap ℕ Bool) → HasSeen told img last d place counts → IsTrue told → (texts : Objects) → HoldsObjects img texts
     → ((q : ℕ) → last + 1 ≤ q → map.get texts q ≡ None) → AreCounts (all_named (map.entries texts)) counts × AreRecordBytes texts
-seen-all told now d last place counts seen tells texts h none = (
+seen-all told img d last place counts seen tells texts h none = (
   subst (λ (ns : List ℕ). AreCounts ns counts) (named-all texts last none) (seen.counted tells texts h),
   (λ id bytes at odd. elim (cases_lt id (last + 1)) [
     | inl low ↦ ((seen.found tells texts h).records id bytes at odd low).2.are_bytes
@@ -307,12 +306,12 @@ none-found told objects numbers unit outside kept d last place counts seen root 
     (λ q from. kept-none told objects numbers unit outside kept tells texts h q (end q from)))
 
 -- what is read of the bytes of object 0 is the directory of the image, or it has none
-pub root-by : (told : Bool) (now bytes text : List ℕ) (number : ℕ) (found : Option Directory) → OfObjects told now (HasObject 0 bytes) → text ≡ bytes → (IsTrue told → number ≡ version now)
+pub root-by : (told : Bool) (img bytes text : List ℕ) (number : ℕ) (found : Option Directory) → OfObjects told img (HasObject 0 bytes) → text ≡ bytes → (IsTrue told → number ≡ version img)
     → MatchOption found (directory_read stream_graph number text ≡ None) (λ d. directory_read stream_graph number text ≡ Some (bare_store d)) → AreBytes text
-    → MatchOption found (OfObjects told now (λ texts. directory_in stream_graph (version now) (map.entries texts) ≡ None)) (IsDirectory told now)
-root-by told now bytes text number None has same is read are = λ tells texts h.
-    root-bad now texts bytes (has tells texts h) ((λ i. directory_read stream_graph (sym (is tells) i) (sym same i)) ∙ read)
-root-by told now bytes text number (Some d) has same is read are = record {
+    → MatchOption found (OfObjects told img (λ texts. directory_in stream_graph (version img) (map.entries texts) ≡ None)) (IsDirectory told img)
+root-by told img bytes text number None has same is read are = λ tells texts h.
+    root-bad img texts bytes (has tells texts h) ((λ i. directory_read stream_graph (sym (is tells) i) (sym same i)) ∙ read)
+root-by told img bytes text number (Some d) has same is read are = record {
   root = λ tells texts h. record {
     bytes = bytes;
     object = has tells texts h;

@@ -1,15 +1,12 @@
 -- What is said of an image whose records are sound.
-use Rattle.std.proofs.Common.{arith, ◌≡◌, refl, ap, sym, ◌∙◌, subst, ℕ, ◌+◌, ◌*◌, ◌%◌, ◌^◌, ◌<◌, ◌≤◌, ◌==◌, nat_lt, ◌⊎◌, inl, inr, Bool, true, false, cond, List, [], ◌∷◌, length, find, filter, map as list_map, sum_by, max, Option, Some, None, IsTrue, option_map, option_and_then}
+use Rattle.std.proofs.Common.{arith, ◌≡◌, ap, sym, ◌∙◌, subst, ℕ, ◌+◌, ◌*◌, ◌%◌, ◌<◌, ◌≤◌, ◌==◌, ◌⊎◌, inl, inr, Bool, true, false, cond, List, [], ◌∷◌, length, find, filter, Option, Some, None}
 use Rattle.std.specs.FinMap as map
 use Rattle.std.specs.BTreeMap.{BTreeMap}
-use Rattle.std.proofs.lemmas.Bool.{le-leb, leb-true, and_parts}
 use Rattle.std.proofs.lemmas.List.Sums.{sum_by-cons}
 use Rattle.newt_nsof_flat.specs.Stream.{stream_graph}
 use Rattle.newt_spec_nsof.specs.Text.{AreBytes}
 use Rattle.newt_spec_image.specs.Objects.{Objects, pages_for}
 use Rattle.newt_spec_image.specs.Pages.{cap}
-use Rattle.newt_spec_image.specs.Records.{version}
-use Rattle.newt_objects.specs.Changing.{total_pages}
 use Rattle.newt_soupdir.specs.Bare.{bare_store, bare_soup}
 use Rattle.newt_soupdir.specs.declared.rows.Directory.{Directory}
 use Rattle.newt_laws_images.proofs.Records.{map-length}
@@ -19,12 +16,12 @@ use Rattle.newt_spec_store.specs.Laid.{bare, bare_soup as plain_soup}
 use Rattle.newt_spec_store.specs.OfImage.{blocks_of}
 use Rattle.newt_spec_store.specs.Store.{Store}
 use Rattle.newt_spec_store.specs.Valid.{well_formed}
-use Rattle.newt_spec_check.specs.Damage.{Damage, all_named, bad_large, damage, is_odd, is_stray, pages_taken}
+use Rattle.newt_spec_check.specs.Damage.{Damage, all_named, bad_large, damage, is_odd, pages_taken}
 use Rattle.newt_spec_check.specs.declared.Layer.TheVariants as layer
 use Rattle.newt_check.specs.Reports.{HasSoundRecords, IsClean}
 use Rattle.newt_check.specs.Seen.{is_stray_id}
 use Rattle.newt_check.proofs.Damages.{at-large, at-cost, at-store}
-use Rattle.newt_check.proofs.Listed.{strays-are, odds-are, ids_of, is_above}
+use Rattle.newt_check.proofs.Listed.{strays-are, odds-are}
 use Rattle.newt_check.proofs.Records.{root-is}
 
 pub few-soups : (d : Directory) → well_formed (bare_store d) ≡ true → length d.soups ≤ 250

@@ -1,5 +1,5 @@
 -- The first four rows of an image, by its chosen bank.
-use Rattle.std.proofs.Common.{◌≡◌, ◌≢◌, ◌⊎◌, inl, inr, ℕ, zero, suc, ◌+◌, ◌-◌, ◌*◌, ◌/◌, ◌<◌, ◌≤◌, ◌==◌, if◌then◌else◌, Bool, true, List, [], ◌∷◌, ◌++◌, length, take, drop, Option, Some, None, option_map, option_and_then, refl, sym, ◌∙◌, ap, subst, arith, IsTrue, append_assoc, length-append, length-drop, length-take}
+use Rattle.std.proofs.Common.{◌≡◌, ◌≢◌, ◌⊎◌, inl, inr, ℕ, zero, suc, ◌+◌, ◌-◌, ◌*◌, ◌≤◌, ◌==◌, if◌then◌else◌, Bool, true, List, [], ◌∷◌, ◌++◌, length, take, drop, Option, Some, None, option_map, option_and_then, refl, sym, ◌∙◌, ap, subst, arith, IsTrue, append_assoc, length-append, length-drop, length-take}
 use Rattle.std.proofs.lemmas.List.{take_at, drop-drop, drop-take}
 use Rattle.std.proofs.Math.Seq.{take-add}
 use Rattle.std.proofs.lemmas.Bool.{cases_eq}
@@ -8,10 +8,10 @@ use Rattle.std.specs.Option.{unwrap_or}
 use Rattle.newt_nsof_flat.specs.Stream.{stream_graph}
 use Rattle.newt_host.specs.Moments.{image as image_of}
 use Rattle.newt_host.specs.Outside.{Outside}
-use Rattle.newt_spec_image.specs.Pages.{Pages, pages}
-use Rattle.newt_spec_image.specs.Records.{bank_size, bank_start, bank_bytes, chosen_bank, header, without, versioned, versioned_body, behind_header, and_then, has_banks, body, records, payloads_after, IsVersion}
+use Rattle.newt_spec_image.specs.Pages.{pages}
+use Rattle.newt_spec_image.specs.Records.{bank_size, bank_start, bank_bytes, chosen_bank, header, without, versioned, versioned_body, behind_header, and_then, has_banks, body, records, IsVersion}
 use Rattle.newt_journal.specs.Bank.{bank_number, start_of, limit_of}
-use Rattle.newt_journal.specs.Journal.{Holds, HeldBy, Stands, written, records_bytes}
+use Rattle.newt_journal.specs.Journal.{Holds, Stands, written, records_bytes}
 use Rattle.newt_journal.specs.Places.{first_place}
 use Rattle.newt_journal.specs.Scan.{between}
 use Rattle.newt_journal.specs.declared.bank.Bank.{Bank}
@@ -22,7 +22,7 @@ use Rattle.newt_spec_graph.proofs.Lists.{none-some}
 use Rattle.newt_spec_store.specs.OfImage.{blocks_of}
 use Rattle.newt_spec_check.specs.declared.Layer.{Layer}
 use Rattle.newt_spec_check.specs.declared.Layer.TheVariants as layer
-use Rattle.newt_spec_check.specs.Damage.{Damage, Gate, damage, first_row, if_missing, start_of as start_in, behind, no_bank, no_header, gates, gates_after, gates_behind, first_gate, leaves_bank, is_unformed, long_record, bad_payload}
+use Rattle.newt_spec_check.specs.Damage.{damage, first_row, if_missing, start_of as start_in, behind, no_bank, no_header, gates, gates_after, gates_behind, first_gate, leaves_bank, is_unformed, bad_payload}
 use Rattle.newt_laws_check.proofs.Journal.{whole-pages, whole-records}
 use Rattle.newt_check.specs.Gates.{first_from, unformed_in}
 use Rattle.newt_check.specs.Reports.{HasRecords}

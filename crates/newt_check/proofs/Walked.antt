@@ -1,5 +1,5 @@
 -- The records of a journal are walked, and the first payload that has not its form is found.
-use Rattle.std.proofs.Common.{arith, ◌≡◌, refl, ap, sym, ◌∙◌, subst, ℕ, ◌+◌, ◌-◌, ◌*◌, ◌≤◌, Bool, true, false, IsTrue, cond, List, [], ◌∷◌, length, take, drop, Option, Some, None, length-take, length-drop}
+use Rattle.std.proofs.Common.{arith, ◌≡◌, refl, ap, sym, ◌∙◌, subst, ℕ, ◌+◌, ◌*◌, ◌≤◌, Bool, true, false, cond, List, ◌∷◌, length, take, drop, Option, Some, None, length-take, length-drop}
 use Rattle.newt_host.specs.Moments.{image as image_of}
 use Rattle.newt_host.specs.Outside.{Outside}
 use Rattle.newt_spec_image.specs.Records.{with_first}

@@ -1,10 +1,10 @@
 -- What pages say of themselves, and the pages of an image.
-use Rattle.std.proofs.Common.{arith, ◌≡◌, ◌≢◌, refl, ap, sym, ◌∙◌, subst, ℕ, zero, suc, ◌+◌, ◌<◌, ◌≤◌, ◌==◌, ◌&&◌, nat_lt, ◌⊎◌, inl, inr, Bool, true, false, not, cond, List, [], ◌∷◌, ◌++◌, length, min, fold, find, filter, slice_get, map as list_map, Option, Some, None, is_some, option_map, option_and_then}
+use Rattle.std.proofs.Common.{arith, ◌≡◌, refl, ap, sym, ◌∙◌, subst, ℕ, zero, suc, ◌+◌, ◌<◌, ◌≤◌, ◌==◌, ◌&&◌, nat_lt, inl, inr, Bool, true, false, not, cond, List, [], ◌∷◌, ◌++◌, length, min, fold, find, filter, slice_get, map as list_map, Option, Some, None, is_some, option_map, option_and_then}
 use Rattle.std.specs.List.{list_all, range_with_len}
 use Rattle.std.specs.Option.{unwrap_or}
 use Rattle.std.specs.FinMap as map
-use Rattle.std.proofs.lemmas.Bool.{eq-eqb, eqb-true, lt-ltb, ltb-true, and_parts, and_from, cases_order, cases_lt}
-use Rattle.newt_spec_image.specs.Objects.{Extent, pages_for}
+use Rattle.std.proofs.lemmas.Bool.{eq-eqb, eqb-true, lt-ltb, ltb-true, and_parts, and_from, cases_lt}
+use Rattle.newt_spec_image.specs.Objects.{pages_for}
 use Rattle.newt_spec_image.specs.Pages.{Pages, object_id, part_number, object_length}
 use Rattle.std.specs.BTreeMap as tree
 use Rattle.std.specs.BTreeMap.{is_at as is_key}
@@ -19,7 +19,7 @@ use Rattle.newt_laws_images.proofs.Again.{found-test}
 use Rattle.newt_laws_images.proofs.Both.{Both}
 use Rattle.newt_laws_images.proofs.Finite.{entries-rising, entry-get, get-entry}
 use Rattle.newt_spec_graph.specs.Graph.{every}
-use Rattle.newt_spec_graph.specs.Lists.{Each, Pairs, Among}
+use Rattle.newt_spec_graph.specs.Lists.{Pairs, Among}
 use Rattle.newt_spec_graph.proofs.Lists.{each-at, each-from, get-among, none-some, some-same, both-ways}
 use Rattle.newt_spec_store.specs.ImageStore.{page_of, extent_by, table_of, is_number, is_page_of}
 use Rattle.newt_spec_check.specs.Damage.{broken_ids, is_astray, least}

@@ -1,9 +1,9 @@
 -- What a report says of an image. This project's own.
-use Rattle.std.specs.Prelude.{◌≡◌, ℕ, nat_lt, Bool, List, length, filter, map as list_map, Option, Some, None}
+use Rattle.std.specs.Prelude.{◌≡◌, ℕ, nat_lt, Bool, List, length, filter, map as list_map, Some, None}
 use Rattle.std.specs.BTreeMap.{BTreeMap}
 use Rattle.std.specs.FinMap as map
 use Rattle.newt_nsof_flat.specs.Stream.{stream_graph}
-use Rattle.newt_spec_check.specs.Damage.{Damage, damage, all_named, bad_entry, no_bank, no_header, long_record}
+use Rattle.newt_spec_check.specs.Damage.{damage, all_named, bad_entry, no_bank, no_header, long_record}
 use Rattle.newt_objects.specs.Changing.{HoldsObjects, total_pages}
 use Rattle.newt_soupdir.specs.declared.rows.Directory.{Directory}
 use Rattle.newt_spec_image.specs.Objects.{Objects, Table, IsTableOf}

@@ -1,5 +1,5 @@
 -- What is seen of the records of entries, one after the other. This project's own.
-use Rattle.std.specs.Prelude.{◌≡◌, ◌⊎◌, ◌<◌, ◌++◌, ℕ, zero, suc, ◌+◌, ◌%◌, ◌==◌, nat_lt, ◌&&◌, not, Bool, List, [], map as list_map, filter, flat_map, Option, Some, None, true, false}
+use Rattle.std.specs.Prelude.{◌≡◌, ◌⊎◌, ◌<◌, ◌++◌, ℕ, zero, suc, ◌+◌, ◌%◌, ◌==◌, nat_lt, ◌&&◌, not, Bool, List, [], filter, flat_map, Option, Some, None, true, false}
 use Rattle.std.specs.List.{list_all}
 use Rattle.std.specs.BTreeMap as tree
 use Rattle.std.specs.BTreeMap.{BTreeMap}

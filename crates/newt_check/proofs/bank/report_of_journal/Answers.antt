@@ -1,4 +1,4 @@
-use Rattle.std.proofs.Common.{ℕ, List, Option, Some, sym, ◌∙◌, ap}
+use Rattle.std.proofs.Common.{ℕ, Option, Some, sym, ◌∙◌, ap}
 use Rattle.newt_host.specs.Moments.{image}
 use Rattle.newt_spec_check.specs.declared.Layer.TheVariants as layer
 use Rattle.newt_spec_check.specs.Damage.{Damage}

@@ -1,8 +1,7 @@
-use Rattle.std.proofs.Common.{◌≡◌, ℕ, List, IsTrue, refl, sym, ◌∙◌, ap, subst}
+use Rattle.std.proofs.Common.{refl, sym, subst}
 use Rattle.newt_host.specs.Moments.{image}
 use Rattle.newt_pagelog.proofs.Placing.{opened-looks}
 use Rattle.newt_pagebook.specs.Stops.{StopsAt}
-use Rattle.newt_store_catalog.proofs.Exits.{looks-on, read-after}
 use Rattle.newt_store_catalog.proofs.Opening.{the-fault}
 use Rattle.newt_check.proofs.Voted.{banks, some-records}
 use Rattle.newt_check.proofs.bank.report_of_payloads.Goals as goal

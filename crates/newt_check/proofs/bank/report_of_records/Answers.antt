@@ -1,8 +1,7 @@
-use Rattle.std.proofs.Common.{◌≡◌, ◌≢◌, ◌≤◌, ◌+◌, ◌*◌, ℕ, List, length, take, drop, arith, sym, ◌∙◌, ap, Option, Some, None, is_some}
+use Rattle.std.proofs.Common.{◌≡◌, ◌≤◌, ◌+◌, ◌*◌, ℕ, List, length, take, drop, arith, sym, ◌∙◌, ap, Option, Some, None}
 use Rattle.newt_host.specs.Moments.{image}
 use Rattle.newt_spec_image.specs.Records.{bank_size, bank_start, chosen_bank, header, IsVersion}
 use Rattle.newt_journal.specs.Bank.{bank_number, start_of, limit_of}
-use Rattle.newt_journal.specs.declared.bank.Bank.{Bank}
 use Rattle.newt_journal.proofs.Opened.{at_some, of_some}
 use Rattle.newt_pagelog.proofs.Replaying.{at_none}
 use Rattle.newt_spec_check.specs.declared.Layer.TheVariants as layer

@@ -1,15 +1,13 @@
-use Rattle.std.proofs.Common.{◌≡◌, ◌+◌, ◌*◌, ◌≤◌, ℕ, nat_eq, true, false, List, [], ◌∷◌, length, take, drop, Option, Some, None, Err, refl, sym, ◌∙◌, ap, subst, arith, rules}
+use Rattle.std.proofs.Common.{◌≡◌, ℕ, nat_eq, true, false, List, [], take, drop, Some, None, Err, refl, sym, ◌∙◌, ap, subst, arith, rules}
 use Rattle.std.specs.Map.{lookup}
 use Rattle.newt_host.specs.Moments.{Moment, image}
-use Rattle.newt_host.specs.Outside.{Outside}
 use Rattle.newt_host.proofs.Outside.{OnlyReads-append, OnlyReads-refl}
 use Rattle.newt_spec_image.specs.Records.{with_first}
-use Rattle.newt_spec_image.specs.Pages.{change_in, is_change}
+use Rattle.newt_spec_image.specs.Pages.{is_change}
 use Rattle.newt_journal.specs.Bank.{limit_of}
 use Rattle.newt_journal.specs.Places.{payloads_from, IsPlace}
-use Rattle.newt_journal.specs.declared.reading.Found.{Found}
 use Rattle.newt_pagebook.specs.declared.book.BookFault.TheVariants.{Device, NotStore}
-use Rattle.newt_pagelog.proofs.Failing.{no-opening, not-err, rose-over, same-err}
+use Rattle.newt_pagelog.proofs.Failing.{not-err, rose-over, same-err}
 use Rattle.newt_pagelog.proofs.Placing.{looks-stands, looks-image, looks-read}
 use Rattle.newt_pagelog.proofs.Replaying.{at_some, at_none, if_some}
 use Rattle.newt_check.proofs.Gates.{ended}

@@ -1,5 +1,5 @@
 use Rattle.std.proofs.Common.{arith}
-use Rattle.newt_store_catalog.proofs.Opening.{are-bytes, either-version, the-fault}
+use Rattle.newt_store_catalog.proofs.Opening.{are-bytes, either-version}
 use Rattle.newt_check.proofs.entries.directory_of.Goals as goal
 
 pub read_directory-requires : goal.read_directory-requires

@@ -1,5 +1,5 @@
 use Rattle.std.proofs.Common.{arith}
-use Rattle.newt_store_catalog.proofs.Opening.{are-bytes, the-fault}
+use Rattle.newt_store_catalog.proofs.Opening.{are-bytes}
 use Rattle.newt_check.proofs.entries.record_of.Goals as goal
 
 pub returns-in-Ok-clause-are_bytes : goal.returns-in-Ok-clause-are_bytes

@@ -1,4 +1,4 @@
-use Rattle.std.proofs.Common.{◌≡◌, ℕ, Bool, List, IsTrue, Option, Some, None, MatchOption, Result, sym, ◌∙◌, ap, subst, arith, true, false}
+use Rattle.std.proofs.Common.{◌≡◌, ℕ, Bool, List, Result, sym, ◌∙◌, ap, subst, true, false}
 use Rattle.newt_host.specs.Moments.{image}
 use Rattle.newt_host.proofs.Outside.{NoFault-refl}
 use Rattle.newt_nsof_flat.specs.Stream.{stream_graph}

@@ -1,4 +1,4 @@
-use Rattle.std.proofs.Common.{◌≡◌, ◌+◌, ◌%◌, ◌<◌, ◌≤◌, ◌^◌, ℕ, List, take, get_or, arith, sym, ◌∙◌, ap}
+use Rattle.std.proofs.Common.{◌+◌, arith, ◌∙◌, ap}
 use Rattle.std.proofs.lemmas.List.{take_all}
 use Rattle.newt_check.proofs.Loops.{odds, odds-more, odds-few}
 use Rattle.newt_check.proofs.larges.count_odd.Goals as goal

@@ -1,5 +1,5 @@
-use Rattle.std.proofs.Common.{ℕ, List, arith, sym, ◌∙◌, refl}
-use Rattle.newt_check.specs.Seen.{AreCounts, is_stray_id}
+use Rattle.std.proofs.Common.{arith, sym, ◌∙◌, refl}
+use Rattle.newt_check.specs.Seen.{is_stray_id}
 use Rattle.newt_check.proofs.Loops.{find-here, find-past, find-end}
 use Rattle.newt_check.proofs.larges.first_stray.Goals as goal
 

@@ -1,4 +1,4 @@
-use Rattle.std.proofs.Common.{◌≡◌, ℕ, get_or, take, drop, sym, ◌∙◌, ap, Option}
+use Rattle.std.proofs.Common.{◌≡◌, get_or, take, drop, sym, ◌∙◌, ap}
 use Rattle.newt_host.specs.Moments.{Moment, image}
 use Rattle.newt_spec_image.specs.Records.{chosen, chosen_bank}
 use Rattle.newt_journal.proofs.Opened.{byte_at}

@@ -1,8 +1,8 @@
-use Rattle.std.proofs.Common.{◌≡◌, ◌++◌, ◌∷◌, [], ℕ, List, Option, Some, None, take, get_or, arith, refl, sym, ◌∙◌, ap, subst, cond}
+use Rattle.std.proofs.Common.{◌≡◌, ℕ, List, Option, take, get_or, arith, refl, sym, ◌∙◌, ap}
 use Rattle.std.proofs.lemmas.List.{take_all, take_more}
 use Rattle.newt_objects.specs.declared.header.Header.{Header}
 use Rattle.newt_spec_check.specs.Damage.{least}
-use Rattle.newt_check.specs.Parts.{broken_by, first_of, is_own, kept_first, length_of, passes}
+use Rattle.newt_check.specs.Parts.{broken_by, is_own, kept_first, passes}
 use Rattle.newt_check.proofs.Whole.{broken-more, no-lengths}
 use Rattle.newt_check.proofs.parts.broken_object.Goals as goal
 

@@ -1,4 +1,4 @@
-use Rattle.std.proofs.Common.{◌≡◌, ℕ, take}
+use Rattle.std.proofs.Common.{◌≡◌, take}
 use Rattle.newt_spec_check.specs.Damage.{least}
 use Rattle.newt_check.specs.Parts.{AreLengths, broken_by, kept_first}
 use Rattle.newt_check.proofs.parts.broken_object.Given as goal

@@ -1,4 +1,4 @@
-use Rattle.std.proofs.Common.{◌≡◌, refl, arith, sym, ◌∙◌, ap}
+use Rattle.std.proofs.Common.{refl, arith, sym, ◌∙◌, ap}
 use Rattle.newt_check.specs.Parts.{has_parts, kept_first}
 use Rattle.newt_check.proofs.Whole.{parts-lack, parts-more}
 use Rattle.newt_check.proofs.parts.has_all.Goals as goal

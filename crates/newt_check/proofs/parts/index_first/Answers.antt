@@ -1,4 +1,4 @@
-use Rattle.std.proofs.Common.{◌≡◌, ℕ, List, take, arith, sym, ◌∙◌, ap, subst}
+use Rattle.std.proofs.Common.{◌≡◌, ℕ, List, take, arith, sym, subst}
 use Rattle.std.proofs.lemmas.List.{take_all, take_more}
 use Rattle.newt_objects.specs.declared.header.Header.{Header}
 use Rattle.newt_check.specs.Parts.{first_of, kept_first}

@@ -1,4 +1,4 @@
-use Rattle.std.proofs.Common.{◌≡◌, ℕ, Option, Some, None, sym, ◌∙◌, ap}
+use Rattle.std.proofs.Common.{sym}
 use Rattle.newt_check.specs.Parts.{kept_first}
 use Rattle.newt_check.proofs.Whole.{lengths-more}
 use Rattle.newt_check.proofs.parts.known_length.Goals as goal

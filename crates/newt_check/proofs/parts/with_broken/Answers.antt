@@ -1,4 +1,4 @@
-use Rattle.std.proofs.Common.{◌≡◌, ◌++◌, ◌∷◌, [], ℕ, Bool, if◌then◌else◌, List, Option, Some, None, min, sym, ◌∙◌, ap}
+use Rattle.std.proofs.Common.{◌++◌, ◌∷◌, [], ℕ, Bool, if◌then◌else◌, Option, Some, sym, ◌∙◌, ap}
 use Rattle.newt_spec_check.specs.Damage.{least}
 use Rattle.newt_check.proofs.Whole.{least-first, least-more}
 use Rattle.std.proofs.lemmas.List.{append-nil}

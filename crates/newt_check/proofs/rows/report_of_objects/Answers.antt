@@ -1,27 +1,22 @@
-use Rattle.std.proofs.Common.{◌≡◌, ◌≤◌, ◌*◌, ℕ, List, length, IsTrue, Option, Some, None, MatchOption, IfSome, Result, sym, ◌∙◌, ap, subst}
+use Rattle.std.proofs.Common.{◌≡◌, ◌≤◌, ℕ, List, length, Option, Some, None, MatchOption, Result, sym, ◌∙◌, ap, subst}
 use Rattle.std.specs.FinMap as map
 use Rattle.std.specs.FinSet as set
 use Rattle.newt_host.specs.Moments.{image}
-use Rattle.newt_host.specs.Outside.{Outside}
 use Rattle.newt_host.proofs.Outside.{NoFault-append}
 use Rattle.newt_nsof_flat.specs.Stream.{stream_graph}
-use Rattle.newt_spec_image.specs.Objects.{Objects}
 use Rattle.newt_spec_image.specs.Records.{version}
 use Rattle.newt_objects.specs.Changing.{HoldsObjects}
 use Rattle.newt_objects.specs.Held.{held}
 use Rattle.newt_pagebook.specs.declared.book.Stop.{Stop}
 use Rattle.newt_pagebook.specs.declared.book.Stop.TheVariants.{Memory}
-use Rattle.newt_soupdir.specs.declared.rows.Directory.{Directory}
 use Rattle.newt_soupdir.specs.Bare.{bare_store}
-use Rattle.newt_spec_check.specs.Damage.{bad_entry, directory_in}
-use Rattle.newt_objects_commit.specs.Places.{place_of}
+use Rattle.newt_spec_check.specs.Damage.{bad_entry}
 use Rattle.newt_store_catalog.specs.Calls.{IsDirectory}
 use Rattle.newt_store_catalog.specs.Opening.{OfObjects}
 use Rattle.newt_store_catalog.proofs.Exits.{can-on, no-value, read-after, read-fails, read-memory, reads-on}
 use Rattle.newt_store_catalog.proofs.Opening.{kept-holds, kept-some, kept-there, same-image}
 use Rattle.newt_store_catalog.proofs.OpeningPlaces.{counted}
 use Rattle.newt_check.specs.declared.report.Report.{Report}
-use Rattle.newt_check.specs.Seen.{HasSeen}
 use Rattle.newt_check.proofs.Damages.{at-directory, at-entry}
 use Rattle.newt_check.proofs.Listed.{listed-are}
 use Rattle.newt_check.proofs.Records.{root-is, seen-none}

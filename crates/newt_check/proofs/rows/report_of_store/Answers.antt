@@ -1,6 +1,5 @@
-use Rattle.std.proofs.Common.{◌≡◌, ◌<◌, ◌≤◌, ◌%◌, ◌==◌, ◌^◌, ℕ, List, length, filter, arith, sym, ◌∙◌, ap}
+use Rattle.std.proofs.Common.{length, arith, sym, ◌∙◌, ap}
 use Rattle.std.specs.FinMap as map
-use Rattle.newt_spec_image.specs.Pages.{cap}
 use Rattle.newt_spec_check.specs.Damage.{all_named}
 use Rattle.newt_check.proofs.Stores.{few-soups, odd-few, of-cost, of-large, of-store}
 use Rattle.newt_check.proofs.rows.report_of_store.Goals as goal
