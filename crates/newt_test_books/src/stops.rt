@@ -5,7 +5,7 @@ use crate::sessions::{InMemory, OnDevice, run_over};
 use newt_host::{Host, Unit};
 use newt_memhost::{Crash, MemHost, Pick};
 use newt_script_session::Interpreter;
-use newt_test_scripts::image;
+use newt_test_scripts::{expect_said, image};
 use std::alloc::Global;
 use std::test::Fail;
 
@@ -118,6 +118,14 @@ fn expect_mounts(mounts: u32, wanted: u32) -> Result<(), Fail> {
         return Err(Fail::new(format_args!("{mounts} images were mounted")));
     }
     Ok(())
+}
+
+#[test]
+fn a_check_counts_the_names(rt: HostRuntime) -> Result<(), Fail> {
+    let alloc = rt.alloc();
+    let added = add_run::<OnDevice>(alloc)?;
+    expect_said(alloc, &added.before, b"ok clean 1 200 201\n")?;
+    expect_said(alloc, &added.behind, b"ok clean 1 201 202\n")
 }
 
 #[test]

@@ -1,7 +1,7 @@
 //! A card with a fresh store, some bytes of which are changed.
 
 use newt_host::Unit;
-use newt_test_scripts::{image, run_table, run_table_on};
+use newt_test_scripts::{image, is_clean, run_table, run_table_on};
 use newt_test_tables::bytes_of;
 use std::alloc::Global;
 use std::test::Fail;
@@ -54,7 +54,7 @@ fn changed(alloc: Global, image: &[u8], changes: &str) -> Result<Vec<u8>, Fail> 
 }
 
 /// A run over a card of these bytes gives the replies of a table, whose lines have ` / ` between
-/// them.
+/// them. It is mounted exactly where the mode `check` finds nothing damaged.
 pub(crate) fn expect_opened(alloc: Global, card: &[u8], lines: &str) -> Result<(), Fail> {
     let mut table = String::new(alloc);
     for line in lines.split(" / ") {
@@ -62,6 +62,9 @@ pub(crate) fn expect_opened(alloc: Global, card: &[u8], lines: &str) -> Result<(
         table.push('\n')?;
     }
     run_table_on(alloc, "run a", &table, card, b"")?;
+    if is_clean(alloc, card)? != lines.starts_with("mount 0 => ok") {
+        return Err(Fail::new("what is mounted is damaged, or what is clean is not mounted"));
+    }
     Ok(())
 }
 

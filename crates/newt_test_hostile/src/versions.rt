@@ -1,6 +1,7 @@
 //! Cards of either version, whose directories are made by hand.
 
 use crate::cards::{expect_opened, patch};
+use newt_test_scripts::expect_said;
 use newt_test_tables::bytes_of;
 use std::alloc::Global;
 use std::test::Fail;
@@ -166,6 +167,16 @@ fn a_directory_has_as_many_soups_as_its_version_allows(rt: HostRuntime) -> Resul
     expect_soups(alloc, NOW, 250, full)?;
     expect_soups(alloc, BEFORE, 250, "mount 0 => error 22 nostore")?;
     expect_soups(alloc, NOW, 251, "mount 0 => error 22 nostore")
+}
+
+/// A unit of 13 blocks takes 38 pages.
+#[test]
+fn a_directory_costs_what_its_unit_takes(rt: HostRuntime) -> Result<(), Fail> {
+    let alloc = rt.alloc();
+    let most = card_of(alloc, 13, NOW, &directory_of(alloc, 175, 16)?)?;
+    expect_said(alloc, &most, b"ok clean 175 0 38\n")?;
+    let more = card_of(alloc, 13, NOW, &directory_of(alloc, 176, 16)?)?;
+    expect_said(alloc, &more, b"ok damaged cost 39\n")
 }
 
 /// Appends a line that tells all soups, or all indexes of the last, with its reply.

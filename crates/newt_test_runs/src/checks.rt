@@ -1,8 +1,13 @@
 //! What is said of the image of a device, with the places of damage that were written by hand.
+ghost use Rattle.std.specs.Prelude.{IsSome, IsTrue};
+ghost use Rattle.newt_memhost.specs.Outside.{outside_of};
 
 use crate::trial::expect_reading_halts;
-use newt_host::Unit;
-use newt_test_scripts::{blocks, expect_end, image, over, run_table};
+use newt_host::{Host, Unit};
+use newt_memhost::{Crash, MemHost, Pick};
+use newt_test_scripts::{
+    blocks, expect_end, expect_said, image, over, run_on, run_table, run_table_on,
+};
 use newt_top::Status;
 use std::alloc::Global;
 use std::test::Fail;
@@ -11,16 +16,6 @@ use std::test::Fail;
 fn card_of(alloc: Global, table: &str) -> Result<Vec<u8>, Fail> {
     let host = run_table(alloc, "run a", table)?;
     image(alloc, &host, Unit(0))
-}
-
-/// Looks for what is said of the device `a` of these bytes, which stay.
-fn expect_said(alloc: Global, bytes: &[u8], output: &[u8]) -> Result<(), Fail> {
-    let mut host = over(alloc, b"", bytes, &[])?;
-    expect_end(alloc, "check a", &mut host, Status::Ok, output)?;
-    if image(alloc, &host, Unit(0))?.as_slice() != bytes {
-        return Err(Fail::new("the device is changed"));
-    }
-    Ok(())
 }
 
 const FORMAT: &str = "format 0 Internal 7 => ok";
@@ -61,20 +56,87 @@ const DAMAGES: &[(usize, &[u8], &[u8])] = &[
     (12317, b"\0\0\0\x01", b"ok damaged directory 0\n"),
 ];
 
+/// Each of these changes, alone, is said to be that damage.
+fn expect_damages(
+    alloc: Global,
+    card: &[u8],
+    damages: &[(usize, &[u8], &[u8])],
+) -> Result<(), Fail> {
+    for (at, new, output) in damages {
+        let mut bytes = card.to_vec(alloc)?;
+        patch(&mut bytes, *at, new)?;
+        expect_said(alloc, &bytes, output)?;
+    }
+    Ok(())
+}
+
+/// Three votes that choose no bank.
+const NO_BANK: &[[u8; 3]] = &[[0xFF, 1, 0], [0xFF, 0, 1], [0xFF, 0xFF, 0xFF], [2, 2, 2]];
+
 #[test]
 fn names_the_first_damage(rt: HostRuntime) -> Result<(), Fail> {
     let alloc = rt.alloc();
     let fresh = card_of(alloc, FORMAT)?;
-    for (at, new, output) in DAMAGES {
+    expect_damages(alloc, &fresh, DAMAGES)?;
+    for [first, second, third] in NO_BANK {
         let mut bytes = fresh.to_vec(alloc)?;
-        patch(&mut bytes, *at, new)?;
-        expect_said(alloc, &bytes, output)?;
+        patch(&mut bytes, 0, &[*first])?;
+        patch(&mut bytes, 4096, &[*second])?;
+        patch(&mut bytes, 8192, &[*third])?;
+        expect_said(alloc, &bytes, b"ok damaged votes 0\n")?;
     }
-    let mut bytes = fresh.to_vec(alloc)?;
-    patch(&mut bytes, 0, b"\xFF")?;
-    patch(&mut bytes, 4096, b"\x01")?;
-    patch(&mut bytes, 8192, b"\0")?;
-    expect_said(alloc, &bytes, b"ok damaged votes 0\n")
+    Ok(())
+}
+
+/// A soup with two entries, of which the first has two large binaries. Its records begin at the
+/// bytes 12,304, 12,829, 13,358 and 15,435; the pages that are live at 15,444 (the directory),
+/// 13,883 and 15,960 (the entries), 14,399 and 14,915 (the large binaries).
+const LARGES: &str = "
+format 0 Internal 7 => ok
+mount 0 => ok 7 Internal
+soup 0 S => ok 0
+add 0 S {v: <<w:0102>>, u: <<w:0304>>} => ok 0
+add 0 S {b: 2} => ok 1
+";
+
+/// Where its bytes are changed: another name and another number in the header; a gate whose record
+/// leaves the bank by a byte, one that nothing stands behind; payloads that do not end where they
+/// say; a part that is too high, one that is missing, one that stands twice; a directory that is
+/// missing, cut short, without a name; a record of another soup, of an id that is not given, of one
+/// that is named before, of another version, with a large binary of another length; a large binary
+/// that is not named, and one that is named twice.
+const LARGE_DAMAGES: &[(usize, &[u8], &[u8])] = &[
+    (12288, b"M", b"ok damaged header 12288\n"),
+    (12294, b"\x01", b"ok damaged header 12288\n"),
+    (12303, b"\x01", b"ok damaged header 12288\n"),
+    (12305, b"\0\0\x4F\xEC", b"ok damaged record 12304\n"),
+    (12830, b"\0\0\x4D\xDF", b"ok damaged record 12829\n"),
+    (16480, b"\0", b"ok damaged record 16480\n"),
+    (12311, b"\0\x01", b"ok damaged payload 12304\n"),
+    (13363, b"\0\x03", b"ok damaged payload 13358\n"),
+    (15440, b"\0\x03", b"ok damaged payload 15435\n"),
+    (15968, b"\0\0\0\x01", b"ok damaged object 3\n"),
+    (13895, b"\0\0\x01\xF5", b"ok damaged object 1\n"),
+    (14403, b"\0\0\0\x01", b"ok damaged object 1\n"),
+    (15448, b"\0\0\0\x08", b"ok damaged directory 0\n"),
+    (15456, b"\0\0\0\x19", b"ok damaged directory 0\n"),
+    (15460, b"\0", b"ok damaged directory 0\n"),
+    (15976, b"\0\x05", b"ok damaged entry 3\n"),
+    (15980, b"\0\0\0\x02", b"ok damaged entry 3\n"),
+    (15980, b"\0\0\0\0", b"ok damaged entry 3\n"),
+    (15988, b"\x03", b"ok damaged entry 3\n"),
+    (13981, b"\0\0\0\x03", b"ok damaged entry 1\n"),
+    (15964, b"\0\0\0\x08", b"ok damaged large 8\n"),
+    (13977, b"\0\0\0\x02", b"ok damaged large 2\n"),
+    (13965, b"\0\0\0\x04", b"ok damaged large 2\n"),
+];
+
+#[test]
+fn names_the_first_damage_among_entries(rt: HostRuntime) -> Result<(), Fail> {
+    let alloc = rt.alloc();
+    let card = card_of(alloc, LARGES)?;
+    expect_said(alloc, &card, b"ok clean 1 2 5\n")?;
+    expect_damages(alloc, &card, LARGE_DAMAGES)
 }
 
 #[test]
@@ -96,4 +158,48 @@ fn says_why_nothing_is_looked_through(rt: HostRuntime) -> Result<(), Fail> {
 fn halts_at_each_call_that_fails(rt: HostRuntime) -> Result<(), Fail> {
     let alloc = rt.alloc();
     expect_reading_halts(alloc, "check a", &card_of(alloc, TWO_ENTRIES)?)
+}
+
+/// Whether the unit 0 has a device.
+fn has_device(host: &MemHost) -> bool
+    ensures { IsTrue result → IsSome ((outside_of host.now).card 0) }
+{
+    host.blocks(Unit(0)) > 0
+}
+
+fn is_one_of(said: &[u8], before: &[u8], after: &[u8]) -> bool {
+    said == before || said == after
+}
+
+/// The image is clean, with two entries or with three.
+fn expect_clean(alloc: Global, bytes: &[u8]) -> Result<(), Fail> {
+    let mut host = over(alloc, b"", bytes, &[])?;
+    let status = run_on(alloc, "check a", &mut host)?;
+    let is_clean = is_one_of(host.output(), b"ok clean 1 2 3\n", b"ok clean 1 3 4\n");
+    if status != Status::Ok || !is_clean {
+        return Err(Fail::new("damaged by a stop"));
+    }
+    Ok(())
+}
+
+const THIRD: &str = "
+mount 0 => ok 7 Internal
+add 0 S {c: 3} => ok 2
+";
+
+#[test]
+fn is_clean_wherever_an_add_is_cut(rt: HostRuntime) -> Result<(), Fail> {
+    let alloc = rt.alloc();
+    let card = card_of(alloc, TWO_ENTRIES)?;
+    let host = run_table_on(alloc, "run a", THIRD, &card, &[])?;
+    if !has_device(&host) {
+        return Err(Fail::new("no device"));
+    }
+    for call in 0..host.calls() {
+        for pick in [Pick::Old, Pick::New, Pick::Half, Pick::Fill(0)] {
+            let Crash { image, .. } = host.images(Unit(0), call, pick)?;
+            expect_clean(alloc, &image)?;
+        }
+    }
+    Ok(())
 }

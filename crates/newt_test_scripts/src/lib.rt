@@ -16,6 +16,8 @@ pub use crashes::{
 };
 pub use halts::{expect_halts, expect_statuses};
 pub use hosts::{blocks, host, over, over_blank, over_blocks};
-pub use runs::{expect, expect_end, expect_over, image, run_on, run_table, run_table_on};
+pub use runs::{
+    expect, expect_end, expect_over, expect_said, image, is_clean, run_on, run_table, run_table_on,
+};
 pub use tables::{expanded, lines_of};
 pub use thrown::{calls_behind, expect_thrown, run_failing};

@@ -104,6 +104,25 @@ pub fn expect_over(alloc: Global, text: &str, table: &str, count: u32) -> Result
     expect_end(alloc, text, &mut host, Status::Ok, &output)
 }
 
+/// Whether the mode `check` finds nothing damaged on a device of these bytes.
+pub fn is_clean(alloc: Global, bytes: &[u8]) -> Result<bool, Fail> {
+    let mut host = over(alloc, b"", bytes, &[])?;
+    if run_on(alloc, "check a", &mut host)? != Status::Ok {
+        return Err(Fail::new("a check does not end well"));
+    }
+    Ok(host.output().starts_with(b"ok clean "))
+}
+
+/// Looks for what is said of a device of these bytes, which stay.
+pub fn expect_said(alloc: Global, bytes: &[u8], output: &[u8]) -> Result<(), Fail> {
+    let mut host = over(alloc, b"", bytes, &[])?;
+    expect_end(alloc, "check a", &mut host, Status::Ok, output)?;
+    if image(alloc, &host, Unit(0))?.as_slice() != bytes {
+        return Err(Fail::new("the device is changed"));
+    }
+    Ok(())
+}
+
 /// Whether the unit has a device.
 pub(crate) fn has_device(host: &MemHost, unit: Unit) -> bool
     ensures { IsTrue result → IsSome ((outside_of host.now).card unit) }
