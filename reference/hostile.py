@@ -6,6 +6,7 @@ FIRST is the first seed, 0 if left out, and COUNT how many cases there are. PART
 
 images   images that the program wrote or that are made at random, four in a run, with damage above which all checks are
          right, or with plain damage: the answer of `mount`, all of the store that is found, and what becomes of it
+checks   such images, one in a run: what `check` says of each, and that it stays
 texts    streams and literals bent at one to three places, 2,000 in a run, as lines `nsof HEX` and `lit LIT`
 inputs   the same as the whole input of `show` and `pack`, one in a run
 scripts  scripts of bytes, and scripts with bent lines, over files
@@ -13,7 +14,7 @@ depths   the deepest nests: the stack that each reader and writer needs for them
 larges   the largest inputs and images: time and memory
 names    COUNT symbols whose hashes collide, COUNT other ones, and the time for both
 
-The first four compare each reply, and each store that is left, with the reference. Each run has at most 60 seconds of a
+The first five compare each reply, and each store that is left, with the reference. Each run has at most 60 seconds of a
 processor and 1 GiB of memory, and the most that one took is printed at the end. It ends with 1 at the first difference.
 It needs a C compiler, cc, for the library that tells the memory (torn.c).
 """
@@ -28,6 +29,7 @@ from pathlib import Path
 from random import Random
 from typing import Callable, NamedTuple, Optional
 
+from check import report
 from commands import answer, run
 from damage import TELLING_BYTES, TELLING_TEXT, bent, hostile_image, struck_anywhere
 from extremes import CASES, DEPTHS, inputs_of_names, other_names
@@ -201,6 +203,21 @@ def compare_images(bench: Bench, seed: int) -> None:
     bench.leaves(units, files)
 
 
+def compare_checks(bench: Bench, seed: int) -> None:
+    random = Random(seed)
+    units = [Unit(random.choice(BLOCKS)) for _ in range(4)]
+    for image in damaged_images(random, units, written_images(bench, random, units)):
+        wanted = report(image)
+        [file] = bench.files([image])
+        found = bench.output(["check", file], b"").decode()
+        bench.counts["images"] += 1
+        bench.counts[" ".join(wanted.split()[1:3] if "damaged" in wanted else ["clean"])] += 1
+        if found != f"{wanted}\n":
+            raise Differs(f"\n  program:   {found}  reference: {wanted}")
+        if file.read_bytes() != image:
+            raise Differs("an image that is checked is changed")
+
+
 # Streams and literals.
 
 
@@ -349,6 +366,7 @@ def colliding_names(bench: Bench, count: int) -> list[bytes]:
 
 PARTS: dict[str, Callable] = {
     "images": compare_images,
+    "checks": compare_checks,
     "texts": compare_texts,
     "inputs": compare_inputs,
     "scripts": compare_script,
