@@ -9,9 +9,10 @@ ghost use Rattle.newt_spec_graph.specs.Lists.{Each};
 ghost use Rattle.newt_spec_store.specs.Cost.{large_length, entry_pages, skeleton_length};
 ghost use Rattle.newt_spec_store.specs.Valid.{valid_entry, well_formed};
 ghost use Rattle.newt_backup.specs.Checks.{behind, are_of};
-ghost use Rattle.newt_backup.specs.Contents.{told, as_entry, AreKept, IsNoStore, IsSound};
+ghost use Rattle.newt_backup.specs.Contents.{AreKept, IsNoStore, IsSound};
+ghost use Rattle.newt_entries.specs.Full.{told, as_entry};
 
-use crate::entry::FullEntry;
+use newt_entries::FullEntry;
 use newt_entries::MOST_TEXT;
 use newt_graph::{Graph, Node};
 use newt_nsof_flat::is_frame;

@@ -15,7 +15,6 @@
 
 mod checks;
 mod cutting;
-mod entry;
 mod fault;
 mod laws;
 mod nodes;
@@ -23,7 +22,7 @@ mod pack;
 mod read;
 
 pub use checks::is_store;
-pub use entry::FullEntry;
+pub use newt_entries::FullEntry;
 pub use fault::BackupFault;
 pub use laws::{backups_are_graphs, backups_are_of_one_store};
 pub use pack::pack_backup;
