@@ -94,7 +94,8 @@ unfolding total
 told-total [] = refl
 told-total (e ∷ es) = ap (λ n. entry_pages (as_entry e) + n) (told-total es) ∙ sym (sum_by-cons (λ (e : FullEntry). entry_pages (as_entry e)) e es)
 
-cost-is : (d : Directory) (es : List FullEntry) → left_over (bare_store d).soups (map told es) ≡ []
+-- what the store costs
+pub cost-is : (d : Directory) (es : List FullEntry) → left_over (bare_store d).soups (map told es) ≡ []
     → cost (store_in d es) ≡ pages_for (length (directory_bytes (bare_store d))) + sum_by (λ (e : FullEntry). entry_pages (as_entry e)) es
 cost-is d es h =
     ap (λ b. pages_for (length b) + sum_by soup_pages (store_in d es).soups) (directory-same (bare_store d) (map told es))
