@@ -1,17 +1,19 @@
 -- A store that is written to a unit whole: the ids of its objects, and that it lies in them.
-use Rattle.std.proofs.Common.{◌≡◌, ◌≢◌, ◌⊎◌, inl, inr, refl, sym, ◌∙◌, ap, subst, arith, Bool, true, ◌&&◌, ◌==◌, ℕ, zero, suc, ◌+◌, ◌%◌, ◌<◌, ◌≤◌, List, [], ◌∷◌, ◌++◌, length, map as map_list, flat_map, sum_by, Option, Some, None, IfSome, option_map}
+use Rattle.std.proofs.Common.{◌≡◌, ◌≢◌, ◌⊎◌, inl, inr, refl, sym, ◌∙◌, ap, subst, arith, Bool, true, ◌&&◌, ◌==◌, ℕ, zero, suc, ◌+◌, ◌-◌, ◌%◌, ◌<◌, ◌≤◌, All, List, [], ◌∷◌, ◌++◌, length, append-nil, take, drop, get_or, append_assoc, map as map_list, flat_map, sum_by, Option, Some, None, IfSome, option_map}
 use Rattle.std.specs.FinMap as map
 use Rattle.std.specs.List.{find}
 use Rattle.std.specs.Ordering.{nat_cmp}
 use Rattle.std.proofs.lemmas.Bool.{and_parts, eqb-true, eq-eqb}
-use Rattle.std.proofs.lemmas.List.{map-append}
+use Rattle.std.proofs.lemmas.List.{map-append, take_all}
+use Rattle.std.proofs.lemmas.List.Elements.{All-nil, All-cons}
 use Rattle.std.proofs.lemmas.List.Sums.{sum_by-append, sum_by-cons}
 use Rattle.newt_graph.specs.Graph.{RawGraph, IsGraph}
 use Rattle.newt_spec_image.specs.Pages.{Pages, Change}
-use Rattle.newt_spec_image.specs.Objects.{Objects, pages_for}
+use Rattle.newt_spec_image.specs.Objects.{Extent, Objects, pages_for}
+use Rattle.newt_spec_image.specs.Records.{version}
 use Rattle.newt_spec_nsof.specs.Lengths.{skeleton}
 use Rattle.newt_spec_graph.specs.Lists.{Among, Each, Pairs, rises}
-use Rattle.newt_spec_graph.proofs.Lists.{among-append, among-left, among-right, each-at, each-from, each-list_all, none-some, some-same, pairs-append, pairs-flat_map, pairs-map, pairs-more, rises-pairs}
+use Rattle.newt_spec_graph.proofs.Lists.{among-append, among-left, among-right, each-at, each-from, each-list_all, none-some, some-same, pairs-append, pairs-flat_map, pairs-map, pairs-more, rises-above, rises-pairs}
 use Rattle.newt_spec_store.specs.Cost.{cost, directory_bytes, directory_pages, entry_pages, soup_pages}
 use Rattle.newt_spec_store.specs.Image.{all_entries, entry_bytes}
 use Rattle.newt_spec_store.specs.Laid.{ApartIds}
@@ -20,25 +22,35 @@ use Rattle.newt_spec_store.specs.Store.{Entry, Soup, Store}
 use Rattle.newt_spec_store.specs.Valid.{fits, valid, valid_soup, well_formed}
 use Rattle.newt_laws_images.proofs.Assembled.{among-map, map-among}
 use Rattle.newt_laws_images.proofs.Chosen.{OnePasses, find-one, find-passes}
+use Rattle.newt_laws_images.proofs.Gathering.{image-by-objects}
+use Rattle.newt_laws_images.proofs.Known.{bare-good}
 use Rattle.newt_laws_images.proofs.Placed.{all-in, in-all, pairs-map-from, soups-rise}
 use Rattle.newt_laws_images.proofs.Skeletons.{skeleton-graph}
 use Rattle.newt_laws_images.proofs.Stores.{is-soup, is-store}
+use Rattle.newt_laws_images.proofs.Whole.{lies-read}
 use Rattle.newt_laws_changes.proofs.Lying.{among-or-not}
 use Rattle.newt_laws_changes.proofs.Members.{same-or-not}
 use Rattle.newt_laws_changes.proofs.Places.{odd-is-not}
-use Rattle.newt_objects.specs.Held.{Held}
-use Rattle.newt_objects.specs.Changing.{IsUnderWay}
+use Rattle.newt_nsof_flat.specs.Stream.{stream_graph}
+use Rattle.newt_nsof_flat.proofs.Streams.{reads_graphs}
+use Rattle.newt_pagebook.specs.Batch.{no_change}
+use Rattle.newt_objects.specs.Extents.{numbers_of}
+use Rattle.newt_objects.specs.Held.{Held, held}
+use Rattle.newt_objects.specs.Changing.{HoldsObjects}
 use Rattle.newt_soupdir.specs.Bare.{bare_store}
 use Rattle.newt_soupdir.specs.declared.rows.Directory.{Directory}
 use Rattle.newt_entries.specs.Full.{as_entry, told}
 use Rattle.newt_entries.specs.declared.full.FullEntry.{FullEntry}
-use Rattle.newt_objects_commit.specs.Batch.{AddsPages, AreApart, HasEntries, HasIds, HasPut, large_ids, new_pages}
+use Rattle.newt_objects_commit.specs.Batch.{AddsPages, AreApart, HasEntries, HasIds, HasPut, LeavesUnplanned, all_pages_held, large_ids, new_pages, over_pages, pages_held}
 use Rattle.newt_objects_commit.specs.declared.batch.NewEntry.{NewEntry}
 use Rattle.newt_objects_commit.specs.declared.batch.NewLarge.{NewLarge}
-use Rattle.newt_objects_commit.proofs.Planning.{adds-also, adds-as, entries-first, entries-more}
-use Rattle.newt_store.specs.Fill.{AreFreeFrom, AreNew, AreNextIds, AreStore, IsNewOf, IsNumbered, PlansEntries, PlansOneEntry}
+use Rattle.newt_objects_commit.proofs.Planning.{adds-also, adds-as, entries-first, entries-more, odd_even}
+use Rattle.newt_store.specs.Fill.{AreFreeFrom, AreNew, AreNextIds, AreStore, IsNewOf, IsNumbered, PlansEntries, PlansOneEntry, entry_name, new_name}
 use Rattle.newt_store.specs.Next.{IsEntryOf}
+use Rattle.newt_spec_store.specs.OfImage.{blocks_of}
+use Rattle.newt_spec_store.specs.ImageStore.{store_of_image}
 use Rattle.newt_store.proofs.Ids.{are-larges, entry-pages}
+use Rattle.newt_store.proofs.Reading.{keeps-all}
 use Rattle.newt_store.proofs.Turning.{bytes-of}
 
 among-one : {X : Type 0} (x z : X) → Among (x ∷ []) z → x ≡ z
@@ -82,12 +94,6 @@ next-larges-more first last done l so is below = subst (AreNextIds first l.id) (
 
 -- ---- entries, one after another
 
-abbrev name-of : NewEntry → ℕ × ℕ
-name-of n = (n.sig, n.uid)
-
-abbrev name-in : ℕ × Entry → ℕ × ℕ
-name-in x = (x.0, x.1.uid)
-
 abbrev pages-new : NewEntry → ℕ
 pages-new n = new_pages (Some n)
 
@@ -117,7 +123,7 @@ one-apart es e ns n id last next so is a m = record {
 pub new-more : (es : List FullEntry) (e : FullEntry) (ns : List NewEntry) (n : NewEntry) (id last next : ℕ) → AreNew es id last ns → IsNumbered e id last next n
     → AreNew (es ++ e ∷ []) (id + 2) next (ns ++ n ∷ [])
 new-more es e ns n id last next so is = record {
-  names = map-append name-of ns (n ∷ []) ∙ (λ i. so.names i ++ (is.of_entry.of_sig i, is.of_entry.of_uid i) ∷ []) ∙ sym told-names;
+  names = map-append new_name ns (n ∷ []) ∙ (λ i. so.names i ++ (is.of_entry.of_sig i, is.of_entry.of_uid i) ∷ []) ∙ sym told-names;
   of_entries = λ x m. elim (among-append ns (n ∷ []) x m) [
     | inl before ↦ (let w = so.of_entries x before in (w.0, among-left es (e ∷ []) w.0 w.1, w.2))
     | inr last ↦ (e, among-right es (e ∷ []) e (inl refl), subst (λ (y : NewEntry). IsNewOf e y) (among-one n x last) is.of_entry)
@@ -138,8 +144,8 @@ new-more es e ns n id last next so is = record {
   pages = sum_by-append pages-new ns (n ∷ []) ∙ (λ i. so.pages i + one i) ∙ sym (sum_by-append pages-full es (e ∷ []));
 }
   where
-    told-names : map_list name-in (map_list told (es ++ e ∷ [])) ≡ map_list name-in (map_list told es) ++ (e.soup, e.uid) ∷ []
-    told-names = ap (map_list name-in) (map-append told es (e ∷ [])) ∙ map-append name-in (map_list told es) (told e ∷ [])
+    told-names : map_list entry_name (map_list told (es ++ e ∷ [])) ≡ map_list entry_name (map_list told es) ++ (e.soup, e.uid) ∷ []
+    told-names = ap (map_list entry_name) (map-append told es (e ∷ [])) ∙ map-append entry_name (map_list told es) (told e ∷ [])
 
     its-low : n.id < id + 2
     its-low = let at = is.id_is in omega (arith, at)
@@ -148,6 +154,57 @@ new-more es e ns n id last next so is = record {
     one = sum-one pages-new n ∙ entry-pages e.soup e.uid e.time e.graph n is.of_entry ∙ sym (sum-one pages-full e)
 
 -- ---- plans
+
+-- objects that are not there have no pages
+none-held : (objects : Held) → ((o : ℕ) → held objects o ≡ None) → (ids : List ℕ) → all_pages_held objects ids ≡ 0
+none-held objects none [] = refl
+none-held objects none (id ∷ ids) = sum_by-cons (pages_held objects) id ids ∙ (λ i. length (numbers_of (none id i)) + none-held objects none ids i)
+
+pub none-over : (objects : Held) (n : NewEntry) → ((o : ℕ) → held objects o ≡ None) → over_pages objects (Some n) ≡ 0
+none-over objects n none = λ i. length (numbers_of (none n.id i)) + none-held objects none (large_ids n) i
+
+-- the ids behind those of the entry stay free
+pub new-free : (e : FullEntry) (id last next : ℕ) (n : NewEntry) (old new : Held) → IsNumbered e id last next n → AreFreeFrom id last old
+    → LeavesUnplanned (λ other. (x : NewEntry) → Some n ≡ Some x → (other ≢ x.id) × (Among (large_ids x) other → ⊥)) old new → AreFreeFrom (id + 2) next new
+new-free e id last next n old new is free leaves = (
+  λ o odd low. leaves o (λ x same. subst (λ (y : NewEntry). (o ≢ y.id) × (Among (large_ids y) o → ⊥)) (some-same n x same) (
+    λ at. (let here = is.id_is in absurd (omega (arith, low, at, here))),
+    λ large. odd_even o odd (is.of_entry.ids.even o large).0,
+  )) (free.0 o odd (omega (arith, low))),
+  λ o even high. leaves o (λ x same. subst (λ (y : NewEntry). (o ≢ y.id) × (Among (large_ids y) o → ⊥)) (some-same n x same) (
+    λ at. odd_even o (subst (λ (k : ℕ). k % 2 ≡ 1) (sym at) is.of_entry.ids.odd) even,
+    λ large. (let low = is.most o large in absurd (omega (arith, low, high))),
+  )) (free.1 o even (let more = is.no_less in omega (arith, more, high))),
+)
+
+-- what is left behind the first
+pub opened : {X : Type 0} (x : X) (left : List X) → 1 ≤ length left → x ≡ get_or left 0 x → left ≡ x ∷ take (length left - 1) (drop 1 left)
+opened x [] some is = absurd (omega (arith, some))
+opened x (y ∷ ys) some is = ap (λ z. z ∷ ys) (sym is) ∙ ap (λ l. x ∷ l) (sym (take_all (suc (length ys) - 1) ys (less (length ys))))
+  where
+    less : (n : ℕ) → n ≤ suc n - 1
+    less n = omega arith
+
+pub moved-on : {X : Type 0} (all done left : List X) (x : X) → all ≡ done ++ left → 1 ≤ length left → x ≡ get_or left 0 x → all ≡ (done ++ x ∷ []) ++ take (length left - 1) (drop 1 left)
+moved-on all done left x is some first = is ∙ ap (λ l. done ++ l) (opened x left some first) ∙ sym (append_assoc done (x ∷ []) (take (length left - 1) (drop 1 left)))
+
+pub all-done : {X : Type 0} (all done left : List X) → all ≡ done ++ left → length left < 1 → done ≡ all
+all-done all done [] is none = sym (is ∙ append-nil done)
+all-done all done (x ∷ left) is none = absurd (omega (arith, none))
+
+-- so many pages in all
+pub filled-pages : (first mid last : Change) (p q n : ℕ) → first ≡ no_change → n ≡ 0 → AddsPages p n first mid → AddsPages q 0 mid last → (length last.puts ≡ p + q) × (length last.deletes ≡ 0)
+filled-pages first mid last p q n none no a b =
+    let puts : length first.puts ≡ 0 = ap (λ (c : Change). length c.puts) none in
+    let deletes : length first.deletes ≡ 0 = ap (λ (c : Change). length c.deletes) none in
+    let all = adds-also _ _ _ _ _ _ _ a b in
+    let one = all.more_puts in
+    let two = all.more_deletes in
+    (omega (arith, puts, one), omega (arith, deletes, two, no))
+
+pub nil-of : (xs : List ℕ) → length xs ≡ 0 → xs ≡ []
+nil-of [] none = refl
+nil-of (x ∷ xs) none = absurd (omega (arith, none))
 
 pub plans-first : (start : Held) (first : Change) → AreFreeFrom 1 0 start → PlansEntries [] 1 0 start first start first
 plans-first start first free = record {
@@ -219,7 +276,7 @@ some-has (x ∷ ns) o = go (has-or-not x o) (some-has ns o)
     go (inr h) (inr k) = inr (λ n m. elim m [ inl e ↦ subst (λ (y : NewEntry). (y.id ≢ o) × (Among (large_ids y) o → ⊥)) e h | inr m ↦ k n m ])
 
 -- what the record names, if there is one
-abbrev names-if : Option NewEntry → List ℕ
+abbrev pub names-if : Option NewEntry → List ℕ
 names-if None = []
 names-if (Some n) = large_ids n
 
@@ -247,14 +304,11 @@ module _ (blocks : ℕ) (s : Store) (d : Directory) (es : List FullEntry) (is : 
 
   -- ---- names and ids that find them
 
-  ApartNames : ℕ × ℕ → ℕ × ℕ → Type 0
-  ApartNames a b = a.0 ≡ b.0 → a.1 ≡ b.1 → ⊥
-
   names-apart : Pairs (λ (a b : NewEntry). a.sig ≡ b.sig → a.uid ≡ b.uid → ⊥) ns
-  names-apart = pairs-map (λ (a b : ℕ × ℕ). a.0 ≡ b.0 → a.1 ≡ b.1 → ⊥) name-of ns (subst (λ (l : List (ℕ × ℕ)). Pairs (λ (a b : ℕ × ℕ). a.0 ≡ b.0 → a.1 ≡ b.1 → ⊥) l) (sym are.names)
-      (pairs-map-from (λ (a b : ℕ × ℕ). a.0 ≡ b.0 → a.1 ≡ b.1 → ⊥) name-in (map_list told es) (subst (λ (l : List (ℕ × Entry)). Pairs ApartIds l) is.entries (entries-apart s formed))))
+  names-apart = pairs-map (λ (a b : ℕ × ℕ). a.0 ≡ b.0 → a.1 ≡ b.1 → ⊥) new_name ns (subst (λ (l : List (ℕ × ℕ)). Pairs (λ (a b : ℕ × ℕ). a.0 ≡ b.0 → a.1 ≡ b.1 → ⊥) l) (sym are.names)
+      (pairs-map-from (λ (a b : ℕ × ℕ). a.0 ≡ b.0 → a.1 ≡ b.1 → ⊥) entry_name (map_list told es) (subst (λ (l : List (ℕ × Entry)). Pairs ApartIds l) is.entries (entries-apart s formed))))
 
-  is-its : ℕ → ℕ → NewEntry → Bool
+  abbrev pub is-its : ℕ → ℕ → NewEntry → Bool
   is-its sig uid n = (n.sig == sig) && (n.uid == uid)
 
   its-names : (sig uid : ℕ) (n : NewEntry) → is-its sig uid n ≡ true → (n.sig ≡ sig) × (n.uid ≡ uid)
@@ -266,7 +320,7 @@ module _ (blocks : ℕ) (s : Store) (d : Directory) (es : List FullEntry) (is : 
       both : (a b : Bool) → a ≡ true → b ≡ true → (a && b) ≡ true
       both a b h k = grind (arith, h, k)
 
-  place : Places
+  abbrev pub place : Places
   place sig uid = option_map (λ (n : NewEntry). n.id) (find (is-its sig uid) ns)
 
   placed : (n : NewEntry) → Among ns n → place n.sig n.uid ≡ Some n.id
@@ -276,7 +330,7 @@ module _ (blocks : ℕ) (s : Store) (d : Directory) (es : List FullEntry) (is : 
   placed-of : (n : NewEntry) → Among ns n → (sig uid : ℕ) → n.sig ≡ sig → n.uid ≡ uid → place sig uid ≡ Some n.id
   placed-of n m sig uid a b = ap (λ v. place v uid) (sym a) ∙ ap (place n.sig) (sym b) ∙ placed n m
 
-  named : ℕ → List ℕ
+  abbrev pub named : ℕ → List ℕ
   named r = names-if (find (λ (n : NewEntry). n.id == r) ns)
 
   named-is : (n : NewEntry) → Among ns n → named n.id ≡ large_ids n
@@ -302,15 +356,12 @@ module _ (blocks : ℕ) (s : Store) (d : Directory) (es : List FullEntry) (is : 
   entry-place n m = let w = are.of_entries n m in (w.0.soup, as_entry w.0, in-store w.0 w.1, placed-of n m w.0.soup w.0.uid w.2.of_sig w.2.of_uid)
 
   named-once : (r other o : ℕ) → Among (named r) o → Among (named other) o → r ≡ other
-  named-once r other o m n = go (pairs-two AreApart ns a.0 b.0 are.apart a.1 b.1)
+  named-once r other o m n = let a = named-from r o m in let b = named-from other o n in go a.0 b.0 a.2 b.2 a.3 b.3 (pairs-two AreApart ns a.0 b.0 are.apart a.1 b.1)
     where
-      a = named-from r o m
-      b = named-from other o n
-
-      go : (a.0 ≡ b.0) ⊎ (AreApart a.0 b.0 ⊎ AreApart b.0 a.0) → r ≡ other
-      go (inl e) = sym a.2 ∙ ap (λ (x : NewEntry). x.id) e ∙ b.2
-      go (inr (inl apart)) = absurd (apart.larges_apart o a.3 b.3)
-      go (inr (inr apart)) = absurd (apart.larges_apart o b.3 a.3)
+      go : (a b : NewEntry) → a.id ≡ r → b.id ≡ other → Among (large_ids a) o → Among (large_ids b) o → (a ≡ b) ⊎ (AreApart a b ⊎ AreApart b a) → r ≡ other
+      go a b p q m n (inl e) = sym p ∙ ap (λ (x : NewEntry). x.id) e ∙ q
+      go a b p q m n (inr (inl apart)) = absurd (apart.larges_apart o m n)
+      go a b p q m n (inr (inr apart)) = absurd (apart.larges_apart o n m)
 
   pub filled-lies : LiesIn texts place s
   filled-lies = record {
@@ -346,6 +397,41 @@ module _ (blocks : ℕ) (s : Store) (d : Directory) (es : List FullEntry) (is : 
       its-object : (o : ℕ) (n : NewEntry) → Among ns n → Has n o → ((sig : ℕ) × (e : Entry) × IsIn s sig e × (place sig e.uid ≡ Some o)) ⊎ ((r : ℕ) × Among (named r) o)
       its-object o n m (inl same) = let p = entry-place n m in inl (p.0, p.1, p.2, p.3 ∙ ap Some same)
       its-object o n m (inr large) = inr (n.id, subst (λ (l : List ℕ). Among l o) (sym (named-is n m)) large)
+
+  -- so it lies in them
+  pub store-lies : (p : Places) × LiesIn texts p s
+  store-lies = (place, filled-lies)
+
+-- ---- what is known of a directory and entries that are a store
+
+module _ (blocks : ℕ) (s : Store) (d : Directory) (es : List FullEntry) (is : AreStore blocks s d es) where
+  is-formed : well_formed s ≡ true
+  is-formed = (and_parts (well_formed s) (fits blocks s) is.is_valid).0
+
+  pub directory-formed : well_formed (bare_store d) ≡ true
+  directory-formed = subst (λ (t : Store). well_formed t ≡ true) is.directory (bare-good s is-formed)
+
+  its-sig : (e : FullEntry) → Among es e → e.soup < 65536
+  its-sig e m =
+      let i = all-in s (told e) (subst (λ (l : List (ℕ × Entry)). Among l (told e)) (sym is.entries) (map-among told es e m)) in
+      let r = is-store s is-formed in
+      let low = (each-at (λ n. (0 ≤ n) × (n < s.next_soup)) (map_list (λ (p : Soup). p.sig) s.soups) i.soup.sig (rises-above 0 s.next_soup (map_list (λ (p : Soup). p.sig) s.soups) r.sigs) (map-among (λ (p : Soup). p.sig) s.soups i.soup i.is_soup)).1 in
+      let same : i.soup.sig ≡ e.soup = i.of_sig in
+      let next = r.next in
+      omega (arith, low, same, next)
+
+  pub entries-small : All (λ (e : FullEntry). e.soup < 65536) es
+  entries-small = all es its-sig
+    where
+      all : (xs : List FullEntry) → ((e : FullEntry) → Among xs e → e.soup < 65536) → All (λ (e : FullEntry). e.soup < 65536) xs
+      all [] h = All-nil (λ (e : FullEntry). e.soup < 65536)
+      all (x ∷ xs) h = All-cons (λ (e : FullEntry). e.soup < 65536) x xs (h x (inl refl)) (all xs (λ e m. h e (inr m)))
+
+-- an image of version 2 that holds objects in which a store lies is read as this store
+pub filled-read : (s : Store) (blocks : ℕ) (img : List ℕ) (texts : Objects) (p : Places) → LiesIn texts p s → HoldsObjects img texts → version img ≡ 2 → blocks_of img ≡ blocks → valid blocks s ≡ true → store_of_image stream_graph img ≡ Some s
+filled-read s blocks img texts p lies holds new size good =
+    image-by-objects stream_graph img holds.live texts holds.of_image holds.are
+    ∙ lies-read stream_graph (version img) texts p (blocks_of img) s reads_graphs lies (keeps-all img s new) (subst (λ (b : ℕ). valid b s ≡ true) (sym size) good)
 
 -- ---- what it costs
 

@@ -9,7 +9,7 @@ use Rattle.newt_spec_store.specs.Cost.{cost, entry_pages}
 use Rattle.newt_spec_store.specs.Image.{all_entries}
 use Rattle.newt_spec_store.specs.Laid.{bare}
 use Rattle.newt_spec_store.specs.Lies.{LiesIn, Places}
-use Rattle.newt_spec_store.specs.Store.{Store}
+use Rattle.newt_spec_store.specs.Store.{Entry, Store}
 use Rattle.newt_spec_store.specs.Valid.{valid}
 use Rattle.newt_objects.specs.Held.{Held, held, IsUnplanned}
 use Rattle.newt_objects.specs.Changing.{IsUnderWay}
@@ -42,6 +42,13 @@ pub record AreNextIds (first last : ℕ) (ids : List ℕ) : Type 0 where
   pub most : (id : ℕ) → Among ids id → id ≤ last
   pub once : AreOnce ids
 
+-- the soup and the id of what is written, and of an entry
+abbrev pub new_name : NewEntry → ℕ × ℕ
+new_name n = (n.sig, n.uid)
+
+abbrev pub entry_name : ℕ × Entry → ℕ × ℕ
+entry_name x = (x.0, x.1.uid)
+
 -- what is written for an entry
 abbrev pub IsNewOf : FullEntry → NewEntry → Type 0
 IsNewOf e n = IsEntryOf e.soup e.uid e.time e.graph n
@@ -58,7 +65,7 @@ pub record IsNumbered (e : FullEntry) (id last next : ℕ) (n : NewEntry) : Type
 -- What is written for entries: for each one, in their order, with objects that no other has, of which records are below one id and large binaries are up to
 -- another.
 pub record AreNew (es : List FullEntry) (id last : ℕ) (ns : List NewEntry) : Type 0 where
-  pub names : map_list (λ n. (n.sig, n.uid)) ns ≡ map_list (λ x. (x.0, x.1.uid)) (map_list told es)
+  pub names : map_list new_name ns ≡ map_list entry_name (map_list told es)
   pub of_entries : (n : NewEntry) → Among ns n → (e : FullEntry) × Among es e × IsNewOf e n
   pub each_written : (e : FullEntry) → Among es e → (n : NewEntry) × Among ns n × IsNewOf e n
   pub apart : Pairs AreApart ns
