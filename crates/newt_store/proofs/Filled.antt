@@ -194,13 +194,13 @@ all-done all done (x ∷ left) is none = absurd (omega (arith, none))
 
 -- so many pages in all
 pub filled-pages : (first mid last : Change) (p q n : ℕ) → first ≡ no_change → n ≡ 0 → AddsPages p n first mid → AddsPages q 0 mid last → (length last.puts ≡ p + q) × (length last.deletes ≡ 0)
-filled-pages first mid last p q n none no a b =
+filled-pages first mid last p q n none empty a b =
     let puts : length first.puts ≡ 0 = ap (λ (c : Change). length c.puts) none in
     let deletes : length first.deletes ≡ 0 = ap (λ (c : Change). length c.deletes) none in
     let all = adds-also _ _ _ _ _ _ _ a b in
     let one = all.more_puts in
     let two = all.more_deletes in
-    (omega (arith, puts, one), omega (arith, deletes, two, no))
+    (omega (arith, puts, one), omega (arith, deletes, two, empty))
 
 pub nil-of : (xs : List ℕ) → length xs ≡ 0 → xs ≡ []
 nil-of [] none = refl
