@@ -1,5 +1,5 @@
 -- A store that is written to a unit whole: the ids of its objects, and that it lies in them.
-use Rattle.std.proofs.Common.{◌≡◌, ◌≢◌, ◌⊎◌, inl, inr, refl, sym, ◌∙◌, ap, subst, arith, Bool, true, ◌&&◌, ◌==◌, ℕ, zero, suc, ◌+◌, ◌-◌, ◌%◌, ◌<◌, ◌≤◌, All, List, [], ◌∷◌, ◌++◌, length, append-nil, take, drop, get_or, append_assoc, map as map_list, flat_map, sum_by, Option, Some, None, IfSome, option_map}
+use Rattle.std.proofs.Common.{◌≡◌, ◌≢◌, ◌⊎◌, inl, inr, refl, sym, ◌∙◌, ap, subst, arith, Bool, true, ◌&&◌, ◌==◌, ℕ, suc, ◌+◌, ◌-◌, ◌%◌, ◌<◌, ◌≤◌, All, List, [], ◌∷◌, ◌++◌, length, append-nil, take, drop, get_or, append_assoc, map as map_list, flat_map, sum_by, Option, Some, None, IfSome, option_map}
 use Rattle.std.specs.FinMap as map
 use Rattle.std.specs.List.{find}
 use Rattle.std.specs.Ordering.{nat_cmp}
@@ -8,11 +8,10 @@ use Rattle.std.proofs.lemmas.List.{map-append, take_all}
 use Rattle.std.proofs.lemmas.List.Elements.{All-nil, All-cons}
 use Rattle.std.proofs.lemmas.List.Sums.{sum_by-append, sum_by-cons}
 use Rattle.newt_graph.specs.Graph.{RawGraph, IsGraph}
-use Rattle.newt_spec_image.specs.Pages.{Pages, Change}
-use Rattle.newt_spec_image.specs.Objects.{Extent, Objects, pages_for}
+use Rattle.newt_spec_image.specs.Pages.{Change}
+use Rattle.newt_spec_image.specs.Objects.{Objects, pages_for}
 use Rattle.newt_spec_image.specs.Records.{version}
-use Rattle.newt_spec_nsof.specs.Lengths.{skeleton}
-use Rattle.newt_spec_graph.specs.Lists.{Among, Each, Pairs, rises}
+use Rattle.newt_spec_graph.specs.Lists.{Among, Each, Pairs}
 use Rattle.newt_spec_graph.proofs.Lists.{among-append, among-left, among-right, each-at, each-from, each-list_all, none-some, some-same, pairs-append, pairs-flat_map, pairs-map, pairs-more, rises-above, rises-pairs}
 use Rattle.newt_spec_store.specs.Cost.{cost, directory_bytes, directory_pages, entry_pages, soup_pages}
 use Rattle.newt_spec_store.specs.Image.{all_entries, entry_bytes}
@@ -21,7 +20,7 @@ use Rattle.newt_spec_store.specs.Lies.{AreLarges, IsIn, LiesIn, Places}
 use Rattle.newt_spec_store.specs.Store.{Entry, Soup, Store}
 use Rattle.newt_spec_store.specs.Valid.{fits, valid, valid_soup, well_formed}
 use Rattle.newt_laws_images.proofs.Assembled.{among-map, map-among}
-use Rattle.newt_laws_images.proofs.Chosen.{OnePasses, find-one, find-passes}
+use Rattle.newt_laws_images.proofs.Chosen.{find-one, find-passes}
 use Rattle.newt_laws_images.proofs.Gathering.{image-by-objects}
 use Rattle.newt_laws_images.proofs.Known.{bare-good}
 use Rattle.newt_laws_images.proofs.Placed.{all-in, in-all, pairs-map-from, soups-rise}

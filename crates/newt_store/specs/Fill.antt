@@ -11,13 +11,13 @@ use Rattle.newt_spec_store.specs.Laid.{bare}
 use Rattle.newt_spec_store.specs.Lies.{LiesIn, Places}
 use Rattle.newt_spec_store.specs.Store.{Entry, Store}
 use Rattle.newt_spec_store.specs.Valid.{valid}
-use Rattle.newt_objects.specs.Held.{Held, held, IsUnplanned}
+use Rattle.newt_objects.specs.Held.{Held, IsUnplanned}
 use Rattle.newt_objects.specs.Changing.{IsUnderWay}
 use Rattle.newt_soupdir.specs.Bare.{bare_store}
 use Rattle.newt_soupdir.specs.declared.rows.Directory.{Directory}
 use Rattle.newt_entries.specs.Full.{as_entry, told}
 use Rattle.newt_entries.specs.declared.full.FullEntry.{FullEntry}
-use Rattle.newt_objects_commit.specs.Batch.{AddsPages, AreApart, AreOnce, HasEntries, HasEntry, LeadsTo, LeavesUnplanned, large_ids, new_pages}
+use Rattle.newt_objects_commit.specs.Batch.{AddsPages, AreApart, AreOnce, HasEntries, HasEntry, LeadsTo, large_ids, new_pages}
 use Rattle.newt_objects_commit.specs.declared.batch.NewEntry.{NewEntry}
 use Rattle.newt_store.specs.Next.{IsEntryOf}
 

@@ -1,4 +1,4 @@
-use Rattle.std.proofs.Common.{◌≡◌, ◌≤◌, ℕ, List, refl, sym, ◌∙◌, ap, subst, arith}
+use Rattle.std.proofs.Common.{◌≡◌, ℕ, List, refl, ◌∙◌}
 use Rattle.newt_host.specs.Moments.{image, Anything}
 use Rattle.newt_host.proofs.Moments.{Leaves-start, Leaves-weaken}
 use Rattle.newt_host.proofs.Outside.{Touches-refl}

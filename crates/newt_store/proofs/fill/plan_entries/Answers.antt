@@ -1,4 +1,4 @@
-use Rattle.std.proofs.Common.{◌≡◌, ◌+◌, ◌++◌, ◌∷◌, [], ◌%◌, ◌<◌, ◌∙◌, refl, sym, subst, ap, arith, ℕ, List}
+use Rattle.std.proofs.Common.{◌≡◌, ◌+◌, ◌++◌, ◌∷◌, [], ◌<◌, ◌∙◌, refl, sym, subst, arith, ℕ, List}
 use Rattle.newt_entries.specs.declared.full.FullEntry.{FullEntry}
 use Rattle.newt_entries.proofs.Steps.{all-rest}
 use Rattle.newt_store.specs.Fill.{PlansEntries}

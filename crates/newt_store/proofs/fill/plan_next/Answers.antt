@@ -1,4 +1,3 @@
-use Rattle.std.proofs.Common.{◌≡◌, Some, refl}
 use Rattle.newt_objects_commit.proofs.Planning.{adds-as}
 use Rattle.newt_store.proofs.Filled.{new-free, none-over}
 use Rattle.newt_store.proofs.Ids.{entry-pages}

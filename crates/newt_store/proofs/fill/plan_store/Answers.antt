@@ -1,7 +1,7 @@
 use Rattle.std.proofs.Common.{◌≡◌, ◌∙◌, ap, sym, subst, List, ℕ, ◌+◌, length, sum_by}
 use Rattle.std.specs.FinMap as map
 use Rattle.newt_spec_image.specs.Pages.{Change}
-use Rattle.newt_spec_image.specs.Objects.{Extent, pages_for}
+use Rattle.newt_spec_image.specs.Objects.{pages_for}
 use Rattle.newt_objects.specs.Changing.{IsUnderWay}
 use Rattle.newt_objects.specs.Extents.{numbers_of}
 use Rattle.newt_soupdir.specs.Bare.{bare_store}
