@@ -1,4 +1,4 @@
-use Rattle.std.proofs.Common.{rules, ◌≡◌, ◌+◌, true, sym, ◌∙◌, ap, length, nat_le}
+use Rattle.std.proofs.Common.{rules, ◌≡◌, ◌+◌, sym, ◌∙◌, ap, length, nat_le}
 use Rattle.std.specs.List.{sum_by}
 use Rattle.newt_entries.specs.Full.{as_entry}
 use Rattle.newt_entries.specs.declared.full.FullEntry.{FullEntry}
@@ -15,5 +15,6 @@ write_directory-requires c = directory-formed c.args.directory.now c.args.entrie
 pub returns : goal.returns
 returns c =
     let size : c.len.result ≡ length (directory_bytes (bare_store c.args.directory.now)) = search rules in
-    c.fit.ensures ∙ ap (λ n. nat_le (pages_for n + sum_by (λ (e : FullEntry). entry_pages (as_entry e)) c.args.entries.now) c.args.most) size
+    let same : c.from.result ≡ c.args.most = search rules in
+    c.fit.ensures ∙ (λ i. nat_le (pages_for (size i) + sum_by (λ (e : FullEntry). entry_pages (as_entry e)) c.args.entries.now) (same i))
     ∙ ap (λ n. nat_le n c.args.most) (sym (cost-is c.args.directory.now c.args.entries.now c.requires.kept.in_order))
