@@ -1,3 +1,4 @@
 pub mod Listed
 pub mod Steps
 pub mod Kept
+pub mod Restored

@@ -8,7 +8,9 @@
 
 mod backup;
 mod gather;
+mod restore;
 mod text;
 
 pub use backup::backup_of;
+pub use restore::{fits_on, restore_store};
 pub use text::backup_text;
