@@ -2,3 +2,4 @@ pub mod Listed
 pub mod Steps
 pub mod Kept
 pub mod Restored
+pub mod Remade
