@@ -1,12 +1,17 @@
 -- A restoring that is refused, and one that is not.
-use Rattle.std.proofs.Common.{◌≡◌, refl, sym, ◌∙◌, ap, subst, ℕ, ◌*◌, ◌/◌, Bool, true, false, not, nat_lt, ◌||◌, List, [], ◌∷◌, length, Option, Some, None, is_some, Result, Ok, Err, IsErrAnd, IsTrue, arith}
+use Rattle.std.proofs.Common.{◌≡◌, refl, sym, ◌∙◌, ap, subst, ℕ, ◌*◌, ◌/◌, Bool, true, false, not, nat_lt, ◌||◌, List, [], ◌∷◌, length, Option, Some, None, is_some, Result, Ok, Err, IsErr, IsErrAnd, IsTrue, arith}
 use Rattle.std.specs.Prelude.{option_map}
 use Rattle.newt_base.specs.Refusals.{first_of}
 use Rattle.newt_base.specs.declared.Refusal.{Refusal}
 use Rattle.newt_base.specs.declared.Refusal.TheVariants as refusals
-use Rattle.newt_host.specs.Moments.{Anything, Leaves, here}
-use Rattle.newt_host.specs.Outside.{Outside}
-use Rattle.newt_host.proofs.Outside.{Touches-refl}
+use Rattle.newt_graph.specs.Graph.{RawGraph}
+use Rattle.newt_host.specs.Moments.{Anything, Leaves, Moment, here}
+use Rattle.newt_host.specs.Outside.{Outside, NoFault, OnlyReads}
+use Rattle.newt_host.proofs.Outside.{NoFault-append, Touches-append, Touches-refl}
+use Rattle.newt_nsof_read.specs.Reading.{decoded}
+use Rattle.newt_nsof_read.specs.declared.fault.NsofFault.{NsofFault}
+use Rattle.newt_nsof_read.specs.declared.fault.NsofFault.TheVariants as faults
+use Rattle.newt_backup.proofs.One.{one-store}
 use Rattle.newt_pagebook.specs.declared.book.Stop.{Stop}
 use Rattle.newt_pagebook.specs.declared.book.Stop.TheVariants.{Memory}
 use Rattle.newt_spec_store.specs.OfImage.{blocks_of}
@@ -14,7 +19,10 @@ use Rattle.newt_spec_store.specs.Store.{Store}
 use Rattle.newt_spec_store.specs.Valid.{fits}
 use Rattle.newt_store.specs.Calls.{FormatsUnit}
 use Rattle.newt_store_catalog.specs.Readable.{readable}
-use Rattle.newt_store_backup.specs.Remade.{Refills, refused_on}
+use Rattle.newt_store_backup.specs.Remade.{IsAsked, IsRemade, Refills, Restores, refused_on, remade, unless_refused}
+use Rattle.newt_store_backup.specs.Written.{device_on}
+use Rattle.newt_store_catalog.specs.Reading.{ReadEnds}
+use Rattle.newt_store_catalog.proofs.Exits.{stops-on}
 
 -- ---- which refusal
 
@@ -24,7 +32,7 @@ device-there image None some = absurd (cc)
 device-there image (Some name) some = refl
 
 -- a refusal by the outcomes of the tests
-row : (few many found fits : Bool) → Option Refusal
+abbrev pub row : (few many found fits : Bool) → Option Refusal
 row few many found fits = first_of ((refusals.Blocks, few || many) ∷ (refusals.Store, found) ∷ (refusals.Full, not fits) ∷ [])
 
 -- where only the last test is left
@@ -40,15 +48,59 @@ by-fit s image blocks found fit size few many is none fits_is =
 
 pub full-refused : (s : Store) (image : List ℕ) (blocks : ℕ) (found fit : Bool) → length image ≡ blocks * 4096 → nat_lt blocks 13 ≡ false → nat_lt 4099 blocks ≡ false
     → found ≡ is_some (readable image) → found ≡ false → fit ≡ fits blocks s → fit ≡ false → Some refusals.Full ≡ refused_on s (Some image)
-full-refused s image blocks found fit size few many is none fits_is no =
-    sym (by-fit s image blocks found fit size few many is none fits_is ∙ ap (λ (fit : Bool). row false false false fit) no)
+full-refused s image blocks found fit size few many is none fits_is misfit =
+    sym (by-fit s image blocks found fit size few many is none fits_is ∙ ap (λ (fit : Bool). row false false false fit) misfit)
 
 pub none-refused : (s : Store) (image : List ℕ) (blocks : ℕ) (found fit : Bool) → length image ≡ blocks * 4096 → nat_lt blocks 13 ≡ false → nat_lt 4099 blocks ≡ false
     → found ≡ is_some (readable image) → found ≡ false → fit ≡ fits blocks s → fit ≡ true → None ≡ refused_on s (Some image)
-none-refused s image blocks found fit size few many is none fits_is yes =
-    sym (by-fit s image blocks found fit size few many is none fits_is ∙ ap (λ (fit : Bool). row false false false fit) yes)
+none-refused s image blocks found fit size few many is none fits_is fitting =
+    sym (by-fit s image blocks found fit size few many is none fits_is ∙ ap (λ (fit : Bool). row false false false fit) fitting)
+
+-- a stream asks for one store, or is refused for one reason
+pub asked-one : (read : Result RawGraph NsofFault) (s : Store) (asked : Result Store Refusal) → IsAsked read (Ok s) → IsAsked read asked → asked ≡ Ok s
+asked-one (Ok g) s (Ok t) one other = ap Ok (one-store t s other.0 one.0 (other.1 ∙ sym one.1))
+asked-one (Ok g) s (Err refusal) one other = absurd (other.0 s one.0 one.1)
+asked-one (Err faults.Malformed) s asked one other = absurd (cc)
+asked-one (Err faults.Compressed) s asked one other = absurd (cc)
+asked-one (Err faults.Memory) s asked one other = absurd one
+
+-- a store that is not refused is what a device gets
+pub remade-one : (input : List ℕ) (s : Store) (device : Option (List ℕ)) (outcome : Result Store Refusal) → IsAsked (decoded input) (Ok s) → None ≡ refused_on s device → IsRemade input device outcome → outcome ≡ Ok s
+remade-one input s device outcome asked none is =
+    is.is ∙ ap (λ (a : Result Store Refusal). remade a device) (asked-one (decoded input) s is.asked asked is.is_asked) ∙ ap (unless_refused s) (sym none)
+
+-- ---- a unit that is only read
+
+-- nothing was said of its store, or it was refused
+pub restores-looked : {T : Type 0} {told : Bool} {unit : ℕ} {before after : Outside} (input : List ℕ) (r : Result T Stop) → OnlyReads unit before after → ReadEnds unit before after r → Restores {T = T} told unit input before after r
+restores-looked {unit = unit} {before = before} input r looks ends = record {
+  refused = λ tells outcome is err. looks;
+  unchanged = λ same. looks.moment;
+  any_moment = λ tells. subst (λ (now : Moment). Leaves unit Anything before.now now) (sym looks.moment) (here (record { others = λ other apart. refl; output = refl; unread = refl; crash = λ left may. tt }));
+  alone = looks.alone;
+  ends = ends;
+}
 
 -- ---- a unit that gets its store
+
+-- a store is no refusal
+no-refusal : {P : Type 0} (s : Store) → IsErr {T = Store} {E = Refusal} (Ok s) → P
+no-refusal s err = absurd (cc)
+
+-- it is not refused, so nothing is claimed of refusals
+pub restores-made : {T : Type 0} {told : Bool} {unit : ℕ} {before mid after : Outside} (input : List ℕ) (s : Store) (r : Result T Stop) → OnlyReads unit before mid → NoFault before mid
+    → IsAsked (decoded input) (Ok s) → (IsTrue told → None ≡ refused_on s (device_on unit before)) → Refills {T = T} told unit s mid after r → Restores {T = T} told unit input before after r
+restores-made {T = T} {told = told} {unit = unit} {before = before} {mid = mid} {after = after} input s r looks free asked none f = record {
+  refused = λ tells outcome is err. no-refusal s (subst (λ (o : Result Store Refusal). IsErr o) (remade-one input s (device_on unit before) outcome asked (none tells) is) err);
+  unchanged = λ same. f.unchanged same ∙ looks.moment;
+  any_moment = λ tells. subst (λ (now : Moment). Leaves unit Anything now after.now) looks.moment (f.any_moment tells);
+  alone = Touches-append looks.alone f.alone;
+  ends = made-ends looks free r f.ends;
+}
+  where
+    made-ends : OnlyReads unit before mid → NoFault before mid → (r : Result T Stop) → ReadEnds unit mid after r → ReadEnds unit before after r
+    made-ends looks free (Ok x) ends = record { cause = tt; no_fault = NoFault-append free ends.no_fault }
+    made-ends looks free (Err stop) ends = record { cause = stops-on stop after refl looks ends.cause; no_fault = tt }
 
 -- it has got it
 pub refills-ok : {T : Type 0} {told : Bool} {unit : ℕ} {s : Store} {before after : Outside} (x : Unit {0}) (value : T) → FormatsUnit told unit s before after (Ok x) → Refills {T = T} told unit s before after (Ok value)
@@ -66,7 +118,7 @@ refills-none before (Ok x) fails = absurd fails
 refills-none {T = T} {told = told} {unit = unit} {s = s} before (Err stop) fails = subst (λ (e : Stop). Refills {T = T} told unit s before before (Err e)) (sym fails) (record {
   left = λ tells. tt;
   unchanged = λ same. refl;
-  any_moment = λ tells. here (λ left may. tt);
+  any_moment = λ tells. here (record { others = λ other apart. refl; output = refl; unread = refl; crash = λ left may. tt });
   alone = Touches-refl unit before;
   ends = record { cause = tt; no_fault = tt };
 })

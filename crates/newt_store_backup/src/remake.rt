@@ -112,6 +112,13 @@ fn refusal_on<P: PageBook, H: Host>(
     Ok(None)
 }
 
+/// The line of a refusal.
+fn refused_line(alloc: Global, refusal: Refusal) -> Result<Vec<u8>, AllocError>
+    ensures { IfOk result (λ text. text.items ≡ remade_text (Err refusal)) }
+{
+    write_reply(alloc, &Reply::Refused(refusal))
+}
+
 /// The line of a restored store: its signature and its name.
 fn restored_line(
     alloc: Global,
@@ -168,7 +175,7 @@ fn restore_to<P: PageBook, H: Host>(
         → Restores H.told unit input (H.outside host.old) (H.outside host.new) result }
 {
     match refusal_on::<P, H>(alloc, host, unit, is_attached, directory, entries)? {
-        Some(refusal) => Ok(write_reply(alloc, &Reply::Refused(refusal))?),
+        Some(refusal) => Ok(refused_line(alloc, refusal)?),
         None => restore_here::<P, H>(alloc, host, unit, directory, entries),
     }
 }
@@ -194,6 +201,6 @@ pub fn restore_text<P: PageBook, H: Host>(
         Ok((directory, entries)) => {
             restore_to::<P, H>(alloc, host, unit, is_attached, &directory, &entries)
         }
-        Err(refusal) => Ok(write_reply(alloc, &Reply::Refused(refusal))?),
+        Err(refusal) => Ok(refused_line(alloc, refusal)?),
     }
 }
