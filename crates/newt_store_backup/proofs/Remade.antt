@@ -1,5 +1,5 @@
 -- A restoring that is refused, and one that is not.
-use Rattle.std.proofs.Common.{◌≡◌, refl, sym, ◌∙◌, ap, subst, ℕ, ◌*◌, ◌/◌, Bool, true, false, not, nat_lt, ◌||◌, List, [], ◌∷◌, length, Option, Some, None, is_some, Result, Ok, Err, IsErr, IsErrAnd, IsTrue, arith}
+use Rattle.std.proofs.Common.{◌≡◌, refl, sym, ◌∙◌, ap, subst, ℕ, ◌*◌, ◌/◌, Bool, true, false, not, nat_lt, ◌||◌, List, [], ◌∷◌, length, Option, Some, None, is_some, Result, Ok, Err, IfOk, OnOk, IsErr, IsErrAnd, IsTrue, arith}
 use Rattle.std.specs.Prelude.{option_map}
 use Rattle.newt_base.specs.Refusals.{first_of}
 use Rattle.newt_base.specs.declared.Refusal.{Refusal}
@@ -7,11 +7,12 @@ use Rattle.newt_base.specs.declared.Refusal.TheVariants as refusals
 use Rattle.newt_graph.specs.Graph.{RawGraph}
 use Rattle.newt_host.specs.Moments.{Anything, Leaves, Moment, here}
 use Rattle.newt_host.specs.Outside.{Outside, NoFault, OnlyReads}
-use Rattle.newt_host.proofs.Outside.{NoFault-append, Touches-append, Touches-refl}
+use Rattle.newt_host.proofs.Outside.{NoFault-append, OnlyReads-refl, Touches-append, Touches-refl}
 use Rattle.newt_nsof_read.specs.Reading.{decoded}
 use Rattle.newt_nsof_read.specs.declared.fault.NsofFault.{NsofFault}
 use Rattle.newt_nsof_read.specs.declared.fault.NsofFault.TheVariants as faults
 use Rattle.newt_backup.proofs.One.{one-store}
+use Rattle.newt_pagebook.specs.Stops.{StopsAt}
 use Rattle.newt_pagebook.specs.declared.book.Stop.{Stop}
 use Rattle.newt_pagebook.specs.declared.book.Stop.TheVariants.{Memory}
 use Rattle.newt_spec_store.specs.OfImage.{blocks_of}
@@ -19,7 +20,7 @@ use Rattle.newt_spec_store.specs.Store.{Store}
 use Rattle.newt_spec_store.specs.Valid.{fits}
 use Rattle.newt_store.specs.Calls.{FormatsUnit}
 use Rattle.newt_store_catalog.specs.Readable.{readable}
-use Rattle.newt_store_backup.specs.Remade.{IsAsked, IsRemade, Refills, Restores, refused_on, remade, unless_refused}
+use Rattle.newt_store_backup.specs.Remade.{IsAsked, IsDone, IsLeft, IsRemade, Refills, Restores, refused_on, remade, remade_text, unless_refused}
 use Rattle.newt_store_backup.specs.Written.{device_on}
 use Rattle.newt_store_catalog.specs.Reading.{ReadEnds}
 use Rattle.newt_store_catalog.proofs.Exits.{stops-on}
@@ -122,3 +123,51 @@ refills-none {T = T} {told = told} {unit = unit} {s = s} before (Err stop) fails
   alone = Touches-refl unit before;
   ends = record { cause = tt; no_fault = tt };
 })
+
+-- ---- what is written then
+
+-- an input is no backup
+pub done-unasked : {unit : ℕ} {before : Outside} (input : List ℕ) (refusal : Refusal) (text : List ℕ) → IsAsked (decoded input) (Err refusal) → text ≡ remade_text (Err refusal) → IsDone input unit before before text
+done-unasked {unit = unit} {before = before} input refusal text asked is = record {
+  outcome = Err refusal;
+  is_remade = record { asked = Err refusal; is_asked = asked; is = refl };
+  text_is = is;
+  left = OnlyReads-refl unit before;
+}
+
+-- a store is refused
+pub done-refused : {unit : ℕ} {before after : Outside} (input : List ℕ) (s : Store) (refusal : Refusal) (text : List ℕ) → IsAsked (decoded input) (Ok s) → Some refusal ≡ refused_on s (device_on unit before)
+    → text ≡ remade_text (Err refusal) → OnlyReads unit before after → IsDone input unit before after text
+done-refused input s refusal text asked some is looks = record {
+  outcome = Err refusal;
+  is_remade = record { asked = Ok s; is_asked = asked; is = ap (unless_refused s) some };
+  text_is = is;
+  left = looks;
+}
+
+-- it is made
+pub done-made : {unit : ℕ} {before mid after : Outside} (input : List ℕ) (s : Store) (text : List ℕ) → IsAsked (decoded input) (Ok s) → None ≡ refused_on s (device_on unit before)
+    → text ≡ remade_text (Ok s) → IsLeft (Ok s) unit mid after → IsDone input unit before after text
+done-made input s text asked none is left = record {
+  outcome = Ok s;
+  is_remade = record { asked = Ok s; is_asked = asked; is = ap (unless_refused s) none };
+  text_is = is;
+  left = left;
+}
+
+-- ---- how a call ends that stops as another did
+
+pub ends-of : {U : Type 0} {unit : ℕ} {before after : Outside} (stop : Stop) (r : Result U Stop) → StopsAt unit before after stop → IsErrAnd r (λ e. e ≡ stop) → ReadEnds {T = U} unit before after r
+ends-of stop (Ok x) cause fails = absurd fails
+ends-of {unit = unit} {before = before} {after = after} stop (Err e) cause fails = record { cause = subst (λ (e : Stop). StopsAt unit before after e) (sym fails) cause; no_fault = tt }
+
+-- memory ran out
+pub ends-memory : {U : Type 0} {unit : ℕ} {before after : Outside} (r : Result U Stop) → IsErrAnd r (λ e. e ≡ Memory) → ReadEnds {T = U} unit before after r
+ends-memory (Ok x) fails = absurd fails
+ends-memory {unit = unit} {before = before} {after = after} (Err e) fails = record { cause = subst (λ (e : Stop). StopsAt unit before after e) (sym fails) tt; no_fault = tt }
+
+-- what is written of a store that is made, if it is
+pub done-if : {T : Type 0} {unit : ℕ} {before mid after : Outside} (input : List ℕ) (s : Store) (view : T → List ℕ) (r : Result T Stop) → IsAsked (decoded input) (Ok s) → None ≡ refused_on s (device_on unit before)
+    → IfOk r (λ text. view text ≡ remade_text (Ok s)) → OnOk r (IsLeft (Ok s) unit mid after) → IfOk r (λ text. IsDone input unit before after (view text))
+done-if {mid = mid} input s view (Ok text) asked none is left = done-made {mid = mid} input s (view text) asked none is left
+done-if input s view (Err stop) asked none is left = tt
