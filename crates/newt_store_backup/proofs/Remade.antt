@@ -146,9 +146,9 @@ done-refused input s refusal text asked some is looks = record {
 }
 
 -- it is made
-pub done-made : {unit : ℕ} {before mid after : Outside} (input : List ℕ) (s : Store) (text : List ℕ) → IsAsked (decoded input) (Ok s) → None ≡ refused_on s (device_on unit before)
-    → text ≡ remade_text (Ok s) → IsLeft (Ok s) unit mid after → IsDone input unit before after text
-done-made input s text asked none is left = record {
+pub done-made : (unit : ℕ) (before after : Outside) (input : List ℕ) (s : Store) (text : List ℕ) → IsAsked (decoded input) (Ok s) → None ≡ refused_on s (device_on unit before)
+    → text ≡ remade_text (Ok s) → IsLeft (Ok s) unit before after → IsDone input unit before after text
+done-made unit before after input s text asked none is left = record {
   outcome = Ok s;
   is_remade = record { asked = Ok s; is_asked = asked; is = ap (unless_refused s) none };
   text_is = is;
@@ -167,7 +167,7 @@ ends-memory (Ok x) fails = absurd fails
 ends-memory {unit = unit} {before = before} {after = after} (Err e) fails = record { cause = subst (λ (e : Stop). StopsAt unit before after e) (sym fails) tt; no_fault = tt }
 
 -- what is written of a store that is made, if it is
-pub done-if : {T : Type 0} {unit : ℕ} {before mid after : Outside} (input : List ℕ) (s : Store) (view : T → List ℕ) (r : Result T Stop) → IsAsked (decoded input) (Ok s) → None ≡ refused_on s (device_on unit before)
-    → IfOk r (λ text. view text ≡ remade_text (Ok s)) → OnOk r (IsLeft (Ok s) unit mid after) → IfOk r (λ text. IsDone input unit before after (view text))
-done-if {mid = mid} input s view (Ok text) asked none is left = done-made {mid = mid} input s (view text) asked none is left
-done-if input s view (Err stop) asked none is left = tt
+pub done-if : {T : Type 0} (unit : ℕ) (before after : Outside) (input : List ℕ) (s : Store) (view : T → List ℕ) (r : Result T Stop) → IsAsked (decoded input) (Ok s) → None ≡ refused_on s (device_on unit before)
+    → IfOk r (λ text. view text ≡ remade_text (Ok s)) → OnOk r (IsLeft (Ok s) unit before after) → IfOk r (λ text. IsDone input unit before after (view text))
+done-if unit before after input s view (Ok text) asked none is left = done-made unit before after input s (view text) asked none is left
+done-if unit before after input s view (Err stop) asked none is left = tt

@@ -22,7 +22,8 @@ returns-in_ok-refused_line-in-Some-clause-restores g c = λ input asked.
 
 pub returns-in-None-clause-done : goal.returns-in-None-clause-done
 returns-in-None-clause-done g c = λ input asked told.
-    done-if input (store_in c.args.directory.now c.args.entries.now) (λ text. text.items) c.restore_here.result asked
+    let o = g.H.Host.outside in
+    done-if c.args.unit (o c.args.host.now) (o c.restore_here.new.host) input (store_in c.args.directory.now c.args.entries.now) (λ text. text.items) c.restore_here.result asked
     (sym c.in-None.is ∙ c.in_ok-refusal.ensures.refusal told) c.restore_here.ensures.text (c.restore_here.ensures.refills.left told)
 
 pub returns-in-None-clause-restores : goal.returns-in-None-clause-restores
