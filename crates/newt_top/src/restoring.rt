@@ -1,8 +1,7 @@
 //! A store made on a device, from the stream of its backup.
-ghost use Rattle.std.specs.Prelude.{◌≡◌, ◌<◌, ◌≤◌, [], IsTrue, map, string_bytes, length};
+ghost use Rattle.std.specs.Prelude.{◌≡◌, IsTrue, map, string_bytes};
 ghost use Rattle.newt_top.specs.Calls.{MayRun, RunEnds};
 ghost use Rattle.newt_top.specs.Restoring.{RanRestored, RanRestoring};
-ghost use Rattle.newt_top.specs.Whole.{HasReadCause, ReadsAll, WholeCall};
 
 use crate::status::{Mode, Status, halted};
 use crate::whole::whole_input;
@@ -25,6 +24,7 @@ fn restore_input<H: Host>(
     requires may { MayRun (map string_bytes names.now) (H.outside host.old) }
     ensures ran { IsTrue H.told → RanRestored (map string_bytes names.now) input.items result
         (H.outside host.old) (H.outside host.new) }
+    ensures left { (H.outside host.new).input ≡ (H.outside host.old).input }
     ensures ends { RunEnds Mode.Restore result (H.outside host.old) (H.outside host.new) }
 {
     let attached = attach_names(host, names);
