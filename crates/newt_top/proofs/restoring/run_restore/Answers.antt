@@ -2,7 +2,7 @@ use Rattle.std.proofs.Common.{◌≡◌, ◌≤◌, ◌∙◌, Bool, ℕ, List, 
 use Rattle.newt_laws_steps.specs.Devices.{SameDevices}
 use Rattle.newt_top.specs.Restoring.{RanRestored, RanRestoring}
 use Rattle.newt_top.specs.declared.status.Status.{Status}
-use Rattle.newt_top.proofs.Restoring.{halted-restoring, read-restoring}
+use Rattle.newt_top.proofs.Restored.{halted-restoring, read-restoring}
 use Rattle.newt_top.proofs.restoring.run_restore.Goals as goal
 
 pub returns-in-Err-clause-ran : goal.returns-in-Err-clause-ran
