@@ -95,3 +95,9 @@ mode_names (word ∷ words) mode is = go (bytes_eq word (codes "gen")) (bytes_eq
     go false false false true h e = reading_names Check words mode e
     go false false false false true e = restoring_names words mode e
     go false false false false false e = alone_names words (conversion_named word) mode e
+
+pub few_names : (names : List (List ℕ)) → are_names names ≡ true → length names ≤ 8
+few_names names are = grind (arith, (both (nat_le (length names) 8) (all_apart bytes_eq names) are).0)
+
+pub distinct_names : (names : List (List ℕ)) → are_names names ≡ true → AreDistinct names
+distinct_names names are = apart_distinct names (both (nat_le (length names) 8) (all_apart bytes_eq names) are).1
