@@ -14,3 +14,6 @@ mod text;
 pub use backup::backup_of;
 pub use restore::{fits_on, restore_store};
 pub use text::backup_text;
+
+#[cfg(test)]
+mod tests;
