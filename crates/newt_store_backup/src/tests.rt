@@ -1,4 +1,7 @@
 //! Backups that are restored to a card in memory, with ample memory.
+ghost use Rattle.std.specs.Prelude.{IfOk};
+ghost use Rattle.newt_host.specs.Moments.{IsDurable};
+ghost use Rattle.newt_memhost.specs.Outside.{outside_of};
 
 use crate::{backup_of, fits_on, restore_store};
 use newt_backup::read_backup;
@@ -23,15 +26,25 @@ const ONE_ENTRY: &[u8] =
     \x08Internal\0\0\0\x07\0\x01\x01\x01S\0\0\0\0\0\x01\0\0\
     \x05\x01\x05\x01\x03\x12\x09\x05\0\0\0\0\0\0\0\0\0\x05\x02\x06\x01\x07\x01a\0\x04";
 
-/// A host with a card of 13 blocks of zeros.
-fn blank(alloc: Global) -> Result<MemHost, Fail> {
-    let bytes = vec![in alloc; 0; 13 * 4096]?;
+/// A host with one card of these bytes, which are whole blocks.
+fn host_of(alloc: Global, bytes: &[u8]) -> Result<MemHost, Fail>
+    ensures { IfOk result (λ host. IsDurable 0 (outside_of host).now) }
+{
+    if bytes.len() % 4096 != 0 {
+        return Err("no whole blocks".into());
+    }
     let mut host = MemHost::new(alloc);
-    host.device("card", &bytes)?;
+    host.device("card", bytes)?;
     if !host.attach(CARD, "card") {
         return Err("the card is not attached".into());
     }
     Ok(host)
+}
+
+/// A host with a card of so many blocks of zeros.
+fn blank(alloc: Global, blocks: u32) -> Result<MemHost, Fail> {
+    let bytes = vec![in alloc; 0; blocks as usize * 4096]?;
+    host_of(alloc, &bytes)
 }
 
 /// The backup of the store of a blank card to which a backup was restored.
@@ -40,7 +53,7 @@ fn backed_up_again(alloc: Global, text: &[u8]) -> Result<Vec<u8>, Fail> {
     let Ok((directory, entries)) = read_backup(alloc, &graph) else {
         return Err("a backup".into());
     };
-    let mut host = blank(alloc)?;
+    let mut host = blank(alloc, 13)?;
     let blocks = host.blocks(CARD);
     if blocks < 13 || blocks > 4099 {
         return Err("too few blocks, or too many".into());
