@@ -157,10 +157,10 @@ entries-more entries e old mid new apart ids last_ids so_far put = record {
   ];
   larges_are = λ x l among large. elim (among-append entries (e ∷ []) x among) [
     | inl before ↦ (let its : Among (large_ids x) l.id = among-map (λ (k : NewLarge). k.id) x.larges.items l large in
-      put.others l.id (λ y is. (
-        λ same. odd_even l.id (subst (λ (n : ℕ). n % 2 ≡ 1) (ap (λ (z : NewEntry). z.id) (some_inj e y is) ∙ same) last_ids.odd) ((ids x before).even l.id its).0,
-        λ other. (apart x before).larges_apart l.id its (subst (λ (z : NewEntry). Among (large_ids z) l.id) (sym (some_inj e y is)) other),
-      )) ∙ so_far.larges_are x l before large)
+        put.others l.id (λ y is. (
+          λ same. odd_even l.id (subst (λ (n : ℕ). n % 2 ≡ 1) (ap (λ (z : NewEntry). z.id) (some_inj e y is) ∙ same) last_ids.odd) ((ids x before).even l.id its).0,
+          λ other. (apart x before).larges_apart l.id its (subst (λ (z : NewEntry). Among (large_ids z) l.id) (sym (some_inj e y is)) other),
+        )) ∙ so_far.larges_are x l before large)
     | inr last ↦ put.larges_are e l refl (subst (λ (y : NewEntry). Among y.larges.items l) (sym (among-one e x last)) large)
   ];
   others = λ id out. put.others id (λ y is. subst (λ (z : NewEntry). (z.id ≢ id) × (Among (large_ids z) id → ⊥)) (some_inj e y is) (out e (among-right entries (e ∷ []) e (inl refl))))

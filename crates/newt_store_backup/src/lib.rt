@@ -16,3 +16,6 @@ pub use backup::backup_of;
 pub use remake::restore_text;
 pub use restore::{fits_on, restore_store};
 pub use text::backup_text;
+
+#[cfg(test)]
+mod tests;
