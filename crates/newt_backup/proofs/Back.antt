@@ -12,7 +12,7 @@ use Rattle.newt_spec_nsof.specs.Flat.{flat}
 use Rattle.newt_spec_graph.specs.Graph.{every}
 use Rattle.newt_spec_graph.specs.Lists.{Each, all_apart, rises}
 use Rattle.newt_base.specs.Names.{equal_text}
-use Rattle.newt_backup.specs.declared.entry.FullEntry.{FullEntry}
+use Rattle.newt_entries.specs.declared.full.FullEntry.{FullEntry}
 use Rattle.newt_nsof_flat.specs.Stream.{stream_graph}
 use Rattle.newt_nsof_flat.proofs.Streams.{reads_graphs}
 use Rattle.newt_soupdir.specs.declared.rows.Directory.{Directory}
@@ -31,7 +31,8 @@ use Rattle.newt_backup.specs.Backup.{fulls, backup, IsKept, Unbacked}
 use Rattle.newt_backup.specs.Texts.{texts_from, full_read, contents_read, with_entries}
 use Rattle.newt_backup.specs.Together.{others, with_own, left_over, together}
 use Rattle.newt_backup.specs.Checks.{are_of}
-use Rattle.newt_backup.specs.Contents.{as_entry, told, store_in, IsSound, AreKept}
+use Rattle.newt_backup.specs.Contents.{store_in, IsSound, AreKept}
+use Rattle.newt_entries.specs.Full.{as_entry, told}
 use Rattle.newt_backup.proofs.Bounds.{store-total}
 use Rattle.newt_backup.proofs.Contents.{directory-same, entries-same, own-length}
 use Rattle.newt_backup.proofs.Kept.{kept-formed, valid-most}
@@ -93,7 +94,8 @@ unfolding total
 told-total [] = refl
 told-total (e ∷ es) = ap (λ n. entry_pages (as_entry e) + n) (told-total es) ∙ sym (sum_by-cons (λ (e : FullEntry). entry_pages (as_entry e)) e es)
 
-cost-is : (d : Directory) (es : List FullEntry) → left_over (bare_store d).soups (map told es) ≡ []
+-- what the store costs
+pub cost-is : (d : Directory) (es : List FullEntry) → left_over (bare_store d).soups (map told es) ≡ []
     → cost (store_in d es) ≡ pages_for (length (directory_bytes (bare_store d))) + sum_by (λ (e : FullEntry). entry_pages (as_entry e)) es
 cost-is d es h =
     ap (λ b. pages_for (length b) + sum_by soup_pages (store_in d es).soups) (directory-same (bare_store d) (map told es))

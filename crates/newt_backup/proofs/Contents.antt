@@ -15,10 +15,11 @@ use Rattle.newt_laws_images.proofs.Known.{bare-good}
 use Rattle.newt_soupdir.specs.declared.rows.Directory.{Directory}
 use Rattle.newt_soupdir.specs.declared.rows.SoupRow.{SoupRow}
 use Rattle.newt_soupdir.specs.Bare.{bare_store, bare_soup as row_soup}
-use Rattle.newt_backup.specs.declared.entry.FullEntry.{FullEntry}
+use Rattle.newt_entries.specs.declared.full.FullEntry.{FullEntry}
 use Rattle.newt_backup.specs.Backup.{full, fulls, packed, backup, CanPack}
 use Rattle.newt_backup.specs.Together.{with_own, others, left_over, together}
-use Rattle.newt_backup.specs.Contents.{told, text_of, store_in, AreKept, IsSmall}
+use Rattle.newt_backup.specs.Contents.{text_of, store_in, AreKept, IsSmall}
+use Rattle.newt_entries.specs.Full.{told}
 use Rattle.newt_backup.proofs.Kept.{kept-formed, kept-packs}
 use Rattle.newt_backup.proofs.One.{Fits as Small, entries-fit}
 use Rattle.newt_backup.proofs.Together.{entries-back}

@@ -15,7 +15,7 @@ use Rattle.newt_spec_store.specs.Store.{Entry}
 use Rattle.newt_spec_store.specs.Cost.{large_length, skeleton_length}
 use Rattle.newt_spec_store.specs.Valid.{valid_entry}
 use Rattle.newt_laws_images.proofs.Within.{graph-within}
-use Rattle.newt_backup.specs.declared.entry.FullEntry.{FullEntry}
+use Rattle.newt_entries.specs.declared.full.FullEntry.{FullEntry}
 use Rattle.newt_backup.specs.Contents.{text_of}
 use Rattle.newt_backup.proofs.Steps.{opened}
 

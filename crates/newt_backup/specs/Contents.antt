@@ -1,23 +1,16 @@
 -- A directory and entries as a program has them, and the store that they are.
 use Rattle.std.specs.Prelude.{◌≡◌, ◌<◌, ◌≤◌, ℕ, true, List, [], length, map}
 use Rattle.newt_graph.specs.Graph.{IsGraph}
-use Rattle.newt_spec_store.specs.Store.{Entry, Store}
+use Rattle.newt_spec_store.specs.Store.{Store}
 use Rattle.newt_spec_store.specs.Image.{all_entries}
 use Rattle.newt_spec_store.specs.Laid.{bare}
 use Rattle.newt_spec_store.specs.Valid.{valid}
 use Rattle.newt_soupdir.specs.declared.rows.Directory.{Directory}
 use Rattle.newt_soupdir.specs.Bare.{bare_store}
-use Rattle.newt_backup.specs.declared.entry.FullEntry.{FullEntry}
+use Rattle.newt_entries.specs.Full.{as_entry, told}
+use Rattle.newt_entries.specs.declared.full.FullEntry.{FullEntry}
 use Rattle.newt_backup.specs.Backup.{full, IsKept}
 use Rattle.newt_backup.specs.Together.{together, left_over}
-
--- the entry
-abbrev pub as_entry : FullEntry → Entry
-as_entry e = record { uid = e.uid; time = e.time; graph = e.graph }
-
--- the entry, with its soup's signature
-abbrev pub told : FullEntry → ℕ × Entry
-told e = (e.soup, as_entry e)
 
 -- the entry's text
 abbrev pub text_of : FullEntry → List ℕ

@@ -6,13 +6,13 @@ ghost use Rattle.newt_graph.specs.Graph.{IsGraph, payload};
 ghost use Rattle.newt_spec_image.specs.Objects.{pages_for};
 ghost use Rattle.newt_soupdir.specs.Bare.{bare_soup, bare_store};
 ghost use Rattle.newt_spec_graph.specs.Lists.{Each};
-ghost use Rattle.newt_spec_store.specs.Cost.{large_length, entry_pages, skeleton_length};
+ghost use Rattle.newt_spec_store.specs.Cost.{cost, large_length, entry_pages, skeleton_length};
 ghost use Rattle.newt_spec_store.specs.Valid.{valid_entry, well_formed};
 ghost use Rattle.newt_backup.specs.Checks.{behind, are_of};
-ghost use Rattle.newt_backup.specs.Contents.{told, as_entry, AreKept, IsNoStore, IsSound};
+ghost use Rattle.newt_backup.specs.Contents.{store_in, AreKept, IsNoStore, IsSound};
+ghost use Rattle.newt_entries.specs.Full.{told, as_entry};
 
-use crate::entry::FullEntry;
-use newt_entries::MOST_TEXT;
+use newt_entries::{FullEntry, MOST_TEXT};
 use newt_graph::{Graph, Node};
 use newt_nsof_flat::is_frame;
 use newt_nsof_write::skeleton_len;
@@ -143,22 +143,23 @@ fn entry_pages(entry: &FullEntry) -> u64
     pages_for(record) + large_pages(nodes)
 }
 
-/// Whether a directory of so many bytes and entries fit on the largest unit.
-fn fit(size: usize, entries: &[FullEntry]) -> bool
-    requires { size < 2 ^ 63 }
+/// Whether a directory of so many bytes and entries take no more than so many pages.
+fn fit(size: usize, entries: &[FullEntry], most: u64) -> bool
+    requires size { size < 2 ^ 63 }
+    requires few { most ≤ 15978 }
     ensures { result ≡ nat_le (pages_for size + sum_by (λ e. entry_pages (as_entry e)) entries.now)
-        15978 }
+        most }
 {
     let mut pages = pages_for(size as u64);
     let mut left = entries;
     while let [entry, rest @ ..] = left {
-        if pages > MOST_PAGES {
+        if pages > most {
             return false;
         }
         pages += entry_pages(entry);
         left = rest;
     }
-    pages <= MOST_PAGES
+    pages <= most
 }
 
 /// A graph is in normal form, as its type says.
@@ -224,5 +225,20 @@ pub fn is_store(
         return Ok(false);
     }
     let bytes = write_directory(alloc, directory)?;
-    Ok(fit(bytes.len(), entries))
+    Ok(fit(bytes.len(), entries, MOST_PAGES))
+}
+
+/// Whether the store of a directory and entries costs no more than so many pages.
+pub fn costs_at_most(
+    alloc: Global,
+    directory: &Directory,
+    entries: &[FullEntry],
+    most: u32,
+) -> Result<bool, AllocError>
+    requires kept { AreKept directory.now entries.now }
+    requires few { most ≤ 15978 }
+    ensures { IfOk result (λ yes. yes ≡ nat_le (cost (store_in directory.now entries.now)) most) }
+{
+    let bytes = write_directory(alloc, directory)?;
+    Ok(fit(bytes.len(), entries, u64::from(most)))
 }

@@ -15,17 +15,16 @@
 
 mod checks;
 mod cutting;
-mod entry;
 mod fault;
 mod laws;
 mod nodes;
 mod pack;
 mod read;
 
-pub use checks::is_store;
-pub use entry::FullEntry;
+pub use checks::{costs_at_most, is_store};
 pub use fault::BackupFault;
 pub use laws::{backups_are_graphs, backups_are_of_one_store};
+pub use newt_entries::FullEntry;
 pub use pack::pack_backup;
 pub use read::read_backup;
 

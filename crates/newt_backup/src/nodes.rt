@@ -6,8 +6,8 @@ ghost use Rattle.newt_backup.specs.Backup.{cuts, cuts_at, packed, full, piece_co
 ghost use Rattle.newt_backup.specs.Contents.{text_of, IsSmall};
 
 use crate::cutting::{pieces_for, put_cut};
-use crate::entry::FullEntry;
 use newt_base::{push16, push32};
+use newt_entries::FullEntry;
 use newt_graph::{Node, Ref};
 use newt_nsof_write::{encode_flat, skeleton_len};
 use std::alloc::{AllocError, Global};

@@ -6,8 +6,8 @@ ghost use Rattle.newt_backup.specs.Backup.{first_cut, packed, backup, CanPack};
 ghost use Rattle.newt_backup.specs.Contents.{text_of, store_in, IsSmall, AreKept};
 
 use crate::cutting::{CLASS, PIECE, pieces_for, put_pieces, put_row};
-use crate::entry::FullEntry;
 use crate::nodes::{numbers, put_cuts};
+use newt_entries::FullEntry;
 use newt_graph::{Bytes, Graph, Node, Ref, Refs, Tags};
 use newt_soupdir::{Directory, write_directory};
 use std::alloc::{AllocError, Global};

@@ -6,14 +6,15 @@ ghost use Rattle.newt_spec_graph.specs.Graph.{every};
 ghost use Rattle.newt_backup.specs.Backup.{backup, Unbacked};
 ghost use Rattle.newt_spec_store.specs.Lies.{directory_read};
 ghost use Rattle.newt_backup.specs.Texts.{texts_from, full_read, contents_read};
-ghost use Rattle.newt_backup.specs.Contents.{told, AreKept, store_in};
+ghost use Rattle.newt_backup.specs.Contents.{AreKept, store_in};
+ghost use Rattle.newt_entries.specs.Full.{told};
 
 use crate::checks::is_store;
-use crate::entry::FullEntry;
 use crate::fault::BackupFault;
 use crate::nodes::HEAD;
 use crate::pack::pack_backup;
 use newt_base::{Sig, Uid, be16, be32};
+use newt_entries::FullEntry;
 use newt_graph::{Graph, Node};
 use newt_nsof_read::{NsofFault, decode};
 use newt_nsof_write::encode_flat;

@@ -2,7 +2,7 @@
 use Rattle.std.specs.Prelude.{ℕ, Bool, true, false, List, [], ◌∷◌, ◌++◌, codes, Option, Some, None}
 use Rattle.newt_base.specs.Text.{decimal_text}
 use Rattle.newt_base.specs.declared.Refusal.{Refusal}
-use Rattle.newt_base.specs.declared.Refusal.TheVariants.{Longline, Command, Line, Malformed, Compressed, Literal, Unit as NoUnit, Blocks, Mounted, Notmounted, Nostore, Store, Stores, Signature, Cursor, Watch, Copy, Soup, Exists, Entry, Changed, Notframe, Info, Path, Range, Spec, Index, Key, Limit, Size, Ids, Full}
+use Rattle.newt_base.specs.declared.Refusal.TheVariants.{Longline, Command, Line, Malformed, Compressed, Literal, Backup, Unit as NoUnit, Blocks, Mounted, Notmounted, Nostore, Store, Stores, Signature, Cursor, Watch, Copy, Soup, Exists, Entry, Changed, Notframe, Info, Path, Range, Spec, Index, Key, Limit, Size, Ids, Full}
 
 -- the one table: the number and the word of each refusal
 abbrev pub refusal_row : Refusal → ℕ × List ℕ
@@ -12,6 +12,7 @@ refusal_row Line = (11, codes "line")
 refusal_row Malformed = (1, codes "malformed")
 refusal_row Compressed = (2, codes "compressed")
 refusal_row Literal = (3, codes "literal")
+refusal_row Backup = (51, codes "backup")
 refusal_row NoUnit = (20, codes "unit")
 refusal_row Blocks = (27, codes "blocks")
 refusal_row Mounted = (21, codes "mounted")

@@ -8,6 +8,7 @@
 
 mod fault;
 mod fit;
+mod full;
 mod graphs;
 mod read;
 mod row;
@@ -15,6 +16,7 @@ mod write;
 
 pub use fault::EntryFault;
 pub use fit::MOST_TEXT;
+pub use full::FullEntry;
 pub use graphs::{filled, larges_of, row_of, skeleton, whole};
 pub use read::read_entry;
 pub use row::{EntryRow, LargeAt, Larges};

@@ -15,7 +15,7 @@ use Rattle.newt_spec_graph.specs.Lists.{Among}
 use Rattle.newt_spec_graph.proofs.Lists.{each-at, among-append, among-left, among-right}
 use Rattle.newt_objects_commit.specs.declared.batch.NewEntry.{NewEntry}
 use Rattle.newt_objects_commit.specs.declared.batch.NewLarge.{NewLarge}
-use Rattle.newt_objects_commit.specs.Batch.{HasPut, HasNone, HasIds, HasLarges, HasEntry, IsApart, AreOnce, AreWritten, AddsPages, large_ids, pages_held, all_pages_held, over_pages}
+use Rattle.newt_objects_commit.specs.Batch.{HasPut, HasNone, HasIds, HasLarges, HasEntry, HasEntries, AreApart, IsApart, AreOnce, AreWritten, AddsPages, large_ids, pages_held, all_pages_held, over_pages}
 
 -- ---- elements of lists
 
@@ -133,6 +133,38 @@ entry-put e old mid new ids put larges = record {
   entry_is = λ x is. subst (λ (y : NewEntry). map.get new y.id ≡ Some y.bytes.items) (some_inj e x is) (larges.others e.id (record-apart e ids) ∙ put.object);
   larges_are = λ x l is among. larges.objects l (subst (λ (y : NewEntry). Among y.larges.items l) (sym (some_inj e x is)) among);
   others = λ id out. larges.others id (out e refl).1 ∙ put.others id (λ same. (out e refl).0 (sym same));
+}
+
+-- ---- new entries that are put, one after another
+
+pub entries-first : (texts : Objects) → HasEntries [] texts texts
+entries-first texts = record {
+  records_are = λ e among. absurd among;
+  larges_are = λ e l among. absurd among;
+  others = λ id out. refl;
+}
+
+-- one more, none of whose objects is one of those before it
+pub entries-more : (entries : List NewEntry) (e : NewEntry) (old mid new : Objects) → ((x : NewEntry) → Among entries x → AreApart x e)
+    → ((x : NewEntry) → Among entries x → HasIds x) → HasIds e → HasEntries entries old mid → HasEntry (Some e) mid new → HasEntries (entries ++ e ∷ []) old new
+entries-more entries e old mid new apart ids last_ids so_far put = record {
+  records_are = λ x among. elim (among-append entries (e ∷ []) x among) [
+    | inl before ↦ put.others x.id (λ y is. (
+      λ same. (apart x before).records_apart (sym same ∙ ap (λ (z : NewEntry). z.id) (sym (some_inj e y is))),
+      λ large. odd_even x.id (ids x before).odd (last_ids.even x.id (subst (λ (z : NewEntry). Among (large_ids z) x.id) (sym (some_inj e y is)) large)).0,
+    )) ∙ so_far.records_are x before
+    | inr last ↦ subst (λ (y : NewEntry). map.get new y.id ≡ Some y.bytes.items) (among-one e x last) (put.entry_is e refl)
+  ];
+  larges_are = λ x l among large. elim (among-append entries (e ∷ []) x among) [
+    | inl before ↦ (let its : Among (large_ids x) l.id = among-map (λ (k : NewLarge). k.id) x.larges.items l large in
+        put.others l.id (λ y is. (
+          λ same. odd_even l.id (subst (λ (n : ℕ). n % 2 ≡ 1) (ap (λ (z : NewEntry). z.id) (some_inj e y is) ∙ same) last_ids.odd) ((ids x before).even l.id its).0,
+          λ other. (apart x before).larges_apart l.id its (subst (λ (z : NewEntry). Among (large_ids z) l.id) (sym (some_inj e y is)) other),
+        )) ∙ so_far.larges_are x l before large)
+    | inr last ↦ put.larges_are e l refl (subst (λ (y : NewEntry). Among y.larges.items l) (sym (among-one e x last)) large)
+  ];
+  others = λ id out. put.others id (λ y is. subst (λ (z : NewEntry). (z.id ≢ id) × (Among (large_ids z) id → ⊥)) (some_inj e y is) (out e (among-right entries (e ∷ []) e (inl refl))))
+      ∙ so_far.others id (λ x before. out x (among-left entries (e ∷ []) x before));
 }
 
 -- all three steps of a change

@@ -45,6 +45,17 @@ pub record HasEntry (entry : Option NewEntry) (old new : Objects) : Type 0 where
   pub larges_are : (e : NewEntry) (l : NewLarge) → entry ≡ Some e → Among e.larges.items l → map.get new l.id ≡ Some l.bytes.items
   pub others : (id : ℕ) → ((e : NewEntry) → entry ≡ Some e → (e.id ≢ id) × (Among (large_ids e) id → ⊥)) → map.get new id ≡ map.get old id
 
+-- The records of these new entries and their large binaries were put, and all other objects are as they were.
+pub record HasEntries (entries : List NewEntry) (old new : Objects) : Type 0 where
+  pub records_are : (e : NewEntry) → Among entries e → map.get new e.id ≡ Some e.bytes.items
+  pub larges_are : (e : NewEntry) (l : NewLarge) → Among entries e → Among e.larges.items l → map.get new l.id ≡ Some l.bytes.items
+  pub others : (id : ℕ) → ((e : NewEntry) → Among entries e → (e.id ≢ id) × (Among (large_ids e) id → ⊥)) → map.get new id ≡ map.get old id
+
+-- no object of one new entry is one of the other's
+pub record AreApart (e other : NewEntry) : Type 0 where
+  pub records_apart : e.id ≢ other.id
+  pub larges_apart : (id : ℕ) → Among (large_ids e) id → Among (large_ids other) id → ⊥
+
 -- The directory, the new entry's record and its large binaries were put, and these are no objects any more.
 pub record AreWritten (directory : List ℕ) (entry : Option NewEntry) (gone : List ℕ) (old new : Objects) : Type 0 where
   pub directory_is : map.get new 0 ≡ Some directory

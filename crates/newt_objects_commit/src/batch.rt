@@ -35,8 +35,8 @@ pub struct NewEntry {
     pub larges: Vec<NewLarge>,
 }
 
-// Plans the bytes of an object. Bytes that an object cannot have are no bytes that memory has.
-fn plan_object(
+/// Plans the bytes of an object. Bytes that an object cannot have are no bytes that memory has.
+pub fn plan_object(
     objects: &mut Objects,
     id: u32,
     bytes: &[u8],
@@ -83,8 +83,8 @@ fn plan_larges(
     Ok(())
 }
 
-// Plans the record of the new entry and its large binaries, if there is one.
-fn plan_entry(
+/// Plans the record of the new entry and its large binaries, if there is one.
+pub fn plan_entry(
     objects: &mut Objects,
     entry: &Option<NewEntry>,
     batch: &mut Batch,

@@ -12,7 +12,7 @@ mod patch;
 mod places;
 mod write;
 
-pub use batch::{NewEntry, NewLarge, plan_objects};
+pub use batch::{NewEntry, NewLarge, plan_entry, plan_object, plan_objects};
 pub use commit::commit_plans;
 pub use names::NameTable;
 pub use patch::patch_object;

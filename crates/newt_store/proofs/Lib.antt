@@ -22,3 +22,4 @@ pub mod Larges
 pub mod Leaving
 pub mod Opened
 pub mod Gathered
+pub mod Filled

@@ -3,3 +3,4 @@ pub mod Next
 pub mod Patch
 pub mod Calls
 pub mod Writes
+pub mod Fill

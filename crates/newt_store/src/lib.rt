@@ -9,6 +9,7 @@
 
 mod carry;
 mod declare;
+mod fill;
 mod format;
 mod large;
 mod next;

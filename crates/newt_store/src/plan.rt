@@ -159,7 +159,7 @@ pub(crate) fn ids_of(alloc: Global, larges: &[NewLarge]) -> Result<Vec<u32>, All
 }
 
 // The bytes of the record of an entry whose large binaries have objects of these ids.
-fn record_of(
+pub(crate) fn record_of(
     alloc: Global,
     sig: Sig,
     uid: Uid,

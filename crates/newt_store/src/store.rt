@@ -15,13 +15,16 @@ ghost use Rattle.newt_store_catalog.specs.Stands.{StandsFor};
 ghost use Rattle.newt_store.specs.Calls.{AreGathered, CallEnds, Changes, FormatsUnit, IsOpen};
 ghost use Rattle.newt_store.specs.Calls.{ForShown, OpensAs, OpensStore, Reads, catalog_of};
 ghost use Rattle.newt_store.specs.Calls.{unit_of};
+ghost use Rattle.newt_store.specs.Fill.{AreStore};
 
 use crate::carry::carry_out;
+use crate::fill::fill_unit;
 use crate::format::format_unit;
 use crate::large::read_large;
 use crate::patch::patch_entry;
 use crate::plan::plan_change;
 use newt_base::{Name, Sig, Uid};
+use newt_entries::FullEntry;
 use newt_graph::Bytes;
 use newt_host::{Host, Unit};
 use newt_pagebook::{BookFault, PageBook, Stop};
@@ -57,6 +60,29 @@ impl<P: PageBook> Store<P> {
             (H.outside host.old) (H.outside host.new) result }
     {
         format_unit::<P, H>(alloc, host, unit, name, sig)
+    }
+
+    /// Makes a unit's image that of the store which a directory and entries are, with its ids,
+    /// minutes and next numbers, and whatever stood there before. The entries stand in the store's
+    /// order: the soups in order of making, the entries of each in order of id. Each page is
+    /// written once. After want of memory nothing has happened; after a fault of the device nothing
+    /// is said of the unit.
+    pub fn fill<H: Host>(
+        alloc: Global,
+        host: &mut H,
+        unit: Unit,
+        directory: &Directory,
+        entries: &[FullEntry],
+    ) -> Result<(), Stop>
+        requires enough { 13 ≤ (H.outside host.old).blocks unit }
+        requires not_too_many { (H.outside host.old).blocks unit ≤ 4099 }
+        requires whole { (s : PlainStore) × AreStore ((H.outside host.old).blocks unit) s
+            directory.now entries.now }
+        ensures { (s : PlainStore) → AreStore ((H.outside host.old).blocks unit) s
+            directory.now entries.now → FormatsUnit H.told unit s
+            (H.outside host.old) (H.outside host.new) result }
+    {
+        fill_unit::<P, H>(alloc, host, unit, directory, entries)
     }
 
     /// Opens the store of a unit on which nothing is pending.

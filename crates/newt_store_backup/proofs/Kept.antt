@@ -23,9 +23,10 @@ use Rattle.newt_store_catalog.specs.Stands.{StandsFor}
 use Rattle.newt_store_catalog.specs.declared.catalog.Catalog.{Catalog}
 use Rattle.newt_store_catalog.proofs.Exits.{Fails, no-value, search-fails}
 use Rattle.newt_store.proofs.Reading.{is-valid, read-back}
-use Rattle.newt_backup.specs.declared.entry.FullEntry.{FullEntry}
+use Rattle.newt_entries.specs.declared.full.FullEntry.{FullEntry}
 use Rattle.newt_backup.specs.Backup.{IsKept, backup}
-use Rattle.newt_backup.specs.Contents.{told, store_in}
+use Rattle.newt_backup.specs.Contents.{store_in}
+use Rattle.newt_entries.specs.Full.{told}
 use Rattle.newt_backup.proofs.Kept.{valid-most}
 use Rattle.newt_backup.proofs.Together.{store-together}
 use Rattle.newt_backup.specs.Together.{together}

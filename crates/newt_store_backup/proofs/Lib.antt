@@ -1,3 +1,5 @@
 pub mod Listed
 pub mod Steps
 pub mod Kept
+pub mod Restored
+pub mod Remade

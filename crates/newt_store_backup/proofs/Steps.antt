@@ -3,8 +3,8 @@ use Rattle.std.proofs.Common.{◌≡◌, ◌≤◌, ◌<◌, ◌-◌, sym, ◌�
 use Rattle.std.proofs.lemmas.List.{append-nil, map-append}
 use Rattle.std.proofs.lemmas.Grind.{common_steps}
 use Rattle.newt_spec_store.specs.Store.{Entry}
-use Rattle.newt_backup.specs.declared.entry.FullEntry.{FullEntry}
-use Rattle.newt_backup.specs.Contents.{as_entry, told}
+use Rattle.newt_entries.specs.declared.full.FullEntry.{FullEntry}
+use Rattle.newt_entries.specs.Full.{as_entry, told}
 use Rattle.newt_store_backup.specs.Listed.{entry_row}
 
 -- an entry that was found is put

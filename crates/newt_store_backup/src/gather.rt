@@ -1,6 +1,6 @@
 //! All entries of a store are read.
 ghost use Rattle.std.specs.Prelude.{◌≡◌, ◌++◌, map, OnOk, IfOk};
-ghost use Rattle.newt_backup.specs.Contents.{told};
+ghost use Rattle.newt_entries.specs.Full.{told};
 ghost use Rattle.newt_spec_store.specs.Image.{all_entries};
 ghost use Rattle.newt_spec_store.specs.Store.{entry_at, soup_of};
 ghost use Rattle.newt_store.specs.Calls.{ForShown, IsOpen, Reads, catalog_of, unit_of};

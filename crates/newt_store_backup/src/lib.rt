@@ -8,7 +8,14 @@
 
 mod backup;
 mod gather;
+mod remake;
+mod restore;
 mod text;
 
 pub use backup::backup_of;
+pub use remake::restore_text;
+pub use restore::{fits_on, restore_store};
 pub use text::backup_text;
+
+#[cfg(test)]
+mod tests;

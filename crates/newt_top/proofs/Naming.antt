@@ -8,7 +8,7 @@ use Rattle.std.proofs.lemmas.Slice.Eq.{bytes_eq-Decides}
 use Rattle.std.proofs.lemmas.Bool.{false≢true}
 use Rattle.newt_host_attach.specs.Named.{AreDistinct}
 use Rattle.newt_spec_graph.specs.Lists.{all_apart}
-use Rattle.newt_top.specs.Words.{are_names, script_over, conversion_named, alone, generated, reading_of, mode_of, names_of}
+use Rattle.newt_top.specs.Words.{are_names, script_over, conversion_named, alone, generated, reading_of, restoring, mode_of, names_of}
 use Rattle.newt_top.specs.declared.status.Mode.{Mode}
 use Rattle.newt_top.specs.declared.status.Mode.TheVariants.{Run}
 use Rattle.newt_top.specs.declared.status.Reading.{Reading}
@@ -77,17 +77,24 @@ reading_names reading [] mode is = absurd (cc)
 reading_names reading (name ∷ []) mode is = refl
 reading_names reading (name ∷ other ∷ names) mode is = absurd (cc)
 
+-- of a restoring
+restoring_names : (words : List (List ℕ)) (mode : Mode) → restoring words ≡ Some mode → are_names words ≡ true
+restoring_names [] mode is = absurd (cc)
+restoring_names (name ∷ []) mode is = refl
+restoring_names (name ∷ other ∷ names) mode is = absurd (cc)
+
 pub mode_names : (words : List (List ℕ)) (mode : Mode) → mode_of words ≡ Some mode → are_names (names_of words) ≡ true
 mode_names [] mode is = absurd (cc)
-mode_names (word ∷ words) mode is = go (bytes_eq word (codes "gen")) (bytes_eq word (codes "run")) (bytes_eq word (codes "backup")) (bytes_eq word (codes "check")) is
+mode_names (word ∷ words) mode is = go (bytes_eq word (codes "gen")) (bytes_eq word (codes "run")) (bytes_eq word (codes "backup")) (bytes_eq word (codes "check")) (bytes_eq word (codes "restore")) is
   where
-    go : (a b d f : Bool) → ◌≡◌ {A = Option Mode} (cond a (generated words) (cond b (script_over words) (cond d (reading_of Backup words) (cond f (reading_of Check words) (alone words (conversion_named word)))))) (Some mode)
+    go : (a b d f h : Bool) → ◌≡◌ {A = Option Mode} (cond a (generated words) (cond b (script_over words) (cond d (reading_of Backup words) (cond f (reading_of Check words) (cond h (restoring words) (alone words (conversion_named word))))))) (Some mode)
         → are_names (cond a (drop 2 words) words) ≡ true
-    go true b d f e = generated_names words mode e
-    go false true d f e = script_names (are_names words) words mode refl e
-    go false false true f e = reading_names Backup words mode e
-    go false false false true e = reading_names Check words mode e
-    go false false false false e = alone_names words (conversion_named word) mode e
+    go true b d f h e = generated_names words mode e
+    go false true d f h e = script_names (are_names words) words mode refl e
+    go false false true f h e = reading_names Backup words mode e
+    go false false false true h e = reading_names Check words mode e
+    go false false false false true e = restoring_names words mode e
+    go false false false false false e = alone_names words (conversion_named word) mode e
 
 pub few_names : (names : List (List ℕ)) → are_names names ≡ true → length names ≤ 8
 few_names names are = grind (arith, (both (nat_le (length names) 8) (all_apart bytes_eq names) are).0)

@@ -5,7 +5,7 @@ use Rattle.newt_script_session.specs.Causes.{NeverLess, NoStreamFault}
 use Rattle.newt_script_session.specs.declared.halt.Halt.{Halt}
 use Rattle.newt_script_session.specs.declared.halt.Halt.TheVariants.{Memory as NoMemory, Source as BadSource, Sink as BadSink, TooLong as LongInput}
 use Rattle.newt_top.specs.declared.status.Mode.{Mode}
-use Rattle.newt_top.specs.declared.status.Mode.TheVariants.{Run, Convert, Generate, Read}
+use Rattle.newt_top.specs.declared.status.Mode.TheVariants.{Run, Convert, Generate, Read, Restore}
 use Rattle.newt_top.specs.declared.status.Status.{Status}
 use Rattle.newt_top.specs.declared.status.Status.TheVariants.{Ok, Usage, Memory, Device, Source, Sink, TooLong}
 
@@ -31,13 +31,14 @@ abbrev pub ended_as : {T : Type 0} → Result T Halt → Status
 ended_as (Answered x) = Ok
 ended_as (Ended halt) = status_of halt
 
--- a device is read in this mode, and where it fails the run ends
+-- a device is read in this mode, or a store is made on it, and where it fails the run ends
 abbrev pub ReadsDevice : Option Mode → Type 0
 ReadsDevice None = ⊥
 ReadsDevice (Some Run) = ⊥
 ReadsDevice (Some (Convert conversion)) = ⊥
 ReadsDevice (Some (Generate seed count)) = ⊥
 ReadsDevice (Some (Read reading)) = Unit {0}
+ReadsDevice (Some Restore) = Unit {0}
 
 -- the device of unit 0 failed where it was read; in the other modes a device that fails ends no run
 abbrev pub HasDeviceCause : Option Mode → ℕ → (old new : Outside) → Type 0
@@ -69,6 +70,7 @@ HasRunThrough (Some Run) old new = NoStreamFault old new
 HasRunThrough (Some (Convert conversion)) old new = NoStreamFault old new
 HasRunThrough (Some (Generate seed count)) old new = NoStreamFault old new
 HasRunThrough (Some (Read reading)) old new = NoFault old new
+HasRunThrough (Some Restore) old new = NoFault old new
 
 -- with Usage no fault was counted, and with Ok none that would have ended the run
 abbrev pub IsFaultFree : Option Mode → Status → (old new : Outside) → Type 0

@@ -1,7 +1,7 @@
 use Rattle.std.proofs.Common.{◌≡◌, length, map}
 use Rattle.newt_soupdir.specs.Bare.{bare_soup}
 use Rattle.newt_backup.specs.Checks.{are_of}
-use Rattle.newt_backup.specs.Contents.{told}
+use Rattle.newt_entries.specs.Full.{told}
 use Rattle.newt_backup.proofs.checks.are_of.Given as goal
 
 abbrev pub invariant-loop-soups : goal.invariant-loop-soups

@@ -1,6 +1,6 @@
 use Rattle.std.proofs.Common.{◌≡◌, length, map}
 use Rattle.newt_backup.specs.Checks.{behind}
-use Rattle.newt_backup.specs.Contents.{told}
+use Rattle.newt_entries.specs.Full.{told}
 use Rattle.newt_backup.proofs.checks.behind.Given as goal
 
 abbrev pub invariant-loop-left : goal.invariant-loop-left

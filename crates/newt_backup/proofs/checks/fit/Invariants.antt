@@ -2,7 +2,7 @@ use Rattle.std.proofs.Common.{◌≡◌, ◌≤◌, ◌+◌, length}
 use Rattle.std.specs.List.{sum_by}
 use Rattle.newt_spec_image.specs.Objects.{pages_for}
 use Rattle.newt_spec_store.specs.Cost.{entry_pages}
-use Rattle.newt_backup.specs.Contents.{as_entry}
+use Rattle.newt_entries.specs.Full.{as_entry}
 use Rattle.newt_backup.proofs.checks.fit.Given as goal
 
 abbrev pub invariant-loop-left : goal.invariant-loop-left

@@ -1,6 +1,6 @@
 use Rattle.std.proofs.Common.{rules, ◌≡◌, true}
 use Rattle.newt_spec_graph.specs.Graph.{is_frame, object}
-use Rattle.newt_backup.specs.Contents.{as_entry}
+use Rattle.newt_entries.specs.Full.{as_entry}
 use Rattle.newt_backup.proofs.Pages.{entry-valid}
 use Rattle.newt_backup.proofs.checks.is_entry.Goals as goal
 

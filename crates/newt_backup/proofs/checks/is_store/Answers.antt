@@ -2,7 +2,7 @@ use Rattle.std.proofs.Common.{rules, ◌≡◌, ◌+◌, true, false, sym, ◌�
 use Rattle.std.specs.Option.{IfSome}
 use Rattle.std.specs.List.{sum_by}
 use Rattle.std.proofs.lemmas.Bool.{false≢true}
-use Rattle.newt_backup.specs.declared.entry.FullEntry.{FullEntry}
+use Rattle.newt_entries.specs.declared.full.FullEntry.{FullEntry}
 use Rattle.newt_spec_image.specs.Objects.{pages_for}
 use Rattle.newt_graph.specs.Graph.{IsGraph}
 use Rattle.newt_soupdir.specs.Bare.{bare_soup, bare_store}
@@ -11,7 +11,7 @@ use Rattle.newt_spec_store.specs.Store.{Soup}
 use Rattle.newt_spec_store.specs.Cost.{directory_bytes, entry_pages}
 use Rattle.newt_spec_store.specs.Valid.{well_formed}
 use Rattle.newt_backup.specs.Checks.{are_of}
-use Rattle.newt_backup.specs.Contents.{told, as_entry}
+use Rattle.newt_entries.specs.Full.{told, as_entry}
 use Rattle.newt_backup.proofs.Back.{kept-yes, kept-passes, kept-fits, store-theirs}
 use Rattle.newt_backup.proofs.checks.is_store.Goals as goal
 

@@ -1,5 +1,5 @@
 use Rattle.std.proofs.Common.{rules, ◌≡◌, ◌-◌, ◌++◌, ◌∙◌, ap, subst, List, length, take, drop, map}
-use Rattle.newt_backup.specs.declared.entry.FullEntry.{FullEntry}
+use Rattle.newt_entries.specs.declared.full.FullEntry.{FullEntry}
 use Rattle.newt_entries.proofs.Steps.{all-rest}
 use Rattle.newt_backup.specs.Backup.{cut, cuts}
 use Rattle.newt_backup.specs.Contents.{text_of, IsSmall}

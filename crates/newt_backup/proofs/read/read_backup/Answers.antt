@@ -3,7 +3,8 @@ use Rattle.newt_soupdir.specs.Bare.{bare_store}
 use Rattle.newt_spec_store.specs.Valid.{well_formed}
 use Rattle.newt_backup.specs.Backup.{backup}
 use Rattle.newt_backup.specs.Texts.{texts_from}
-use Rattle.newt_backup.specs.Contents.{told, store_in}
+use Rattle.newt_backup.specs.Contents.{store_in}
+use Rattle.newt_entries.specs.Full.{told}
 use Rattle.newt_backup.proofs.Back.{the-store, found-store, read-formed}
 use Rattle.newt_backup.proofs.read.read_backup.Goals as goal
 

@@ -2,7 +2,7 @@ use Rattle.std.proofs.Common.{rules, ◌≡◌, ◌-◌, ◌++◌, ◌∷◌, []
 use Rattle.std.specs.Prelude.{option_map}
 use Rattle.newt_spec_graph.specs.Graph.{every}
 use Rattle.newt_backup.specs.Texts.{full_read}
-use Rattle.newt_backup.specs.Contents.{told}
+use Rattle.newt_entries.specs.Full.{told}
 use Rattle.newt_backup.proofs.Steps.{opened}
 use Rattle.newt_backup.proofs.Back.{fulls-more}
 use Rattle.newt_backup.proofs.read.read_fulls.Goals as goal

@@ -2,7 +2,7 @@ use Rattle.std.proofs.Common.{◌≡◌, ◌++◌, length, map}
 use Rattle.std.specs.Prelude.{option_map}
 use Rattle.newt_spec_graph.specs.Graph.{every}
 use Rattle.newt_backup.specs.Texts.{full_read}
-use Rattle.newt_backup.specs.Contents.{told}
+use Rattle.newt_entries.specs.Full.{told}
 use Rattle.newt_backup.proofs.read.read_fulls.Given as goal
 
 abbrev pub invariant-loop-left : goal.invariant-loop-left

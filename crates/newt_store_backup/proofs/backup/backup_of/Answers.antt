@@ -11,7 +11,7 @@ use Rattle.newt_store_catalog.specs.Stands.{StandsFor}
 use Rattle.newt_store_catalog.proofs.Exits.{looks-on, rose-on, search-value, search-memory, search-device, search-after}
 use Rattle.newt_store_catalog.proofs.Opening.{same-image}
 use Rattle.newt_backup.specs.Backup.{IsKept, backup}
-use Rattle.newt_backup.specs.Contents.{told}
+use Rattle.newt_entries.specs.Full.{told}
 use Rattle.newt_store_backup.proofs.Kept.{store-valid, the-store, no-backup}
 use Rattle.newt_store_backup.proofs.backup.backup_of.Goals as goal
 

@@ -2,8 +2,8 @@ use Rattle.std.proofs.Common.{rules, ◌≡◌, ℕ, List, [], ◌++◌, map, �
 use Rattle.newt_host.specs.Moments.{image}
 use Rattle.newt_soupdir.specs.declared.rows.Directory.{Directory}
 use Rattle.newt_soupdir.specs.declared.rows.SoupRow.{SoupRow}
-use Rattle.newt_backup.specs.declared.entry.FullEntry.{FullEntry}
-use Rattle.newt_backup.specs.Contents.{told}
+use Rattle.newt_entries.specs.declared.full.FullEntry.{FullEntry}
+use Rattle.newt_entries.specs.Full.{told}
 use Rattle.newt_store_backup.specs.Listed.{soups_listed}
 use Rattle.newt_store_backup.proofs.Kept.{directory-lists}
 use Rattle.newt_store_backup.proofs.gather.entries_of.Goals as goal

@@ -1,7 +1,7 @@
 use Rattle.std.proofs.Common.{rules, refl}
 use Rattle.newt_store_backup.proofs.Steps.{row-put, row-none}
 use Rattle.newt_spec_store.specs.Store.{entry_at}
-use Rattle.newt_backup.specs.declared.entry.FullEntry.{FullEntry}
+use Rattle.newt_entries.specs.declared.full.FullEntry.{FullEntry}
 use Rattle.newt_store_backup.proofs.gather.put_entry.Goals as goal
 
 pub returns-in_ok-push-in-Ok-Some-clause-put : goal.returns-in_ok-push-in-Ok-Some-clause-put

@@ -1,7 +1,7 @@
 use Rattle.std.proofs.Common.{◌≡◌, ◌++◌, IsTrue, length, map}
 use Rattle.newt_host.specs.Outside.{NoFault}
 use Rattle.newt_spec_store.specs.Store.{Store as PlainStore}
-use Rattle.newt_backup.specs.Contents.{told}
+use Rattle.newt_entries.specs.Full.{told}
 use Rattle.newt_store.specs.Calls.{Shows, Reads}
 use Rattle.newt_store_backup.specs.Listed.{entries_listed}
 use Rattle.newt_store_backup.proofs.gather.put_listed.Given as goal

@@ -1,7 +1,7 @@
 use Rattle.std.proofs.Common.{◌≡◌, ◌++◌, ℕ, List, map, subst, ◌∙◌}
 use Rattle.std.specs.Prelude.{OnOk}
 use Rattle.newt_host.specs.Moments.{image}
-use Rattle.newt_backup.specs.Contents.{told}
+use Rattle.newt_entries.specs.Full.{told}
 use Rattle.newt_store_backup.specs.Listed.{entries_listed}
 use Rattle.newt_store_backup.proofs.gather.put_soup.Goals as goal
 

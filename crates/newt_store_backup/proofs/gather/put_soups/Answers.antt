@@ -2,7 +2,7 @@ use Rattle.std.proofs.Common.{refl, map}
 use Rattle.newt_host.proofs.Outside.{NoFault-append}
 use Rattle.newt_spec_store.specs.Store.{soup_of}
 use Rattle.newt_store_change.specs.Change.{uids_in}
-use Rattle.newt_backup.specs.Contents.{told}
+use Rattle.newt_entries.specs.Full.{told}
 use Rattle.newt_store_catalog.proofs.Exits.{read-after, read-fails}
 use Rattle.newt_store_indexed.proofs.Reading.{shows-on, reads-more}
 use Rattle.newt_store_backup.specs.Listed.{entries_listed, soups_listed}

@@ -1,0 +1,173 @@
+-- A restoring that is refused, and one that is not.
+use Rattle.std.proofs.Common.{◌≡◌, refl, sym, ◌∙◌, ap, subst, ℕ, ◌*◌, ◌/◌, Bool, true, false, not, nat_lt, ◌||◌, List, [], ◌∷◌, length, Option, Some, None, is_some, Result, Ok, Err, IfOk, OnOk, IsErr, IsErrAnd, IsTrue, arith}
+use Rattle.std.specs.Prelude.{option_map}
+use Rattle.newt_base.specs.Refusals.{first_of}
+use Rattle.newt_base.specs.declared.Refusal.{Refusal}
+use Rattle.newt_base.specs.declared.Refusal.TheVariants as refusals
+use Rattle.newt_graph.specs.Graph.{RawGraph}
+use Rattle.newt_host.specs.Moments.{Anything, Leaves, Moment, here}
+use Rattle.newt_host.specs.Outside.{Outside, NoFault, OnlyReads}
+use Rattle.newt_host.proofs.Outside.{NoFault-append, OnlyReads-refl, Touches-append, Touches-refl}
+use Rattle.newt_nsof_read.specs.Reading.{decoded}
+use Rattle.newt_nsof_read.specs.declared.fault.NsofFault.{NsofFault}
+use Rattle.newt_nsof_read.specs.declared.fault.NsofFault.TheVariants as faults
+use Rattle.newt_backup.proofs.One.{one-store}
+use Rattle.newt_pagebook.specs.Stops.{StopsAt}
+use Rattle.newt_pagebook.specs.declared.book.Stop.{Stop}
+use Rattle.newt_pagebook.specs.declared.book.Stop.TheVariants.{Memory}
+use Rattle.newt_spec_store.specs.OfImage.{blocks_of}
+use Rattle.newt_spec_store.specs.Store.{Store}
+use Rattle.newt_spec_store.specs.Valid.{fits}
+use Rattle.newt_store.specs.Calls.{FormatsUnit}
+use Rattle.newt_store_catalog.specs.Readable.{readable}
+use Rattle.newt_store_backup.specs.Remade.{IsAsked, IsDone, IsLeft, IsRemade, Refills, Restores, refused_on, remade, remade_text, unless_refused}
+use Rattle.newt_store_backup.specs.Written.{device_on}
+use Rattle.newt_store_catalog.specs.Reading.{ReadEnds}
+use Rattle.newt_store_catalog.proofs.Exits.{stops-on}
+
+-- ---- which refusal
+
+-- the image of a unit that has a device
+pub device-there : {A : Type 0} (image : List ℕ) (card : Option A) → is_some card ≡ true → option_map (λ (name : A). image) card ≡ Some image
+device-there image None some = absurd (cc)
+device-there image (Some name) some = refl
+
+-- a refusal by the outcomes of the tests
+abbrev pub row : (few many found fits : Bool) → Option Refusal
+row few many found fits = first_of ((refusals.Blocks, few || many) ∷ (refusals.Store, found) ∷ (refusals.Full, not fits) ∷ [])
+
+-- where only the last test is left
+pub by-fit : (s : Store) (image : List ℕ) (blocks : ℕ) (found fit : Bool) → length image ≡ blocks * 4096 → nat_lt blocks 13 ≡ false → nat_lt 4099 blocks ≡ false
+    → found ≡ is_some (readable image) → found ≡ false → fit ≡ fits blocks s → refused_on s (Some image) ≡ row false false false fit
+by-fit s image blocks found fit size few many is none fits_is =
+    let same : blocks_of image ≡ blocks = omega (arith, size) in
+    ap (λ (n : ℕ). row (nat_lt n 13) (nat_lt 4099 n) (is_some (readable image)) (fits n s)) same
+    ∙ ap (λ (few : Bool). row few (nat_lt 4099 blocks) (is_some (readable image)) (fits blocks s)) few
+    ∙ ap (λ (many : Bool). row false many (is_some (readable image)) (fits blocks s)) many
+    ∙ ap (λ (found : Bool). row false false found (fits blocks s)) (sym is ∙ none)
+    ∙ ap (λ (fit : Bool). row false false false fit) (sym fits_is)
+
+pub full-refused : (s : Store) (image : List ℕ) (blocks : ℕ) (found fit : Bool) → length image ≡ blocks * 4096 → nat_lt blocks 13 ≡ false → nat_lt 4099 blocks ≡ false
+    → found ≡ is_some (readable image) → found ≡ false → fit ≡ fits blocks s → fit ≡ false → Some refusals.Full ≡ refused_on s (Some image)
+full-refused s image blocks found fit size few many is none fits_is misfit =
+    sym (by-fit s image blocks found fit size few many is none fits_is ∙ ap (λ (fit : Bool). row false false false fit) misfit)
+
+pub none-refused : (s : Store) (image : List ℕ) (blocks : ℕ) (found fit : Bool) → length image ≡ blocks * 4096 → nat_lt blocks 13 ≡ false → nat_lt 4099 blocks ≡ false
+    → found ≡ is_some (readable image) → found ≡ false → fit ≡ fits blocks s → fit ≡ true → None ≡ refused_on s (Some image)
+none-refused s image blocks found fit size few many is none fits_is fitting =
+    sym (by-fit s image blocks found fit size few many is none fits_is ∙ ap (λ (fit : Bool). row false false false fit) fitting)
+
+-- a stream asks for one store, or is refused for one reason
+pub asked-one : (read : Result RawGraph NsofFault) (s : Store) (asked : Result Store Refusal) → IsAsked read (Ok s) → IsAsked read asked → asked ≡ Ok s
+asked-one (Ok g) s (Ok t) one other = ap Ok (one-store t s other.0 one.0 (other.1 ∙ sym one.1))
+asked-one (Ok g) s (Err refusal) one other = absurd (other.0 s one.0 one.1)
+asked-one (Err faults.Malformed) s asked one other = absurd (cc)
+asked-one (Err faults.Compressed) s asked one other = absurd (cc)
+asked-one (Err faults.Memory) s asked one other = absurd one
+
+-- a store that is not refused is what a device gets
+pub remade-one : (input : List ℕ) (s : Store) (device : Option (List ℕ)) (outcome : Result Store Refusal) → IsAsked (decoded input) (Ok s) → None ≡ refused_on s device → IsRemade input device outcome → outcome ≡ Ok s
+remade-one input s device outcome asked none is =
+    is.is ∙ ap (λ (a : Result Store Refusal). remade a device) (asked-one (decoded input) s is.asked asked is.is_asked) ∙ ap (unless_refused s) (sym none)
+
+-- ---- a unit that is only read
+
+-- nothing was said of its store, or it was refused
+pub restores-looked : {T : Type 0} {told : Bool} {unit : ℕ} {before after : Outside} (input : List ℕ) (r : Result T Stop) → OnlyReads unit before after → ReadEnds unit before after r → Restores {T = T} told unit input before after r
+restores-looked {unit = unit} {before = before} input r looks ends = record {
+  refused = λ tells outcome is err. looks;
+  unchanged = λ same. looks.moment;
+  any_moment = λ tells. subst (λ (now : Moment). Leaves unit Anything before.now now) (sym looks.moment) (here (record { others = λ other apart. refl; output = refl; unread = refl; crash = λ left may. tt }));
+  alone = looks.alone;
+  ends = ends;
+}
+
+-- ---- a unit that gets its store
+
+-- a store is no refusal
+no-refusal : {P : Type 0} (s : Store) → IsErr {T = Store} {E = Refusal} (Ok s) → P
+no-refusal s err = absurd (cc)
+
+-- it is not refused, so nothing is claimed of refusals
+pub restores-made : {T : Type 0} {told : Bool} {unit : ℕ} {before mid after : Outside} (input : List ℕ) (s : Store) (r : Result T Stop) → OnlyReads unit before mid → NoFault before mid
+    → IsAsked (decoded input) (Ok s) → (IsTrue told → None ≡ refused_on s (device_on unit before)) → Refills {T = T} told unit s mid after r → Restores {T = T} told unit input before after r
+restores-made {T = T} {told = told} {unit = unit} {before = before} {mid = mid} {after = after} input s r looks free asked none f = record {
+  refused = λ tells outcome is err. no-refusal s (subst (λ (o : Result Store Refusal). IsErr o) (remade-one input s (device_on unit before) outcome asked (none tells) is) err);
+  unchanged = λ same. f.unchanged same ∙ looks.moment;
+  any_moment = λ tells. subst (λ (now : Moment). Leaves unit Anything now after.now) looks.moment (f.any_moment tells);
+  alone = Touches-append looks.alone f.alone;
+  ends = made-ends looks free r f.ends;
+}
+  where
+    made-ends : OnlyReads unit before mid → NoFault before mid → (r : Result T Stop) → ReadEnds unit mid after r → ReadEnds unit before after r
+    made-ends looks free (Ok x) ends = record { cause = tt; no_fault = NoFault-append free ends.no_fault }
+    made-ends looks free (Err stop) ends = record { cause = stops-on stop after refl looks ends.cause; no_fault = tt }
+
+-- it has got it
+pub refills-ok : {T : Type 0} {told : Bool} {unit : ℕ} {s : Store} {before after : Outside} (x : Unit {0}) (value : T) → FormatsUnit told unit s before after (Ok x) → Refills {T = T} told unit s before after (Ok value)
+refills-ok x value f = record {
+  left = λ tells. (f.formatted tells, f.durable tells);
+  unchanged = λ same. absurd (cc);
+  any_moment = f.any_moment;
+  alone = f.alone;
+  ends = record { cause = tt; no_fault = f.ends.no_fault };
+}
+
+-- memory ran out before anything happened
+pub refills-none : {T : Type 0} {told : Bool} {unit : ℕ} {s : Store} (before : Outside) (r : Result T Stop) → IsErrAnd r (λ stop. stop ≡ Memory) → Refills {T = T} told unit s before before r
+refills-none before (Ok x) fails = absurd fails
+refills-none {T = T} {told = told} {unit = unit} {s = s} before (Err stop) fails = subst (λ (e : Stop). Refills {T = T} told unit s before before (Err e)) (sym fails) (record {
+  left = λ tells. tt;
+  unchanged = λ same. refl;
+  any_moment = λ tells. here (record { others = λ other apart. refl; output = refl; unread = refl; crash = λ left may. tt });
+  alone = Touches-refl unit before;
+  ends = record { cause = tt; no_fault = tt };
+})
+
+-- ---- what is written then
+
+-- an input is no backup
+pub done-unasked : {unit : ℕ} {before : Outside} (input : List ℕ) (refusal : Refusal) (text : List ℕ) → IsAsked (decoded input) (Err refusal) → text ≡ remade_text (Err refusal) → IsDone input unit before before text
+done-unasked {unit = unit} {before = before} input refusal text asked is = record {
+  outcome = Err refusal;
+  is_remade = record { asked = Err refusal; is_asked = asked; is = refl };
+  text_is = is;
+  left = OnlyReads-refl unit before;
+}
+
+-- a store is refused
+pub done-refused : {unit : ℕ} {before after : Outside} (input : List ℕ) (s : Store) (refusal : Refusal) (text : List ℕ) → IsAsked (decoded input) (Ok s) → Some refusal ≡ refused_on s (device_on unit before)
+    → text ≡ remade_text (Err refusal) → OnlyReads unit before after → IsDone input unit before after text
+done-refused input s refusal text asked some is looks = record {
+  outcome = Err refusal;
+  is_remade = record { asked = Ok s; is_asked = asked; is = ap (unless_refused s) some };
+  text_is = is;
+  left = looks;
+}
+
+-- it is made
+pub done-made : (unit : ℕ) (before after : Outside) (input : List ℕ) (s : Store) (text : List ℕ) → IsAsked (decoded input) (Ok s) → None ≡ refused_on s (device_on unit before)
+    → text ≡ remade_text (Ok s) → IsLeft (Ok s) unit before after → IsDone input unit before after text
+done-made unit before after input s text asked none is left = record {
+  outcome = Ok s;
+  is_remade = record { asked = Ok s; is_asked = asked; is = ap (unless_refused s) none };
+  text_is = is;
+  left = left;
+}
+
+-- ---- how a call ends that stops as another did
+
+pub ends-of : {U : Type 0} {unit : ℕ} {before after : Outside} (stop : Stop) (r : Result U Stop) → StopsAt unit before after stop → IsErrAnd r (λ e. e ≡ stop) → ReadEnds {T = U} unit before after r
+ends-of stop (Ok x) cause fails = absurd fails
+ends-of {unit = unit} {before = before} {after = after} stop (Err e) cause fails = record { cause = subst (λ (e : Stop). StopsAt unit before after e) (sym fails) cause; no_fault = tt }
+
+-- memory ran out
+pub ends-memory : {U : Type 0} {unit : ℕ} {before after : Outside} (r : Result U Stop) → IsErrAnd r (λ e. e ≡ Memory) → ReadEnds {T = U} unit before after r
+ends-memory (Ok x) fails = absurd fails
+ends-memory {unit = unit} {before = before} {after = after} (Err e) fails = record { cause = subst (λ (e : Stop). StopsAt unit before after e) (sym fails) tt; no_fault = tt }
+
+-- what is written of a store that is made, if it is
+pub done-if : {T : Type 0} (unit : ℕ) (before after : Outside) (input : List ℕ) (s : Store) (view : T → List ℕ) (r : Result T Stop) → IsAsked (decoded input) (Ok s) → None ≡ refused_on s (device_on unit before)
+    → IfOk r (λ text. view text ≡ remade_text (Ok s)) → OnOk r (IsLeft (Ok s) unit before after) → IfOk r (λ text. IsDone input unit before after (view text))
+done-if unit before after input s view (Ok text) asked none is left = done-made unit before after input s (view text) asked none is left
+done-if unit before after input s view (Err stop) asked none is left = tt
