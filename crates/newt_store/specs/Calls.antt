@@ -1,5 +1,5 @@
 -- What calls on a store promise. All of it is this project's own.
-use Rattle.std.specs.Prelude.{◌≡◌, ℕ, ◌*◌, Bool, IsTrue, List, Option, Some, None, IsSome, option_map, Result, OnOk, IfOk, IfErr, IsErrOf}
+use Rattle.std.specs.Prelude.{◌≡◌, ℕ, ◌+◌, ◌*◌, Bool, IsTrue, List, Option, Some, None, IsSome, option_map, Result, OnOk, IfOk, IfErr, IsErrOf}
 use Rattle.newt_nsof_flat.specs.Stream.{stream_graph}
 use Rattle.newt_host.specs.Moments.{Anything, IsDurable, image, Leaves}
 use Rattle.newt_host.specs.Outside.{Outside, NoFault, OnlyReads, Spends, Touches, Wears}
@@ -22,6 +22,7 @@ use Rattle.newt_objects_commit.specs.Names.{AreSoundNames, names_of}
 use Rattle.newt_objects_commit.specs.Places.{AreSoundPlaces, place_of}
 use Rattle.newt_soupdir.specs.Bare.{bare_store}
 use Rattle.newt_spec_image.specs.Objects.{Objects}
+use Rattle.newt_spec_image.specs.Records.{bank_blocks}
 use Rattle.newt_spec_store.specs.Valid.{well_formed}
 use Rattle.newt_store_change.specs.Change.{changed_by, answer_of, first_checks, refusal_of, most_bytes}
 use Rattle.newt_store_change.specs.Faults.{FaultsAt, GoesOn, IsRefused, RefusesWith}
@@ -62,6 +63,8 @@ pub record FormatsUnit (told : Bool) (unit : ℕ) (fresh : PlainStore) (before a
   pub open_after : IsTrue told → OnOk result (IsOpenFor 0 (image unit after.now))
   pub unchanged : IsErrOf result Memory → after.now ≡ before.now
   pub any_moment : IsTrue told → Leaves unit Anything before.now after.now
+  -- each block of a bank and each vote once
+  pub wears : Wears unit (bank_blocks (before.blocks unit) + 3) 9 before after
   pub alone : Touches unit before after
   pub ends : ReadEnds unit before after result
 

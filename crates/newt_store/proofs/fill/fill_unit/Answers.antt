@@ -1,4 +1,4 @@
-use Rattle.std.proofs.Common.{◌≡◌, ℕ, List, refl, ◌∙◌}
+use Rattle.std.proofs.Common.{◌≡◌, ℕ, List, refl, ◌∙◌, arith}
 use Rattle.newt_host.specs.Moments.{image, Anything}
 use Rattle.newt_host.proofs.Moments.{Leaves-start, Leaves-weaken}
 use Rattle.newt_host.proofs.Outside.{Touches-refl}
@@ -20,6 +20,7 @@ returns-in_err-batch g c = λ s is.
       open_after = λ tells. no-value c.from_residual.result _ c.from_residual.ensures.0;
       unchanged = λ is. refl;
       any_moment = λ tells. Leaves-start {P = Anything} (λ left may. tt);
+      wears = record { erased = omega arith; synced = omega arith };
       alone = Touches-refl c.args.unit o;
       ends = read-memory c.from_residual.result c.from_residual.ensures.1;
     }
@@ -38,6 +39,7 @@ returns-in-Ok g c = λ s is. record {
   open_after = λ tells. (c.in-Ok.ensures.formatted tells).0.blank;
   unchanged = λ is. absurd (cc);
   any_moment = λ tells. Leaves-weaken (λ left is. tt) (c.format.ensures.any_moment tells);
+  wears = c.format.ensures.wears;
   alone = c.format.ensures.alone;
   ends = record { cause = tt; no_fault = c.in-Ok.ensures.no_fault };
 }
@@ -49,6 +51,7 @@ returns g c = λ s is. record {
   open_after = λ tells. tt;
   unchanged = c.in-Err.ensures.unchanged;
   any_moment = λ tells. Leaves-weaken (λ left is. tt) (c.format.ensures.any_moment tells);
+  wears = c.format.ensures.wears;
   alone = c.format.ensures.alone;
   ends = record { cause = c.in-Err.ensures.cause; no_fault = tt };
 }

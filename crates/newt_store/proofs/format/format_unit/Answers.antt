@@ -23,6 +23,7 @@ returns-in_err-bytes g c =
       open_after = λ tells. no-value c.from_residual.result _ c.from_residual.ensures.0;
       unchanged = λ is. refl;
       any_moment = λ tells. Leaves-start {P = Anything} (λ left may. tt);
+      wears = record { erased = omega arith; synced = omega arith };
       alone = Touches-refl c.args.unit o;
       ends = read-memory c.from_residual.result c.from_residual.ensures.1;
     }
@@ -36,6 +37,7 @@ returns-in_err-plan_put g c =
       open_after = λ tells. no-value c.from_residual-in_err-plan_put.result _ c.from_residual-in_err-plan_put.ensures.0;
       unchanged = λ is. refl;
       any_moment = λ tells. Leaves-start {P = Anything} (λ left may. tt);
+      wears = record { erased = omega arith; synced = omega arith };
       alone = Touches-refl c.args.unit o;
       ends = read-memory c.from_residual-in_err-plan_put.result c.from_residual-in_err-plan_put.ensures.1;
     }
@@ -55,6 +57,7 @@ returns-in-Ok g c = record {
   open_after = λ tells. (c.in-Ok.ensures.formatted tells).0.blank;
   unchanged = λ is. absurd (cc);
   any_moment = λ tells. Leaves-weaken (λ left is. tt) (c.format.ensures.any_moment tells);
+  wears = c.format.ensures.wears;
   alone = c.format.ensures.alone;
   ends = record { cause = tt; no_fault = c.in-Ok.ensures.no_fault };
 }
@@ -66,6 +69,7 @@ returns g c = record {
   open_after = λ tells. tt;
   unchanged = c.in-Err.ensures.unchanged;
   any_moment = λ tells. Leaves-weaken (λ left is. tt) (c.format.ensures.any_moment tells);
+  wears = c.format.ensures.wears;
   alone = c.format.ensures.alone;
   ends = record { cause = c.in-Err.ensures.cause; no_fault = tt };
 }
