@@ -1,5 +1,6 @@
 pub mod Listed
 pub mod Steps
+pub mod Again
 pub mod Kept
 pub mod Restored
 pub mod Remade

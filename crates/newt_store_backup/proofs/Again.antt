@@ -1,0 +1,23 @@
+-- The store of which a stream is the backup.
+use Rattle.std.proofs.Common.{◌≡◌, refl, sym, ◌∙◌, ap, subst, ℕ, List, Option, Result, Ok, Err}
+use Rattle.newt_base.specs.declared.Refusal.{Refusal}
+use Rattle.newt_graph.specs.Graph.{RawGraph}
+use Rattle.newt_spec_nsof.specs.Written.{nsof}
+use Rattle.newt_nsof_read.specs.Reading.{decoded}
+use Rattle.newt_nsof_read.specs.declared.fault.NsofFault.{NsofFault}
+use Rattle.newt_nsof_read.proofs.Decoded.{written_is_read_again}
+use Rattle.newt_spec_store.specs.Store.{Store}
+use Rattle.newt_backup.specs.Backup.{IsKept, backup}
+use Rattle.newt_backup.proofs.Kept.{backup-graph}
+use Rattle.newt_store_backup.specs.Remade.{IsAsked, IsRemade, remade}
+use Rattle.newt_store_backup.proofs.Remade.{asked-one}
+
+-- the text of a store's backup asks for it
+pub asks-again : (s : Store) → IsKept s → IsAsked (decoded (nsof (backup s))) (Ok s)
+asks-again s kept =
+    subst (λ (read : Result RawGraph NsofFault). IsAsked read (Ok s)) (sym (written_is_read_again (backup s) (backup-graph s kept))) (kept, refl)
+
+-- and for nothing else
+pub one-again : (s : Store) → IsKept s → (device : Option (List ℕ)) (outcome : Result Store Refusal) → IsRemade (nsof (backup s)) device outcome → outcome ≡ remade (Ok s) device
+one-again s kept device outcome is =
+    is.is ∙ ap (λ (a : Result Store Refusal). remade a device) (asked-one (decoded (nsof (backup s))) s is.asked (asks-again s kept) is.is_asked)
