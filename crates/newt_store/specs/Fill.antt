@@ -1,5 +1,5 @@
 -- A store that is written to a unit whole. All of it is this project's own.
-use Rattle.std.specs.Prelude.{◌≡◌, ℕ, ◌+◌, ◌%◌, ◌<◌, ◌≤◌, true, List, [], length, map as map_list, sum_by, Some, IfSome}
+use Rattle.std.specs.Prelude.{◌≡◌, ℕ, ◌+◌, ◌%◌, ◌<◌, ◌≤◌, true, List, [], length, map as map_list, sum_by, None, Some, IfSome}
 use Rattle.std.specs.FinMap as map
 use Rattle.newt_graph.specs.Graph.{IsGraph}
 use Rattle.newt_spec_image.specs.Pages.{Change}
@@ -11,13 +11,13 @@ use Rattle.newt_spec_store.specs.Laid.{bare}
 use Rattle.newt_spec_store.specs.Lies.{LiesIn, Places}
 use Rattle.newt_spec_store.specs.Store.{Entry, Store}
 use Rattle.newt_spec_store.specs.Valid.{valid}
-use Rattle.newt_objects.specs.Held.{Held, IsUnplanned}
+use Rattle.newt_objects.specs.Held.{Held, held, IsUnplanned}
 use Rattle.newt_objects.specs.Changing.{IsUnderWay}
 use Rattle.newt_soupdir.specs.Bare.{bare_store}
 use Rattle.newt_soupdir.specs.declared.rows.Directory.{Directory}
 use Rattle.newt_entries.specs.Full.{as_entry, told}
 use Rattle.newt_entries.specs.declared.full.FullEntry.{FullEntry}
-use Rattle.newt_objects_commit.specs.Batch.{AddsPages, AreApart, AreOnce, HasEntries, HasEntry, LeadsTo, large_ids, new_pages}
+use Rattle.newt_objects_commit.specs.Batch.{AddsPages, AreApart, AreOnce, HasEntries, HasEntry, IsOnTheWay, LeadsTo, large_ids, new_pages}
 use Rattle.newt_objects_commit.specs.declared.batch.NewEntry.{NewEntry}
 use Rattle.newt_store.specs.Next.{IsEntryOf}
 
@@ -78,6 +78,15 @@ pub record AreNew (es : List FullEntry) (id last : ℕ) (ns : List NewEntry) : T
 -- no odd id from one on has a plan, and no even one behind another
 abbrev pub AreFreeFrom : (id last : ℕ) → Held → Type 0
 AreFreeFrom id last objects = ((o : ℕ) → o % 2 ≡ 1 → id ≤ o → IsUnplanned objects o) × ((o : ℕ) → o % 2 ≡ 0 → last < o → IsUnplanned objects o)
+
+-- One more entry can be planned: its record gets an odd id, the last large binary has an even one, no
+-- object is held, no plan has one of the ids behind, and what is planned is on the way.
+pub record HasRoomFrom (id last : ℕ) (objects : Held) (batch : Change) : Type 0 where
+  pub odd : id % 2 ≡ 1
+  pub even : last % 2 ≡ 0
+  pub none : (o : ℕ) → held objects o ≡ None
+  pub free : AreFreeFrom id last objects
+  pub way : IsOnTheWay objects batch
 
 -- One more entry is planned: nothing that is held goes, and the ids behind its own stay free.
 pub record PlansOneEntry (e : FullEntry) (id last next : ℕ) (old : Held) (before : Change) (new : Held) (after : Change) : Type 0 where

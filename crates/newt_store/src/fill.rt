@@ -5,7 +5,7 @@ ghost use Rattle.newt_objects.specs.Held.{held};
 ghost use Rattle.newt_spec_store.specs.Store.{Store as PlainStore};
 ghost use Rattle.newt_objects_commit.specs.Batch.{IsOnTheWay};
 ghost use Rattle.newt_store.specs.Calls.{FormatsUnit};
-ghost use Rattle.newt_store.specs.Fill.{AreFreeFrom, AreNextIds, AreStore, IsNumbered};
+ghost use Rattle.newt_store.specs.Fill.{AreFreeFrom, AreNextIds, AreStore, HasRoomFrom, IsNumbered};
 ghost use Rattle.newt_store.specs.Fill.{PlansEntries, PlansOneEntry, WritesStore};
 
 use crate::plan::{ids_of, record_of};
@@ -86,11 +86,7 @@ fn plan_next(
     batch: &mut Batch,
 ) -> Result<u32, AllocError>
     requires small { entry.now.soup < 65536 }
-    requires odd { id % 2 ≡ 1 }
-    requires even { last % 2 ≡ 0 }
-    requires none { (o : ℕ) → held objects.old o ≡ None }
-    requires free { AreFreeFrom id last objects.old }
-    requires way { IsOnTheWay objects.old batch.old }
+    requires room { HasRoomFrom id last objects.old batch.old }
     ensures plans { IfOk result (λ next. PlansOneEntry entry.now id last next
         objects.old batch.old objects.new batch.new) }
     ensures held { (o : ℕ) → held objects.new o ≡ held objects.old o }

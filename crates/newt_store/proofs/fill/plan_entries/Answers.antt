@@ -16,8 +16,12 @@ loop-left-init c = record {
   plans = plans-first c.args.objects.now c.args.batch.now c.requires.free;
 }
 
-pub plan_next-requires-clause-way : goal.plan_next-requires-clause-way
-plan_next-requires-clause-way c = let w = c.requires.way in let mid = c.loop-left.invariant.plans.way w.0 w.1 w.2 in (w.0, mid.0, mid.1)
+pub plan_next-requires-clause-room : goal.plan_next-requires-clause-room
+plan_next-requires-clause-room c =
+    let i = c.loop-left.invariant in
+    let w = c.requires.way in
+    let mid = i.plans.way w.0 w.1 w.2 in
+    record { odd = i.odd; even = i.even; none = i.none; free = i.plans.free; way = (w.0, mid.0, mid.1) }
 
 pub loop-left-preserved : goal.loop-left-preserved
 loop-left-preserved c =

@@ -3,6 +3,15 @@ use Rattle.newt_store.proofs.Filled.{new-free, none-over}
 use Rattle.newt_store.proofs.Ids.{entry-pages}
 use Rattle.newt_store.proofs.fill.plan_next.Goals as goal
 
+pub numbered-new-requires-clause-odd : goal.numbered-new-requires-clause-odd
+numbered-new-requires-clause-odd c = c.requires.room.odd
+
+pub numbered-new-requires-clause-even : goal.numbered-new-requires-clause-even
+numbered-new-requires-clause-even c = c.requires.room.even
+
+pub plan_entry-requires-clause-way : goal.plan_entry-requires-clause-way
+plan_entry-requires-clause-way c = c.requires.room.way
+
 pub returns-clause-plans : goal.returns-clause-plans
 returns-clause-plans c =
     let e = c.args.entry.now in
@@ -13,6 +22,6 @@ returns-clause-plans c =
       one = n;
       is = is;
       way = done.way;
-      pages = adds-as _ _ _ _ _ _ (entry-pages e.soup e.uid e.time e.graph n is.of_entry) (none-over c.args.objects.now n c.requires.none) done.pages;
-      free = new-free e c.args.id c.args.last c.in_ok-new.next n c.args.objects.now c.plan_entry.new.objects is c.requires.free done.others;
+      pages = adds-as _ _ _ _ _ _ (entry-pages e.soup e.uid e.time e.graph n is.of_entry) (none-over c.args.objects.now n c.requires.room.none) done.pages;
+      free = new-free e c.args.id c.args.last c.in_ok-new.next n c.args.objects.now c.plan_entry.new.objects is c.requires.room.free done.others;
     }
