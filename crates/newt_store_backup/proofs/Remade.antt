@@ -58,17 +58,24 @@ none-refused s image blocks found fit size few many is none fits_is fitting =
     sym (by-fit s image blocks found fit size few many is none fits_is ∙ ap (λ (fit : Bool). row false false false fit) fitting)
 
 -- a stream asks for one store, or is refused for one reason
-pub asked-one : (read : Result RawGraph NsofFault) (s : Store) (asked : Result Store Refusal) → IsAsked read (Ok s) → IsAsked read asked → asked ≡ Ok s
-asked-one (Ok g) s (Ok t) one other = ap Ok (one-store t s other.0 one.0 (other.1 ∙ sym one.1))
-asked-one (Ok g) s (Err refusal) one other = absurd (other.0 s one.0 one.1)
-asked-one (Err faults.Malformed) s asked one other = absurd (cc)
-asked-one (Err faults.Compressed) s asked one other = absurd (cc)
-asked-one (Err faults.Memory) s asked one other = absurd one
+pub asked-one : (read : Result RawGraph NsofFault) (one other : Result Store Refusal) → IsAsked read one → IsAsked read other → other ≡ one
+asked-one (Ok g) (Ok s) (Ok t) one other = ap Ok (one-store t s other.0 one.0 (other.1 ∙ sym one.1))
+asked-one (Ok g) (Ok s) (Err refusal) one other = absurd (other.0 s one.0 one.1)
+asked-one (Ok g) (Err refusal) (Ok t) one other = absurd (one.0 t other.0 other.1)
+asked-one (Ok g) (Err refusal) (Err reason) one other = ap Err (other.1 ∙ sym one.1)
+asked-one (Err faults.Malformed) asked reasked one other = other ∙ sym one
+asked-one (Err faults.Compressed) asked reasked one other = other ∙ sym one
+asked-one (Err faults.Memory) asked reasked one other = absurd one
+
+-- an input and a device have one outcome
+pub one-outcome : (input : List ℕ) (device : Option (List ℕ)) (one other : Result Store Refusal) → IsRemade input device one → IsRemade input device other → other ≡ one
+one-outcome input device one other first second =
+    second.is ∙ ap (λ (a : Result Store Refusal). remade a device) (asked-one (decoded input) first.asked second.asked first.is_asked second.is_asked) ∙ sym first.is
 
 -- a store that is not refused is what a device gets
 pub remade-one : (input : List ℕ) (s : Store) (device : Option (List ℕ)) (outcome : Result Store Refusal) → IsAsked (decoded input) (Ok s) → None ≡ refused_on s device → IsRemade input device outcome → outcome ≡ Ok s
 remade-one input s device outcome asked none is =
-    is.is ∙ ap (λ (a : Result Store Refusal). remade a device) (asked-one (decoded input) s is.asked asked is.is_asked) ∙ ap (unless_refused s) (sym none)
+    is.is ∙ ap (λ (a : Result Store Refusal). remade a device) (asked-one (decoded input) (Ok s) is.asked asked is.is_asked) ∙ ap (unless_refused s) (sym none)
 
 -- ---- a unit that is only read
 

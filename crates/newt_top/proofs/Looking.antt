@@ -29,6 +29,13 @@ use Rattle.newt_top.specs.declared.status.Status.{Status}
 use Rattle.newt_top.specs.declared.status.Status.TheVariants.{Ok, Memory, Device, Sink}
 use Rattle.newt_top.proofs.Halting.{ends_halted, ends_ok, ends_quiet}
 
+-- what was printed since then has changed no device
+pub still : (text : List ℕ) (mid new : Outside) → Always (PrintsSome text mid.now) mid.now new.now → Always (λ m. (unit : ℕ) → changes unit m ≡ changes unit mid.now) mid.now new.now
+still text mid new always = Always-map (λ m some unit. last m some unit) always
+  where
+    last : (m : Moment) → PrintsSome text mid.now m → (unit : ℕ) → changes unit m ≡ changes unit mid.now
+    last m some unit = ap (λ (n : Moment). changes unit n) some.moment ∙ changes-printed unit some.done mid.now
+
 module _ (names : List (List ℕ)) (old mid : Outside) (a : AreAttached true names old mid) where
   -- unit u has the device as it was held
   pub device-held : (unit : ℕ) → device_on unit mid ≡ held_by names old unit
@@ -53,14 +60,7 @@ module _ (names : List (List ℕ)) (old mid : Outside) (a : AreAttached true nam
       go None e = λ left may. absurd (subst (λ (d : List Change). LeftBy d left) (none e) may)
       go (Some name) e = let was = a.begins refl unit name e in attached-durable unit was.0 mid.now was.2
 
-  -- what was printed since then has changed no device
-  pub still : (text : List ℕ) (new : Outside) → Always (PrintsSome text mid.now) mid.now new.now → Always (λ m. (unit : ℕ) → changes unit m ≡ changes unit mid.now) mid.now new.now
-  still text new always = Always-map (λ m some unit. last m some unit) always
-    where
-      last : (m : Moment) → PrintsSome text mid.now m → (unit : ℕ) → changes unit m ≡ changes unit mid.now
-      last m some unit = ap (λ (n : Moment). changes unit n) some.moment ∙ changes-printed unit some.done mid.now
-
-  -- so a crash leaves it as it was held
+  -- where nothing has changed a device since then, a crash leaves it as it was held
   pub crash-held : (new : Outside) → Always (λ m. (unit : ℕ) → changes unit m ≡ changes unit mid.now) mid.now new.now
       → ((unit : ℕ) → new.card unit ≡ mid.card unit) → ((unit : ℕ) → changes unit old.now ≡ []) → ((unit : ℕ) → new.card unit ≡ None → changes unit new.now ≡ [])
       → ((unit : ℕ) → IsSome (new.card unit) → IsHistory (new.blocks unit * 4096) (changes unit new.now)) → AtEachMoment new (λ unit left shown. held_by names old unit ≡ Some left)
@@ -82,34 +82,40 @@ module _ (names : List (List ℕ)) (old mid : Outside) (a : AreAttached true nam
 
 -- ---- what is left
 
-module _ (reading : Reading) (names : List (List ℕ)) (old mid looked : Outside) (a : AreAttached true names old mid) (looks : OnlyReads 0 mid looked) (fresh : (unit : ℕ) → changes unit old.now ≡ []) where
+module _ (names : List (List ℕ)) (old mid looked : Outside) (a : AreAttached true names old mid) (looks : OnlyReads 0 mid looked) where
   -- nothing was put out before the device was read
-  quiet-held : out_of looked ≡ out_of old
+  pub quiet-held : out_of looked ≡ out_of old
   quiet-held = ap (λ (m : Moment). output m) looks.moment ∙ a.quiet refl
 
-  module _ (new : Outside) (unknown : (unit : ℕ) → new.card unit ≡ None → changes unit new.now ≡ []) (history : (unit : ℕ) → IsSome (new.card unit) → IsHistory (new.blocks unit * 4096) (changes unit new.now)) where
-    crash-since : (text : List ℕ) → Always (PrintsSome text looked.now) looked.now new.now → ((unit : ℕ) → new.card unit ≡ looked.card unit)
-        → AtEachMoment new (λ unit left shown. held_by names old unit ≡ Some left)
-    crash-since text always cards =
-        let since_mid : Always (PrintsSome text mid.now) mid.now new.now = subst (λ (m : Moment). Always (PrintsSome text m) m new.now) looks.moment always in
-        crash-held names old mid a new (still names old mid a text new since_mid) (λ unit. cards unit ∙ looks.alone.cards.card unit) fresh unknown history
+  -- and while a text is put out, a crash leaves each device as it was held
+  pub crash-since : (fresh : (unit : ℕ) → changes unit old.now ≡ []) (new : Outside) (unknown : (unit : ℕ) → new.card unit ≡ None → changes unit new.now ≡ [])
+      (history : (unit : ℕ) → IsSome (new.card unit) → IsHistory (new.blocks unit * 4096) (changes unit new.now)) (text : List ℕ) → Always (PrintsSome text looked.now) looked.now new.now
+      → ((unit : ℕ) → new.card unit ≡ looked.card unit) → AtEachMoment new (λ unit left shown. held_by names old unit ≡ Some left)
+  crash-since fresh new unknown history text always cards =
+      let since_mid : Always (PrintsSome text mid.now) mid.now new.now = subst (λ (m : Moment). Always (PrintsSome text m) m new.now) looks.moment always in
+      crash-held names old mid a new (still text mid new since_mid) (λ unit. cards unit ∙ looks.alone.cards.card unit) fresh unknown history
 
+module _ (reading : Reading) (names : List (List ℕ)) (old mid looked : Outside) (a : AreAttached true names old mid) (looks : OnlyReads 0 mid looked) (fresh : (unit : ℕ) → changes unit old.now ≡ []) where
+  quiet : out_of looked ≡ out_of old
+  quiet = quiet-held names old mid looked a looks
+
+  module _ (new : Outside) (unknown : (unit : ℕ) → new.card unit ≡ None → changes unit new.now ≡ []) (history : (unit : ℕ) → IsSome (new.card unit) → IsHistory (new.blocks unit * 4096) (changes unit new.now)) where
     -- the text was put out, or the output failed
     pub ran-put : {T E : Type 0} (result : Result T E) (text : List ℕ) → IsSaid reading (held_by names old 0) text → Puts result text looked.now new.now → WriteCall true OutputFailed result looked new
         → (is_err result ≡ true → RanReading reading names Sink old new) × (is_err result ≡ false → RanReading reading names Ok old new)
     ran-put (Good x) text is puts call = (
       λ fails. absurd (cc),
       λ works. record {
-        wrote = (text, is, puts.whole ∙ ap (λ (o : List ℕ). o ++ text) quiet-held);
+        wrote = (text, is, puts.whole ∙ ap (λ (o : List ℕ). o ++ text) quiet);
         left = call.unread.input ∙ looks.alone.input ∙ a.input;
-        crash = crash-since text puts.moments call.devices.cards.card;
+        crash = crash-since names old mid looked a looks fresh new unknown history text puts.moments call.devices.cards.card;
       },
     )
     ran-put (Bad e) text is puts call = (
       λ fails. record {
-        wrote = (text, is, subst (λ (o : List ℕ). WroteSome text o (out_of new)) quiet-held puts.failed);
+        wrote = (text, is, subst (λ (o : List ℕ). WroteSome text o (out_of new)) quiet puts.failed);
         left = call.unread.input ∙ looks.alone.input ∙ a.input;
-        crash = crash-since text puts.moments call.devices.cards.card;
+        crash = crash-since names old mid looked a looks fresh new unknown history text puts.moments call.devices.cards.card;
       },
       λ works. absurd (cc),
     )
@@ -118,9 +124,9 @@ module _ (reading : Reading) (names : List (List ℕ)) (old mid looked : Outside
   pub ran-unput : ((unit : ℕ) → looked.card unit ≡ None → changes unit looked.now ≡ []) → ((unit : ℕ) → IsSome (looked.card unit) → IsHistory (looked.blocks unit * 4096) (changes unit looked.now))
       → (status : Status) → (out_of looked ≡ out_of old → WroteSaid status (IsSaid reading (held_by names old 0)) (out_of old) (out_of looked)) → RanReading reading names status old looked
   ran-unput unknown history status wrote = record {
-    wrote = wrote quiet-held;
+    wrote = wrote quiet;
     left = looks.alone.input ∙ a.input;
-    crash = crash-since looked unknown history [] (here (record { done = []; rest = []; split = refl; moment = refl })) (λ unit. refl);
+    crash = crash-since names old mid looked a looks fresh looked unknown history [] (here (record { done = []; rest = []; split = refl; moment = refl })) (λ unit. refl);
   }
 
 -- ---- devices

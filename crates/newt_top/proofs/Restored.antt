@@ -67,7 +67,7 @@ module _ (names : List (List ℕ)) (old mid new : Outside) (quiet : out_of mid �
   is-under input outcome is = subst (λ (d : Option (List ℕ)). IsRemade input d outcome) (sym (held-same 0)) is
 
   crash-over : (outcome : Result Store Refusal) → CrashLeaves outcome names mid new → CrashLeaves outcome names old new
-  crash-over (Made s) crash = λ unit t left shown at was out. crash unit t left shown at was (subst (λ (o : List ℕ). length o < length shown) (sym quiet) out)
+  crash-over (Made s) crash = λ unit t left shown at was first out. crash unit t left shown at was first (subst (λ (o : List ℕ). length o < length shown) (sym quiet) out)
   crash-over (Refused refusal) crash = (
     λ unit.
         let work = same.counts.work unit in

@@ -34,9 +34,6 @@ pub unread : {told : Bool} {T : Type 0} {limit : ℕ} {read : List ℕ} (result 
 unread {told} {T} {limit} {read} result halt {a} {b} is long quiet = subst (λ (r : Result T Halt). ReadsAll told limit read r a b) (sym is)
     (record { input = λ _. tt; left = λ _. tt; within = tt; too_long = long; quiet = quiet })
 
-pub whole_memory : {told : Bool} {T : Type 0} {a b : Outside} → Reading told a b → WholeCall {T = T} told HasCause (Err Memory) a b
-whole_memory {a = a} {b = b} r = record { devices = r.devices; faults = faults_end HasCause Memory a b r.no_fault tt }
-
 read_failed : (halt : Halt) (a b c : Outside) → NoStreamFault a b → ReadFailed halt b c → HasReadCause halt a c
 read_failed halt a b c none cause = subst (λ (h : Halt). HasReadCause h a c) (sym cause.0) (omega (arith, cause.1, none.in_faults))
 

@@ -1,9 +1,9 @@
 -- What a run leaves that makes the store of a backup on a device. All of it is this project's own.
-use Rattle.std.specs.Prelude.{◌≡◌, ℕ, ◌<◌, ◌≤◌, Bool, true, List, [], ◌++◌, length, Option, Some, None, Result, Ok as Made, Err as Refused, IsErr}
+use Rattle.std.specs.Prelude.{◌≡◌, ◌≢◌, ℕ, ◌<◌, ◌≤◌, Bool, true, List, [], ◌++◌, length, Option, Some, None, Result, Ok as Made, Err as Refused, IsErr}
 use Rattle.newt_base.specs.declared.Refusal.{Refusal}
 use Rattle.newt_host.specs.Meanings.{out_of}
 use Rattle.newt_host.specs.Moments.{IsDurable, image}
-use Rattle.newt_host.specs.Outside.{Outside}
+use Rattle.newt_host.specs.Outside.{Outside, SameWork}
 use Rattle.newt_laws_steps.specs.Devices.{SameDevices}
 use Rattle.newt_script_session.specs.Named.{AtEachMoment, held_by}
 use Rattle.newt_script_session.specs.Stream.{WroteSome}
@@ -44,9 +44,9 @@ abbrev pub IsAsHeld : List (List ℕ) → (old new : Outside) → Type 0
 IsAsHeld names old new = AtEachMoment new (λ unit left shown. held_by names old unit ≡ Some left)
 
 -- where the device gets no store, it is only read, and a crash leaves it as it was held, whatever the
--- status is; where it gets one, a crash leaves that store from when a byte of the reply is out
+-- status is; where it gets one, a crash leaves that store on it from when a byte of the reply is out
 abbrev pub CrashLeaves : Result Store Refusal → List (List ℕ) → (old new : Outside) → Type 0
-CrashLeaves (Made s) names old new = AtEachMoment new (λ unit left shown. length (out_of old) < length shown → readable left ≡ Some s)
+CrashLeaves (Made s) names old new = AtEachMoment new (λ unit left shown. unit ≡ 0 → length (out_of old) < length shown → readable left ≡ Some s)
 CrashLeaves (Refused refusal) names old new = OnlyReadsDevices old new × IsAsHeld names old new
 
 -- A store was restored of this input to the device of the first name, or refused. Where memory ran
@@ -73,3 +73,7 @@ RanRestoring names limit (Device unit) old new = RanOver names limit (Device uni
 RanRestoring names limit Source old new = (out_of new ≡ out_of old) × SameDevices true old new
 RanRestoring names limit Sink old new = RanOver names limit Sink old new
 RanRestoring names limit TooLong old new = (limit < length old.input) × (out_of new ≡ out_of old) × SameDevices true old new
+
+-- nothing was done to a device but that of the first name
+abbrev pub LeavesOthers : (old new : Outside) → Type 0
+LeavesOthers old new = (unit : ℕ) → unit ≢ 0 → SameWork unit old new

@@ -1,4 +1,5 @@
 use Rattle.std.proofs.Common.{◌≡◌, ◌≤◌, ◌∙◌, Bool, ℕ, List, length, map, Global, string_bytes, sym, subst}
+use Rattle.newt_host.proofs.Outside.{SameWork-append}
 use Rattle.newt_laws_steps.specs.Devices.{SameDevices}
 use Rattle.newt_top.specs.Restoring.{RanRestored, RanRestoring}
 use Rattle.newt_top.specs.declared.status.Status.{Status}
@@ -25,3 +26,11 @@ returns-in-Ok-clause-ran g c = λ told.
     let ran = subst (λ (input : List ℕ). RanRestored names input c.restore_input.result mid new) (c.in-Ok.ensures.input told) (c.restore_input.ensures.ran told) in
     read-restoring names old mid new (c.in-Ok.ensures.quiet told) same c.args.limit c.restore_input.result ran (c.restore_input.ensures.left ∙ c.in-Ok.ensures.left told)
     (subst (λ (input : List ℕ). length input ≤ c.args.limit) (c.in-Ok.ensures.input told) c.in-Ok.ensures.within)
+
+-- ---- other devices
+
+pub returns-in-Err-clause-others : goal.returns-in-Err-clause-others
+returns-in-Err-clause-others g c = λ unit other. c.in-Err.ensures.call.devices.counts.work unit
+
+pub returns-in-Ok-clause-others : goal.returns-in-Ok-clause-others
+returns-in-Ok-clause-others g c = λ unit other. SameWork-append (c.in-Ok.ensures.call.devices.counts.work unit) (c.restore_input.ensures.others unit other)
