@@ -10,14 +10,17 @@ use Rattle.newt_spec_store.specs.Store.{Store}
 use Rattle.newt_backup.specs.Backup.{IsKept, backup}
 use Rattle.newt_backup.proofs.Kept.{backup-graph}
 use Rattle.newt_store_backup.specs.Remade.{IsAsked, IsRemade, remade}
-use Rattle.newt_store_backup.proofs.Remade.{asked-one}
+use Rattle.newt_store_backup.proofs.Remade.{one-outcome}
 
 -- the text of a store's backup asks for it
 pub asks-again : (s : Store) → IsKept s → IsAsked (decoded (nsof (backup s))) (Ok s)
 asks-again s kept =
     subst (λ (read : Result RawGraph NsofFault). IsAsked read (Ok s)) (sym (written_is_read_again (backup s) (backup-graph s kept))) (kept, refl)
 
--- and for nothing else
+-- so it is restored, or refused for its device
+pub is-again : (s : Store) → IsKept s → (device : Option (List ℕ)) → IsRemade (nsof (backup s)) device (remade (Ok s) device)
+is-again s kept device = record { asked = Ok s; is_asked = asks-again s kept; is = refl }
+
+-- and nothing else
 pub one-again : (s : Store) → IsKept s → (device : Option (List ℕ)) (outcome : Result Store Refusal) → IsRemade (nsof (backup s)) device outcome → outcome ≡ remade (Ok s) device
-one-again s kept device outcome is =
-    is.is ∙ ap (λ (a : Result Store Refusal). remade a device) (asked-one (decoded (nsof (backup s))) s is.asked (asks-again s kept) is.is_asked)
+one-again s kept device outcome is = one-outcome (nsof (backup s)) device (remade (Ok s) device) outcome (is-again s kept device) is

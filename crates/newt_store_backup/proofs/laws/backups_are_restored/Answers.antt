@@ -1,9 +1,8 @@
-use Rattle.std.proofs.Common.{refl}
-use Rattle.newt_store_backup.proofs.Again.{asks-again, one-again}
+use Rattle.newt_store_backup.proofs.Again.{is-again, one-again}
 use Rattle.newt_store_backup.proofs.laws.backups_are_restored.Goals as goal
 
 pub returns-clause-restored : goal.returns-clause-restored
-returns-clause-restored c = λ s kept device. record { asked = _; is_asked = asks-again s kept; is = refl }
+returns-clause-restored c = is-again
 
 pub returns-clause-no_other : goal.returns-clause-no_other
 returns-clause-no_other c = one-again
