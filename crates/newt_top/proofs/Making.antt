@@ -35,18 +35,18 @@ drop-shows-less (suc n) (On unit change ∷ before) = drop-shows-less n before
 drop-shows-less (suc n) (Printed byte ∷ before) = let less = drop-shows-less n before in omega (arith, less, length-append (output before) (byte ∷ []))
 drop-shows-less (suc n) (Took bytes ∷ before) = drop-shows-less n before
 
-pub shows-less : (k : ℕ) (now : Moment) → length (output (moment_at k now)) ≤ length (output now)
+shows-less : (k : ℕ) (now : Moment) → length (output (moment_at k now)) ≤ length (output now)
 shows-less k now = drop-shows-less (length now - k) now
 
 -- where nothing was put out, no moment shows more than there was
-pub none-shown : {P : Type 0} (k : ℕ) (old new : Outside) (shown : List ℕ) → out_of new ≡ out_of old → output (moment_at k new.now) ≡ shown → length (out_of old) < length shown → P
+none-shown : {P : Type 0} (k : ℕ) (old new : Outside) (shown : List ℕ) → out_of new ≡ out_of old → output (moment_at k new.now) ≡ shown → length (out_of old) < length shown → P
 none-shown k old new shown quiet is more = absurd (omega (arith, shows-less k new.now, ap length quiet, ap length is, more))
 
 -- ---- what a crash leaves
 
 module _ (old done new : Outside) (quiet : out_of done ≡ out_of old) (later : Always (λ m. (unit : ℕ) → changes unit m ≡ changes unit done.now) done.now new.now) where
   -- a moment that shows more comes after the store was made
-  pub since-made : (k : ℕ) (shown : List ℕ) → k ≤ length new.now → output (moment_at k new.now) ≡ shown → length (out_of old) < length shown → (unit : ℕ) → changes unit (moment_at k new.now) ≡ changes unit done.now
+  since-made : (k : ℕ) (shown : List ℕ) → k ≤ length new.now → output (moment_at k new.now) ≡ shown → length (out_of old) < length shown → (unit : ℕ) → changes unit (moment_at k new.now) ≡ changes unit done.now
   since-made k shown to is more = elim (cases_lt k (length done.now)) [
     | inl early ↦
         let same : moment_at k new.now ≡ moment_at k done.now = moment-stays k (extends-always later) (omega (arith, early)) in
@@ -55,14 +55,14 @@ module _ (old done new : Outside) (quiet : out_of done ≡ out_of old) (later : 
   ]
 
   -- so a crash leaves it
-  pub made-left : (s : Store) (mid : Outside) → IsLeft (Good s) 0 mid done → AtEachMoment new (λ unit left shown. unit ≡ 0 → length (out_of old) < length shown → readable left ≡ Some s)
+  made-left : (s : Store) (mid : Outside) → IsLeft (Good s) 0 mid done → AtEachMoment new (λ unit left shown. unit ≡ 0 → length (out_of old) < length shown → readable left ≡ Some s)
   made-left s mid made unit t left shown at (k, from, to, may, is) first more =
       let there : MayLeave 0 (moment_at k new.now) left = subst (λ (u : ℕ). MayLeave u (moment_at k new.now) left) first may in
       let then : MayLeave 0 done.now left = subst (λ (cs : List Change). LeftBy cs left) (since-made k shown to is more 0) there in
       ap readable (made.1 left then) ∙ made.0
 
   -- it is there at the end
-  pub made-still : (outcome : Result Store Refusal) (mid : Outside) → IsLeft outcome 0 mid done → IsMade outcome new
+  made-still : (outcome : Result Store Refusal) (mid : Outside) → IsLeft outcome 0 mid done → IsMade outcome new
   made-still (Good s) mid made =
       let same : changes 0 new.now ≡ changes 0 done.now = Always-last later 0 in
       (ap readable (ap bytes_after same) ∙ made.0, λ left may. made.1 left (subst (λ (cs : List Change). LeftBy cs left) same may) ∙ sym (ap bytes_after same))
@@ -70,9 +70,9 @@ module _ (old done new : Outside) (quiet : out_of done ≡ out_of old) (later : 
 
 -- ---- the call that restores
 
--- What holds of every host that tells its bytes, of one that is attached to no unit, and of one that is.
-pub record Hosts (new : Outside) : Type 0 where
-  pub unknown : (unit : ℕ) → new.card unit ≡ None → changes unit new.now ≡ []
+-- What every host keeps that tells bytes: to a unit without a device nothing has happened, and to one that has a device what can happen to it.
+pub record HasHistory (new : Outside) : Type 0 where
+  pub untouched : (unit : ℕ) → new.card unit ≡ None → changes unit new.now ≡ []
   pub history : (unit : ℕ) → IsSome (new.card unit) → IsHistory (new.blocks unit * 4096) (changes unit new.now)
 
 module _ {T : Type 0} (names : List (List ℕ)) (input : List ℕ) (old mid done : Outside) (r : Result T Stop) (fresh : (unit : ℕ) → changes unit old.now ≡ []) (a : AreAttached true names old mid)
@@ -88,14 +88,14 @@ module _ {T : Type 0} (names : List (List ℕ)) (input : List ℕ) (old mid done
   quiet-done : out_of done ≡ out_of old
   quiet-done = (Always-last (restores.any_moment refl)).output ∙ a.quiet refl
 
-  module _ (new : Outside) (hosts : Hosts new) (text : List ℕ) (prints : Always (PrintsSome text done.now) done.now new.now) (cards : (unit : ℕ) → new.card unit ≡ done.card unit)
+  module _ (new : Outside) (past : HasHistory new) (text : List ℕ) (prints : Always (PrintsSome text done.now) done.now new.now) (cards : (unit : ℕ) → new.card unit ≡ done.card unit)
       (work : (unit : ℕ) → SameWork unit done new) where
     -- a store was refused
     crash-refused : (refusal : Refusal) → IsRemade input (held_by names old 0) (Bad refusal) → CrashLeaves (Bad refusal) names old new
     crash-refused refusal is =
         let looks = restores.refused refl (Bad refusal) (at-hand (Bad refusal) is) refl in (
           λ unit. only-read old mid done new unit (a.counts.work unit) looks (work unit),
-          crash-since names old mid done a looks fresh new hosts.unknown hosts.history text prints cards,
+          crash-since names old mid done a looks fresh new past.untouched past.history text prints cards,
         )
 
     -- the call has answered
@@ -116,13 +116,13 @@ module _ {T : Type 0} (names : List (List ℕ)) (input : List ℕ) (old mid done
   }
 
   -- the call was halted
-  module _ (hosts : Hosts done) where
+  module _ (past : HasHistory done) where
     none-put : Always (PrintsSome [] done.now) done.now done.now
     none-put = here (record { done = []; rest = []; split = refl; moment = refl })
 
     crash-halted : (outcome : Result Store Refusal) → IsRemade input (held_by names old 0) outcome → CrashLeaves outcome names old done
     crash-halted (Good s) is = λ unit t left shown at was first more. none-shown was.0 old done shown quiet-done was.4 more
-    crash-halted (Bad refusal) is = crash-refused done hosts [] none-put (λ unit. refl) (λ unit. SameWork-refl unit done) refusal is
+    crash-halted (Bad refusal) is = crash-refused done past [] none-put (λ unit. refl) (λ unit. SameWork-refl unit done) refusal is
 
     -- by the device
     pub ran-failed : (unit : ℕ) → RanRestored names input (Device unit) old done
@@ -135,24 +135,24 @@ module _ {T : Type 0} (names : List (List ℕ)) (input : List ℕ) (old mid done
       crash = crash-halted;
       no_memory = λ memory.
           let none : Always (λ m. (unit : ℕ) → changes unit m ≡ changes unit mid.now) mid.now done.now = subst (λ (m : Moment). Always (λ n. (unit : ℕ) → changes unit n ≡ changes unit mid.now) mid.now m) (sym same) (here (λ unit. refl)) in
-          crash-held names old mid a done none restores.alone.cards.card fresh hosts.unknown hosts.history;
+          crash-held names old mid a done none restores.alone.cards.card fresh past.untouched past.history;
     }
 
   -- the reply was put out, or the output failed
-  pub ran-replied : {U E : Type 0} (new : Outside) (hosts : Hosts new) (text : List ℕ) (put : Result U E) → IsDone input 0 mid done text → Puts put text done.now new.now → WriteCall true OutputFailed put done new
+  pub ran-replied : {U E : Type 0} (new : Outside) (past : HasHistory new) (text : List ℕ) (put : Result U E) → IsDone input 0 mid done text → Puts put text done.now new.now → WriteCall true OutputFailed put done new
       → (is_err put ≡ true → RanRestored names input Sink old new) × (is_err put ≡ false → RanRestored names input Ok old new)
-  ran-replied new hosts text (Good x) d puts call = (
+  ran-replied new past text (Good x) d puts call = (
     λ fails. absurd (cc),
     λ works. record {
       wrote = replied new text puts.moments (λ t. out_of new ≡ out_of old ++ t) d (puts.whole ∙ ap (λ (o : List ℕ). o ++ text) quiet-done);
-      crash = crash-done new hosts text puts.moments call.devices.cards.card call.devices.counts.work d;
+      crash = crash-done new past text puts.moments call.devices.cards.card call.devices.counts.work d;
       no_memory = λ memory. absurd (cc);
     },
   )
-  ran-replied new hosts text (Bad e) d puts call = (
+  ran-replied new past text (Bad e) d puts call = (
     λ fails. record {
       wrote = replied new text puts.moments (λ t. WroteSome t (out_of old) (out_of new)) d (subst (λ (o : List ℕ). WroteSome text o (out_of new)) quiet-done puts.failed);
-      crash = crash-done new hosts text puts.moments call.devices.cards.card call.devices.counts.work d;
+      crash = crash-done new past text puts.moments call.devices.cards.card call.devices.counts.work d;
       no_memory = λ memory. absurd (cc);
     },
     λ works. absurd (cc),

@@ -23,7 +23,7 @@ returns-in-Err-Memory-clause-ran g c = λ told.
     let a = subst (λ (t : Bool). AreAttached t names old mid) told c.attach_names-attached.ensures.attached in
     let restores = subst (λ (t : Bool). Restores t 0 input mid done c.restore_text.result) told c.restore_text.ensures.restores in
     ran-short names input old mid done c.restore_text.result (λ unit. g.met.H.Host.untouched c.args.host.now unit told (c.requires.may.free unit)) a restores
-    (record { unknown = λ unit none. g.met.H.Host.untouched c.restore_text.new.host unit told none; history = λ unit some. g.met.H.Host.history c.restore_text.new.host unit told some })
+    (record { untouched = λ unit none. g.met.H.Host.untouched c.restore_text.new.host unit told none; history = λ unit some. g.met.H.Host.history c.restore_text.new.host unit told some })
     (restores.unchanged (c.in-Err-Memory.is ∙ ap Err c.in-Err-Memory.field-0-is))
 
 pub returns-in-Err-Device-clause-ran : goal.returns-in-Err-Device-clause-ran
@@ -37,7 +37,7 @@ returns-in-Err-Device-clause-ran g c = λ told.
     let a = subst (λ (t : Bool). AreAttached t names old mid) told c.attach_names-attached.ensures.attached in
     let restores = subst (λ (t : Bool). Restores t 0 input mid done c.restore_text.result) told c.restore_text.ensures.restores in
     ran-failed names input old mid done c.restore_text.result (λ unit. g.met.H.Host.untouched c.args.host.now unit told (c.requires.may.free unit)) a restores
-    (record { unknown = λ unit none. g.met.H.Host.untouched c.restore_text.new.host unit told none; history = λ unit some. g.met.H.Host.history c.restore_text.new.host unit told some }) 0
+    (record { untouched = λ unit none. g.met.H.Host.untouched c.restore_text.new.host unit told none; history = λ unit some. g.met.H.Host.history c.restore_text.new.host unit told some }) 0
 
 -- ---- the reply was put out, or the output failed
 
@@ -55,7 +55,7 @@ returns-then-is_err-clause-ran g c = λ told.
     let text : IsDone input 0 mid done c.deref.result.now = subst (λ (t : List ℕ). IsDone input 0 mid done t) (sym c.deref.ensures.value) (c.in-Ok.ensures.done told) in
     let call = subst (λ (t : Bool). WriteCall t OutputFailed c.write_all.result done new) told c.write_all.ensures.call in
     (ran-replied names input old mid done c.restore_text.result (λ unit. g.met.H.Host.untouched c.args.host.now unit told (c.requires.may.free unit)) a restores
-    new (record { unknown = λ unit none. g.met.H.Host.untouched c.write_all.new.host unit told none; history = λ unit some. g.met.H.Host.history c.write_all.new.host unit told some })
+    new (record { untouched = λ unit none. g.met.H.Host.untouched c.write_all.new.host unit told none; history = λ unit some. g.met.H.Host.history c.write_all.new.host unit told some })
     c.deref.result.now c.write_all.result text (c.write_all.ensures.puts told) call).0 (sym c.is_err.ensures.value ∙ c.if-is_err.true)
 
 pub returns-clause-ran : goal.returns-clause-ran
@@ -72,7 +72,7 @@ returns-clause-ran g c = λ told.
     let text : IsDone input 0 mid done c.deref.result.now = subst (λ (t : List ℕ). IsDone input 0 mid done t) (sym c.deref.ensures.value) (c.in-Ok.ensures.done told) in
     let call = subst (λ (t : Bool). WriteCall t OutputFailed c.write_all.result done new) told c.write_all.ensures.call in
     (ran-replied names input old mid done c.restore_text.result (λ unit. g.met.H.Host.untouched c.args.host.now unit told (c.requires.may.free unit)) a restores
-    new (record { unknown = λ unit none. g.met.H.Host.untouched c.write_all.new.host unit told none; history = λ unit some. g.met.H.Host.history c.write_all.new.host unit told some })
+    new (record { untouched = λ unit none. g.met.H.Host.untouched c.write_all.new.host unit told none; history = λ unit some. g.met.H.Host.history c.write_all.new.host unit told some })
     c.deref.result.now c.write_all.result text (c.write_all.ensures.puts told) call).1 (sym c.is_err.ensures.value ∙ c.if-is_err.false)
 
 -- ---- other devices

@@ -75,6 +75,11 @@ returns-in-Read-clause-devices g c =
     let P : Mode → Type 0 = λ mode. LeavesDevices g.H.Host.told (Some mode) (g.H.Host.outside c.args.host.now) (g.H.Host.outside c.run_reading.new.host) in
     subst P (sym c.in-Read.is) c.run_reading.ensures.devices
 
+pub returns-in-Restore-clause-devices : goal.returns-in-Restore-clause-devices
+returns-in-Restore-clause-devices g c =
+    let P : Mode → Type 0 = λ mode. LeavesDevices g.H.Host.told (Some mode) (g.H.Host.outside c.args.host.now) (g.H.Host.outside c.run_restore.new.host) in
+    subst P (sym c.in-Restore.is) c.run_restore.ensures.others
+
 -- ---- how it ends
 
 pub returns-in-Run-clause-ends : goal.returns-in-Run-clause-ends
