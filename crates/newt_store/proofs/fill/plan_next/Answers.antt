@@ -3,12 +3,6 @@ use Rattle.newt_store.proofs.Filled.{new-free, none-over}
 use Rattle.newt_store.proofs.Ids.{entry-pages}
 use Rattle.newt_store.proofs.fill.plan_next.Goals as goal
 
-pub numbered-new-requires-clause-odd : goal.numbered-new-requires-clause-odd
-numbered-new-requires-clause-odd c = c.requires.room.odd
-
-pub numbered-new-requires-clause-even : goal.numbered-new-requires-clause-even
-numbered-new-requires-clause-even c = c.requires.room.even
-
 pub plan_entry-requires-clause-way : goal.plan_entry-requires-clause-way
 plan_entry-requires-clause-way c = c.requires.room.way
 
