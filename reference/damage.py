@@ -125,7 +125,7 @@ def limit_store(random: Random, store: Store) -> Store:
         return replace(store, next_soup=65_535)
     if kind == 2:
         return replace(store, name=random.choice((b"", b"a", b"a" * 39, b"a" * 40, b"\x1f", b"\x7f", b'"\\')))
-    if kind == 3:
+    if kind == 3 and store.next_soup < 60_000:
         most = random.choice((MOST_OLD_SOUPS, MOST_SOUPS))
         more = tuple(Soup(b"soup %d" % it, store.next_soup + it) for it in range(most + past - len(store.soups)))
         return replace(store, soups=store.soups + more, next_soup=store.next_soup + len(more))

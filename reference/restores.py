@@ -35,7 +35,7 @@ from images import BLOCK, is_same_store, payloads, store_of_image
 from layouts import random_image
 from scripts import written
 from stores import Soup, Store, capacity, cost, entry_of
-from streams import decode, encode
+from streams import decode, encode, encode_flat
 from torn import STOPPED
 from world import Unit, World
 
@@ -80,6 +80,12 @@ class Restores(Bench):
             if self.library and self.told()[2]:
                 raise Differs("a restore has answered before all of the store is made sure of")
         return None if store is None else left
+
+    def restore_and_back_up(self, stream: bytes, image: Optional[bytes]) -> Optional[bytes]:
+        left = self.restore(stream, image)
+        if left is not None and self.backup(left) != stream:
+            raise Differs("what is restored has another backup")
+        return left
 
     def holds(self, image: bytes, store: Store) -> None:
         found = store_of_image(image)
@@ -127,22 +133,42 @@ def pieced_store(random: Random, store: Store) -> Store:
     return store.with_soup(soup.with_entry(entry_of(soup.next_uid, 5, Frame(tags, values))))
 
 
-def other_store(random: Random, store: Store) -> Store:
-    """A store at a limit or past it, or with as many pages as a device has, or one more."""
-    filled: Callable = lambda *it: filled_store(*it, random.choice(BLOCKS))
-    return random.choice((*[limit_store] * 4, *[filled] * 4, long_store, pieced_store))(random, store)
+def greatest_store(random: Random, store: Store) -> Store:
+    """A store with as many pages as the largest device has, or one more."""
+    soup = replace(store.soups[0], entries=()) if store.soups else Soup(b"G", 0)
+    store = replace(store, soups=(soup,), next_soup=soup.sig + 1)
+    left = capacity(MOST_BLOCKS) - cost(store) + random.randrange(2)
+    while left > 1:
+        taken = min(left, 2001)
+        large = Large(Symbol(b"w"), bytes(500 * (taken - 1)))
+        soup = soup.with_entry(entry_of(soup.next_uid, 5, Frame([Symbol(b"v")], [large])))
+        left -= taken
+    return store.with_soup(soup)
+
+
+def other_stores(random: Random, store: Store) -> list[Store]:
+    """Stores at a limit or past it, and with as many pages as a device has, or one more."""
+    rare = random.choice((limit_store, long_store, long_store, pieced_store))
+    rare = greatest_store if random.random() < 0.06 else rare
+    filled = filled_store(random, store, random.choice(BLOCKS))
+    return [limit_store(random, store), limit_store(random, store), filled, rare(random, store)]
 
 
 # Where it is restored to.
 
 
+def near(store: Store) -> list[bytes]:
+    """Blank devices: the greatest that has no room for a store, and the least that has."""
+    blocks = next((it for it in range(13, MOST_BLOCKS) if capacity(it) >= cost(store)), MOST_BLOCKS)
+    return [bytes(BLOCK * it) for it in sorted({max(13, blocks - 1), blocks})]
+
+
 def devices(random: Random, store: Store, image: bytes) -> list[Optional[bytes]]:
-    sizes = [it for it in range(13, MOST_BLOCKS + 1) if capacity(it) >= cost(store)][:1] or [13]
-    blocks = {12, 13, max(13, sizes[0] - 1), sizes[0], sizes[0] + random.randrange(20)}
-    blocks |= {random.choice((MOST_BLOCKS, MOST_BLOCKS + 1))} if random.random() < 0.03 else set()
-    blank = [bytes([random.choice((0, 255))]) * (BLOCK * it) for it in sorted(blocks)]
+    """Blank devices of other sizes, such as are used or damaged, and none."""
+    blocks = [12, 13, len(image) // BLOCK + random.randrange(20)]
+    blocks += [random.choice((MOST_BLOCKS, MOST_BLOCKS + 1))] if random.random() < 0.03 else []
     used = [image, struck_anywhere(random, image), random.randbytes(BLOCK * 13 + random.randrange(BLOCK))]
-    return [*blank, *used, *[None] * (random.random() < 0.1)]
+    return [*near(store), *[b"\xff" * (BLOCK * it) for it in blocks], *used, *[None] * (random.random() < 0.1)]
 
 
 # Streams that are cut and bent.
@@ -154,20 +180,26 @@ def slots_of(graph: Frame) -> tuple[Array, Array]:
 
 def any_cut(random: Random, graph: Frame) -> Array:
     directory, entries = slots_of(graph)
-    return random.choice([directory, *entries.values, *entries.values[-1:]])
+    return random.choice([directory, *entries.values])
 
 
-def with_bytes(random: Random, graph: Frame, change: Callable) -> None:
-    piece = random.choice(any_cut(random, graph).values)
-    piece.data = change(piece.data)
+def an_entry(random: Random, graph: Frame) -> Binary:
+    """The first piece of an entry, of the last one as often as not."""
+    entries = graph.values[1].values
+    return random.choice((random.choice(entries), entries[-1])).values[0]
 
 
-def telling_number(random: Random, data: bytes) -> bytes:
-    """The head of an entry with another signature, id or time."""
-    at, length = random.choice(((0, 2), (2, 4), (6, 4)))
+def renumbered(random: Random, data: bytes) -> bytes:
+    """An entry with another signature, id or time."""
+    at, length = random.choice(((0, 2), (2, 4), (2, 4), (6, 4)))
     number = int.from_bytes(data[at : at + length], "big")
-    other = random.choice((number + 1, number - 1, *TELLING_NUMBERS)) % 256**length
+    other = random.choice((number + 1, number - 1, random.choice(TELLING_NUMBERS))) % 256**length
     return data[:at] + other.to_bytes(length, "big") + data[at + length :]
+
+
+def rooted(random: Random, data: bytes) -> bytes:
+    """An entry whose graph is no frame."""
+    return data[:10] + encode_flat(random.choice((2, 4, Symbol(b"a"), Array(None, [4]))))
 
 
 def respelt(data: bytes) -> bytes:
@@ -191,17 +223,22 @@ def bent_graph(random: Random, graph: Frame) -> Ref:
     """The graph of a backup that is another one at a place, or in another order, or shares what it has twice."""
     directory, entries = slots_of(graph)
     kind = directory.values[0].kind
+
+    def put(data: Callable, piece: Binary) -> None:
+        piece.data = data(piece.data)
+
     bends: list[Callable] = [
         lambda: swap(random, entries.values),
         lambda: entries.values.pop(random.randrange(len(entries.values))),
         lambda: entries.values.append(copied(random.choice(entries.values))),
         lambda: entries.values.append(random.choice(entries.values)),
-        lambda: with_bytes(random, graph, lambda it: telling_number(random, it)),
-        lambda: with_bytes(random, graph, lambda it: bent(random, it, TELLING_BYTES)),
-        lambda: with_bytes(random, graph, respelt),
+        *[lambda: put(lambda it: renumbered(random, it), an_entry(random, graph))] * 4,
+        lambda: put(lambda it: rooted(random, it), an_entry(random, graph)),
+        lambda: put(respelt, an_entry(random, graph)),
     ]
-    bends = bends if entries.values else bends[5:6]
+    bends = bends if entries.values else []
     bends += [
+        *[lambda: put(lambda it: bent(random, it, TELLING_BYTES), random.choice(any_cut(random, graph).values))] * 3,
         lambda: split(random, any_cut(random, graph)),
         lambda: any_cut(random, graph).values.append(random.choice((Binary(kind, b""), 2, 8, directory))),
         lambda: any_cut(random, graph).values.clear(),
@@ -270,21 +307,18 @@ def compared(bench: Restores, seed: int, times: int) -> None:
     if store is None:
         return
     bench.counts["stores"] += 1
-    again = bench.restore(stream, bytes(len(image)))
-    if again is None or bench.backup(again) != stream:
-        raise Differs("what is restored has another backup")
+    again = bench.restore_and_back_up(stream, bytes(len(image)))
     if report(again) != (told := bench.mode("check", b"", again)[1].decode().strip()):
         raise Differs(f"check of what is restored: {told}")
     unit = Unit(blocks, store)
     script, wanted = written(random, World([unit]), 1, random.choice((40, 120)))
     for start in (image, again):
         bench.play(start, script, wanted, unit.store)
-    other = other_store(random, store)
-    for kept, given in ((store, stream), (other, encode(backup(other)))):
-        for device in devices(random, kept, image):
-            made = bench.restore(given, device)
-            if made is not None and bench.backup(made) != given:
-                raise Differs("what is restored has another backup")
+    for device in devices(random, store, image):
+        bench.restore_and_back_up(stream, device)
+    for other in other_stores(random, store):
+        for device in near(other):
+            bench.restore_and_back_up(encode(backup(other)), device)
     for given in bent_streams(random, store, stream, max(1, times)):
         bench.restore(given, random.choice((bytes(BLOCK * 13), bytes(len(image)), image)))
     for _ in range(times if bench.library else 0):
