@@ -2,9 +2,9 @@
 
     python3 reference/backups.py FOLDER [PROGRAM]
 
-compares, for each NAME.img of a folder, the backup of the store that it is read as with NAME.nsof, and that store with the
-one that NAME.nsof gives to a blank device. Where a program is given, both are done by it too. It prints how many agree, and
-ends with 0 where all do.
+compares, for each NAME.img of a folder, the backup of the store that it is read as with NAME.nsof, and that store with
+the one that NAME.nsof gives to a blank device. Where a program is given, both are done by it too. It prints how many
+agree, and ends with 0 where all do.
 """
 
 import subprocess

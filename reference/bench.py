@@ -62,7 +62,7 @@ class Bench:
 
 
 def over_seeds(kind: type[Bench], compared: Callable, program: str, first: str, count: str, times: str) -> int:
-    """Compares with COUNT seeds from FIRST on; the library is there where TIMES is not 0. The files of a difference stay."""
+    """Compares with COUNT seeds from FIRST on. The library is there where TIMES is not 0; files that differ stay."""
     folder = Path(tempfile.mkdtemp())
     library = built_library("torn", folder) if int(times) else None
     bench = kind(Path(program).resolve(), library, folder)

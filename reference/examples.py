@@ -2,11 +2,11 @@
 
 usage: python3 reference/examples.py [PROGRAM]
 
-The examples: each line and reply of docs/COMMANDS.md, those from the heading "Units and stores" to "When a card fails" as one
-session over two units of 13 blocks; the streams, literals and the fresh image of docs/FORMATS.md; and what is typed at a
-shell in README.md, in the last part of docs/COMMANDS.md and in each part of docs/EXAMPLES.md, where `newton` is
-reference/newton.py or the program. A part with `ulimit`, in which a file can't be written, is played to the program alone.
-It ends with 0 where all agree.
+The examples: each line and reply of docs/COMMANDS.md, those from the heading "Units and stores" to "When a card fails"
+as one session over two units of 13 blocks; the streams, literals and the fresh image of docs/FORMATS.md; and what is
+typed at a shell in README.md, in the last part of docs/COMMANDS.md and in each part of docs/EXAMPLES.md, where
+`newton` is reference/newton.py or the program. A part with `ulimit`, in which a file can't be written, is played to
+the program alone. It ends with 0 where all agree.
 """
 
 import os

@@ -2,16 +2,17 @@
 
 usage: python3 reference/refused.py PROGRAM [EACH]
 
-Three scripts are played over two files of 13 blocks: one on a unit alone, one of all commands, and one that fills a unit
-until its bank is switched. Then the card of the second is backed up, checked, and restored to a blank one. For each number N from 1 on, up to the allocations of a run to which nothing is refused, a
-run is played in which the N-th is refused, and one in which all from the N-th on are. With EACH every EACH-th number is
-tried. It ends with 1 at the first run that is not so:
+Three scripts are played over two files of 13 blocks: one on a unit alone, one of all commands, and one that fills a
+unit until its bank is switched. Then the card of the second is backed up, checked, and restored to a blank one. For
+each number N from 1 on, up to the allocations of a run to which nothing is refused, a run is played in which the N-th
+is refused, and one in which all from the N-th on are. With EACH every EACH-th number is tried. It ends with 1 at the
+first run that is not so:
 
-- it ends with the status of want of memory and its line on standard error, or, where the program can do without what was
-  refused, as it would have ended with it;
+- it ends with the status of want of memory and its line on standard error, or, where the program can do without what
+  was refused, as it would have ended with it;
 - the replies before are whole, and the first of those of the run to which nothing is refused;
-- each file is read as its unit's store after these commands or after one more; behind the other modes, where memory was
-  wanting, nothing is written and the file is as it was.
+- each file is read as its unit's store after these commands or after one more; behind the other modes, where memory
+  was wanting, nothing is written and the file is as it was.
 
 It needs a C compiler, cc, for the library that refuses (refused.c).
 """

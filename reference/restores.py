@@ -2,13 +2,13 @@
 
 usage: python3 reference/restores.py PROGRAM FIRST COUNT TIMES
 
-For each seed, of FIRST and COUNT behind one another: a store that the program wrote behind a random script, or an image
-that is made at random, damaged or not, is backed up; the stream, or that of a store at a limit, is restored to devices of
-other sizes, the least that has room for it and the greatest that has none among them, to such as hold a store, to damaged
-ones and to none; what was restored is backed up again, with the same bytes, and a script is played over it and over the
-first image. Then the stream is cut and bent, TIMES times in each of three ways. Where TIMES is not 0, runs of both modes
-are stopped, and calls of their device fail, by the library torn.c, which needs a C compiler, cc. It ends with 1 at the
-first difference, whose files stay.
+For each seed, of FIRST and COUNT behind one another: a store that the program wrote behind a random script, or an
+image that is made at random, damaged or not, is backed up; the stream, or that of a store at a limit, is restored to
+devices of other sizes, the least that has room for it and the greatest that has none among them, to such as hold a
+store, to damaged ones and to none; what was restored is backed up again, with the same bytes, and a script is played
+over it and over the first image. Then the stream is cut and bent, TIMES times in each of three ways. Where TIMES is
+not 0, runs of both modes are stopped, and calls of their device fail, by the library torn.c, which needs a C compiler,
+cc. It ends with 1 at the first difference, whose files stay.
 """
 
 import sys
@@ -271,7 +271,7 @@ def bent_streams(random: Random, store: Store, stream: bytes, times: int) -> lis
 
 
 def stop(bench: Restores, random: Random, stream: bytes, image: bytes) -> None:
-    """Stops a run: once its reply has begun the store is there, and a refused one leaves what was there."""
+    """Stops a run at a call of its device: nothing is answered yet, and a refused one leaves what was there."""
     store, seed = restored(stream, image)[1], random.randrange(2**32)
     bench.mode("restore", stream, image, seed=seed)
     at = random.randint(1, bench.told()[0])

@@ -4,8 +4,8 @@ usage: python3 reference/thrown.py PROGRAM FIRST COUNT TIMES
 
 Random scripts with the seeds from FIRST on, COUNT of them, in which units are mounted again and again, are played over
 one to four files, TIMES times each, and each time some random calls fail, reads as well as writes and syncs, by the
-library torn.c. A card whose call fails is thrown out, and the run goes on: the reply is `error 50 device U`, as often as
-calls failed. The reference keeps all worlds that the replies so far leave room for, each with the store of the card
+library torn.c. A card whose call fails is thrown out, and the run goes on: the reply is `error 50 device U`, as often
+as calls failed. The reference keeps all worlds that the replies so far leave room for, each with the store of the card
 before the command or after it. Each other reply is to be that of one of them, and behind the script all files are to
 read as the stores of one. It needs a C compiler, cc, and ends with 1 at the first difference, whose files stay.
 """
