@@ -11,7 +11,19 @@ from typing import Callable, Optional
 from graphs import Array, Binary, Frame, Large, Symbol, Walk
 from images import BLOCK, HEADER, OLD_HEADER
 from layouts import BLANK, VOTES, objects_of, pages_of, record, records_of, tail_of
-from stores import Part, Soup, Store, Tags, capacity, cost, entry_of, info_bytes, tags_bytes
+from stores import (
+    MOST_OLD_SOUPS,
+    MOST_SOUPS,
+    Part,
+    Soup,
+    Store,
+    Tags,
+    capacity,
+    cost,
+    entry_of,
+    info_bytes,
+    tags_bytes,
+)
 from streams import Malformed, decode, encode, encode_flat, pages
 
 TELLING_BYTES = b"\x00\x01\x02\x03\x04\x05\x06\x07\x08\x09\x0a\x0b\x0c\x0d\x7f\x80\xfe\xff"
@@ -113,8 +125,9 @@ def limit_store(random: Random, store: Store) -> Store:
         return replace(store, next_soup=65_535)
     if kind == 2:
         return replace(store, name=random.choice((b"", b"a", b"a" * 39, b"a" * 40, b"\x1f", b"\x7f", b'"\\')))
-    if kind == 3:
-        more = tuple(Soup(b"soup %d" % it, store.next_soup + it) for it in range(64 + past - len(store.soups)))
+    if kind == 3 and store.next_soup < 60_000:
+        most = random.choice((MOST_OLD_SOUPS, MOST_SOUPS))
+        more = tuple(Soup(b"soup %d" % it, store.next_soup + it) for it in range(most + past - len(store.soups)))
         return replace(store, soups=store.soups + more, next_soup=store.next_soup + len(more))
     if not store.soups:
         return store

@@ -2,22 +2,28 @@
 
 usage: python3 reference/examples.py [PROGRAM]
 
-The examples: each line and reply of docs/COMMANDS.md, those from the heading "Units and stores" to "When a card fails" as one
-session over two units of 13 blocks; and the streams, literals and the fresh image of docs/FORMATS.md. It ends with 0 where all agree.
+The examples: each line and reply of docs/COMMANDS.md, those from the heading "Units and stores" to "When a card fails"
+as one session over two units of 13 blocks; the streams, literals and the fresh image of docs/FORMATS.md; and what is
+typed at a shell in README.md, in the last part of docs/COMMANDS.md and in each part of docs/EXAMPLES.md, where
+`newton` is reference/newton.py or the program. A part with `ulimit`, in which a file can't be written, is played to
+the program alone. It ends with 0 where all agree.
 """
 
+import os
 import re
 import subprocess
 import sys
 import tempfile
+from itertools import zip_longest
 from pathlib import Path
-from typing import Callable
+from typing import Callable, NamedTuple
 
 from commands import answer
 from images import store_of_image
 from world import Unit, World
 
-DOCS = Path(__file__).resolve().parent.parent / "docs"
+REFERENCE = Path(__file__).resolve().parent
+DOCS = REFERENCE.parent / "docs"
 BLOCKS = 13
 MALFORMED, NO_LITERAL = "error 1 malformed", "error 3 literal"
 
@@ -85,6 +91,68 @@ def by_program(program: Path, units: int) -> Callable[[list[Example]], list[str]
     return replies
 
 
+# What is typed at a shell.
+
+
+class Step(NamedTuple):
+    """A command, and what is shown of it: its output, or where `newton run` asks for a script, its lines and replies."""
+
+    command: str
+    shown: list[str]
+
+    def is_talk(self) -> bool:
+        return "newton run" in self.command and not set(self.command) & set("<|")
+
+
+def shells() -> list[list[Step]]:
+    """The tour of README.md, the modes of docs/COMMANDS.md, and each part of docs/EXAMPLES.md."""
+    tour = (DOCS.parent / "README.md").read_text().partition("\n## A short tour\n")[2].partition("\n## ")[0]
+    modes = (DOCS / "COMMANDS.md").read_text().partition("\n## Modes\n")[2]
+    parts = (DOCS / "EXAMPLES.md").read_text().split("\n## ")[1:]
+    return [steps_of(it) for it in (tour, modes, *parts)]
+
+
+def steps_of(text: str) -> list[Step]:
+    steps: list[Step] = []
+    for line in re.findall(r"^    (.*)$", text, re.MULTILINE):
+        if line.startswith("$ "):
+            steps.append(Step(line[2:], []))
+        elif steps:
+            steps[-1].shown.append(line)
+    return steps
+
+
+def played(step: Step, folder: Path) -> list[str]:
+    """What a command shows where `newton` stands in the folder `bin` of this one."""
+    given = "".join(f"{line}\n" for line in step.shown[::2]) if step.is_talk() else ""
+    ran = subprocess.run(
+        ["bash", "-c", step.command],
+        input=given.encode(),
+        stdout=subprocess.PIPE,
+        stderr=subprocess.STDOUT,
+        cwd=folder / "at",
+        env={**os.environ, "PATH": f"{folder / 'bin'}:{os.environ['PATH']}"},
+    )
+    found = ran.stdout.decode(errors="replace").splitlines()
+    both = zip_longest(step.shown[::2], found, fillvalue="nothing")
+    return [it for pair in both for it in pair] if step.is_talk() else found
+
+
+def differing_steps(steps: list[Step], newton: str) -> list[str]:
+    with tempfile.TemporaryDirectory() as name:
+        folder = Path(name)
+        (folder / "bin").mkdir()
+        (folder / "at").mkdir()
+        (folder / "bin/newton").write_text(f'#!/bin/sh\nexec {newton} "$@"\n')
+        (folder / "bin/newton").chmod(0o755)
+        wrong = []
+        for step in steps:
+            found = played(step, folder)
+            for want, line in zip_longest(step.shown, found, fillvalue="nothing"):
+                wrong += [] if want == line else [f"$ {step.command}\n  wanted {want}\n  found  {line}"]
+        return wrong
+
+
 def main(program: str = "") -> int:
     single, session = of_commands()
     wrong = []
@@ -92,12 +160,18 @@ def main(program: str = "") -> int:
         wrong += differing(examples, by_reference(units)(examples))
         if program:
             wrong += differing(examples, by_program(Path(program).resolve(), units)(examples))
+    for steps in shells():
+        if not any("ulimit" in it.command for it in steps):
+            wrong += differing_steps(steps, f"'{sys.executable}' '{REFERENCE / 'newton.py'}'")
+        if program:
+            wrong += differing_steps(steps, f"'{Path(program).resolve()}'")
     store = store_of_image(fresh_image())
     if store is None or (store.name, store.sig, len(store.soups)) != (b"Internal", 7, 0):
         wrong.append(f"the fresh image is read as {store}")
     for line in wrong:
         print(line)
-    print(f"{len(single) + len(session) + len(of_formats())} examples and an image: {len(wrong)} differ")
+    typed = sum(map(len, shells()))
+    print(f"{len(single) + len(session) + len(of_formats())} examples, {typed} at a shell, an image: {len(wrong)} differ")
     return 1 if wrong else 0
 
 

@@ -35,12 +35,13 @@ from damage import TELLING_BYTES, TELLING_TEXT, bent, hostile_image, struck_anyw
 from extremes import CASES, DEPTHS, inputs_of_names, other_names
 from images import BLOCK, NoStore, is_same_store, payloads, store_of_image
 from layouts import random_image
-from literals import NoLiteral, print_literal, read_literal
+from literals import NoLiteral, read_literal
+from newton import packed_answer, shown_answer
 from preload import built_library
 from replies import of_name
 from scripts import written
 from stores import Store
-from streams import Malformed, decode, encode
+from streams import encode
 from values import Values
 from world import Unit, World
 
@@ -256,21 +257,6 @@ def compare_texts(bench: Bench, seed: int) -> None:
     lines = [text_line(random, values) for _ in range(TOGETHER)]
     replies = [answer(world, it) for it in lines]
     bench.answers(b"\n".join(lines) + b"\n", [it for it in replies if it is not None], [])
-
-
-def shown_answer(stream: bytes) -> bytes:
-    try:
-        graph, is_compressed = decode(stream)
-    except Malformed:
-        return b"error 1 malformed\n"
-    return b"error 2 compressed\n" if is_compressed else f"ok {print_literal(graph)}\n".encode()
-
-
-def packed_answer(text: bytes) -> bytes:
-    try:
-        return encode(read_literal(text))
-    except NoLiteral:
-        return b"error 3 literal\n"
 
 
 def compare_inputs(bench: Bench, seed: int) -> None:

@@ -2,15 +2,17 @@
 
 usage: python3 reference/refused.py PROGRAM [EACH]
 
-Three scripts are played over two files of 13 blocks: one on a unit alone, one of all commands, and one that fills a unit
-until its bank is switched. For each number N from 1 on, up to the allocations of a run to which nothing is refused, a
-run is played in which the N-th is refused, and one in which all from the N-th on are. With EACH every EACH-th number is
-tried. It ends with 1 at the first run that is not so:
+Three scripts are played over two files of 13 blocks: one on a unit alone, one of all commands, and one that fills a
+unit until its bank is switched. Then the card of the second is backed up, checked, and restored to a blank one. For
+each number N from 1 on, up to the allocations of a run to which nothing is refused, a run is played in which the N-th
+is refused, and one in which all from the N-th on are. With EACH every EACH-th number is tried. It ends with 1 at the
+first run that is not so:
 
-- it ends with the status of want of memory and its line on standard error, or, where the program can do without what was
-  refused, as it would have ended with it;
+- it ends with the status of want of memory and its line on standard error, or, where the program can do without what
+  was refused, as it would have ended with it;
 - the replies before are whole, and the first of those of the run to which nothing is refused;
-- each file is read as its unit's store after these commands or after one more.
+- each file is read as its unit's store after these commands or after one more; behind the other modes, where memory
+  was wanting, nothing is written and the file is as it was.
 
 It needs a C compiler, cc, for the library that refuses (refused.c).
 """
@@ -21,7 +23,7 @@ import sys
 import tempfile
 from collections import Counter
 from pathlib import Path
-from typing import NamedTuple, Optional
+from typing import Callable, NamedTuple, Optional
 
 from commands import answer
 from images import BLOCK, is_same_store, store_of_image
@@ -30,6 +32,7 @@ from stores import Store
 from world import Unit, World
 
 BLOCKS = 13
+BLANK = [bytes(BLOCK * BLOCKS)] * 2
 MEMORY = 3
 
 ALONE = """
@@ -137,17 +140,18 @@ class Bench:
         self.program, self.folder, self.library = program, folder, built_library("refused", folder)
         self.files = [folder / "unit0", folder / "unit1"]
 
-    def ran(self, script: bytes, at: int, goes_on: bool) -> Ended:
-        for file in self.files:
-            file.write_bytes(bytes(BLOCK * BLOCKS))
+    def ran(self, mode: str, given: bytes, images: list[bytes], at: int, goes_on: bool) -> Ended:
+        """A run over files of these images."""
+        for file, image in zip(self.files, images):
+            file.write_bytes(image)
         told = self.folder / "told"
         told.unlink(missing_ok=True)
-        given = {"REFUSED_AT": str(at), "REFUSED_ON": "1" if goes_on else "0", "REFUSED_TOLD": str(told)}
+        refused = {"REFUSED_AT": str(at), "REFUSED_ON": "1" if goes_on else "0", "REFUSED_TOLD": str(told)}
         ended = subprocess.run(
-            [self.program, "run", *self.files],
-            input=script,
+            [self.program, mode, *self.files[: len(images)]],
+            input=given,
             capture_output=True,
-            env={**os.environ, **given, "LD_PRELOAD": str(self.library)},
+            env={**os.environ, **refused, "LD_PRELOAD": str(self.library)},
         )
         calls = int(told.read_text()) if told.exists() else 0
         return Ended(ended.returncode, ended.stdout, ended.stderr, calls)
@@ -209,21 +213,53 @@ def look(bench: Bench, script: Script, ended: Ended) -> str:
     return "ended as want of memory"
 
 
-def refuse_each(bench: Bench, name: str, lines: list[str], each: int) -> None:
-    script, text = played(lines), "\n".join(lines).encode() + b"\n"
-    whole = bench.ran(text, 0, False)
-    if whole.status != 0 or whole.output != script.output:
-        raise Wrong(f"{name}: status {whole.status}, other replies")
-    print(f"{name}: {whole.calls} allocations, {len(replies_of(lines))} replies", flush=True)
+def tried(name: str, calls: int, each: int, run: Callable[[int, bool], str]) -> None:
+    """Refuses each allocation, and all from each on; a run says what its end was."""
     for goes_on, word in ((False, "one"), (True, "all from one on")):
         counts: Counter = Counter()
-        for at in range(1, whole.calls + 1, each):
+        for at in range(1, calls + 1, each):
             try:
-                counts[look(bench, script, bench.ran(text, at, goes_on))] += 1
+                counts[run(at, goes_on)] += 1
             except Wrong as fault:
                 raise Wrong(f"{name}, {word}, allocation {at}: {fault}") from fault
         told = ", ".join(f"{count} {what}" for what, count in sorted(counts.items()))
         print(f"  {word} refused: {told}", flush=True)
+
+
+def refuse_each(bench: Bench, name: str, lines: list[str], each: int) -> None:
+    script, text = played(lines), "\n".join(lines).encode() + b"\n"
+    whole = bench.ran("run", text, BLANK, 0, False)
+    if whole.status != 0 or whole.output != script.output:
+        raise Wrong(f"{name}: status {whole.status}, other replies")
+    print(f"{name}: {whole.calls} allocations, {len(replies_of(lines))} replies", flush=True)
+    tried(name, whole.calls, each, lambda *it: look(bench, script, bench.ran("run", text, BLANK, *it)))
+
+
+def refuse_mode(bench: Bench, mode: str, given: bytes, image: bytes, each: int) -> bytes:
+    """The output of a mode over a file of this image, to which nothing is refused; then each allocation is."""
+    whole = bench.ran(mode, given, [image], 0, False)
+    left = bench.files[0].read_bytes()
+    print(f"{mode}: {whole.calls} allocations, status {whole.status}", flush=True)
+
+    def run(at: int, goes_on: bool) -> str:
+        ended = bench.ran(mode, given, [image], at, goes_on)
+        found = bench.files[0].read_bytes()
+        if ended._replace(calls=0) == whole._replace(calls=0) and found == left:
+            return "did without"
+        if (ended.status, ended.output) != (MEMORY, b"") or found != image:
+            raise Wrong(f"status {ended.status}, {ended.output[:200]!r}, the file is {'kept' * (found == image)}")
+        return "ended as want of memory"
+
+    tried(mode, whole.calls, each, run)
+    return whole.output
+
+
+def refuse_modes(bench: Bench, each: int) -> None:
+    bench.ran("run", "\n".join(SCRIPTS["all commands"]).encode(), BLANK, 0, False)
+    card = bench.files[0].read_bytes()
+    kept = refuse_mode(bench, "backup", b"", card, each)
+    refuse_mode(bench, "check", b"", card, each)
+    refuse_mode(bench, "restore", kept, BLANK[0], each)
 
 
 def main(program: str, each: str = "1") -> int:
@@ -232,6 +268,7 @@ def main(program: str, each: str = "1") -> int:
         try:
             for name, script in SCRIPTS.items():
                 refuse_each(bench, name, script, int(each))
+            refuse_modes(bench, int(each))
         except Wrong as fault:
             print(fault)
             return 1

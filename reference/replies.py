@@ -4,6 +4,7 @@ REFUSALS = {
     1: "malformed",
     2: "compressed",
     3: "literal",
+    51: "backup",
     10: "command",
     11: "line",
     12: "longline",

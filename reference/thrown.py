@@ -4,38 +4,27 @@ usage: python3 reference/thrown.py PROGRAM FIRST COUNT TIMES
 
 Random scripts with the seeds from FIRST on, COUNT of them, in which units are mounted again and again, are played over
 one to four files, TIMES times each, and each time some random calls fail, reads as well as writes and syncs, by the
-library torn.c. A card whose call fails is thrown out, and the run goes on: the reply is `error 50 device U`, as often as
-calls failed. The reference keeps all worlds that the replies so far leave room for, each with the store of the card
+library torn.c. A card whose call fails is thrown out, and the run goes on: the reply is `error 50 device U`, as often
+as calls failed. The reference keeps all worlds that the replies so far leave room for, each with the store of the card
 before the command or after it. Each other reply is to be that of one of them, and behind the script all files are to
 read as the stores of one. It needs a C compiler, cc, and ends with 1 at the first difference, whose files stay.
 """
 
-import os
 import re
-import shutil
-import subprocess
 import sys
-import tempfile
-from collections import Counter
 from copy import copy
-from dataclasses import dataclass, field, replace
-from pathlib import Path
+from dataclasses import replace
 from random import Random
 from typing import Iterator
 
+from bench import Bench, Differs, over_seeds
 from commands import answer
-from images import BLOCK, is_same_store, store_of_image
-from preload import built_library
+from images import is_same_store, store_of_image
 from scripts import written
 from world import Unit, World
 
 BLOCKS = (13, 13, 14, 16, 24)
 MOST_WORLDS = 64
-MOST_SECONDS = 60
-
-
-class Differs(Exception):
-    """What the program does or leaves is not what is wanted."""
 
 
 def copied(world: World) -> World:
@@ -92,41 +81,14 @@ def is_command(line: bytes) -> bool:
     return line.lstrip(b" \t")[:1] not in (b"", b"%", b"\r")
 
 
-@dataclass
-class Bench:
-    """Where the program runs over files."""
-
-    program: Path
-    library: Path
-    folder: Path
-    blocks: tuple
-    counts: Counter = field(default_factory=Counter)
-
-    def files(self) -> list[Path]:
-        return [self.folder / f"unit{at}" for at in range(len(self.blocks))]
+class Throws(Bench):
+    """Runs in which calls fail, and the worlds that they may be in."""
 
     def run(self, script: list, failing: list[int], seed: int) -> list[str]:
         """The replies to a script over blank files, where these calls fail."""
-        for file, count in zip(self.files(), self.blocks):
-            file.write_bytes(bytes(BLOCK * count))
-        told = {"LD_PRELOAD": str(self.library), "TORN_TOLD": str(self.folder / "told"), "TORN_READS": "1"}
-        told |= {"TORN_FAIL": ",".join(map(str, failing)), "TORN_SEED": str(seed)}
-        ran = subprocess.run(
-            [self.program, "run", *self.files()],
-            input=b"\n".join(script) + b"\n",
-            capture_output=True,
-            env={**os.environ, **told},
-            timeout=MOST_SECONDS,
-        )
-        self.counts["runs"] += 1
-        if ran.returncode or ran.stderr:
-            raise Differs(f"the program ended with {ran.returncode} and {ran.stderr!r}")
-        return ran.stdout.decode().splitlines()
-
-    def told(self) -> tuple[int, int]:
-        """How many calls the last run has made, and how many failed."""
-        numbers = (self.folder / "told").read_text().split()
-        return int(numbers[0]), int(numbers[2])
+        self.blank()
+        fail = ",".join(map(str, failing))
+        return self.replies(script, (0,), reads=1, fail=fail, seed=seed)[1]
 
     def follow(self, script: list, replies: list[str]) -> None:
         """Compares the replies, and what is left."""
@@ -171,14 +133,14 @@ def calls_to_fail(random: Random, first: int, calls: int) -> list[int]:
     return sorted(failing)
 
 
-def compared(bench: Bench, seed: int, times: int) -> None:
+def compared(bench: Throws, seed: int, times: int) -> None:
     random = Random(seed)
     bench.blocks = tuple(random.choice(BLOCKS) for _ in range(random.choice((1, 2, 2, 3, 4))))
     units = [Unit(it) for it in bench.blocks]
     script = written(random, World(units), len(units), random.choice((60, 120, 240)))[0]
     script = with_mounts(random, [it for it in script if it.split() != [b"quit"]], len(units))
     bench.follow(script, bench.run(script, [], seed))
-    calls, _ = bench.told()
+    calls = bench.told()[0]
     for at in range(times):
         own = Random(f"{seed} {at}")
         # A unit whose first sync fails is not attached.
@@ -191,23 +153,8 @@ def compared(bench: Bench, seed: int, times: int) -> None:
                 raise Differs(f"{failed} calls failed, and {answered} replies tell it")
             bench.counts["failing calls"] += failed
         except Differs as fault:
-            raise Differs(f"seed {seed}, time {at}, calls {failing}: {fault}") from fault
-
-
-def main(program: str, first: str, count: str, times: str) -> int:
-    folder = Path(tempfile.mkdtemp())
-    bench = Bench(Path(program).resolve(), built_library("torn", folder), folder, ())
-    try:
-        for seed in range(int(first), int(first) + int(count)):
-            compared(bench, seed, int(times))
-    except Differs as fault:
-        print(f"{fault}\nthe files are in {folder}")
-        return 1
-    shutil.rmtree(folder)
-    told = ", ".join(f"{number} {name}" for name, number in sorted(bench.counts.items()))
-    print(f"{count} scripts from seed {first} on, each {times} times: no difference\n{told}")
-    return 0
+            raise Differs(f"time {at}, calls {failing}: {fault}") from fault
 
 
 if __name__ == "__main__":
-    sys.exit(main(*sys.argv[1:]))
+    sys.exit(over_seeds(Throws, compared, *sys.argv[1:]))

@@ -5,7 +5,8 @@
  * sync of its file that succeeded is left as it was, as written, in part, or with other bytes, as TORN_SEED chooses,
  * and the program ends with the status 77. Each call of the list TORN_FAIL, as in 3,8, leaves the same, and fails.
  * Where TORN_READS is not 0, reads of devices are calls too. Where the program ends by itself, the number of the calls,
- * the most memory that it had at once, in kilobytes, and how many calls failed are written to the file TORN_TOLD.
+ * the most memory that it had at once, in kilobytes, how many calls failed, and how many ranges no sync has reached are
+ * written to the file TORN_TOLD.
  */
 #define _GNU_SOURCE
 #include <errno.h>
@@ -59,7 +60,7 @@ __attribute__((destructor)) static void end(void) {
     const char *name = getenv("TORN_TOLD");
     FILE *told = name ? fopen(name, "w") : NULL;
     if (told) {
-        fprintf(told, "%lu %ld %lu\n", calls, most_memory(), failed);
+        fprintf(told, "%lu %ld %lu %zu\n", calls, most_memory(), failed, ranges);
         fclose(told);
     }
 }

@@ -10,20 +10,13 @@ images and by what the program lists. A file without a store keeps its bytes. It
 at the first difference, whose files stay.
 """
 
-import os
-import shutil
-import subprocess
 import sys
-import tempfile
-from collections import Counter
-from dataclasses import dataclass, field
-from pathlib import Path
 from random import Random
 from typing import NamedTuple, Optional
 
+from bench import Bench, Differs, over_seeds
 from commands import answer
 from images import BLOCK, HEADER, bank_of, is_same_store, payloads, store_of_image
-from preload import built_library
 from replies import of_name
 from scripts import written
 from stores import Store
@@ -31,13 +24,8 @@ from world import Unit, World
 
 BLOCKS = (13, 13, 13, 14, 16, 24)
 STOPPED = 77
-MOST_SECONDS = 60
 
 Stores = tuple
-
-
-class Differs(Exception):
-    """What the program does or leaves is not what is wanted."""
 
 
 class Played(NamedTuple):
@@ -76,50 +64,15 @@ def listing(stores: Stores, more: Stores) -> list:
     return [it.encode() for it in lines]
 
 
-@dataclass
-class Bench:
-    """Where the program runs over files."""
-
-    program: Path
-    library: Path
-    folder: Path
-    blocks: tuple
-    counts: Counter = field(default_factory=Counter)
-
-    def files(self) -> list[Path]:
-        return [self.folder / f"unit{at}" for at in range(len(self.blocks))]
-
-    def images(self) -> list[bytes]:
-        return [it.read_bytes() for it in self.files()]
-
-    def blank(self) -> None:
-        for file, count in zip(self.files(), self.blocks):
-            file.write_bytes(bytes(BLOCK * count))
-
-    def run(self, script: list, stop: int, seed: int) -> tuple[bool, list[str]]:
-        """Whether it was stopped at the call, and the replies that had begun."""
-        told = {"LD_PRELOAD": str(self.library), "TORN_TOLD": str(self.folder / "told")}
-        told |= {"TORN_STOP": str(stop), "TORN_SEED": str(seed)}
-        ran = subprocess.run(
-            [self.program, "run", *self.files()],
-            input=b"\n".join(script) + b"\n",
-            capture_output=True,
-            env={**os.environ, **told},
-            timeout=MOST_SECONDS,
-        )
-        self.counts["runs"] += 1
-        if ran.returncode not in (0, STOPPED) or ran.stderr:
-            raise Differs(f"the program ended with {ran.returncode} and {ran.stderr!r}")
-        return ran.returncode != 0, ran.stdout.decode().splitlines()
-
-    def calls(self) -> int:
-        """How many calls the last run that ended by itself has made."""
-        return int((self.folder / "told").read_text().split()[0])
+class Stops(Bench):
+    """Runs that are stopped, and what they leave."""
 
     def stopped(self, wanted: Played, stop: int, random: Random) -> Stores:
         """Plays a script, stopped at a call, and gives the stores that are left."""
         before = self.images()
-        is_stopped, found = self.run(wanted.script, stop, random.randrange(2**32))
+        seed = random.randrange(2**32)
+        status, found = self.replies(wanted.script, (0, STOPPED), stop=stop, seed=seed)
+        is_stopped = status == STOPPED
         if found != wanted.replies[: len(found)] or not is_stopped and len(found) < len(wanted.replies):
             at = next((at for at, pair in enumerate(zip(found, wanted.replies)) if pair[0] != pair[1]), len(found))
             raise Differs(f"reply {at}: {found[at : at + 1]}, wanted {wanted.replies[at : at + 1]}")
@@ -154,7 +107,7 @@ def has_torn_tail(image: bytes) -> bool:
     return bool(bank_of(image)[used:].strip(b"\xff"))
 
 
-def cut(bench: Bench, random: Random, first: Played, stop: int) -> None:
+def cut(bench: Stops, random: Random, first: Played, stop: int) -> None:
     """Stops a script over blank files, the run that goes on with what is left, and looks at what is left then."""
     bench.blank()
     other = first.stores[-1]
@@ -166,7 +119,7 @@ def cut(bench: Bench, random: Random, first: Played, stop: int) -> None:
     bench.stopped(played(bench.blocks, left, listing(left, stores)), 0, random)
 
 
-def compared(bench: Bench, seed: int, stops: int) -> None:
+def compared(bench: Stops, seed: int, stops: int) -> None:
     random = Random(seed)
     bench.blocks = tuple(random.choice(BLOCKS) for _ in range(random.choice((1, 2, 2, 3))))
     units = [Unit(it) for it in bench.blocks]
@@ -174,7 +127,7 @@ def compared(bench: Bench, seed: int, stops: int) -> None:
     wanted = played(bench.blocks, (None,) * len(units), script)
     bench.blank()
     bench.stopped(wanted, 0, random)
-    calls = bench.calls()
+    calls = bench.told()[0]
     bench.counts["calls"] += calls
     for at in range(stops):
         own = Random(f"{seed} {at}")
@@ -182,23 +135,8 @@ def compared(bench: Bench, seed: int, stops: int) -> None:
         try:
             cut(bench, own, wanted, stop)
         except Differs as fault:
-            raise Differs(f"seed {seed}, stop {at} at call {stop}: {fault}") from fault
-
-
-def main(program: str, first: str, count: str, stops: str) -> int:
-    folder = Path(tempfile.mkdtemp())
-    bench = Bench(Path(program).resolve(), built_library("torn", folder), folder, ())
-    try:
-        for seed in range(int(first), int(first) + int(count)):
-            compared(bench, seed, int(stops))
-    except Differs as fault:
-        print(f"{fault}\nthe files are in {folder}")
-        return 1
-    shutil.rmtree(folder)
-    told = ", ".join(f"{number} {name}" for name, number in sorted(bench.counts.items()))
-    print(f"{count} scripts from seed {first} on, each stopped {stops} times: no difference\n{told}")
-    return 0
+            raise Differs(f"stop {at} at call {stop}: {fault}") from fault
 
 
 if __name__ == "__main__":
-    sys.exit(main(*sys.argv[1:]))
+    sys.exit(over_seeds(Stops, compared, *sys.argv[1:]))

@@ -158,17 +158,21 @@ class World:
             if soup is not None and query.scope in (None, store.sig):
                 yield number, store, soup
 
-    def hits(self, query: Query) -> list[Hit]:
-        """The entries that a query finds, in order."""
-        found = []
+    def found(self, query: Query, identity: Optional[tuple] = None) -> Iterator[Hit]:
+        """The entries that a query finds, or the one of them that has this identity."""
         for number, store, soup in self.members(query):
             if query.spec is not None and not any(is_carried(query.spec, it) for it in soup.specs):
                 continue
             for entry in soup.entries:
+                if identity not in (None, (store.sig, soup.sig, entry.uid)):
+                    continue
                 key = key_of(entry.graph, query.spec)
                 if key is not None and passes(query, soup, entry.graph, key):
-                    found.append(Hit(key, (store.sig, soup.sig, entry.uid), number, entry))
-        return sorted(found, key=cmp_to_key(lambda one, other: order(query, one[:2], other[:2])))
+                    yield Hit(key, (store.sig, soup.sig, entry.uid), number, entry)
+
+    def hits(self, query: Query) -> list[Hit]:
+        """The entries that a query finds, in order."""
+        return sorted(self.found(query), key=cmp_to_key(lambda one, other: order(query, one[:2], other[:2])))
 
     def next(self, query: Query, place: Place) -> Place:
         behind = [
@@ -186,7 +190,7 @@ class World:
         """The hit that a cursor is on."""
         if cursor.place in (START, FINISH):
             return None
-        return next((it for it in self.hits(cursor.query) if it.identity == cursor.place[1]), None)
+        return next(self.found(cursor.query, cursor.place[1]), None)
 
     def settle(self) -> None:
         """Gives each cursor on a hit the key that the hit has now."""
