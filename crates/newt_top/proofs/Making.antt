@@ -1,10 +1,10 @@
 -- A store is made on a device, or refused, and the reply put out.
-use Rattle.std.proofs.Common.{◌≡◌, inl, inr, ℕ, zero, suc, ◌+◌, ◌-◌, ◌<◌, ◌≤◌, ◌*◌, Bool, true, false, List, [], ◌∷◌, ◌++◌, length, drop, Option, Some, None, IsSome, Result, Ok as Good, Err as Bad, is_err, refl, sym, ◌∙◌, ap, subst, arith}
+use Rattle.std.proofs.Common.{◌≡◌, inl, inr, ℕ, zero, suc, ◌+◌, ◌-◌, ◌<◌, ◌≤◌, ◌*◌, true, false, List, [], ◌∷◌, ◌++◌, length, drop, Option, Some, None, IsSome, Result, Ok as Good, Err as Bad, is_err, refl, sym, ◌∙◌, ap, subst, arith}
 use Rattle.std.proofs.lemmas.Bool.{cases_lt}
 use Rattle.std.proofs.lemmas.List.{length-append}
 use Rattle.newt_base.specs.declared.Refusal.{Refusal}
 use Rattle.newt_host.specs.Meanings.{out_of}
-use Rattle.newt_host.specs.Moments.{Change, Event, On, Printed, Took, IsDurable, IsHistory, LeftBy, MayLeave, Moment, Always, here, bytes_after, changes, image, moment_at, output}
+use Rattle.newt_host.specs.Moments.{Change, On, Printed, Took, IsHistory, LeftBy, MayLeave, Moment, Always, here, bytes_after, changes, moment_at, output}
 use Rattle.newt_host.specs.Outside.{Outside, PrintsSome, SameWork}
 use Rattle.newt_host.proofs.Extending.{extends-always, moment-stays}
 use Rattle.newt_host.proofs.Moments.{Always-last}
@@ -17,11 +17,11 @@ use Rattle.newt_script_session.specs.Calls.{OutputFailed, WriteCall}
 use Rattle.newt_script_session.specs.Named.{AtEachMoment, held_by}
 use Rattle.newt_script_session.specs.Stream.{Puts, WroteSome}
 use Rattle.newt_spec_store.specs.Store.{Store}
-use Rattle.newt_store_backup.specs.Remade.{IsDone, IsLeft, IsRemade, Restores, remade_text}
+use Rattle.newt_store_backup.specs.Remade.{IsDone, IsLeft, IsRemade, Restores}
 use Rattle.newt_store_backup.specs.Written.{device_on}
 use Rattle.newt_store_backup.proofs.Remade.{one-outcome}
 use Rattle.newt_store_catalog.specs.Readable.{readable}
-use Rattle.newt_top.specs.Restoring.{CrashLeaves, IsAsHeld, IsMade, RanRestored, Replied}
+use Rattle.newt_top.specs.Restoring.{CrashLeaves, IsMade, RanRestored, Replied}
 use Rattle.newt_top.specs.declared.status.Status.TheVariants.{Ok, Memory, Device, Sink}
 use Rattle.newt_top.proofs.Looking.{crash-held, crash-since, device-held, only-read, still}
 

@@ -14,7 +14,7 @@ use Rattle.newt_script_session.specs.declared.halt.Halt.TheVariants as halts
 use Rattle.newt_spec_store.specs.Store.{Store}
 use Rattle.newt_store_backup.specs.Remade.{IsRemade}
 use Rattle.newt_top.specs.Reading.{OnlyReadsDevices}
-use Rattle.newt_top.specs.Restoring.{CrashLeaves, RanOver, RanRestored, RanRestoring, Replied, WroteRestored}
+use Rattle.newt_top.specs.Restoring.{CrashLeaves, RanRestored, RanRestoring, Replied, WroteRestored}
 use Rattle.newt_top.specs.Status.{status_of}
 use Rattle.newt_top.specs.Whole.{HasReadCause}
 use Rattle.newt_top.specs.declared.status.Status.{Status}

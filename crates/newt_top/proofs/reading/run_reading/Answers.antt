@@ -1,4 +1,4 @@
-use Rattle.std.proofs.Common.{◌≡◌, Bool, List, ℕ, Option, map, Global, string_bytes, sym, ◌∙◌, subst, arith}
+use Rattle.std.proofs.Common.{Bool, List, ℕ, Option, map, Global, string_bytes, sym, ◌∙◌, subst, arith}
 use Rattle.std.proofs.lemmas.List.{length-map}
 use Rattle.newt_host_attach.specs.Named.{AreAttached}
 use Rattle.newt_host.proofs.Outside.{NoFault-append, SameWork-refl}

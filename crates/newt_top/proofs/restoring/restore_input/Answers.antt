@@ -1,4 +1,4 @@
-use Rattle.std.proofs.Common.{◌≡◌, Bool, List, ℕ, Err, map, Global, string_bytes, sym, ap, ◌∙◌, subst}
+use Rattle.std.proofs.Common.{Bool, List, ℕ, Err, map, Global, string_bytes, sym, ap, ◌∙◌, subst}
 use Rattle.newt_host_attach.specs.Named.{AreAttached}
 use Rattle.newt_host.proofs.Outside.{SameWork-append}
 use Rattle.newt_script_session.specs.Calls.{OutputFailed, WriteCall}

@@ -1,4 +1,4 @@
-use Rattle.std.proofs.Common.{◌≡◌, ◌≤◌, ◌∙◌, Bool, ℕ, List, length, map, Global, string_bytes, sym, subst}
+use Rattle.std.proofs.Common.{◌≤◌, ◌∙◌, Bool, ℕ, List, length, map, Global, string_bytes, sym, subst}
 use Rattle.newt_host.proofs.Outside.{SameWork-append}
 use Rattle.newt_laws_steps.specs.Devices.{SameDevices}
 use Rattle.newt_top.specs.Restoring.{RanRestored, RanRestoring}
