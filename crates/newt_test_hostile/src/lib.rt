@@ -11,6 +11,8 @@
 #![tactic(auto)]
 
 #[cfg(test)]
+mod backups;
+#[cfg(test)]
 mod cards;
 #[cfg(test)]
 mod failing;
@@ -21,6 +23,8 @@ mod outputs;
 #[cfg(test)]
 mod pieces;
 #[cfg(test)]
+mod restores;
+#[cfg(test)]
 mod script;
 #[cfg(test)]
 mod stops;
@@ -28,3 +32,5 @@ mod stops;
 mod twice;
 #[cfg(test)]
 mod versions;
+#[cfg(test)]
+mod wide;
