@@ -66,13 +66,15 @@ fn directory_of(alloc: Global, length: usize) -> Result<Vec<u8>, Fail> {
 /// What is asked of it: the last soup has its info frame and its next id, and there is no room for
 /// another one.
 fn asked(alloc: Global, length: usize) -> Result<String, Fail> {
-    Ok(format!(in alloc; "mount 0 => ok 7 Internal
+    Ok(format!(in alloc;
+        "mount 0 => ok 7 Internal
 info 0 S249 => ok {{b: <x:~F9*{length}~>}}
 add 0 S249 {{}} => ok 249
 info 0 S16 => ok {{b: <x:~10*{length}~>}}
 soup 0 T => error 36 limit
 info 0 S16 {{a: 1}} => ok
-info 0 S16 => ok {{a: 1}}")?)
+info 0 S16 => ok {{a: 1}}"
+    )?)
 }
 
 /// The backup of such a store is restored to so many blocks, and backed up again.
@@ -95,10 +97,12 @@ fn restores_250_soups_with_info_frames(rt: HostRuntime) -> Result<(), Fail> {
 
 /// The backup of a store with an entry whose large binary has so many bytes, and which has 40 more.
 fn backup_of_large(alloc: Global, length: u32) -> Result<Vec<u8>, Fail> {
-    let table = format!(in alloc; "format 0 Internal 7 => ok
+    let table = format!(in alloc;
+        "format 0 Internal 7 => ok
 mount 0 => ok 7 Internal
 soup 0 S => ok 0
-add 0 S {{v: <<wave:*{length}>>}} => ok 0")?;
+add 0 S {{v: <<wave:*{length}>>}} => ok 0"
+    )?;
     let host = run_table_on(alloc, "run a", &table, &blocks(alloc, 270)?, &[])?;
     let card = image(alloc, &host, Unit(0))?;
     copied(alloc, &card, 270)?;

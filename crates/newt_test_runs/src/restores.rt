@@ -28,7 +28,13 @@ fn restores_a_fresh_store_as_it_is_formatted(rt: HostRuntime) -> Result<(), Fail
 fn expect_in_pieces(alloc: Global, piece: u32) -> Result<(), Fail> {
     let mut host = over(alloc, ENTRY, &blocks(alloc, 13)?, &[])?;
     host.piece(piece.max(1));
-    expect_end(alloc, "restore a", &mut host, Status::Ok, b"ok 7 Internal\n")?;
+    expect_end(
+        alloc,
+        "restore a",
+        &mut host,
+        Status::Ok,
+        b"ok 7 Internal\n",
+    )?;
     if backed_up(alloc, &image(alloc, &host, Unit(0))?)?.as_slice() != ENTRY {
         return Err(Fail::new("another store is restored"));
     }
@@ -146,10 +152,12 @@ const LARGE: [(&str, &[u8]); 2] = [
 fn counts_the_pages_of_large_binaries(rt: HostRuntime) -> Result<(), Fail> {
     let alloc = rt.alloc();
     for (row, reply) in LARGE {
-        let table = format!(in alloc; "format 0 Internal 7 => ok
+        let table = format!(in alloc;
+            "format 0 Internal 7 => ok
 mount 0 => ok 7 Internal
 soup 0 S => ok 0
-{row}")?;
+{row}"
+        )?;
         let host = run_table_on(alloc, "run a", &table, &blocks(alloc, 15)?, &[])?;
         let input = backed_up(alloc, &image(alloc, &host, Unit(0))?)?;
         restored(alloc, &input, &blocks(alloc, 13)?, reply)?;
