@@ -15,14 +15,14 @@ fn expect_backup(alloc: Global, table: &str, output: &[u8]) -> Result<(), Fail> 
     expect_end(alloc, "backup a", &mut host, Status::Ok, output)
 }
 
+/// The backup of a store as it is formatted.
+pub(crate) const FRESH: &[u8] =
+    b"\x02\x06\x02\x07\x09directory\x07\x07entries\x05\x01\x03\x10\x07\x05bytes\
+    \x08Internal\0\0\0\x07\0\0\0\x05\0";
+
 #[test]
 fn writes_a_fresh_store(rt: HostRuntime) -> Result<(), Fail> {
-    expect_backup(
-        rt.alloc(),
-        "format 0 Internal 7 => ok",
-        b"\x02\x06\x02\x07\x09directory\x07\x07entries\x05\x01\x03\x10\x07\x05bytes\
-        \x08Internal\0\0\0\x07\0\0\0\x05\0",
-    )
+    expect_backup(rt.alloc(), "format 0 Internal 7 => ok", FRESH)
 }
 
 /// A soup with one entry of minute 5.
@@ -34,15 +34,15 @@ time 5 => ok
 add 0 S {a: 1} => ok 0
 ";
 
+/// Its backup.
+pub(crate) const ENTRY: &[u8] =
+    b"\x02\x06\x02\x07\x09directory\x07\x07entries\x05\x01\x03\x1a\x07\x05bytes\
+    \x08Internal\0\0\0\x07\0\x01\x01\x01S\0\0\0\0\0\x01\0\0\
+    \x05\x01\x05\x01\x03\x12\x09\x05\0\0\0\0\0\0\0\0\0\x05\x02\x06\x01\x07\x01a\0\x04";
+
 #[test]
 fn writes_an_entry_with_its_id_and_its_minute(rt: HostRuntime) -> Result<(), Fail> {
-    expect_backup(
-        rt.alloc(),
-        ONE_ENTRY,
-        b"\x02\x06\x02\x07\x09directory\x07\x07entries\x05\x01\x03\x1a\x07\x05bytes\
-        \x08Internal\0\0\0\x07\0\x01\x01\x01S\0\0\0\0\0\x01\0\0\
-        \x05\x01\x05\x01\x03\x12\x09\x05\0\0\0\0\0\0\0\0\0\x05\x02\x06\x01\x07\x01a\0\x04",
-    )
+    expect_backup(rt.alloc(), ONE_ENTRY, ENTRY)
 }
 
 #[test]

@@ -14,7 +14,7 @@ fn expect_both_safe(alloc: Global, table: &str) -> Result<(), Fail> {
 }
 
 /// Every command on units, soups and entries, on two units.
-const EVERY: &str = "
+pub(crate) const EVERY: &str = "
 format 0 Internal 7 => ok
 format 1 Card 9 => ok
 mount 0 => ok 7 Internal

@@ -26,6 +26,8 @@ mod rectangles;
 #[cfg(test)]
 mod replaces;
 #[cfg(test)]
+mod restores;
+#[cfg(test)]
 mod thrown;
 #[cfg(test)]
 mod told;

@@ -12,7 +12,7 @@ use std::process::Abort;
 use std::test::Fail;
 
 /// A fresh store in version 1, as the program made it then.
-const FRESH: &str = "
+pub(crate) const FRESH: &str = "
 00 FF*4095
 00 FF*4095
 00 FF*4095
@@ -74,7 +74,7 @@ info 0 S => ok nil
 
 /// An image of version 1 that the program made then, record by record, with all kinds of entries,
 /// indexes and tags. Each page goes on with zeros.
-const BEFORE: &str = "
+pub(crate) const BEFORE: &str = "
 00 FF*4095
 00 FF*4095
 00 FF*4095
@@ -199,7 +199,7 @@ alias 0 \"To Do\" 0 => ok [alias: 7, 1, 0]
 ";
 
 /// It goes on as any other store.
-const GOES_ON: &str = "
+pub(crate) const GOES_ON: &str = "
 mount 0 => ok 7 Internal
 info 0 S {ver: 2} => ok
 set 0 S 0 k \"Eve\" => ok

@@ -7,6 +7,7 @@
 mod crashes;
 mod halts;
 mod hosts;
+mod restores;
 mod runs;
 mod tables;
 mod thrown;
@@ -16,6 +17,7 @@ pub use crashes::{
 };
 pub use halts::{expect_halts, expect_statuses};
 pub use hosts::{blocks, host, over, over_blank, over_blocks};
+pub use restores::{backed_up, copied, expect_goes_on, expect_unrestored, restored};
 pub use runs::{
     expect, expect_end, expect_over, expect_said, image, is_clean, run_on, run_table, run_table_on,
 };

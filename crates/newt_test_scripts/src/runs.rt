@@ -5,6 +5,7 @@ ghost use Rattle.newt_memhost.specs.Outside.{outside_of};
 ghost use Rattle.newt_test_scripts.specs.Free.{IsFree};
 
 use crate::hosts::{over, over_blank, over_blocks};
+use crate::restores::expect_all_restored;
 use crate::tables::lines_of;
 use newt_host::{Host, Unit};
 use newt_memhost::MemHost;
@@ -90,18 +91,18 @@ pub fn run_table(alloc: Global, text: &str, table: &str) -> Result<MemHost, Fail
     Ok(host)
 }
 
-/// The same, where what is left does not matter.
+/// The same, and each store that is left is restored from its backup.
 pub fn expect(alloc: Global, text: &str, table: &str) -> Result<(), Fail> {
-    run_table(alloc, text, table)?;
-    Ok(())
+    expect_all_restored(alloc, &run_table(alloc, text, table)?)
 }
 
 /// Runs a table over five devices `a` to `e` of so many blocks of zero bytes, and looks for its
-/// replies.
+/// replies. Each store that is left is restored from its backup.
 pub fn expect_over(alloc: Global, text: &str, table: &str, count: u32) -> Result<(), Fail> {
     let (script, output) = lines_of(alloc, table)?;
     let mut host = over_blocks(alloc, &script, count)?;
-    expect_end(alloc, text, &mut host, Status::Ok, &output)
+    expect_end(alloc, text, &mut host, Status::Ok, &output)?;
+    expect_all_restored(alloc, &host)
 }
 
 /// Whether the mode `check` finds nothing damaged on a device of these bytes.
