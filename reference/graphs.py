@@ -5,7 +5,7 @@ Python, so a cycle is a cycle.
 """
 
 from dataclasses import dataclass, field
-from typing import Callable, Optional, Union
+from typing import Callable, Iterator, Optional, Union
 
 NIL = 2
 TRUE = 26
@@ -124,6 +124,10 @@ def character(value: Ref) -> Optional[int]:
     return value >> 4
 
 
+def objects_of(parts: list) -> Iterator[Node]:
+    return iter([it for it in parts if not isinstance(it, int)])
+
+
 class Walk:
     """The nodes that a reference reaches, in the order of first meeting: an object, then its class, tags and values."""
 
@@ -132,7 +136,7 @@ class Walk:
         self.numbers: dict[int, int] = {}
         self.shared: set[int] = set()
         self.most_open = 0
-        places = [(iter([root]), 0)]
+        places = [(objects_of([root]), 0)]
         while places:
             parts, is_open = places[-1]
             node = next(parts, None)
@@ -140,12 +144,12 @@ class Walk:
                 places.pop()
             elif id(node) in self.numbers:
                 self.shared.add(id(node))
-            elif not isinstance(node, int):
+            else:
                 self.numbers[id(node)] = len(self.nodes)
                 self.nodes.append(node)
                 now = is_open + isinstance(node, (Array, Frame))
                 self.most_open = max(self.most_open, now)
-                places.append((iter(node.parts()), now))
+                places.append((objects_of(node.parts()), now))
 
     def keeps_limits(self) -> bool:
         sizes = [it.size() for it in self.nodes]

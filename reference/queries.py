@@ -199,7 +199,8 @@ def has_word(text: str, word: str, is_entire: bool) -> bool:
 
 def passes(query: Query, soup: Soup, graph: Ref, key: tuple) -> bool:
     shape = query.shape
-    texts = [decoded(it.units).casefold() for it in Walk(graph).nodes if isinstance(it, String)]
+    strings = [it for it in Walk(graph).nodes if isinstance(it, String)] if shape.texts or shape.words else []
+    texts = [decoded(it.units).casefold() for it in strings]
     has = tags_of(soup, graph)
     return (
         all(BOUNDS[name](compare(key, bound, query.spec)) for name, bound in query.bounds.items())
