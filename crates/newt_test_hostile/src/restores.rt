@@ -107,5 +107,5 @@ fn expect_found(found: Found, images: u32, stores: u32) -> Result<(), Fail> {
 fn a_stop_leaves_no_store_or_the_store(rt: HostRuntime) -> Result<(), Fail> {
     let alloc = rt.alloc();
     expect_found(stop_restoring(alloc, &filled(alloc, 0)?)?, 246, 158)?;
-    expect_found(stop_restoring(alloc, &filled(alloc, 0x55)?)?, 0, 0)
+    expect_found(stop_restoring(alloc, &filled(alloc, 0x55)?)?, 240, 138)
 }
