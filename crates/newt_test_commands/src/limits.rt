@@ -1,7 +1,7 @@
 //! Large binaries of the greatest length, and the longest lines of their bytes.
 
 use newt_host::Unit;
-use newt_test_scripts::{blocks, image, run_table_on};
+use newt_test_scripts::{blocks, copied, image, run_table_on};
 use std::test::Fail;
 
 /// A large binary of the greatest length is overwritten in its middle and at both ends.
@@ -50,7 +50,7 @@ fn holds_a_large_binary_of_the_greatest_length(rt: HostRuntime) -> Result<(), Fa
     let first = run_table_on(alloc, "run a b", FIRST, &blank, &small)?;
     let card = image(alloc, &first, Unit(0))?;
     run_table_on(alloc, "run a b", WHOLE, &card, &small)?;
-    run_table_on(alloc, "run a b", MOVED, &card, &small)?;
+    run_table_on(alloc, "run a b", MOVED, &copied(alloc, &card, 520)?, &small)?;
     Ok(())
 }
 
@@ -78,6 +78,7 @@ info 0 S => ok {v: <wave:~7*7964~>}
 fn takes_long_literals(rt: HostRuntime) -> Result<(), Fail> {
     let alloc = rt.alloc();
     let (card, small) = (blocks(alloc, 64)?, blocks(alloc, 13)?);
-    run_table_on(alloc, "run a b", LONG, &card, &small)?;
+    let host = run_table_on(alloc, "run a b", LONG, &card, &small)?;
+    copied(alloc, &image(alloc, &host, Unit(0))?, 64)?;
     Ok(())
 }

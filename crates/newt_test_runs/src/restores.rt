@@ -99,6 +99,8 @@ fn refuses_in_order(rt: HostRuntime) -> Result<(), Fail> {
     let card = restored(alloc, FRESH, &blank, b"ok 7 Internal\n")?;
     let (store, full): (&[u8], &[u8]) = (b"error 26 store\n", b"error 33 full\n");
     let size: &[u8] = b"error 27 blocks\n";
+    let cut = FRESH.get(..FRESH.len().saturating_sub(2)).unwrap_or(FRESH);
+    expect_unrestored(alloc, cut, &blank, b"error 1 malformed\n")?;
     expect_refusals(alloc, &blocks(alloc, 12)?, &large, [size, size])?;
     expect_refusals(alloc, &card, &large, [store, store])?;
     expect_unrestored(alloc, &large, &blank, full)?;
