@@ -70,6 +70,13 @@ asked-one (Err faults.Malformed) asked reasked one other = other ∙ sym one
 asked-one (Err faults.Compressed) asked reasked one other = other ∙ sym one
 asked-one (Err faults.Memory) asked reasked one other = absurd one
 
+-- and for no other store
+stores-one : (read : Result RawGraph NsofFault) (s t : Store) → IsAsked read (Ok s) → IsAsked read (Ok t) → s ≡ t
+stores-one (Ok g) s t one other = one-store s t one.0 other.0 (one.1 ∙ sym other.1)
+stores-one (Err faults.Malformed) s t one other = absurd (cc)
+stores-one (Err faults.Compressed) s t one other = absurd (cc)
+stores-one (Err faults.Memory) s t one other = absurd one
+
 -- an input and a device have one outcome
 pub one-outcome : (input : List ℕ) (device : Option (List ℕ)) (one other : Result Store Refusal) → IsRemade input device one → IsRemade input device other → other ≡ one
 one-outcome input device one other first second =
@@ -88,6 +95,9 @@ more n before after less = omega (arith, less)
 
 wears-none : {unit : ℕ} {before after : Outside} (n k : ℕ) → Wears unit 0 0 before after → Wears unit n k before after
 wears-none n k none = Wears-widen 0 0 n k (omega arith) (omega arith) none
+
+wears-then : {unit : ℕ} {before mid after : Outside} (n k : ℕ) → Wears unit 0 0 before mid → Wears unit n k mid after → Wears unit n k before after
+wears-then n k none some = Wears-widen (0 + n) (0 + k) n k (omega arith) (omega arith) (Wears-append 0 0 n k none some)
 
 spends-none : (n unit : ℕ) (before : Outside) → Spends unit n 0 before before
 spends-none n unit before = Spends-widen 0 0 n 0 (omega arith) (omega arith) (Spends-refl unit before)
@@ -118,11 +128,10 @@ restores-made {T = T} {told = told} {unit = unit} {before = before} {mid = mid} 
   unchanged = λ same. f.unchanged same ∙ looks.moment;
   any_moment = λ tells. subst (λ (now : Moment). Leaves unit Anything now after.now) looks.moment (f.any_moment tells);
   once = λ t other.
-      let same : Ok t ≡ Ok s = asked-one (decoded input) (Ok s) (Ok t) asked other in
-      let is : s ≡ t = cc in
+      let is = stores-one (decoded input) s t asked other in
       looked-once (before.programmed unit) (mid.programmed unit) (after.programmed unit) (format_bytes (cost t)) looks.programmed
       (subst (λ (u : Store). after.programmed unit ≤ mid.programmed unit + format_bytes (cost u)) is f.costs.programmed);
-  wears = subst (λ (n : ℕ). Wears unit (bank_blocks n + 3) 9 before after) (looks.alone.cards.blocks unit) (Wears-append 0 0 (bank_blocks (mid.blocks unit) + 3) 9 looks.wears f.wears);
+  wears = subst (λ (n : ℕ). Wears unit (bank_blocks n + 3) 9 before after) (looks.alone.cards.blocks unit) (wears-then (bank_blocks (mid.blocks unit) + 3) 9 looks.wears f.wears);
   alone = Touches-append looks.alone f.alone;
   ends = made-ends looks free r f.ends;
 }

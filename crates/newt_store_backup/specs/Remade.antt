@@ -52,7 +52,8 @@ remade (Err refusal) device = Err refusal
 remade (Ok s) device = unless_refused s (refused_on s device)
 
 -- the store that a device of this image, or none, gets of an input, or why it gets none
-pub record IsRemade (input : List ℕ) (device : Option (List ℕ)) (outcome : Result Store Refusal) : Type 0 where
+pub record IsRemade (input : List ℕ) (device : Option (List ℕ))
+    (outcome : Result Store Refusal) : Type 0 where
   pub asked : Result Store Refusal
   pub is_asked : IsAsked (decoded input) asked
   pub is : outcome ≡ remade asked device
@@ -64,19 +65,21 @@ remade_text (Err refusal) = replies.reply_text (replies.Reply.refused refusal)
 
 -- what is left on the unit then: the store, and nothing is pending; or what was there
 abbrev pub IsLeft : Result Store Refusal → ℕ → (before after : Outside) → Type 0
-IsLeft (Ok s) unit before after = (readable (image unit after.now) ≡ Some s) × IsDurable unit after.now
+IsLeft (Ok s) unit before after =
+    (readable (image unit after.now) ≡ Some s) × IsDurable unit after.now
 IsLeft (Err refusal) unit before after = OnlyReads unit before after
 
 -- The text is what is written, and the unit is left so.
-pub record IsDone (input : List ℕ) (unit : ℕ) (before after : Outside) (text : List ℕ) : Type 0 where
+pub record IsDone (input : List ℕ) (unit : ℕ) (before after : Outside)
+    (text : List ℕ) : Type 0 where
   pub outcome : Result Store Refusal
   pub is_remade : IsRemade input (device_on unit before) outcome
   pub text_is : text ≡ remade_text outcome
   pub left : IsLeft outcome unit before after
 
--- What a restoring of an input to a unit promises. Where it is refused, nothing happens to the unit,
--- however it ends; after want of memory nothing has happened; after a fault of the device nothing
--- else is said of the unit.
+-- What a restoring of an input to a unit promises. Where it is refused, nothing happens to the
+-- unit, however it ends; after want of memory nothing has happened; after a fault of the device
+-- nothing is said of what the unit holds.
 pub record Restores {T : Type 0} (told : Bool) (unit : ℕ) (input : List ℕ) (before after : Outside)
     (result : Result T Stop) : Type 0 where
   pub refused : IsTrue told → (outcome : Result Store Refusal)

@@ -54,8 +54,8 @@ CrashLeaves (Made s) names old new = AtEachMoment new (λ unit left shown. unit 
 CrashLeaves (Refused refusal) names old new = OnlyReadsDevices old new × IsAsHeld names old new
 
 -- A store was restored of this input to the device of the first name, or refused. Where memory ran
--- out the device is as it was held; and whatever the status is, each page of the store that is asked
--- for was written once at most.
+-- out the device is as it was held; and whatever the status is, each page of the store that is
+-- asked for was written once at most.
 pub record RanRestored (names : List (List ℕ)) (input : List ℕ) (status : Status)
     (old new : Outside) : Type 0 where
   pub wrote : WroteRestored status names input old new
