@@ -69,10 +69,10 @@ pub fresh-pages : (name : List ℕ) (sig : ℕ) (bytes : List ℕ) (first last :
 fresh-pages name sig bytes first last is none count =
     let empty : length first.puts ≡ 0 = ap (λ (c : Change). length c.puts) none in
     let pages : pages_for (length bytes) ≡ pages_for (length (directory_bytes (new_store name sig))) = ap (λ (b : List ℕ). pages_for (length b)) is in
-    count ∙ ap (λ (n : ℕ). n + pages_for (length bytes)) empty ∙ pages ∙ sym (no-more (pages_for (length (directory_bytes (new_store name sig)))))
+    whole (length last.puts) (length first.puts) (pages_for (length bytes)) (pages_for (length (directory_bytes (new_store name sig)))) count empty pages
   where
-    no-more : (n : ℕ) → n + 0 ≡ n
-    no-more n = omega arith
+    whole : (a b p q : ℕ) → a ≡ b + p → b ≡ 0 → p ≡ q → a ≡ q + 0
+    whole a b p q count empty pages = omega (arith, count, empty, pages)
 
 -- a fresh store lies in its directory alone
 pub fresh-lies : (name : List ℕ) (sig : ℕ) (bytes : List ℕ) → bytes ≡ directory_bytes (new_store name sig) → (lies : LiesIn (map.insert map.empty 0 bytes) (λ t u. None) (new_store name sig)) × ((r : ℕ) → lies.named r ≡ [])
