@@ -3,10 +3,11 @@ use Rattle.std.specs.Prelude.{◌≡◌, ℕ, ◌+◌, ◌*◌, Bool, IsTrue, Li
 use Rattle.newt_nsof_flat.specs.Stream.{stream_graph}
 use Rattle.newt_host.specs.Moments.{Anything, IsDurable, image, Leaves}
 use Rattle.newt_host.specs.Outside.{Outside, NoFault, OnlyReads, Spends, Touches, Wears}
-use Rattle.newt_pagebook.specs.Book.{Numbers, IsOpenFor}
+use Rattle.newt_pagebook.specs.Book.{Numbers, IsOpenFor, format_bytes}
 use Rattle.newt_pagebook.specs.declared.book.BookFault.{BookFault}
 use Rattle.newt_pagebook.specs.declared.book.Stop.{Stop}
 use Rattle.newt_pagebook.specs.declared.book.Stop.TheVariants.{Memory}
+use Rattle.newt_spec_store.specs.Cost.{cost}
 use Rattle.newt_spec_store.specs.ImageStore.{store_of_image}
 use Rattle.newt_store_catalog.specs.Gathering.{Graphs}
 use Rattle.newt_store_catalog.specs.Readable.{readable}
@@ -63,6 +64,8 @@ pub record FormatsUnit (told : Bool) (unit : ℕ) (fresh : PlainStore) (before a
   pub open_after : IsTrue told → OnOk result (IsOpenFor 0 (image unit after.now))
   pub unchanged : IsErrOf result Memory → after.now ≡ before.now
   pub any_moment : IsTrue told → Leaves unit Anything before.now after.now
+  -- each page of the store is written once, and nothing is read
+  pub costs : Spends unit (format_bytes (cost fresh)) 0 before after
   -- each block of a bank and each vote once
   pub wears : Wears unit (bank_blocks (before.blocks unit) + 3) 9 before after
   pub alone : Touches unit before after
