@@ -44,22 +44,21 @@ abbrev pub report_line : Report → List ℕ
 report_line (Clean soups entries pages) = clean_line soups entries pages
 report_line (Damaged layer place) = damaged_line layer place
 
--- The text is the line of an image, by the store that it is read as and the first row of its damage.
--- It is clean exactly where the image is read as a store, whose soups, entries and pages it counts;
--- else it is damaged, by that row.
-abbrev pub IsLineOf : Option Store → Option Damage → List ℕ → Type 0
-IsLineOf (Some s) d text =
-    text ≡ clean_line (length s.soups) (length (all_entries s)) (cost s)
-IsLineOf None (Some d) text = text ≡ damaged_line d.layer d.place
-IsLineOf None None text = ⊥
+-- The text is the line of the report on an image: it is clean exactly where the image is read as a
+-- store, whose soups, entries and pages are counted; else it is damaged, by the first row that holds.
+pub record IsReported (image text : List ℕ) : Type 0 where
+  pub clean : (s : Store) → readable image ≡ Some s
+      → text ≡ clean_line (length s.soups) (length (all_entries s)) (cost s)
+  pub damaged : readable image ≡ None
+      → (d : Damage) × (damage stream_graph image ≡ Some d)
+      × (text ≡ damaged_line d.layer d.place)
 
--- The text is what is written of a device of this image: the line of the image, or that it has too
--- few or too many blocks for one.
+-- The text is what is written of a device of this image: the line of the report on it, or that it
+-- has too few or too many blocks for one.
 pub record IsImageText (image text : List ℕ) : Type 0 where
   pub few : blocks_of image < 13 → text ≡ replies.reply_text (replies.Reply.refused Blocks)
   pub many : 4099 < blocks_of image → text ≡ replies.reply_text (replies.Reply.refused Blocks)
-  pub line : 13 ≤ blocks_of image → blocks_of image ≤ 4099
-      → IsLineOf (readable image) (damage stream_graph image) text
+  pub reported : 13 ≤ blocks_of image → blocks_of image ≤ 4099 → IsReported image text
 
 -- the same where there may be no device
 abbrev pub IsChecked : Option (List ℕ) → List ℕ → Type 0

@@ -4,10 +4,7 @@ ghost use Rattle.newt_host.specs.Moments.{IsDurable, image};
 ghost use Rattle.newt_host.specs.Outside.{OnlyReads};
 ghost use Rattle.newt_store_catalog.specs.Reading.{ReadEnds};
 ghost use Rattle.newt_store_backup.specs.Written.{device_on};
-ghost use Rattle.newt_nsof_flat.specs.Stream.{stream_graph};
-ghost use Rattle.newt_spec_check.specs.Damage.{damage};
-ghost use Rattle.newt_store_catalog.specs.Readable.{readable};
-ghost use Rattle.newt_check_text.specs.Lines.{IsChecked, IsLineOf};
+ghost use Rattle.newt_check_text.specs.Lines.{IsChecked, IsReported};
 
 use crate::line::report_line;
 use newt_base::Refusal;
@@ -17,14 +14,13 @@ use newt_pagebook::{LEAST_BLOCKS, MOST_BLOCKS, Stop};
 use newt_reply::{Reply, write_reply};
 use std::alloc::Global;
 
-/// The line of the image of a unit of 13 to 4,099 blocks.
+/// The line of the report on the image of a unit of 13 to 4,099 blocks.
 fn report_text<H: Host>(alloc: Global, host: &mut H, unit: Unit) -> Result<Vec<u8>, Stop>
     requires enough { 13 ≤ (H.outside host.old).blocks unit }
     requires not_too_many { (H.outside host.old).blocks unit ≤ 4099 }
     requires at_rest { IsTrue H.told → IsDurable unit (H.outside host.old).now }
-    ensures text { let now = image unit (H.outside host.old).now in
-        IsTrue H.told → IfOk result
-        (λ text. IsLineOf (readable now) (damage stream_graph now) text.items) }
+    ensures text { IsTrue H.told → IfOk result (λ text.
+        IsReported (image unit (H.outside host.old).now) text.items) }
     ensures looks { OnlyReads unit (H.outside host.old) (H.outside host.new) }
     ensures ends { ReadEnds unit (H.outside host.old) (H.outside host.new) result }
 {
@@ -32,9 +28,9 @@ fn report_text<H: Host>(alloc: Global, host: &mut H, unit: Unit) -> Result<Vec<u
     Ok(report_line(alloc, report)?)
 }
 
-/// The line of a unit's image, with the byte 10 at its end: that it is clean, exactly where it is
-/// read as a store, or damaged; or the line that says why there is none: the unit has no device, or
-/// one of fewer than 13 or more than 4,099 blocks.
+/// The line of the report on a unit's image, with the byte 10 at its end: it is clean exactly where
+/// it is read as a store; or the line that says why there is none: the unit has no device, or one of
+/// fewer than 13 or more than 4,099 blocks.
 pub fn check_text<H: Host>(
     alloc: Global,
     host: &mut H,
