@@ -1,5 +1,5 @@
 -- An answer out of memory, of which most clauses say nothing.
-use Rattle.std.proofs.Common.{◌≡◌, ℕ, Result, Ok, Err, IfOk, IfErr, OnOk, IsErr, IsErrAnd, IsErrOf, sym, subst}
+use Rattle.std.proofs.Common.{◌≡◌, ℕ, Result, Ok, Err, IfOk, IfErr, OnOk, IsErr, IsErrAnd, IsErrOf, sym, ap, subst}
 use Rattle.newt_base.specs.declared.Refusal.TheVariants.{Full}
 use Rattle.newt_pagebook.specs.declared.book.Stop.TheVariants.{Memory, Device}
 use Rattle.newt_store_change.specs.declared.fault.StoreFault.{StoreFault}
@@ -39,6 +39,16 @@ memory-err r P is p = by-memory r (λ x. IfErr x P) is p
 
 pub memory-stops : {T : Type 0} (r : Result T StoreFault) → IsMemory r → GoesOn r → ⊥
 memory-stops r is = by-memory r (λ x. GoesOn x → ⊥) is (λ goes. goes)
+
+-- the same want of memory under another type of values
+pub memory-as : {T U : Type 0} (fault : StoreFault) → IsErrOf {T = T} (Err fault) (Stop Memory) → IsErrOf {T = U} (Err fault) (Stop Memory)
+memory-as {U = U} fault is = ap (λ (f : StoreFault). let r : Result U StoreFault = Err f in r) (the-one is) where
+  the-one : {T : Type 0} → IsErrOf {T = T} (Err fault) (Stop Memory) → fault ≡ Stop Memory
+  the-one same = cc
+
+-- a value is none
+pub memory-none : {T : Type 0} {x : T} → IsErrOf {T = T} (Ok x) (Stop Memory) → ⊥
+memory-none same = cc
 
 pub memory-refuses : {T : Type 0} (r : Result T StoreFault) → IsMemory r → IsRefused r → ⊥
 memory-refuses r is = by-memory r (λ x. IsRefused x → ⊥) is (λ refused. refused)
