@@ -40,21 +40,23 @@ memory-err r P is p = by-memory r (λ x. IfErr x P) is p
 pub memory-stops : {T : Type 0} (r : Result T StoreFault) → IsMemory r → GoesOn r → ⊥
 memory-stops r is = by-memory r (λ x. GoesOn x → ⊥) is (λ goes. goes)
 
--- the same want of memory under another type of values
-pub memory-as : {T U : Type 0} (fault : StoreFault) → IsErrOf {T = T} (Err fault) (Stop Memory) → IsErrOf {T = U} (Err fault) (Stop Memory)
-memory-as {U = U} fault is = ap (λ (f : StoreFault). let r : Result U StoreFault = Err f in r) (the-one is) where
-  the-one : {T : Type 0} → IsErrOf {T = T} (Err fault) (Stop Memory) → fault ≡ Stop Memory
-  the-one same = cc
-
--- a value is none
-pub memory-none : {T : Type 0} {x : T} → IsErrOf {T = T} (Ok x) (Stop Memory) → ⊥
-memory-none same = cc
-
 pub memory-refuses : {T : Type 0} (r : Result T StoreFault) → IsMemory r → IsRefused r → ⊥
 memory-refuses r is = by-memory r (λ x. IsRefused x → ⊥) is (λ refused. refused)
 
 pub memory-fits : {T : Type 0} (r : Result T StoreFault) → IsMemory r → IsErrOf r (Refused Full) → ⊥
 memory-fits r is = by-memory r (λ x. IsErrOf x (Refused Full) → ⊥) is (λ full. absurd (cc))
+
+-- an error that is want of memory
+memory-is : {T : Type 0} {fault : StoreFault} → IsErrOf {T = T} (Err fault) (Stop Memory) → fault ≡ Stop Memory
+memory-is same = cc
+
+-- it is one under any type of values
+pub memory-as : {T U : Type 0} (fault : StoreFault) → IsErrOf {T = T} (Err fault) (Stop Memory) → IsErrOf {T = U} (Err fault) (Stop Memory)
+memory-as {U = U} fault is = ap (λ (f : StoreFault). let r : Result U StoreFault = Err f in r) (memory-is is)
+
+-- a value is none
+pub memory-none : {T : Type 0} {x : T} → IsErrOf {T = T} (Ok x) (Stop Memory) → ⊥
+memory-none same = cc
 
 -- a fault that no device has needs no device that failed
 pub no-device : {T : Type 0} (r : Result T StoreFault) (unit : ℕ) (old new : Outside) → IfErr r IsNoDevice → IfErr r (FaultsAt unit old new)
