@@ -29,6 +29,7 @@ use Rattle.newt_store_change.specs.Change.{changed_by, answer_of, first_checks, 
 use Rattle.newt_store_change.specs.Faults.{FaultsAt, GoesOn, IsRefused, RefusesWith}
 use Rattle.newt_store_change.specs.declared.change.Change.{Change}
 use Rattle.newt_store_change.specs.declared.fault.StoreFault.{StoreFault}
+use Rattle.newt_store_change.specs.declared.fault.StoreFault.TheVariants.{Stop as Ends}
 use Rattle.newt_store_catalog.specs.Stands.{Describes, IsSound, StandsFor}
 use Rattle.newt_store_catalog.specs.declared.catalog.Catalog.{Catalog}
 use Rattle.newt_store.specs.Next.{IsNextOf, IsPlanOf}
@@ -154,14 +155,15 @@ module _ {B : Type 0} (place : B → ℕ) (numbers : B → Numbers) (stands : Bo
     pub ends : CallEnds (place old) before after result
 
   -- How a call that changes a store leaves book, catalog and unit: where the run goes on, the book
-  -- stands and what is kept in memory is sound; where it is refused, nothing has happened; and after
-  -- a change the bank is not closed.
+  -- stands and what is kept in memory is sound; where it is refused, and where memory is wanting,
+  -- nothing has happened; and after a change the bank is not closed.
   pub record LeavesStore (told : Bool) (catalog : Catalog) (old new : B) (before after : Outside)
       (result : Result ℕ StoreFault) : Type 0 where
     pub book : GoesOn result → stands told new after
     pub sound : GoesOn result → IsSound told catalog (numbers new) (place new) after
     pub same_place : place new ≡ place old
     pub nothing_done : IsRefused result → after.now ≡ before.now
+    pub unchanged : IsErrOf result (Ends Memory) → after.now ≡ before.now
     pub open_after : IsTrue told → OnOk result (IsOpenFor 0 (image (place old) after.now))
     pub alone : Touches (place old) before after
     pub ends : CallEnds (place old) before after result
