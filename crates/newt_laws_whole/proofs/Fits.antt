@@ -161,14 +161,14 @@ pub edit-put : (h : Whole) (m : ℕ) (path : Path) (g : RawGraph) (k : Copy) →
 edit-put h m path g k done here = let p = edit-passed h m path g k done here in go (put k.draft path g) refl p.some p.limit
   where
     made : (raw : RawGraph) → put k.draft path g ≡ Some raw → (o : Option RawGraph) → normal_form raw ≡ o → not (is_within o) ≡ false
-        → (raw : RawGraph) × (draft_with path g k ≡ Some raw) × (normal_form raw ≡ Some (drafted path g k).draft)
+        → (x : RawGraph) × (draft_with path g k ≡ Some x) × (normal_form x ≡ Some (drafted path g k).draft)
     made raw p None f w = cc
     made raw p (Some new) f w =
         let after : graph_after_set path g k.draft ≡ new = ap (λ o. unwrap_or (option_and_then normal_form o) k.draft) p ∙ ap (λ o. unwrap_or o k.draft) f in
         (raw, p, f ∙ ap (λ (x : RawGraph). Some x) (sym after))
 
     go : (o : Option RawGraph) → put k.draft path g ≡ o → is_none o ≡ false → on_some o (λ r. not (is_within (normal_form r))) ≡ false
-        → (raw : RawGraph) × (draft_with path g k ≡ Some raw) × (normal_form raw ≡ Some (drafted path g k).draft)
+        → (x : RawGraph) × (draft_with path g k ≡ Some x) × (normal_form x ≡ Some (drafted path g k).draft)
     go None p none l = cc
     go (Some raw) p none l = made raw p (normal_form raw) refl l
 
