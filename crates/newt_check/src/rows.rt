@@ -118,11 +118,7 @@ fn report_of_book<P: PageBook, H: Host>(
 }
 
 /// What is said of an image, over any book of pages.
-fn check_with<P: PageBook, H: Host>(
-    alloc: Global,
-    host: &mut H,
-    unit: Unit,
-) -> Result<Report, Stop>
+fn check_with<P: PageBook, H: Host>(alloc: Global, host: &mut H, unit: Unit) -> Result<Report, Stop>
     requires enough { 13 ≤ (H.outside host.old).blocks unit }
     requires not_too_many { (H.outside host.old).blocks unit ≤ 4099 }
     requires at_rest { IsTrue H.told → IsDurable unit (H.outside host.old).now }
