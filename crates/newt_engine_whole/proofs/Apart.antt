@@ -152,9 +152,12 @@ each_ok (Err e) p = tt
 no-more : (a b : ℕ) → a ≤ a + b
 no-more a b = omega arith
 
+no-less : (a : ℕ) → a ≤ a
+no-less a = omega arith
+
 -- no fault of them is counted
 still-threw : (r : Result Reply AllocError) (faults : ℕ → ℕ) → IfOk r (λ it. IsNotThrown it) → IfOk r (λ it. Threw (said it) faults faults)
-still-threw (Ok it) faults quiet = record { later = λ u. no-more (faults u) 0; rose = λ u is. absurd (both-ways (sym (quiet u) ∙ is)) }
+still-threw (Ok it) faults quiet = record { later = λ u. no-less (faults u); rose = λ u is. absurd (both-ways (sym (quiet u) ∙ is)) }
 still-threw (Err e) faults quiet = tt
 
 -- nothing happens to the devices
@@ -168,7 +171,7 @@ rest-ended reads told old o c {asked} result memory quiet = record {
   open_after = λ t. each_ok result (λ it u other. inr refl);
   threw = still-threw result o.dev_faults quiet;
   failed = each_ok result (λ it u none. refl);
-  later = λ u. no-more (o.dev_faults u) 0;
+  later = λ u. no-less (o.dev_faults u);
   never_memory = memory;
   never_thrown = λ none. quiet;
 }
