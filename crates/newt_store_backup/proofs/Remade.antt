@@ -5,6 +5,7 @@ use Rattle.newt_base.specs.Refusals.{first_of}
 use Rattle.newt_base.specs.declared.Refusal.{Refusal}
 use Rattle.newt_base.specs.declared.Refusal.TheVariants as refusals
 use Rattle.newt_graph.specs.Graph.{RawGraph}
+use Rattle.newt_host.specs.Meanings.{device_on}
 use Rattle.newt_host.specs.Moments.{Anything, Leaves, Moment, here}
 use Rattle.newt_host.specs.Outside.{Outside, NoFault, OnlyReads, Spends, Wears}
 use Rattle.newt_host.proofs.Outside.{NoFault-append, OnlyReads-refl, Spends-refl, Spends-widen, Touches-append, Touches-refl, Wears-append, Wears-refl, Wears-widen}
@@ -24,7 +25,6 @@ use Rattle.newt_spec_store.specs.Valid.{fits}
 use Rattle.newt_store.specs.Calls.{FormatsUnit}
 use Rattle.newt_store_catalog.specs.Readable.{readable}
 use Rattle.newt_store_backup.specs.Remade.{IsAsked, IsDone, IsLeft, IsRemade, Refills, Restores, refused_on, remade, remade_text, unless_refused}
-use Rattle.newt_store_backup.specs.Written.{device_on}
 use Rattle.newt_store_catalog.specs.Reading.{ReadEnds}
 use Rattle.newt_store_catalog.proofs.Exits.{stops-on}
 

@@ -5,6 +5,7 @@ use Rattle.newt_base.specs.Refusals.{first_of}
 use Rattle.newt_base.specs.declared.Refusal.{Refusal}
 use Rattle.newt_base.specs.declared.Refusal.TheVariants as refusals
 use Rattle.newt_graph.specs.Graph.{RawGraph}
+use Rattle.newt_host.specs.Meanings.{device_on}
 use Rattle.newt_host.specs.Moments.{Anything, IsDurable, Leaves, image}
 use Rattle.newt_host.specs.Outside.{Outside, OnlyReads, Spends, Touches, Wears}
 use Rattle.newt_nsof_read.specs.Reading.{decoded}
@@ -22,7 +23,6 @@ use Rattle.newt_spec_world.specs.Reply as replies
 use Rattle.newt_backup.specs.Backup.{IsKept, Unbacked, backup}
 use Rattle.newt_store_catalog.specs.Readable.{readable}
 use Rattle.newt_store_catalog.specs.Reading.{ReadEnds}
-use Rattle.newt_store_backup.specs.Written.{device_on}
 
 -- the store that a stream is the backup of, or why it is none
 abbrev pub IsAsked : Result RawGraph NsofFault → Result Store Refusal → Type 0
