@@ -118,11 +118,7 @@ fn report_of_book<P: PageBook, H: Host>(
 }
 
 /// What is said of an image, over any book of pages.
-pub fn check_with<P: PageBook, H: Host>(
-    alloc: Global,
-    host: &mut H,
-    unit: Unit,
-) -> Result<Report, Stop>
+fn check_with<P: PageBook, H: Host>(alloc: Global, host: &mut H, unit: Unit) -> Result<Report, Stop>
     requires enough { 13 ≤ (H.outside host.old).blocks unit }
     requires not_too_many { (H.outside host.old).blocks unit ≤ 4099 }
     requires at_rest { IsTrue H.told → IsDurable unit (H.outside host.old).now }
@@ -142,9 +138,9 @@ pub fn check_with<P: PageBook, H: Host>(
     }
 }
 
-/// Looks one image through and writes nothing to it: the report is the first row that holds of the
-/// table of damage, or that none does. It takes at most the memory of the tables of a store and of
-/// one object.
+/// Looks one image through and writes nothing to it: the report is of the store that the image is
+/// read as, or where it is read as none of the first row that holds of the table of damage. It
+/// takes at most the memory of the tables of a store and of one object.
 pub fn check<H: Host>(alloc: Global, host: &mut H, unit: Unit) -> Result<Report, Stop>
     requires enough { 13 ≤ (H.outside host.old).blocks unit }
     requires not_too_many { (H.outside host.old).blocks unit ≤ 4099 }

@@ -31,6 +31,7 @@ use Rattle.newt_spec_world.specs.declared.command.Command.{Command}
 use Rattle.newt_spec_world.specs.declared.command.Command.TheVariants as command
 use Rattle.newt_laws_steps.specs.Answering.{Answering}
 use Rattle.newt_laws_steps.specs.StandsFor.{Marks, StandsFor}
+use Rattle.newt_laws_steps.specs.Thrown.{Threw}
 use Rattle.newt_laws_steps.proofs.Held.{stands-left}
 use Rattle.newt_laws_world.specs.Worlds.{is_plain}
 use Rattle.newt_engine.specs.Calls.{IsNotThrown}
@@ -151,6 +152,14 @@ each_ok (Err e) p = tt
 no-more : (a b : ℕ) → a ≤ a + b
 no-more a b = omega arith
 
+no-less : (a : ℕ) → a ≤ a
+no-less a = omega arith
+
+-- no fault of them is counted
+still-threw : (r : Result Reply AllocError) (faults : ℕ → ℕ) → IfOk r (λ it. IsNotThrown it) → IfOk r (λ it. Threw (said it) faults faults)
+still-threw (Ok it) faults quiet = record { later = λ u. no-less (faults u); rose = λ u is. absurd (both-ways (sym (quiet u) ∙ is)) }
+still-threw (Err e) faults quiet = tt
+
 -- nothing happens to the devices
 pub rest-ended : {C : Type 0} (reads : List ℕ → Option Store) (told : Bool) (old : Whole C) (o : Outside) (c : Command) {asked : List Command} (result : Result Reply AllocError) → (whole_takes_memory c ≡ false → IsOk result)
     → IfOk result (λ it. IsNotThrown it) → Ended reads told c asked old o o result
@@ -160,6 +169,9 @@ rest-ended reads told old o c {asked} result memory quiet = record {
   fetched = λ t means u room. no-more (o.fetched u) _;
   step = λ t unread u. no-more (o.fetched u) _;
   open_after = λ t. each_ok result (λ it u other. inr refl);
+  threw = still-threw result o.dev_faults quiet;
+  failed = each_ok result (λ it u none. refl);
+  later = λ u. no-less (o.dev_faults u);
   never_memory = memory;
   never_thrown = λ none. quiet;
 }

@@ -33,6 +33,7 @@ use Rattle.newt_work.specs.Work.{Copy, copy_at, opened}
 use Rattle.newt_laws_world.proofs.Settled.{find-passes}
 use Rattle.newt_laws_steps.specs.Answering.{Answering}
 use Rattle.newt_laws_steps.specs.StandsFor.{Obeys}
+use Rattle.newt_laws_steps.specs.Thrown.{Failed, Threw}
 use Rattle.newt_laws_whole.specs.Runs.{AllFormed, CanBeEntry}
 use Rattle.newt_laws_whole.proofs.Fits.{entry-in-can, put-all}
 use Rattle.newt_laws_whole.proofs.Reading.{GetsOr, entry_tests, gets, open-done, open-full, open-refused, open-thrown}
@@ -57,8 +58,9 @@ pub reading-ended : {C : Type 0} {reads : List ℕ → Option Store} {told : Boo
     → ((w : World) → steps_unread w c ≡ false) → whole_takes_memory c ≡ true → whole_uses_device c ≡ true
     → (IsTrue told → (rest : List Command) × (asked_in_turn (known_whole reads old o) c ≡ command.Get u s uid ∷ rest))
     → Finished reads told (command.Get u s uid) old.world o p inner → (IsTrue told → IfOk result (λ it. (x : ℕ) → (it ≡ reply.Thrown x → ⊥) → IsOpenOrSame x o.now p.now))
+    → IfOk result (λ it. Threw (said it) o.dev_faults p.dev_faults) → IfOk result (λ it. Failed (said it) o.dev_faults p.dev_faults)
     → Ended reads told c (asked_in_turn (known_whole reads old o) c) old o p result
-reading-ended {C} {reads} {told} {c} {old} {o} {p} {inner} {result} u uid s unread memory device turn f opens =
+reading-ended {C} {reads} {told} {c} {old} {o} {p} {inner} {result} u uid s unread memory device turn f opens threw failed =
     let w = stood_for reads old.world o in
     let get = command.Get u s uid in
     record {
@@ -68,6 +70,9 @@ reading-ended {C} {reads} {told} {c} {old} {o} {p} {inner} {result} u uid s unre
           subst (λ (ds : List Command). IsOpenFor (most_put w ds x) (image x o.now) → p.fetched x ≤ o.fetched x + most_taken w ds x) (sym k.1) (first-fetches w get k.0 x o p (f.settling t refl x));
       step = λ t steps. absurd (both-ways (sym (unread w) ∙ steps));
       open_after = opens;
+      threw = threw;
+      failed = failed;
+      later = f.later;
       never_memory = λ none. absurd (both-ways (sym none ∙ memory));
       never_thrown = λ none. absurd (both-ways (sym none ∙ device));
     }
@@ -157,7 +162,7 @@ module _ {C : Type 0} {reads : List ℕ → Option Store} {place : C → ℕ} {s
   open-handed {it} other a = record {
     stands = record { world = a.stands; watches = begun.watches; drafts = begun.drafts };
     stepped = λ t h m. go h m (a.obeyed t h.world m.world);
-    ended = reading-ended u uid s (λ w. refl) refl refl (λ t. ([], open-turn (known_whole reads old o) u uid s)) a.finished a.finished.open_after;
+    ended = reading-ended u uid s (λ w. refl) refl refl (λ t. ([], open-turn (known_whole reads old o) u uid s)) a.finished a.finished.open_after a.finished.threw a.finished.failed;
   }
     where
       go : (h : plain.Whole) → Means reads old o h → Obeys reads {R = Reply} {E = AllocError} said (means reads mid p) h.world (command.Get u s uid) (Ok it) o.now p.now
@@ -232,8 +237,9 @@ module _ {C : Type 0} {reads : List ℕ → Option Store} {place : C → ℕ} {s
         moments = moments;
       }
 
-      ended : Ended reads told (command.Open u s uid) (asked_in_turn (known_whole reads old o) (command.Open u s uid)) old o p (Ok it)
-      ended = reading-ended u uid s (λ w. refl) refl refl (λ t. ([], open-turn (known_whole reads old o) u uid s)) a.finished (λ t x other. a.finished.open_after t x (λ k. cc))
+      ended : ((x : ℕ) → throws x (said it) ≡ false) → Ended reads told (command.Open u s uid) (asked_in_turn (known_whole reads old o) (command.Open u s uid)) old o p (Ok it)
+      ended none = reading-ended u uid s (λ w. refl) refl refl (λ t. ([], open-turn (known_whole reads old o) u uid s)) a.finished (λ t x other. a.finished.open_after t x (λ k. cc))
+          (record { later = a.finished.later; rose = λ x k. absurd (both-ways (sym (none x) ∙ k)) }) (λ x k. a.finished.failed x refl)
 
       pub open-put : (IsTrue told → (h : plain.Whole) × Means reads old o h × AllFormed h.world) → Applied reads place stands told (command.Open u s uid) old new o p (Ok it)
       open-put has = go (position is_none old.works) refl put
@@ -255,7 +261,7 @@ module _ {C : Type 0} {reads : List ℕ → Option Store} {place : C → ℕ} {s
             stepped = λ t h m.
                 let f = open-found t h m in
                 answered-by h h.copies (replies.Reply.refused Limit) says (λ x. refl) (open-full h u s uid f.1 (ap (position is_none) (sym m.copies) ∙ free)) f.6 (now-means h h.copies m f.5 (works ∙ m.copies));
-            ended = ended;
+            ended = ended (λ x. ap (throws x) says);
           }
           go (Some n) free (says, works) = record {
             stands = stands-so (λ t j k at. put-all (λ j. CanBeEntry j.draft) old.works (λ i j on. begun.drafts t i j (flat-is (slice_get old.works i) ∙ on)) (Some n) (opened store soup uid time graph) (can t) j k
@@ -268,5 +274,5 @@ module _ {C : Type 0} {reads : List ℕ → Option Store} {place : C → ℕ} {s
                 (open-done h u s uid n k.0 k.3 f.0 m.world.settled f.1 (ap (position is_none) (sym m.copies) ∙ free) k.1 k.4 f.2) f.6
                 (now-means h (slice_set h.copies n (Some (opened k.0.sig k.3.sig f.0.uid f.0.time f.0.graph))) m f.5
                 (works ∙ ap (λ (ks : List (Option Copy)). slice_set ks n (Some (opened store soup uid time graph))) m.copies ∙ ap (λ (c : Copy). slice_set h.copies n (Some c)) (sym same)));
-            ended = ended;
+            ended = ended (λ x. ap (throws x) says);
           }

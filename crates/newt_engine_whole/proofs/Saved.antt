@@ -32,7 +32,7 @@ use Rattle.newt_spec_world.specs.declared.command.Command.{Command}
 use Rattle.newt_spec_world.specs.declared.command.Command.TheVariants as command
 use Rattle.newt_work.specs.Work.{Copy, is_based, rebased}
 use Rattle.newt_laws_steps.specs.Answering.{Answering}
-use Rattle.newt_laws_steps.specs.Thrown.{Failed}
+use Rattle.newt_laws_steps.specs.Thrown.{Failed, Threw}
 use Rattle.newt_engine_card.specs.Bounds.{IsOpenOrSame}
 use Rattle.newt_engine.specs.Calls.{Applied as Inner}
 use Rattle.newt_engine.specs.Standing.{means, stood_for}
@@ -187,6 +187,9 @@ module _ {C : Type 0} {reads : List ℕ → Option Store} {place : C → ℕ} {s
             (rest-of t (λ v ds. IsOpenFor (most_put v ds x) (image x p.now) → q.fetched x ≤ p.fetched x + most_taken v ds x) (b.ended.fetched t refl x)));
         step = λ t is. absurd (both-ways is);
         open_after = λ t. opens t result (b.ended.open_after t);
+        threw = risen result b.ended.threw;
+        failed = none-more result b.ended.failed;
+        later = b-later;
         never_memory = λ none. absurd (both-ways (sym none));
         never_thrown = λ none. absurd (both-ways (sym none));
       };
@@ -206,6 +209,20 @@ module _ {C : Type 0} {reads : List ℕ → Option Store} {place : C → ℕ} {s
         opens : IsTrue told → (r : Result Reply AllocError) → IfOk r (λ it. (x : ℕ) → (it ≡ reply.Thrown x → ⊥) → IsOpenOrSame x p.now q.now) → IfOk r (λ it. (x : ℕ) → (it ≡ reply.Thrown x → ⊥) → IsOpenOrSame x o.now q.now)
         opens t (Ok it) last = λ x other. open-append x o.now p.now q.now (a.finished.open_after t x (λ k. cc)) (last x other)
         opens t (Err e) last = tt
+
+        b-later : (x : ℕ) → o.dev_faults x ≤ q.dev_faults x
+        b-later x = let one = a.finished.later x in let two = b.ended.later x in omega (arith, one, two)
+
+        risen : (r : Result Reply AllocError) → IfOk r (λ it. Threw (said it) p.dev_faults q.dev_faults) → IfOk r (λ it. Threw (said it) o.dev_faults q.dev_faults)
+        risen (Ok it) k = record {
+          later = b-later;
+          rose = λ x is. rose-later (o.dev_faults x) (p.dev_faults x) (q.dev_faults x) (a.finished.later x) (k.rose x is);
+        }
+        risen (Err e) k = tt
+
+        none-more : (r : Result Reply AllocError) → IfOk r (λ it. Failed (said it) p.dev_faults q.dev_faults) → IfOk r (λ it. Failed (said it) o.dev_faults q.dev_faults)
+        none-more (Ok it) k = λ x none. k x none ∙ a.finished.failed x refl
+        none-more (Err e) k = tt
 
         go : IsTrue told → (h : plain.Whole) → Always (Answering reads h.world (command.Get u s uid) h.world o.now) o.now p.now
             → Stepped {E = AllocError} WholeStep reads (command.Save n) result h (Means reads last q) p.now q.now p.dev_faults q.dev_faults

@@ -237,6 +237,9 @@ module _ {C : Type 0} {reads : List ℕ → Option Store} {place : C → ℕ} {s
               (first-fetches w change [] x o p (a.finished.settling t refl x));
           step = λ t is. absurd (both-ways is);
           open_after = a.finished.open_after;
+          threw = a.finished.threw;
+          failed = a.finished.failed;
+          later = a.finished.later;
           never_memory = λ none. absurd (both-ways (sym none));
           never_thrown = λ none. absurd (both-ways (sym none));
         }

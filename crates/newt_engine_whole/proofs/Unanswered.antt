@@ -97,5 +97,5 @@ module _ {C : Type 0} {reads : List ℕ → Option Store} {place : C → ℕ} {s
             answered = tt;
             moments = Always-map (early reads h.world (command.Get u s uid) c w.0.world o.now o.now p.now (λ x. refl)) (moments t h m);
           };
-      ended = reading-ended u uid s unread memory device turn a.finished (λ t. tt);
+      ended = reading-ended u uid s unread memory device turn a.finished (λ t. tt) tt tt;
     }

@@ -1,8 +1,9 @@
 -- What the whole promises of a command. All of it is this project's own.
-use Rattle.std.specs.Prelude.{◌≡◌, ◌≢◌, ℕ, Bool, true, false, IsTrue, List, Option, Result}
+use Rattle.std.specs.Prelude.{◌≡◌, ◌≢◌, ℕ, ◌≤◌, Bool, true, false, IsTrue, List, Option, Result}
 use Rattle.std.specs.Prelude.{IfOk, IsOk, OnOk, drop}
 use Rattle.std.specs.declared.alloc.AllocError.{AllocError}
 use Rattle.newt_host.specs.Outside.{Outside, OnDevices}
+use Rattle.newt_laws_steps.specs.Thrown.{Failed, Threw}
 use Rattle.newt_spec_store.specs.Store.{Store}
 use Rattle.newt_spec_whole.specs.Whole as plain
 use Rattle.newt_spec_whole.specs.Whole.{asked_in_turn}
@@ -35,8 +36,9 @@ module _ {C : Type 0} (reads : List ℕ → Option Store) where
   -- programmed by no more than what is asked may; where that is of entries, no more is fetched
   -- there than by it; one that opens, shows, moves or counts a cursor fetches no more than it does
   -- in the world. After a reply each bank is not closed or is as it was, but for a unit that was
-  -- thrown out. Only what may take memory ends in want of it, and only what uses a device throws a
-  -- unit out.
+  -- thrown out. No fault was counted but of a unit that the reply says was thrown out, and of that
+  -- one a fault was, also where the devices do not tell their bytes. Only what may take memory ends
+  -- in want of it, and only what uses a device throws a unit out.
   pub record Ended (told : Bool) (command : Command) (asked : List Command) (old : Whole C)
       (before after : Outside) (result : Result Reply AllocError) : Type 0 where
     pub alone : OnDevices before after
@@ -49,6 +51,9 @@ module _ {C : Type 0} (reads : List ℕ → Option Store) where
         steps_unread w command ≡ true → FetchesAtMost (most_stepped w command) before after
     pub open_after : IsTrue told → IfOk result
         (λ it. (u : ℕ) → it ≢ reply.Thrown u → IsOpenOrSame u before.now after.now)
+    pub threw : IfOk result (λ it. Threw (said it) before.dev_faults after.dev_faults)
+    pub failed : IfOk result (λ it. Failed (said it) before.dev_faults after.dev_faults)
+    pub later : (u : ℕ) → before.dev_faults u ≤ after.dev_faults u
     pub never_memory : whole_takes_memory command ≡ false → IsOk result
     pub never_thrown : whole_uses_device command ≡ false → IfOk result (λ it. IsNotThrown it)
 

@@ -1,6 +1,9 @@
 //! Laws of working copies.
 ghost use Rattle.std.specs.Prelude.{ℕ, ◌≡◌, List, Some};
+ghost use Rattle.newt_graph.specs.Graph.{RawGraph};
+ghost use Rattle.newt_graph.specs.Meeting.{normal_form};
 ghost use Rattle.newt_laws_whole.specs.Since.{put_all, edits_since, GoesOn, IsDone, Saves};
+ghost use Rattle.newt_spec_store.specs.Keys.{Path};
 ghost use Rattle.newt_spec_store.specs.Store.{Entry, Soup, Store};
 ghost use Rattle.newt_spec_whole.specs.Answer.{whole_answer, whole_later};
 ghost use Rattle.newt_spec_whole.specs.Whole.{Whole, copy, free_copy, living};
@@ -8,7 +11,7 @@ ghost use Rattle.newt_spec_world.specs.Alias.{Spot};
 ghost use Rattle.newt_spec_world.specs.World.{mounted_store, soup_in, entry_in};
 ghost use Rattle.newt_spec_world.specs.declared.command.Command.{Command as IsCommand};
 ghost use Rattle.newt_spec_world.specs.declared.command.Command.TheVariants as command;
-ghost use Rattle.newt_work.specs.Work.{Copy, edited, opened, rebased};
+ghost use Rattle.newt_work.specs.Work.{Copy, draft_with, drafted, edited, opened, rebased};
 
 /// An open that is done makes a copy at the least free number of the entry as it is; a save that is
 /// done makes its draft the base, at the present minute, which is what the entry then is; a revert
@@ -27,6 +30,13 @@ pub fn begun()
         → copy h n ≡ Some k → living h k ≡ Some s
         → copy (whole_answer h (command.Revert n)).0 n
         ≡ Some (rebased s.entry.time s.entry.graph k) }
+{}
+
+/// An edit that is done has put its value: the draft is the normal form of the draft with it.
+pub fn edits_are_put()
+    ensures { (h : Whole) (n : ℕ) (path : Path) (g : RawGraph) (k : Copy)
+        → IsDone h (command.Edit n path g) → copy h n ≡ Some k → (raw : RawGraph)
+        × (draft_with path g k ≡ Some raw) × (normal_form raw ≡ Some (drafted path g k).draft) }
 {}
 
 /// While commands go on, a copy keeps its entry and its base, and its draft is the one before with

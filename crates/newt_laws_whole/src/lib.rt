@@ -10,7 +10,7 @@ mod runs;
 mod steps;
 mod watches;
 
-pub use copies::{begun, kept, saved};
+pub use copies::{begun, edits_are_put, kept, saved};
 pub use runs::{drafts_stay_fit, other_commands, plain_commands, saves_are_changes};
 pub use steps::{quiet_whole_steps_are_plain, steps_of_the_world_tell_their_notes};
-pub use watches::{taken, told};
+pub use watches::{taken, told, what_changes_is_told};

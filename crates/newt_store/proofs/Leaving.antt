@@ -37,6 +37,7 @@ leaves-memory place numbers standing told catalog book outside r memory = record
   sound = λ goes. absurd (memory-stops r memory goes);
   same_place = refl;
   nothing_done = λ is. refl;
+  unchanged = λ is. refl;
   open_after = λ tells. memory-on r _ memory;
   alone = Touches-refl (place book) outside;
   ends = ends-memory r _ memory refl;

@@ -226,6 +226,7 @@ commits-memory place numbers standing told objects bytes fetches book outside r 
   kept = λ goes. absurd (memory-stops r memory goes);
   same_place = refl;
   nothing_done = λ is. refl;
+  unchanged = λ is. refl;
   bound = λ tells room. spends-nothing (place book) bytes fetches outside;
   wears = λ tells room. wears-nothing (place book) outside;
   open_after = λ tells. memory-on r _ memory;

@@ -4,3 +4,4 @@ pub mod Again
 pub mod Kept
 pub mod Restored
 pub mod Remade
+pub mod Rows

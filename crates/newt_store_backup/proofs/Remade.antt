@@ -1,20 +1,23 @@
 -- A restoring that is refused, and one that is not.
-use Rattle.std.proofs.Common.{◌≡◌, refl, sym, ◌∙◌, ap, subst, ℕ, ◌*◌, ◌/◌, Bool, true, false, not, nat_lt, ◌||◌, List, [], ◌∷◌, length, Option, Some, None, is_some, Result, Ok, Err, IfOk, OnOk, IsErr, IsErrAnd, IsTrue, arith}
+use Rattle.std.proofs.Common.{◌≡◌, refl, sym, ◌∙◌, ap, subst, ℕ, ◌+◌, ◌*◌, ◌≤◌, ◌/◌, Bool, true, false, not, nat_lt, ◌||◌, List, [], ◌∷◌, length, Option, Some, None, is_some, Result, Ok, Err, IfOk, OnOk, IsErr, IsErrAnd, IsTrue, arith}
 use Rattle.std.specs.Prelude.{option_map}
 use Rattle.newt_base.specs.Refusals.{first_of}
 use Rattle.newt_base.specs.declared.Refusal.{Refusal}
 use Rattle.newt_base.specs.declared.Refusal.TheVariants as refusals
 use Rattle.newt_graph.specs.Graph.{RawGraph}
 use Rattle.newt_host.specs.Moments.{Anything, Leaves, Moment, here}
-use Rattle.newt_host.specs.Outside.{Outside, NoFault, OnlyReads}
-use Rattle.newt_host.proofs.Outside.{NoFault-append, OnlyReads-refl, Touches-append, Touches-refl}
+use Rattle.newt_host.specs.Outside.{Outside, NoFault, OnlyReads, Spends, Wears}
+use Rattle.newt_host.proofs.Outside.{NoFault-append, OnlyReads-refl, Spends-refl, Spends-widen, Touches-append, Touches-refl, Wears-append, Wears-refl, Wears-widen}
 use Rattle.newt_nsof_read.specs.Reading.{decoded}
 use Rattle.newt_nsof_read.specs.declared.fault.NsofFault.{NsofFault}
 use Rattle.newt_nsof_read.specs.declared.fault.NsofFault.TheVariants as faults
 use Rattle.newt_backup.proofs.One.{one-store}
+use Rattle.newt_pagebook.specs.Book.{format_bytes}
 use Rattle.newt_pagebook.specs.Stops.{StopsAt}
 use Rattle.newt_pagebook.specs.declared.book.Stop.{Stop}
 use Rattle.newt_pagebook.specs.declared.book.Stop.TheVariants.{Memory}
+use Rattle.newt_spec_image.specs.Records.{bank_blocks}
+use Rattle.newt_spec_store.specs.Cost.{cost}
 use Rattle.newt_spec_store.specs.OfImage.{blocks_of}
 use Rattle.newt_spec_store.specs.Store.{Store}
 use Rattle.newt_spec_store.specs.Valid.{fits}
@@ -67,6 +70,13 @@ asked-one (Err faults.Malformed) asked reasked one other = other ∙ sym one
 asked-one (Err faults.Compressed) asked reasked one other = other ∙ sym one
 asked-one (Err faults.Memory) asked reasked one other = absurd one
 
+-- and for no other store
+stores-one : (read : Result RawGraph NsofFault) (s t : Store) → IsAsked read (Ok s) → IsAsked read (Ok t) → s ≡ t
+stores-one (Ok g) s t one other = one-store s t one.0 other.0 (one.1 ∙ sym other.1)
+stores-one (Err faults.Malformed) s t one other = absurd (cc)
+stores-one (Err faults.Compressed) s t one other = absurd (cc)
+stores-one (Err faults.Memory) s t one other = absurd one
+
 -- an input and a device have one outcome
 pub one-outcome : (input : List ℕ) (device : Option (List ℕ)) (one other : Result Store Refusal) → IsRemade input device one → IsRemade input device other → other ≡ one
 one-outcome input device one other first second =
@@ -79,12 +89,27 @@ remade-one input s device outcome asked none is =
 
 -- ---- a unit that is only read
 
+-- what is only read is within any bound
+more : (n before after : ℕ) → after ≤ before → after ≤ before + n
+more n before after less = omega (arith, less)
+
+wears-none : {unit : ℕ} {before after : Outside} (n k : ℕ) → Wears unit 0 0 before after → Wears unit n k before after
+wears-none n k none = Wears-widen 0 0 n k (omega arith) (omega arith) none
+
+wears-then : {unit : ℕ} {before mid after : Outside} (n k : ℕ) → Wears unit 0 0 before mid → Wears unit n k mid after → Wears unit n k before after
+wears-then n k none some = Wears-widen (0 + n) (0 + k) n k (omega arith) (omega arith) (Wears-append 0 0 n k none some)
+
+spends-none : (n unit : ℕ) (before : Outside) → Spends unit n 0 before before
+spends-none n unit before = Spends-widen 0 0 n 0 (omega arith) (omega arith) (Spends-refl unit before)
+
 -- nothing was said of its store, or it was refused
 pub restores-looked : {T : Type 0} {told : Bool} {unit : ℕ} {before after : Outside} (input : List ℕ) (r : Result T Stop) → OnlyReads unit before after → ReadEnds unit before after r → Restores {T = T} told unit input before after r
-restores-looked {unit = unit} {before = before} input r looks ends = record {
+restores-looked {unit = unit} {before = before} {after = after} input r looks ends = record {
   refused = λ tells outcome is err. looks;
   unchanged = λ same. looks.moment;
   any_moment = λ tells. subst (λ (now : Moment). Leaves unit Anything before.now now) (sym looks.moment) (here (record { others = λ other apart. refl; output = refl; unread = refl; crash = λ left may. tt }));
+  once = λ s asked. more (format_bytes (cost s)) (before.programmed unit) (after.programmed unit) looks.programmed;
+  wears = wears-none (bank_blocks (before.blocks unit) + 3) 9 looks.wears;
   alone = looks.alone;
   ends = ends;
 }
@@ -102,10 +127,18 @@ restores-made {T = T} {told = told} {unit = unit} {before = before} {mid = mid} 
   refused = λ tells outcome is err. no-refusal s (subst (λ (o : Result Store Refusal). IsErr o) (remade-one input s (device_on unit before) outcome asked (none tells) is) err);
   unchanged = λ same. f.unchanged same ∙ looks.moment;
   any_moment = λ tells. subst (λ (now : Moment). Leaves unit Anything now after.now) looks.moment (f.any_moment tells);
+  once = λ t other.
+      let is = stores-one (decoded input) s t asked other in
+      looked-once (before.programmed unit) (mid.programmed unit) (after.programmed unit) (format_bytes (cost t)) looks.programmed
+      (subst (λ (u : Store). after.programmed unit ≤ mid.programmed unit + format_bytes (cost u)) is f.costs.programmed);
+  wears = subst (λ (n : ℕ). Wears unit (bank_blocks n + 3) 9 before after) (looks.alone.cards.blocks unit) (wears-then (bank_blocks (mid.blocks unit) + 3) 9 looks.wears f.wears);
   alone = Touches-append looks.alone f.alone;
   ends = made-ends looks free r f.ends;
 }
   where
+    looked-once : (a b c n : ℕ) → b ≤ a → c ≤ b + n → c ≤ a + n
+    looked-once a b c n first last = omega (arith, first, last)
+
     made-ends : OnlyReads unit before mid → NoFault before mid → (r : Result T Stop) → ReadEnds unit mid after r → ReadEnds unit before after r
     made-ends looks free (Ok x) ends = record { cause = tt; no_fault = NoFault-append free ends.no_fault }
     made-ends looks free (Err stop) ends = record { cause = stops-on stop after refl looks ends.cause; no_fault = tt }
@@ -116,6 +149,8 @@ refills-ok x value f = record {
   left = λ tells. (f.formatted tells, f.durable tells);
   unchanged = λ same. absurd (cc);
   any_moment = f.any_moment;
+  costs = f.costs;
+  wears = f.wears;
   alone = f.alone;
   ends = record { cause = tt; no_fault = f.ends.no_fault };
 }
@@ -127,6 +162,8 @@ refills-none {T = T} {told = told} {unit = unit} {s = s} before (Err stop) fails
   left = λ tells. tt;
   unchanged = λ same. refl;
   any_moment = λ tells. here (record { others = λ other apart. refl; output = refl; unread = refl; crash = λ left may. tt });
+  costs = spends-none (format_bytes (cost s)) unit before;
+  wears = wears-none (bank_blocks (before.blocks unit) + 3) 9 (Wears-refl unit before);
   alone = Touches-refl unit before;
   ends = record { cause = tt; no_fault = tt };
 })

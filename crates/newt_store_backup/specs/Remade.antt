@@ -1,17 +1,20 @@
 -- What is made of an input and a unit where a store is restored, and what is written of it. All of
 -- it is this project's own.
-use Rattle.std.specs.Prelude.{◌≡◌, ℕ, ◌≤◌, ◌||◌, Bool, IsTrue, not, nat_lt, List, [], ◌∷◌, Option, Some, None, is_some, Result, Ok, Err, OnOk, IsErr, IsErrOf}
+use Rattle.std.specs.Prelude.{◌≡◌, ℕ, ◌+◌, ◌≤◌, ◌||◌, Bool, IsTrue, not, nat_lt, List, [], ◌∷◌, Option, Some, None, is_some, Result, Ok, Err, OnOk, IsErr, IsErrOf}
 use Rattle.newt_base.specs.Refusals.{first_of}
 use Rattle.newt_base.specs.declared.Refusal.{Refusal}
 use Rattle.newt_base.specs.declared.Refusal.TheVariants as refusals
 use Rattle.newt_graph.specs.Graph.{RawGraph}
 use Rattle.newt_host.specs.Moments.{Anything, IsDurable, Leaves, image}
-use Rattle.newt_host.specs.Outside.{Outside, OnlyReads, Touches}
+use Rattle.newt_host.specs.Outside.{Outside, OnlyReads, Spends, Touches, Wears}
 use Rattle.newt_nsof_read.specs.Reading.{decoded}
 use Rattle.newt_nsof_read.specs.declared.fault.NsofFault.{NsofFault}
 use Rattle.newt_nsof_read.specs.declared.fault.NsofFault.TheVariants as nsof_faults
+use Rattle.newt_pagebook.specs.Book.{format_bytes}
 use Rattle.newt_pagebook.specs.declared.book.Stop.{Stop}
 use Rattle.newt_pagebook.specs.declared.book.Stop.TheVariants.{Memory}
+use Rattle.newt_spec_image.specs.Records.{bank_blocks}
+use Rattle.newt_spec_store.specs.Cost.{cost}
 use Rattle.newt_spec_store.specs.OfImage.{blocks_of}
 use Rattle.newt_spec_store.specs.Store.{Store}
 use Rattle.newt_spec_store.specs.Valid.{fits}
@@ -49,7 +52,8 @@ remade (Err refusal) device = Err refusal
 remade (Ok s) device = unless_refused s (refused_on s device)
 
 -- the store that a device of this image, or none, gets of an input, or why it gets none
-pub record IsRemade (input : List ℕ) (device : Option (List ℕ)) (outcome : Result Store Refusal) : Type 0 where
+pub record IsRemade (input : List ℕ) (device : Option (List ℕ))
+    (outcome : Result Store Refusal) : Type 0 where
   pub asked : Result Store Refusal
   pub is_asked : IsAsked (decoded input) asked
   pub is : outcome ≡ remade asked device
@@ -61,25 +65,32 @@ remade_text (Err refusal) = replies.reply_text (replies.Reply.refused refusal)
 
 -- what is left on the unit then: the store, and nothing is pending; or what was there
 abbrev pub IsLeft : Result Store Refusal → ℕ → (before after : Outside) → Type 0
-IsLeft (Ok s) unit before after = (readable (image unit after.now) ≡ Some s) × IsDurable unit after.now
+IsLeft (Ok s) unit before after =
+    (readable (image unit after.now) ≡ Some s) × IsDurable unit after.now
 IsLeft (Err refusal) unit before after = OnlyReads unit before after
 
 -- The text is what is written, and the unit is left so.
-pub record IsDone (input : List ℕ) (unit : ℕ) (before after : Outside) (text : List ℕ) : Type 0 where
+pub record IsDone (input : List ℕ) (unit : ℕ) (before after : Outside)
+    (text : List ℕ) : Type 0 where
   pub outcome : Result Store Refusal
   pub is_remade : IsRemade input (device_on unit before) outcome
   pub text_is : text ≡ remade_text outcome
   pub left : IsLeft outcome unit before after
 
--- What a restoring of an input to a unit promises. Where it is refused, nothing happens to the unit,
--- however it ends; after want of memory nothing has happened; after a fault of the device nothing
--- else is said of the unit.
+-- What a restoring of an input to a unit promises. Where it is refused, nothing happens to the
+-- unit, however it ends; after want of memory nothing has happened; after a fault of the device
+-- nothing is said of what the unit holds.
 pub record Restores {T : Type 0} (told : Bool) (unit : ℕ) (input : List ℕ) (before after : Outside)
     (result : Result T Stop) : Type 0 where
   pub refused : IsTrue told → (outcome : Result Store Refusal)
       → IsRemade input (device_on unit before) outcome → IsErr outcome → OnlyReads unit before after
   pub unchanged : IsErrOf result Memory → after.now ≡ before.now
   pub any_moment : IsTrue told → Leaves unit Anything before.now after.now
+  -- each page of the store that is asked for is written once at most
+  pub once : (s : Store) → IsAsked (decoded input) (Ok s) →
+      after.programmed unit ≤ before.programmed unit + format_bytes (cost s)
+  -- each block of a bank and each vote once
+  pub wears : Wears unit (bank_blocks (before.blocks unit) + 3) 9 before after
   pub alone : Touches unit before after
   pub ends : ReadEnds unit before after result
 
@@ -89,6 +100,8 @@ pub record Refills {T : Type 0} (told : Bool) (unit : ℕ) (s : Store) (before a
   pub left : IsTrue told → OnOk result (IsLeft (Ok s) unit before after)
   pub unchanged : IsErrOf result Memory → after.now ≡ before.now
   pub any_moment : IsTrue told → Leaves unit Anything before.now after.now
+  pub costs : Spends unit (format_bytes (cost s)) 0 before after
+  pub wears : Wears unit (bank_blocks (before.blocks unit) + 3) 9 before after
   pub alone : Touches unit before after
   pub ends : ReadEnds unit before after result
 

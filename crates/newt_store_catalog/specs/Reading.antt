@@ -1,4 +1,5 @@
--- How an entry lies in objects where it is read. This project's own.
+-- How an entry lies in objects where it is read, and what a reading leaves and why it ends. This
+-- project's own.
 use Rattle.std.specs.Prelude.{◌≡◌, ℕ, Bool, IsTrue, List, Some, None, map as list_map, Result, OnOk, IfErr, IsErrOf}
 use Rattle.std.specs.FinMap as map
 use Rattle.newt_host.specs.Moments.{image}

@@ -1,14 +1,18 @@
 -- What a run leaves that makes the store of a backup on a device. All of it is this project's own.
-use Rattle.std.specs.Prelude.{◌≡◌, ◌≢◌, ℕ, ◌<◌, ◌≤◌, true, List, [], ◌++◌, length, Some, Result, Ok as Made, Err as Refused}
+use Rattle.std.specs.Prelude.{◌≡◌, ◌≢◌, ℕ, ◌+◌, ◌<◌, ◌≤◌, true, List, [], ◌++◌, length, Some, Result, Ok as Made, Err as Refused}
 use Rattle.newt_base.specs.declared.Refusal.{Refusal}
 use Rattle.newt_host.specs.Meanings.{out_of}
 use Rattle.newt_host.specs.Moments.{IsDurable, image}
-use Rattle.newt_host.specs.Outside.{Outside, SameWork}
+use Rattle.newt_host.specs.Outside.{Outside, SameWork, Wears}
 use Rattle.newt_laws_steps.specs.Devices.{SameDevices}
+use Rattle.newt_nsof_read.specs.Reading.{decoded}
+use Rattle.newt_pagebook.specs.Book.{format_bytes}
 use Rattle.newt_script_session.specs.Named.{AtEachMoment, held_by}
 use Rattle.newt_script_session.specs.Stream.{WroteSome}
+use Rattle.newt_spec_image.specs.Records.{bank_blocks}
+use Rattle.newt_spec_store.specs.Cost.{cost}
 use Rattle.newt_spec_store.specs.Store.{Store}
-use Rattle.newt_store_backup.specs.Remade.{IsRemade, remade_text}
+use Rattle.newt_store_backup.specs.Remade.{IsAsked, IsRemade, remade_text}
 use Rattle.newt_store_catalog.specs.Readable.{readable}
 use Rattle.newt_top.specs.Reading.{OnlyReadsDevices}
 use Rattle.newt_top.specs.declared.status.Status.{Status}
@@ -50,12 +54,15 @@ CrashLeaves (Made s) names old new = AtEachMoment new (λ unit left shown. unit 
 CrashLeaves (Refused refusal) names old new = OnlyReadsDevices old new × IsAsHeld names old new
 
 -- A store was restored of this input to the device of the first name, or refused. Where memory ran
--- out the device is as it was held.
+-- out the device is as it was held; and whatever the status is, each page of the store that is
+-- asked for was written once at most.
 pub record RanRestored (names : List (List ℕ)) (input : List ℕ) (status : Status)
     (old new : Outside) : Type 0 where
   pub wrote : WroteRestored status names input old new
   pub crash : (outcome : Result Store Refusal) → IsRemade input (held_by names old 0) outcome → CrashLeaves outcome names old new
   pub no_memory : status ≡ Memory → IsAsHeld names old new
+  pub once : (s : Store) → IsAsked (decoded input) (Made s) →
+      new.programmed 0 ≤ old.programmed 0 + format_bytes (cost s)
 
 -- The same of the whole input, of which nothing is left.
 pub record RanOver (names : List (List ℕ)) (limit : ℕ) (status : Status) (old new : Outside) : Type 0 where
@@ -74,6 +81,8 @@ RanRestoring names limit Source old new = (out_of new ≡ out_of old) × SameDev
 RanRestoring names limit Sink old new = RanOver names limit Sink old new
 RanRestoring names limit TooLong old new = (limit < length old.input) × (out_of new ≡ out_of old) × SameDevices true old new
 
--- nothing was done to a device but that of the first name
-abbrev pub LeavesOthers : (old new : Outside) → Type 0
-LeavesOthers old new = (unit : ℕ) → unit ≢ 0 → SameWork unit old new
+-- Nothing was done to a device but that of the first name, of which each block of a bank and each
+-- vote was erased once at most.
+pub record WritesOneDevice (old new : Outside) : Type 0 where
+  pub others : (unit : ℕ) → unit ≢ 0 → SameWork unit old new
+  pub wears : Wears 0 (bank_blocks (new.blocks 0) + 3) 9 old new

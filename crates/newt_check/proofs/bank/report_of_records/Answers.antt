@@ -1,13 +1,14 @@
-use Rattle.std.proofs.Common.{◌≡◌, ◌≤◌, ◌+◌, ◌*◌, ℕ, List, length, take, drop, arith, sym, ◌∙◌, ap, Option, Some, None}
+use Rattle.std.proofs.Common.{◌≡◌, ◌≤◌, ◌+◌, ◌*◌, ℕ, List, length, take, drop, arith, sym, ◌∙◌, ap, subst, Option, Some, None}
 use Rattle.newt_host.specs.Moments.{image}
 use Rattle.newt_spec_image.specs.Records.{bank_size, bank_start, chosen_bank, header, IsVersion}
 use Rattle.newt_journal.specs.Bank.{bank_number, start_of, limit_of}
 use Rattle.newt_journal.proofs.Opened.{at_some, of_some}
 use Rattle.newt_pagelog.proofs.Replaying.{at_none}
 use Rattle.newt_spec_check.specs.declared.Layer.TheVariants as layer
-use Rattle.newt_spec_check.specs.Damage.{Damage, leaves_bank}
+use Rattle.newt_spec_check.specs.Damage.{leaves_bank}
 use Rattle.newt_store_catalog.proofs.Opening.{is-none, some-of}
 use Rattle.newt_check.specs.Gates.{first_from}
+use Rattle.newt_check.specs.Reports.{IsDamaged}
 use Rattle.newt_check.proofs.Voted.{bad-header, bank-of, has-records, long, no-votes}
 use Rattle.newt_check.proofs.bank.report_of_records.Goals as goal
 
@@ -31,7 +32,7 @@ returns-then-is_none-clause-report g c t =
     let begin : c.start_of-start.result ≡ start_of blocks k.0 = c.start_of-start.ensures.start ∙ ap (bank_start blocks) (sym k.1) in
     let no = at_none _ _ c.in_ok-read_version.field-0 (is-none c.in_ok-read_version.field-0 c.if-is_none.ensures) (c.in_ok-read_version.ensures.version t) in
     let same : take 16 (drop c.start_of-start.result (image unit (g.H.Host.outside c.read_votes.new.host).now)) ≡ take 16 (drop (start_of blocks k.0) img) = λ i. take 16 (drop (begin i) (image unit (c.in_ok-bank.ensures.reads.moment i))) in
-    bad-header img blocks size enough few k.0 voted (λ version is e. no version is (same ∙ e)) ∙ ap (λ (n : ℕ). let o : Option Damage = Some (record { layer = layer.Header; place = n }) in o) (sym begin)
+    subst (λ (n : ℕ). IsDamaged layer.Header n img) (sym begin) (bad-header img blocks size enough few k.0 voted (λ version is e. no version is (same ∙ e)))
 
 pub returns-in-Some-2-clause-report : goal.returns-in-Some-2-clause-report
 returns-in-Some-2-clause-report g c t =
