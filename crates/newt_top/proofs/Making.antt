@@ -15,7 +15,6 @@ use Rattle.newt_laws_steps.specs.Devices.{SameDevices}
 use Rattle.newt_nsof_read.specs.Reading.{decoded}
 use Rattle.newt_pagebook.specs.Book.{format_bytes}
 use Rattle.newt_pagebook.specs.declared.book.Stop.{Stop}
-use Rattle.newt_pagebook.specs.declared.book.Stop.TheVariants as stops
 use Rattle.newt_script_session.specs.Calls.{OutputFailed, WriteCall}
 use Rattle.newt_script_session.specs.Named.{AtEachMoment, held_by}
 use Rattle.newt_script_session.specs.Stream.{Puts, WroteSome}
