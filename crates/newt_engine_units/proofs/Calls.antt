@@ -8,7 +8,7 @@ use Rattle.newt_base.specs.Refusals.{Checks, first_of}
 use Rattle.newt_host.specs.Moments.{changes, image, Always, IsDurable, Leaves}
 use Rattle.newt_host.specs.Outside.{Outside, NoFault, OnlyReads, Touches, Rose, OnDevices, Spends}
 use Rattle.newt_pagebook.specs.Book.{IsOpenFor, IsSameFor}
-use Rattle.newt_pagebook.specs.Stops.{IsOpening, StopsAt, HasStopCause}
+use Rattle.newt_pagebook.specs.Stops.{BlamesNone, StopsAt, HasStopCause}
 use Rattle.newt_pagebook.specs.declared.book.BookFault.{BookFault}
 use Rattle.newt_pagebook.specs.declared.book.BookFault.TheVariants.{NotStore}
 use Rattle.newt_pagebook.specs.declared.book.Stop.{Stop as Ends}
@@ -136,8 +136,8 @@ all-alone {u} {o} {p} r j = go (same-or-not j u)
     go (inr e) = beside r.alone (λ k h. ap (changes k) r.moment) j e
 
 -- an image that holds no store was opened
-pub is-opening : (T : Type 0) (fault : BookFault) → fault ≡ NotStore → IsOpening {T = T} (Err fault)
-is-opening T fault is = subst (λ (e : BookFault). IsOpening {T = T} (Err e)) (sym is) tt
+pub blames-none : (T : Type 0) (fault : BookFault) → fault ≡ NotStore → BlamesNone {T = T} (Err fault)
+blames-none T fault is = subst (λ (e : BookFault). BlamesNone {T = T} (Err e)) (sym is) tt
 
 -- how a call on one unit ends
 pub ends-of : {T : Type 0} {u : ℕ} {o p : Outside} (result : Result T StoreFault) → IsSome (o.card u) → Touches u o p → IfErr result (FaultsAt u o p) → (GoesOn result → NoFault o p) → Ended result o p

@@ -40,7 +40,7 @@ leaves-memory place numbers standing told catalog book outside r memory = record
   unchanged = λ is. refl;
   open_after = λ tells. memory-on r _ memory;
   alone = Touches-refl (place book) outside;
-  ends = ends-memory r _ memory refl;
+  ends = ends-memory r _ (NoFault-refl outside) memory refl;
 }
 
 pub makes-memory : (told : Bool) (unit : ℕ) (next : Next) (catalog made : Catalog) (outside : Outside) (r : Result ℕ StoreFault) → IsMemory r → MakesNext told unit next catalog made outside outside r

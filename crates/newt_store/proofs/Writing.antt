@@ -231,7 +231,7 @@ commits-memory place numbers standing told objects bytes fetches book outside r 
   wears = λ tells room. wears-nothing (place book) outside;
   open_after = λ tells. memory-on r _ memory;
   alone = Touches-refl (place book) outside;
-  cause = memory-err r (FaultsAt (place book) outside outside) memory tt;
+  cause = memory-err r (FaultsAt (place book) outside outside) memory (NoFault-refl outside);
   no_fault = λ goes. absurd (memory-stops r memory goes);
 }
 

@@ -5,7 +5,7 @@ use Rattle.newt_host.specs.Moments.{image}
 use Rattle.newt_host.proofs.Outside.{OnlyReads-append}
 use Rattle.newt_spec_image.specs.Pages.{Change, short_at, puts_from, said_by, is_change}
 use Rattle.newt_pagelog.specs.Placed.{Replayed}
-use Rattle.newt_pagelog.proofs.Failing.{ok-over, rose-over}
+use Rattle.newt_pagelog.proofs.Failing.{rose-over}
 use Rattle.newt_pagelog.proofs.Placing.{looks-stands, looks-image, held-inside, length-piece, length-short, counts-there, bad-length, no_change_in, replayed-says, looks-read}
 use Rattle.newt_pagelog.proofs.places.replay_record.Goals as goal
 
@@ -155,6 +155,6 @@ returns-clause-reads g c =
       looks = OnlyReads-append before e.looks;
       no_other = e.no_other;
       cause = λ bad. rose-over u u a last (o c.replay_deletes.new.host) refl before.alone (e.cause bad);
-      no_fault = ok-over c.replay_deletes.result _ _ _ (c.in_ok-replay_puts.ensures.reads.no_fault
-          ∙ c.in_ok-read_short-2.ensures.reads.faults.no_fault ∙ c.in_ok-read_short.ensures.reads.faults.no_fault) e.no_fault;
+      no_fault = λ none. e.no_fault none ∙ c.in_ok-replay_puts.ensures.reads.no_fault tt
+          ∙ c.in_ok-read_short-2.ensures.reads.faults.no_fault ∙ c.in_ok-read_short.ensures.reads.faults.no_fault;
     }
