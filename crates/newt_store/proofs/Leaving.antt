@@ -3,7 +3,7 @@ use Rattle.std.proofs.Common.{◌≡◌, ℕ, ◌<◌, Bool, List, IsTrue, Resul
 use Rattle.newt_base.specs.declared.Refusal.TheVariants.{Full}
 use Rattle.newt_host.specs.Moments.{image, IsDurable, Leaves}
 use Rattle.newt_host.specs.Outside.{Outside, Spends}
-use Rattle.newt_host.proofs.Outside.{Touches-refl, Wears-refl}
+use Rattle.newt_host.proofs.Outside.{NoFault-refl, Touches-refl, Wears-refl}
 use Rattle.newt_spec_graph.specs.Lists.{Among}
 use Rattle.newt_spec_image.specs.Pages.{cap}
 use Rattle.newt_spec_store.specs.OfImage.{blocks_of}
