@@ -52,13 +52,13 @@ module _ (mode : Mode) (old new : Outside) where
   ends_ok through later = ends_quiet statuses.Ok tt through (λ same. absurd (cc)) later
 
   pub ends_halted : {T : Type 0} (halt : Halt) → Faults {T = T} HasCause (Err halt) old new → RunEnds mode (status_of halt) old new
-  ends_halted Memory f = ends_quiet statuses.Memory tt tt (λ same. absurd (cc)) f.later
+  ends_halted Memory f = ends_quiet statuses.Memory f.cause tt (λ same. absurd (cc)) f.later
   ends_halted Source f = ends_quiet statuses.Source f.cause tt (λ same. absurd (cc)) f.later
   ends_halted Sink f = ends_quiet statuses.Sink f.cause tt (λ same. absurd (cc)) f.later
-  ends_halted TooLong f = ends_quiet statuses.TooLong tt tt (λ same. absurd (cc)) f.later
+  ends_halted TooLong f = ends_quiet statuses.TooLong f.cause tt (λ same. absurd (cc)) f.later
 
   pub ends_counting : {T : Type 0} (halt : Halt) → Faults {T = T} HasSinkCause (Err halt) old new → RunEnds mode (status_of halt) old new
-  ends_counting Memory f = ends_quiet statuses.Memory tt tt (λ same. absurd (cc)) f.later
+  ends_counting Memory f = ends_quiet statuses.Memory f.cause tt (λ same. absurd (cc)) f.later
   ends_counting Source f = absurd f.cause
   ends_counting Sink f = ends_quiet statuses.Sink f.cause tt (λ same. absurd (cc)) f.later
   ends_counting TooLong f = absurd f.cause

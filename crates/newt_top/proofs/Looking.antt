@@ -162,7 +162,7 @@ none-attached told names old mid a = record { in_faults = a.in_faults; out_fault
 
 -- out of memory
 pub ends-memory : (reading : Reading) (old looked : Outside) → NoStreamFault old looked → RunEnds (Read reading) Memory old looked
-ends-memory reading old looked free = ends_quiet (Read reading) old looked Memory tt tt (λ same. absurd (cc)) (never_of free)
+ends-memory reading old looked free = ends_quiet (Read reading) old looked Memory free tt (λ same. absurd (cc)) (never_of free)
 
 -- the device failed
 pub ends-device : (reading : Reading) (old mid looked : Outside) → NoStreamFault old looked → mid.dev_faults 0 ≡ old.dev_faults 0 → Rose (mid.dev_faults 0) (looked.dev_faults 0) → RunEnds (Read reading) (Device 0) old looked

@@ -45,8 +45,8 @@ whole_unread {T = T} {U = U} result halt {a} {b} {c} is r w = record {
 }
 
 read_cause : (halt : Halt) (a b : Outside) → HasReadCause halt a b → HasCause halt a b
-read_cause Memory a b cause = tt
-read_cause TooLong a b cause = tt
+read_cause Memory a b cause = cause
+read_cause TooLong a b cause = cause
 read_cause Source a b cause = cause
 read_cause Sink a b cause = absurd cause
 
@@ -59,10 +59,10 @@ whole_ends {T = T} {U = U} result halt {a} {b} is w = record {
 }
 
 sink_cause : (halt : Halt) (a b : Outside) → HasSinkCause halt a b → HasCause halt a b
-sink_cause Memory a b cause = tt
+sink_cause Memory a b cause = cause
 sink_cause Sink a b cause = cause
 sink_cause Source a b cause = absurd cause
-sink_cause TooLong a b cause = tt
+sink_cause TooLong a b cause = absurd cause
 
 -- and then the text was put out
 pub whole_put : {told : Bool} {T U : Type 0} {x : U} {result : Result T Halt} {a b c : Outside} → WholeCall told HasReadCause (Ok x) a b → WriteCall told HasSinkCause result b c → WholeCall told HasCause result a c

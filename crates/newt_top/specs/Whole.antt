@@ -13,6 +13,7 @@ use Rattle.newt_script.specs.Graphs.{literal_of}
 use Rattle.newt_host.specs.Meanings.{out_of}
 use Rattle.newt_host.specs.Outside.{Outside, Rose}
 use Rattle.newt_script_session.specs.Calls.{Faults}
+use Rattle.newt_script_session.specs.Causes.{NoStreamFault}
 use Rattle.newt_laws_steps.specs.Devices.{SameDevices}
 use Rattle.newt_script_session.specs.Stream.{WroteSome}
 use Rattle.newt_script_session.specs.declared.halt.Halt.{Halt}
@@ -45,10 +46,11 @@ HaltedWhole conversion limit Sink input old now = WroteSome (converted conversio
 HaltedWhole conversion limit Source input old now = now ≡ old
 HaltedWhole conversion limit TooLong input old now = (limit < length input) × (now ≡ old)
 
--- what may halt the reading of all the input: out of memory, too long an input, or the input where it has failed
+-- what may halt the reading of all the input: out of memory or too long an input, neither of which
+-- hides a fault, or the input where it has failed
 abbrev pub HasReadCause : Halt → (old new : Outside) → Type 0
-HasReadCause Memory old new = Unit {0}
-HasReadCause TooLong old new = Unit {0}
+HasReadCause Memory old new = NoStreamFault old new
+HasReadCause TooLong old new = NoStreamFault old new
 HasReadCause Source old new = Rose old.in_faults new.in_faults
 HasReadCause Sink old new = ⊥
 

@@ -39,7 +39,7 @@ pub returns-in_default-clause-left : goal.returns-in_default-clause-left
 returns-in_default-clause-left g c = c.new.ensures.attached.input
 
 pub returns-in_default-clause-faults : goal.returns-in_default-clause-faults
-returns-in_default-clause-faults g c = faults_end HasSinkCause Memory _ _ (attached_faultless _ _ _ _ c.new.ensures.attached) tt
+returns-in_default-clause-faults g c = let none = attached_faultless _ _ _ _ c.new.ensures.attached in faults_end HasSinkCause Memory _ _ none none
 
 -- ---- the script
 
