@@ -70,6 +70,6 @@ counted_nothing script names old never = record {
   out = tt;
   halted = inl refl;
   threw = threw_none old.dev_faults old.dev_faults (λ unit. refl);
-  failed = tt;
+  failed = λ unit none. refl;
   crash = λ unit t left out at some. let apart : None ≡ Some t = sym (never unit) ∙ at in absurd (cc);
 }
