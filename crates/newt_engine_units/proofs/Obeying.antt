@@ -1,9 +1,9 @@
 -- What a command promises where nothing has changed, and behind a call that read.
-use Rattle.std.proofs.Common.{◌≡◌, refl, ap, sym, ◌∙◌, subst, ℕ, ◌≤◌, List, Bool, true, IsTrue, Option, arith}
+use Rattle.std.proofs.Common.{◌≡◌, refl, ap, sym, ◌∙◌, subst, ℕ, List, Bool, true, IsTrue, Option, arith}
 use Rattle.std.specs.Prelude.{Result, Ok, Err, IfErr}
 use Rattle.newt_base.specs.Refusals.{Checks}
 use Rattle.newt_host.specs.Moments.{changes}
-use Rattle.newt_host.specs.Outside.{Outside, NoFault, OnDevices, Rose}
+use Rattle.newt_host.specs.Outside.{Outside, NoFault, Rose}
 use Rattle.newt_host.proofs.Outside.{NoFault-append, NoFault-refl, OnDevices-append, OnDevices-refl}
 use Rattle.newt_path.specs.declared.fault.SetFault.{SetFault}
 use Rattle.newt_path.specs.declared.fault.SetFault.TheVariants as put

@@ -1,5 +1,5 @@
 -- What the exits of a call on a range hand on.
-use Rattle.std.proofs.Common.{◌≡◌, ℕ, ◌+◌, ◌*◌, ◌<◌, ◌≤◌, Bool, Option, IfSome, Result, Ok, Err, IsErrOf, refl, sym, ◌∙◌, ap, subst}
+use Rattle.std.proofs.Common.{◌≡◌, ℕ, ◌+◌, ◌*◌, ◌<◌, ◌≤◌, Bool, Option, IfSome, Result, Ok, Err, IsErrOf, sym, ◌∙◌, ap, subst}
 use Rattle.newt_host.specs.Outside.{Outside, NoFault, Spends}
 use Rattle.newt_host.proofs.Outside.{NoFault-append, NoFault-refl, Touches-no_fault}
 use Rattle.newt_spec_image.specs.Objects.{Extent}
