@@ -1,5 +1,5 @@
 -- What an answer that is an error says.
-use Rattle.std.proofs.Common.{◌≡◌, ℕ, ◌+◌, ◌<◌, ◌≤◌, Result, Ok, Err, IfErr, IfOk, OnOk, OnErr, IsErr, IsErrAnd, IsErrOf, refl, subst, sym, arith}
+use Rattle.std.proofs.Common.{◌≡◌, ℕ, ◌+◌, ◌<◌, ◌≤◌, Result, Ok, Err, IfErr, IfOk, OnOk, OnErr, IsErr, IsErrAnd, IsErrOf, subst, sym, arith}
 use Rattle.std.proofs.lemmas.Bool.{false≢true}
 use Rattle.newt_pagebook.specs.declared.book.BookFault.{BookFault}
 use Rattle.newt_pagebook.specs.declared.book.BookFault.TheVariants.{Device, Memory, NotStore}
@@ -57,10 +57,10 @@ blames-as T' (Err NotStore) e is none = subst (λ (f : BookFault). BlamesNone {T
 blames-as T' (Err Device) e is none = absurd none
 
 -- want of memory, where no fault was counted
-pub memory-stops : {T : Type 0} (r : Result T Stop) {unit : ℕ} {a b : Outside}
+pub memory-stops : {T : Type 0} {unit : ℕ} {a b : Outside} (r : Result T Stop)
     → IsErrAnd r (λ x. x ≡ stops.Memory) → NoFault a b → IfErr r (StopsAt unit a b)
 memory-stops (Ok x) is none = tt
-memory-stops (Err x) {unit = unit} {a = a} {b = b} is none =
+memory-stops {unit = unit} {a = a} {b = b} (Err x) is none =
     subst (λ (stop : Stop). StopsAt unit a b stop) (sym is) none
 
 -- two numbers are as their names are

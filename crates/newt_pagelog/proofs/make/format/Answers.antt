@@ -1,4 +1,4 @@
-use Rattle.std.proofs.Common.{◌≡◌, ℕ, ◌*◌, ◌-◌, ◌<◌, ◌≤◌, List, [], length, replicate, Some, drop, refl, sym, ◌∙◌, ap, subst, arith, rules, ◌+◌}
+use Rattle.std.proofs.Common.{◌≡◌, ℕ, ◌*◌, ◌-◌, ◌<◌, ◌≤◌, List, [], length, replicate, Some, drop, refl, sym, ◌∙◌, ap, subst, arith, ◌+◌}
 use Rattle.newt_host.proofs.Moments.{Leaves-start, Leaves-weaken}
 use Rattle.newt_host.proofs.Outside.{NoFault-refl, Spends-refl, Spends-widen, Touches-no_fault, Touches-refl, Wears-refl, Wears-widen}
 use Rattle.newt_spec_image.specs.Records.{bank_blocks, bank_size, bank_start}
