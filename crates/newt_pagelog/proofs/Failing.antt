@@ -57,10 +57,10 @@ blames-as T' (Err NotStore) e is none = subst (λ (f : BookFault). BlamesNone {T
 blames-as T' (Err Device) e is none = absurd none
 
 -- want of memory, where no fault was counted
-pub memory-stops : {T : Type 0} {unit : ℕ} {a b : Outside} (r : Result T Stop)
+pub memory-stops : {T : Type 0} (r : Result T Stop) (unit : ℕ) {a b : Outside}
     → IsErrAnd r (λ x. x ≡ stops.Memory) → NoFault a b → IfErr r (StopsAt unit a b)
-memory-stops (Ok x) is none = tt
-memory-stops {unit = unit} {a = a} {b = b} (Err x) is none =
+memory-stops (Ok x) unit is none = tt
+memory-stops (Err x) unit {a = a} {b = b} is none =
     subst (λ (stop : Stop). StopsAt unit a b stop) (sym is) none
 
 -- two numbers are as their names are

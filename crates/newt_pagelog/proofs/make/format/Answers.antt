@@ -27,7 +27,7 @@ returns-in_err-payload g c =
       costs = Spends-widen 0 0 (format_bytes (length c.args.batch.now.puts)) 0 (omega arith) (omega arith) (Spends-refl u a);
       wears = Wears-widen 0 0 (bank_blocks (a.blocks u) + 3) 9 (omega arith) (omega arith) (Wears-refl u a);
       alone = Touches-refl u a;
-      cause = memory-stops r c.from_residual.ensures.1 (NoFault-refl a);
+      cause = memory-stops r u c.from_residual.ensures.1 (NoFault-refl a);
       no_fault = no-ok r _ failed;
     }
 
