@@ -62,6 +62,7 @@ module _ {C : Type 0} {reads : List ℕ → Option Store} {place : C → ℕ} {s
       open_after = λ t u other. (e.costs t).open_after tt u;
       threw = quiet-threw it o p e.quiet e.alone;
       failed = λ u h. (e.no_fault tt).dev_faults u;
+      unhidden = tt;
       later = e.alone.dev_faults;
       never_memory = λ none. refl;
       never_thrown = λ none. e.quiet;
@@ -106,6 +107,7 @@ module _ {C : Type 0} {reads : List ℕ → Option Store} {place : C → ℕ} {s
       open_after = λ t. tt;
       threw = tt;
       failed = tt;
+      unhidden = e.cause.dev_faults;
       later = e.alone.dev_faults;
       never_memory = λ none. absurd (e.ends none);
       never_thrown = λ none. tt;
@@ -129,6 +131,7 @@ module _ {C : Type 0} {reads : List ℕ → Option Store} {place : C → ℕ} {s
       open_after = λ t n other. opens t n (λ is. other (ap {B = Reply} (λ k. reply.Thrown k) (sym is)));
       threw = thrown-threw u o p e.alone e.cause;
       failed = thrown-failed u o p failed;
+      unhidden = tt;
       later = e.alone.dev_faults;
       never_memory = λ none. refl;
       never_thrown = λ none. absurd (e.device none);

@@ -107,7 +107,7 @@ handed_placed {reads = reads} {found = found} {c = c} {old = old} {o = o} on is 
   desk = desk;
   answered = λ t apart settled. answered_on on _ _ is (answered settled);
   fetches = λ t apart settled unread u. up (o.fetched u) (most_stepped (world_with reads old.units old.desk o) c u);
-  cause = err_on on _ (has_cause o o found none);
+  cause = err_on on _ (has_cause o o found (NoFault-refl o) none);
   failed = err_on on _ (none-devices _ found none);
   kept = err_on on _ (none-devices _ found none);
   no_fault = λ goes. NoFault-refl o;

@@ -1,5 +1,5 @@
 -- What the world promises of a command. All of it is this project's own.
-use Rattle.std.specs.Prelude.{◌≡◌, ◌≢◌, ◌⊎◌, ◌*◌, ℕ, ◌≤◌, Bool, true, false, IsTrue, List, Option, Some, None, Result, Ok, IfErr, IfOk, IsOk, OnOk}
+use Rattle.std.specs.Prelude.{◌≡◌, ◌≢◌, ◌⊎◌, ◌*◌, ℕ, ◌≤◌, Bool, true, false, IsTrue, List, Option, Some, None, Result, Ok, IfErr, IfOk, IsOk, OnErr, OnOk}
 use Rattle.newt_base.specs.Refusals.{first_of}
 use Rattle.newt_base.specs.declared.Refusal.{Refusal}
 use Rattle.newt_host.specs.Moments.{Always, changes}
@@ -151,8 +151,9 @@ module _ {C : Type 0} (reads : List ℕ → Option Store) where
   -- means 1024 bytes at most are fetched there; one that opens, shows, moves or counts a cursor whose
   -- query asks for no words or texts fetches 512 for each page of the entry that it answers. After a
   -- reply each bank is not closed or is as it was, but for a unit that was thrown out. No fault was
-  -- counted but of a unit that the reply says was thrown out, and of that one a fault was; only what
-  -- may take memory ends in want of it, and only what uses a device throws a unit out.
+  -- counted but of a unit that the reply says was thrown out, and of that one a fault was; want of
+  -- memory hides none, and only what may take memory ends in it; and only what uses a device throws a
+  -- unit out.
   pub record Finished (told : Bool) (command : Command) (old : World C) (before after : Outside) (result : Result Reply AllocError) : Type 0 where
     pub alone : OnDevices before after
     pub bound : IsTrue told → is_format command ≡ false → (u : ℕ) → ProgramsAtMost (most_programmed (stood_for reads old before) command u) u before after
@@ -161,6 +162,7 @@ module _ {C : Type 0} (reads : List ℕ → Option Store) where
     pub open_after : IsTrue told → IfOk result (λ it. (u : ℕ) → it ≢ reply.Thrown u → IsOpenOrSame u before.now after.now)
     pub threw : IfOk result (λ it. Threw (said it) before.dev_faults after.dev_faults)
     pub failed : IfOk result (λ it. Failed (said it) before.dev_faults after.dev_faults)
+    pub unhidden : OnErr result ((u : ℕ) → after.dev_faults u ≡ before.dev_faults u)
     pub later : (u : ℕ) → before.dev_faults u ≤ after.dev_faults u
     pub never_memory : takes_memory command ≡ false → IsOk result
     pub never_thrown : uses_device command ≡ false → IfOk result (λ it. IsNotThrown it)

@@ -4,7 +4,7 @@ use Rattle.newt_base.specs.Refusals.{first_of}
 use Rattle.newt_host.specs.Moments.{image, IsDurable, Leaves, Anything}
 use Rattle.newt_host.specs.Outside.{Outside, NoFault, OnlyReads, Rose, Spends, Touches, Wears}
 use Rattle.newt_pagebook.specs.Book.{IsOpenFor}
-use Rattle.newt_pagebook.specs.Stops.{IsOpening, StopsAt}
+use Rattle.newt_pagebook.specs.Stops.{BlamesNone, StopsAt}
 use Rattle.newt_pagebook.specs.declared.book.BookFault.{BookFault}
 use Rattle.newt_pagebook.specs.declared.book.BookFault.TheVariants.{NotStore, Device as DeviceFault}
 use Rattle.newt_pagebook.specs.declared.book.Stop.{Stop}
@@ -42,7 +42,7 @@ module _ {C : Type 0} (reads : List ℕ → Option Store) (place : C → ℕ) (s
     pub not_store : IsErrOf result NotStore → IsTrue told → reads (image unit before.now) ≡ None
     pub looks : OnlyReads unit before after
     pub cause : IsErrOf result DeviceFault → Rose (before.dev_faults unit) (after.dev_faults unit)
-    pub no_fault : IsOpening result → NoFault before after
+    pub no_fault : BlamesNone result → NoFault before after
 
   -- A change at a minute: it makes of the unit's store what it makes of the plain store, and answers so, or is refused by the first of its refusals, and then
   -- nothing has happened.

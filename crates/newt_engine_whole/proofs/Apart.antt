@@ -1,7 +1,7 @@
 -- A command that asks nothing of the world.
 use Rattle.std.proofs.Common.{◌≡◌, refl, ap, sym, ◌∙◌, subst, arith, ℕ, ◌+◌, ◌*◌, ◌≤◌, inr, List, length, Bool, false, Option, Some, None, option_and_then}
 use Rattle.std.specs.declared.alloc.AllocError.{AllocError}
-use Rattle.std.specs.Prelude.{IfOk, IsOk, OnOk, Result, Ok, Err}
+use Rattle.std.specs.Prelude.{IfOk, IsOk, OnErr, OnOk, Result, Ok, Err}
 use Rattle.newt_base.specs.Refusals.{first_of}
 use Rattle.newt_base.specs.declared.Refusal.{Refusal}
 use Rattle.newt_base.specs.declared.Refusal.TheVariants.{Changed}
@@ -123,6 +123,7 @@ apart-stepped reads old new o c h result apart m answered = record {
   reply = a.1;
   steps = steps.plain (ap (option_and_then (unsure_look h.world)) (apart-looks c apart)) refl;
   threw = record { later = λ u. omega arith; rose = λ u k. absurd (both-ways (sym (apart-quiet h c u apart) ∙ k)) };
+  failed = λ u k. refl;
   answered = go result answered;
   moments = at-rest reads (marks_of old.world) o h.world m.world c a.0.world;
 }
@@ -131,11 +132,10 @@ apart-stepped reads old new o c h result apart m answered = record {
     a = whole_answer h c
 
     go : (r : Result Reply AllocError) → IfOk r (λ it. (next : plain.Whole) × (whole_answer h c ≡ (next, said it)) × Means reads new o next)
-        → IfOk r (λ it. (said it ≡ a.1) × Means reads new o a.0 × ((unit : ℕ) → throws unit a.1 ≡ false → o.dev_faults unit ≡ o.dev_faults unit))
+        → IfOk r (λ it. (said it ≡ a.1) × Means reads new o a.0)
     go (Ok it) (next, is, means) = (
       sym (ap (λ (x : plain.Whole × replies.Reply). x.1) is),
       subst (Means reads new o) (sym (ap (λ (x : plain.Whole × replies.Reply). x.0) is)) means,
-      λ unit k. refl,
     )
     go (Err e) x = tt
 
@@ -144,6 +144,10 @@ apart-stepped reads old new o c h result apart m answered = record {
 pub on_ok : {T E P : Type 0} (r : Result T E) → P → OnOk r P
 on_ok (Ok x) p = p
 on_ok (Err e) p = tt
+
+pub on_err : {T E P : Type 0} (r : Result T E) → P → OnErr r P
+on_err (Ok x) p = tt
+on_err (Err e) p = p
 
 pub each_ok : {T E : Type 0} {P : T → Type 0} (r : Result T E) → ((x : T) → P x) → IfOk r P
 each_ok (Ok x) p = p x
@@ -171,6 +175,7 @@ rest-ended reads told old o c {asked} result memory quiet = record {
   open_after = λ t. each_ok result (λ it u other. inr refl);
   threw = still-threw result o.dev_faults quiet;
   failed = each_ok result (λ it u none. refl);
+  unhidden = on_err result (λ u. refl);
   later = λ u. no-less (o.dev_faults u);
   never_memory = memory;
   never_thrown = λ none. quiet;

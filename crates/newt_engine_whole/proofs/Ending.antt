@@ -56,6 +56,7 @@ ended-plain {C} {reads} {told} {c} {old} {o} {p} {result} plain f =
       open_after = f.open_after;
       threw = f.threw;
       failed = f.failed;
+      unhidden = f.unhidden;
       later = f.later;
       never_memory = λ none. f.never_memory (sym s.memory ∙ none);
       never_thrown = λ none. f.never_thrown (sym s.device ∙ none);

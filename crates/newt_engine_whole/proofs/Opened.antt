@@ -1,7 +1,7 @@
 -- An entry is read, and a copy of it is opened.
 use Rattle.std.proofs.Common.{◌≡◌, inl, inr, refl, ap, sym, ◌∙◌, subst, ℕ, ◌+◌, ◌≤◌, List, [], ◌∷◌, Bool, true, false, IsTrue, ◌==◌, Option, Some, None, option_and_then, slice_set}
 use Rattle.std.specs.declared.alloc.AllocError.{AllocError}
-use Rattle.std.specs.Prelude.{IfOk, MatchOption, Result, Ok, is_none, slice_get}
+use Rattle.std.specs.Prelude.{IfOk, MatchOption, OnErr, Result, Ok, is_none, slice_get}
 use Rattle.std.specs.List.{position}
 use Rattle.newt_base.specs.Refusals.{first_of}
 use Rattle.newt_base.specs.declared.Refusal.{Refusal}
@@ -58,9 +58,9 @@ pub reading-ended : {C : Type 0} {reads : List ℕ → Option Store} {told : Boo
     → ((w : World) → steps_unread w c ≡ false) → whole_takes_memory c ≡ true → whole_uses_device c ≡ true
     → (IsTrue told → (rest : List Command) × (asked_in_turn (known_whole reads old o) c ≡ command.Get u s uid ∷ rest))
     → Finished reads told (command.Get u s uid) old.world o p inner → (IsTrue told → IfOk result (λ it. (x : ℕ) → (it ≡ reply.Thrown x → ⊥) → IsOpenOrSame x o.now p.now))
-    → IfOk result (λ it. Threw (said it) o.dev_faults p.dev_faults) → IfOk result (λ it. Failed (said it) o.dev_faults p.dev_faults)
+    → IfOk result (λ it. Threw (said it) o.dev_faults p.dev_faults) → IfOk result (λ it. Failed (said it) o.dev_faults p.dev_faults) → OnErr result ((x : ℕ) → p.dev_faults x ≡ o.dev_faults x)
     → Ended reads told c (asked_in_turn (known_whole reads old o) c) old o p result
-reading-ended {C} {reads} {told} {c} {old} {o} {p} {inner} {result} u uid s unread memory device turn f opens threw failed =
+reading-ended {C} {reads} {told} {c} {old} {o} {p} {inner} {result} u uid s unread memory device turn f opens threw failed unhidden =
     let w = stood_for reads old.world o in
     let get = command.Get u s uid in
     record {
@@ -72,6 +72,7 @@ reading-ended {C} {reads} {told} {c} {old} {o} {p} {inner} {result} u uid s unre
       open_after = opens;
       threw = threw;
       failed = failed;
+      unhidden = unhidden;
       later = f.later;
       never_memory = λ none. absurd (both-ways (sym none ∙ memory));
       never_thrown = λ none. absurd (both-ways (sym none ∙ device));
@@ -162,7 +163,7 @@ module _ {C : Type 0} {reads : List ℕ → Option Store} {place : C → ℕ} {s
   open-handed {it} other a = record {
     stands = record { world = a.stands; watches = begun.watches; drafts = begun.drafts };
     stepped = λ t h m. go h m (a.obeyed t h.world m.world);
-    ended = reading-ended u uid s (λ w. refl) refl refl (λ t. ([], open-turn (known_whole reads old o) u uid s)) a.finished a.finished.open_after a.finished.threw a.finished.failed;
+    ended = reading-ended u uid s (λ w. refl) refl refl (λ t. ([], open-turn (known_whole reads old o) u uid s)) a.finished a.finished.open_after a.finished.threw a.finished.failed tt;
   }
     where
       go : (h : plain.Whole) → Means reads old o h → Obeys reads {R = Reply} {E = AllocError} said (means reads mid p) h.world (command.Get u s uid) (Ok it) o.now p.now
@@ -175,7 +176,8 @@ module _ {C : Type 0} {reads : List ℕ → Option Store} {place : C → ℕ} {s
             reply = said it;
             steps = wholes.plain refl (open-refused h u s uid r first ∙ ap {B = plain.Whole × replies.Reply} (λ q. (h, q)) (sym says));
             threw = a.finished.threw;
-            answered = (refl, record { world = subst (means reads mid p) same there; watches = m.watches; copies = m.copies }, a.finished.failed);
+            failed = a.finished.failed;
+            answered = (refl, record { world = subst (means reads mid p) same there; watches = m.watches; copies = m.copies });
             moments = as-open reads u uid s o.now p.now h.world h.world (subst (λ (w : World). Always (Answering reads h.world (command.Get u s uid) w o.now) o.now p.now) same moments);
           }
           by (inr (inl (e, first, entry, same, says))) = absurd (other e.time e.graph says)
@@ -184,7 +186,8 @@ module _ {C : Type 0} {reads : List ℕ → Option Store} {place : C → ℕ} {s
             reply = said it;
             steps = subst (WholeStep h (command.Open u s uid) (whole_thrown h (command.Get u s uid) x)) (sym says) (open-thrown h u s uid x);
             threw = a.finished.threw;
-            answered = (refl, record { world = subst (means reads mid p) next there; watches = m.watches; copies = m.copies }, a.finished.failed);
+            failed = a.finished.failed;
+            answered = (refl, record { world = subst (means reads mid p) next there; watches = m.watches; copies = m.copies });
             moments = as-open reads u uid s o.now p.now h.world (whole_thrown h (command.Get u s uid) x).world (subst (λ (w : World). Always (Answering reads h.world (command.Get u s uid) w o.now) o.now p.now) next moments);
           }
 
@@ -233,13 +236,14 @@ module _ {C : Type 0} {reads : List ℕ → Option Store} {place : C → ℕ} {s
         reply = said it;
         steps = wholes.plain refl (is ∙ ap {B = plain.Whole × replies.Reply} (λ r. (record h { copies = copies }, r)) (sym says));
         threw = record { later = a.finished.later; rose = λ x k. absurd (both-ways (sym (ap (throws x) says ∙ none x) ∙ k)) };
-        answered = (refl, there, λ x k. a.finished.failed x refl);
+        failed = λ x k. a.finished.failed x refl;
+        answered = (refl, there);
         moments = moments;
       }
 
       ended : ((x : ℕ) → throws x (said it) ≡ false) → Ended reads told (command.Open u s uid) (asked_in_turn (known_whole reads old o) (command.Open u s uid)) old o p (Ok it)
       ended none = reading-ended u uid s (λ w. refl) refl refl (λ t. ([], open-turn (known_whole reads old o) u uid s)) a.finished (λ t x other. a.finished.open_after t x (λ k. cc))
-          (record { later = a.finished.later; rose = λ x k. absurd (both-ways (sym (none x) ∙ k)) }) (λ x k. a.finished.failed x refl)
+          (record { later = a.finished.later; rose = λ x k. absurd (both-ways (sym (none x) ∙ k)) }) (λ x k. a.finished.failed x refl) tt
 
       pub open-put : (IsTrue told → (h : plain.Whole) × Means reads old o h × AllFormed h.world) → Applied reads place stands told (command.Open u s uid) old new o p (Ok it)
       open-put has = go (position is_none old.works) refl put

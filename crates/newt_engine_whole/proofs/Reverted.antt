@@ -113,7 +113,7 @@ module _ {C : Type 0} {reads : List ℕ → Option Store} {place : C → ℕ} {s
   revert-handed {it} other a = record {
     stands = record { world = a.stands; watches = begun.watches; drafts = begun.drafts };
     stepped = λ t h m. go h m (found t h m) (a.obeyed t h.world m.world);
-    ended = reading-ended at.unit at.uid at.name (λ w. refl) refl refl (λ t. ([], known-turn t)) a.finished a.finished.open_after a.finished.threw a.finished.failed;
+    ended = reading-ended at.unit at.uid at.name (λ w. refl) refl refl (λ t. ([], known-turn t)) a.finished a.finished.open_after a.finished.threw a.finished.failed tt;
   }
     where
       go : (h : plain.Whole) → Means reads old o h → AllFormed h.world × IsAt h n at → Obeys reads {R = Reply} {E = AllocError} said (means reads mid p) h.world (command.Get at.unit at.name at.uid) (Ok it) o.now p.now
@@ -127,7 +127,8 @@ module _ {C : Type 0} {reads : List ℕ → Option Store} {place : C → ℕ} {s
             reply = said it;
             steps = wholes.thrown (command.Get at.unit at.name at.uid) (subst (λ (ds : List Command). Among ds (command.Get at.unit at.name at.uid)) (sym (revert-turn h n k.of k.there k.spot k.lives)) (inl (is-read n at h k))) refl says;
             threw = a.finished.threw;
-            answered = (refl, record { world = subst (means reads mid p) next there; watches = m.watches; copies = m.copies }, a.finished.failed);
+            failed = a.finished.failed;
+            answered = (refl, record { world = subst (means reads mid p) next there; watches = m.watches; copies = m.copies });
             moments = as-other reads h.world (whole_thrown h (command.Get at.unit at.name at.uid) x).world (command.Get at.unit at.name at.uid) (command.Revert n) o.now p.now (λ u. refl)
                 (subst (λ (w : World). Always (Answering reads h.world (command.Get at.unit at.name at.uid) w o.now) o.now p.now) next moments);
           }
@@ -146,7 +147,7 @@ module _ {C : Type 0} {reads : List ℕ → Option Store} {place : C → ℕ} {s
     };
     stepped = λ t h m. go h m (found t h m) (read-so t h m (found t h m));
     ended = reading-ended at.unit at.uid at.name (λ w. refl) refl refl (λ t. ([], known-turn t)) a.finished (λ t x other. a.finished.open_after t x (λ k. cc))
-        (record { later = a.finished.later; rose = λ u x. absurd (both-ways x) }) (λ u x. a.finished.failed u refl);
+        (record { later = a.finished.later; rose = λ u x. absurd (both-ways x) }) (λ u x. a.finished.failed u refl) tt;
   }
     where
       -- the entry is as it was read, and nothing has happened
@@ -183,6 +184,7 @@ module _ {C : Type 0} {reads : List ℕ → Option Store} {place : C → ℕ} {s
         reply = replies.Reply.done;
         steps = wholes.plain refl (revert-answered h n k.of k.there k.spot k.lives m.world.settled);
         threw = record { later = a.finished.later; rose = λ u x. absurd (both-ways x) };
+        failed = λ u x. a.finished.failed u refl;
         answered = (
           refl,
           record {
@@ -190,7 +192,6 @@ module _ {C : Type 0} {reads : List ℕ → Option Store} {place : C → ℕ} {s
             watches = watches ∙ m.watches;
             copies = works ∙ set-change (rebased time graph) old.works n ∙ ap (change_at n (rebased time graph)) m.copies ∙ (λ i. change_at n (rebased (times i) (graphs i)) h.copies);
           },
-          λ u x. a.finished.failed u refl,
         );
         moments = moments;
       }

@@ -1,7 +1,7 @@
 -- An entry is given the draft of its copy.
 use Rattle.std.proofs.Common.{arith, ◌≡◌, ◌⊎◌, inl, inr, refl, ap, sym, ◌∙◌, subst, ℕ, ◌+◌, ◌-◌, ◌^◌, ◌≤◌, List, [], ◌∷◌, Bool, true, false, not, IsTrue, Option, Some, option_map, option_and_then, unwrap_or, if◌then◌else◌, drop}
 use Rattle.std.specs.declared.alloc.AllocError.{AllocError}
-use Rattle.std.specs.Prelude.{IfOk, Result, Ok, Err, is_none, min}
+use Rattle.std.specs.Prelude.{IfOk, OnErr, Result, Ok, Err, is_none, min}
 use Rattle.newt_base.specs.Refusals.{first_of}
 use Rattle.newt_base.specs.declared.Refusal.TheVariants.{Changed, Copy as NoCopy, Entry as NoEntry, Full}
 use Rattle.newt_graph.specs.Graph.{RawGraph}
@@ -189,6 +189,7 @@ module _ {C : Type 0} {reads : List ℕ → Option Store} {place : C → ℕ} {s
         open_after = λ t. opens t result (b.ended.open_after t);
         threw = risen result b.ended.threw;
         failed = none-more result b.ended.failed;
+        unhidden = none-hidden result b.ended.unhidden;
         later = b-later;
         never_memory = λ none. absurd (both-ways (sym none));
         never_thrown = λ none. absurd (both-ways (sym none));
@@ -224,6 +225,10 @@ module _ {C : Type 0} {reads : List ℕ → Option Store} {place : C → ℕ} {s
         none-more (Ok it) k = λ x none. k x none ∙ a.finished.failed x refl
         none-more (Err e) k = tt
 
+        none-hidden : (r : Result Reply AllocError) → OnErr r ((x : ℕ) → q.dev_faults x ≡ p.dev_faults x) → OnErr r ((x : ℕ) → q.dev_faults x ≡ o.dev_faults x)
+        none-hidden (Ok it) k = tt
+        none-hidden (Err e) k = λ x. k x ∙ a.finished.failed x refl
+
         go : IsTrue told → (h : plain.Whole) → Always (Answering reads h.world (command.Get u s uid) h.world o.now) o.now p.now
             → Stepped {E = AllocError} WholeStep reads (command.Save n) result h (Means reads last q) p.now q.now p.dev_faults q.dev_faults
             → Stepped {E = AllocError} WholeStep reads (command.Save n) result h (Means reads last q) o.now q.now o.dev_faults q.dev_faults
@@ -235,11 +240,7 @@ module _ {C : Type 0} {reads : List ℕ → Option Store} {place : C → ℕ} {s
             later = λ x. let one = a.finished.later x in let two = k.threw.later x in omega (arith, one, two);
             rose = λ x is. rose-later (o.dev_faults x) (p.dev_faults x) (q.dev_faults x) (a.finished.later x) (k.threw.rose x is);
           };
-          answered = done result k.answered;
+          failed = λ x none. k.failed x none ∙ a.finished.failed x refl;
+          answered = k.answered;
           moments = in-turn reads h.world (command.Get u s uid) (command.Save n) k.next.world o.now p.now q.now (λ x. refl) first k.moments;
         }
-          where
-            done : (r : Result Reply AllocError) → IfOk r (λ it. (said it ≡ k.reply) × Means reads last q k.next × Failed k.reply p.dev_faults q.dev_faults)
-                → IfOk r (λ it. (said it ≡ k.reply) × Means reads last q k.next × Failed k.reply o.dev_faults q.dev_faults)
-            done (Ok it) (says, there, failed) = (says, there, λ x none. failed x none ∙ a.finished.failed x refl)
-            done (Err e) x = tt

@@ -168,7 +168,8 @@ module _ {C : Type 0} {reads : List ℕ → Option Store} {place : C → ℕ} {s
         reply = said it;
         steps = wholes.plain refl (save-full h n b.is.of b.is.there b.is.spot b.is.lives b.based no_room ∙ ap {B = plain.Whole × replies.Reply} (λ q. (h, q)) (sym says));
         threw = a.finished.threw;
-        answered = (refl, record { world = subst (means reads mid p) same there; watches = m.watches; copies = m.copies }, a.finished.failed);
+        failed = a.finished.failed;
+        answered = (refl, record { world = subst (means reads mid p) same there; watches = m.watches; copies = m.copies });
         moments = subst (λ (w : World). Always (Answering reads h.world (command.Save n) w o.now) o.now p.now) same moments;
       }
       go b v (inr (inl (room, done, says))) there moments = absurd (other says)
@@ -177,7 +178,8 @@ module _ {C : Type 0} {reads : List ℕ → Option Store} {place : C → ℕ} {s
         reply = said it;
         steps = subst (WholeStep h (command.Save n) (whole_thrown h (change_of b.is.of b.is.spot) x)) (sym says) (change-thrown n at draft a t h m b.formed b.is b.can b.drafted b.based x);
         threw = a.finished.threw;
-        answered = (refl, record { world = subst (means reads mid p) next there; watches = m.watches; copies = m.copies }, a.finished.failed);
+        failed = a.finished.failed;
+        answered = (refl, record { world = subst (means reads mid p) next there; watches = m.watches; copies = m.copies });
         moments = subst (λ (w : World). Always (Answering reads h.world (command.Save n) w o.now) o.now p.now) next moments;
       }
 
@@ -207,6 +209,7 @@ module _ {C : Type 0} {reads : List ℕ → Option Store} {place : C → ℕ} {s
             reply = replies.Reply.done;
             steps = wholes.plain refl (save-done h n b.is.of b.is.there b.is.spot b.is.lives b.based room);
             threw = record { later = a.finished.later; rose = λ u x. absurd (both-ways x) };
+            failed = λ u x. a.finished.failed u refl;
             answered = (
               refl,
               record {
@@ -216,7 +219,6 @@ module _ {C : Type 0} {reads : List ℕ → Option Store} {place : C → ℕ} {s
                 copies = works ∙ set-change (rebased mid.units.minute draft) old.works n ∙ ap (change_at n (rebased mid.units.minute draft)) m.copies
                     ∙ change-as (rebased mid.units.minute draft) (λ k. rebased h.world.minute k.draft k) h.copies n b.is.of b.is.there (λ i. rebased (minute i) (b.drafted i) b.is.of);
               },
-              λ u x. a.finished.failed u refl,
             );
             moments = subst (λ (w : World). Always (Answering reads h.world (command.Save n) w o.now) o.now p.now) done moments;
           }
@@ -239,6 +241,7 @@ module _ {C : Type 0} {reads : List ℕ → Option Store} {place : C → ℕ} {s
           open_after = a.finished.open_after;
           threw = a.finished.threw;
           failed = a.finished.failed;
+          unhidden = a.finished.unhidden;
           later = a.finished.later;
           never_memory = λ none. absurd (both-ways (sym none));
           never_thrown = λ none. absurd (both-ways (sym none));
@@ -280,6 +283,7 @@ module _ {C : Type 0} {reads : List ℕ → Option Store} {place : C → ℕ} {s
             reply = w.1;
             steps = wholes.plain refl refl;
             threw = record { later = a.finished.later; rose = λ u x. absurd (both-ways (sym (apart-quiet h (command.Save n) u refl) ∙ x)) };
+            failed = λ u x. a.finished.unhidden u;
             answered = tt;
             moments = as-other reads h.world w.0.world (change_of b.is.of b.is.spot) (command.Save n) o.now p.now (λ u. refl)
                 (subst (λ (v : World). Always (Answering reads h.world (change_of b.is.of b.is.spot) v o.now) o.now p.now) (saved-world h n at draft b)

@@ -85,8 +85,8 @@ module _ {C : Type 0} {reads : List ℕ → Option Store} {place : C → ℕ} {s
     pub read-memory : {new : Whole C} (error : AllocError) → ((w : World) → steps_unread w c ≡ false) → whole_takes_memory c ≡ true → whole_uses_device c ≡ true
         → (IsTrue told → (rest : List Command) × (asked_in_turn (known_whole reads old o) c ≡ command.Get u s uid ∷ rest))
         → (IsTrue told → (h : plain.Whole) → Means reads old o h → Always (Answering reads h.world (command.Get u s uid) h.world o.now) o.now p.now)
-        → Applied reads place stands told c old new o p (Err error)
-    read-memory {new} error unread memory device turn moments = record {
+        → ((x : ℕ) → p.dev_faults x ≡ o.dev_faults x) → Applied reads place stands told c old new o p (Err error)
+    read-memory {new} error unread memory device turn moments none = record {
       stands = tt;
       stepped = λ t h m.
           let w = whole_answer h c in record {
@@ -94,8 +94,9 @@ module _ {C : Type 0} {reads : List ℕ → Option Store} {place : C → ℕ} {s
             reply = w.1;
             steps = wholes.plain (ap (option_and_then (unsure_look h.world)) (apart-looks c apart)) refl;
             threw = record { later = a.finished.later; rose = λ x k. absurd (both-ways (sym (apart-quiet h c x apart) ∙ k)) };
+            failed = λ x k. none x;
             answered = tt;
             moments = Always-map (early reads h.world (command.Get u s uid) c w.0.world o.now o.now p.now (λ x. refl)) (moments t h m);
           };
-      ended = reading-ended u uid s unread memory device turn a.finished (λ t. tt) tt tt;
+      ended = reading-ended u uid s unread memory device turn a.finished (λ t. tt) tt tt none;
     }

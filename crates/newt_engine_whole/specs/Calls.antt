@@ -1,6 +1,6 @@
 -- What the whole promises of a command. All of it is this project's own.
 use Rattle.std.specs.Prelude.{◌≡◌, ◌≢◌, ℕ, ◌≤◌, Bool, true, false, IsTrue, List, Option, Result}
-use Rattle.std.specs.Prelude.{IfOk, IsOk, OnOk, drop}
+use Rattle.std.specs.Prelude.{IfOk, IsOk, OnErr, OnOk, drop}
 use Rattle.std.specs.declared.alloc.AllocError.{AllocError}
 use Rattle.newt_host.specs.Outside.{Outside, OnDevices}
 use Rattle.newt_laws_steps.specs.Thrown.{Failed, Threw}
@@ -37,8 +37,8 @@ module _ {C : Type 0} (reads : List ℕ → Option Store) where
   -- there than by it; one that opens, shows, moves or counts a cursor fetches no more than it does
   -- in the world. After a reply each bank is not closed or is as it was, but for a unit that was
   -- thrown out. No fault was counted but of a unit that the reply says was thrown out, and of that
-  -- one a fault was, also where the devices do not tell their bytes. Only what may take memory ends
-  -- in want of it, and only what uses a device throws a unit out.
+  -- one a fault was, also where the devices do not tell their bytes. Want of memory hides none, and
+  -- only what may take memory ends in it; and only what uses a device throws a unit out.
   pub record Ended (told : Bool) (command : Command) (asked : List Command) (old : Whole C)
       (before after : Outside) (result : Result Reply AllocError) : Type 0 where
     pub alone : OnDevices before after
@@ -53,6 +53,7 @@ module _ {C : Type 0} (reads : List ℕ → Option Store) where
         (λ it. (u : ℕ) → it ≢ reply.Thrown u → IsOpenOrSame u before.now after.now)
     pub threw : IfOk result (λ it. Threw (said it) before.dev_faults after.dev_faults)
     pub failed : IfOk result (λ it. Failed (said it) before.dev_faults after.dev_faults)
+    pub unhidden : OnErr result ((u : ℕ) → after.dev_faults u ≡ before.dev_faults u)
     pub later : (u : ℕ) → before.dev_faults u ≤ after.dev_faults u
     pub never_memory : whole_takes_memory command ≡ false → IsOk result
     pub never_thrown : whole_uses_device command ≡ false → IfOk result (λ it. IsNotThrown it)

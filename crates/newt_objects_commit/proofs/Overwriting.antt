@@ -86,7 +86,7 @@ module _ {B : Type 0} (place : B → ℕ) (numbers : B → Numbers) (spare : B �
           wears = λ tells ready. Wears-append 0 0 0 2 look.looks.wears (c.wears tells (ready-for ready));
           open_after = c.open_after;
           alone = Touches-append look.looks.alone c.alone;
-          cause = faults-since r unit unit before between after refl look.looks.alone c.cause;
+          cause = faults-since r unit unit before between after refl none c.cause;
           no_fault = λ goes. NoFault-append none (c.no_fault goes);
         }
 

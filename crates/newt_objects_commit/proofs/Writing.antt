@@ -77,7 +77,7 @@ module _ {B : Type 0} (place : B → ℕ) (numbers : B → Numbers) (shown : B �
     wears = λ tells ready. Wears-widen 0 0 0 2 (omega arith) (omega arith) (Wears-refl unit outside);
     open_after = λ tells. no-value r (Stop Memory) (λ x. IsOpenFor 0 (image unit outside.now)) fails;
     alone = Touches-refl unit outside;
-    cause = by-fault r (Stop Memory) (FaultsAt unit outside outside) fails tt;
+    cause = by-fault r (Stop Memory) (FaultsAt unit outside outside) fails (NoFault-refl outside);
     no_fault = λ goes. NoFault-refl outside;
   }
 

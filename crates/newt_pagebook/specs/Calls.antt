@@ -6,7 +6,7 @@ use Rattle.newt_host.specs.Outside.{Outside, Counted, NoFault, OnlyReads, Rose, 
 use Rattle.newt_spec_image.specs.Pages.{Change, cap as cap_of, pages}
 use Rattle.newt_spec_image.specs.Records.{bank_blocks, bank_start}
 use Rattle.newt_pagebook.specs.Book.{Numbers, Shown, HasPage, IsBeforeOrAfter, IsFormatted, IsLeftFrom, IsOpenFor, ReadsChanged, batch_bytes, changed_numbers, format_bytes, switch_bytes}
-use Rattle.newt_pagebook.specs.Stops.{IsOpening, StopsAt}
+use Rattle.newt_pagebook.specs.Stops.{BlamesNone, StopsAt}
 use Rattle.newt_pagebook.specs.declared.book.BookFault.{BookFault}
 use Rattle.newt_pagebook.specs.declared.book.BookFault.TheVariants.{NotStore, Device as BookDevice}
 use Rattle.newt_pagebook.specs.declared.book.CommitFault.{CommitFault}
@@ -37,7 +37,7 @@ module _ {B : Type 0} (place : B → ℕ) (standing : Bool → B → Outside →
     pub not_store : IsErrOf result NotStore → IsTrue told → pages (image unit before.now) ≡ None
     pub reads : OnlyReads unit before after
     pub cause : IsErrOf result BookDevice → Rose (before.dev_faults unit) (after.dev_faults unit)
-    pub no_fault : IsOpening result → NoFault before after
+    pub no_fault : BlamesNone result → NoFault before after
 
 module _ {B : Type 0} (place : B → ℕ) (numbers : B → Numbers) (shown : B → Shown) (spare : B → ℕ) (standing : Bool → B → Outside → Type 0) where
   -- A page is brought to hand; of the book nothing else is other than it was.

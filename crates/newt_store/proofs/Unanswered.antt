@@ -5,7 +5,7 @@ use Rattle.newt_pagebook.specs.declared.book.Stop.TheVariants.{Memory, Device}
 use Rattle.newt_store_change.specs.declared.fault.StoreFault.{StoreFault}
 use Rattle.newt_store_change.specs.declared.fault.StoreFault.TheVariants.{Refused, Stop}
 use Rattle.newt_store_change.specs.Faults.{FaultsAt}
-use Rattle.newt_host.specs.Outside.{Outside}
+use Rattle.newt_host.specs.Outside.{NoFault, Outside}
 use Rattle.newt_store.specs.Next.{IsNoDevice}
 use Rattle.newt_store_change.specs.Faults.{GoesOn, IsRefused}
 
@@ -58,9 +58,9 @@ memory-as {U = U} fault is = ap (λ (f : StoreFault). let r : Result U StoreFaul
 pub memory-none : {T : Type 0} {x : T} → IsErrOf {T = T} (Ok x) (Stop Memory) → ⊥
 memory-none same = cc
 
--- a fault that no device has needs no device that failed
-pub no-device : {T : Type 0} (r : Result T StoreFault) (unit : ℕ) (old new : Outside) → IfErr r IsNoDevice → IfErr r (FaultsAt unit old new)
-no-device (Ok x) unit old new none = tt
-no-device (Err (Refused refusal)) unit old new none = tt
-no-device (Err (Stop Memory)) unit old new none = tt
-no-device (Err (Stop (Device at))) unit old new none = absurd none
+-- a fault that no device has needs no device that failed, where none did
+pub no-device : {T : Type 0} (r : Result T StoreFault) (unit : ℕ) (old new : Outside) → NoFault old new → IfErr r IsNoDevice → IfErr r (FaultsAt unit old new)
+no-device (Ok x) unit old new same none = tt
+no-device (Err (Refused refusal)) unit old new same none = tt
+no-device (Err (Stop Memory)) unit old new same none = same
+no-device (Err (Stop (Device at))) unit old new same none = absurd none

@@ -8,7 +8,7 @@ use Rattle.newt_base.specs.declared.Refusal.{Refusal}
 use Rattle.newt_base.specs.declared.Refusal.TheVariants.{Full}
 use Rattle.newt_host.specs.Moments.{Moment, image, IsDurable, Leaves}
 use Rattle.newt_host.specs.Outside.{Outside, Spends}
-use Rattle.newt_host.proofs.Outside.{Spends-refl, Spends-widen, Touches-refl, Wears-refl}
+use Rattle.newt_host.proofs.Outside.{NoFault-refl, Spends-refl, Spends-widen, Touches-refl, Wears-refl}
 use Rattle.newt_spec_store.specs.Cost.{directory_bytes, pages_bytes}
 use Rattle.newt_soupdir.specs.Bare.{bare_store}
 use Rattle.newt_host.proofs.Moments.{Leaves-start, Leaves-weaken}
@@ -231,7 +231,7 @@ commits-memory place numbers standing told objects bytes fetches book outside r 
   wears = λ tells room. wears-nothing (place book) outside;
   open_after = λ tells. memory-on r _ memory;
   alone = Touches-refl (place book) outside;
-  cause = memory-err r (FaultsAt (place book) outside outside) memory tt;
+  cause = memory-err r (FaultsAt (place book) outside outside) memory (NoFault-refl outside);
   no_fault = λ goes. absurd (memory-stops r memory goes);
 }
 

@@ -7,7 +7,7 @@ use Rattle.newt_base.specs.declared.Refusal.TheVariants as refusals
 use Rattle.newt_graph.specs.Graph.{RawGraph}
 use Rattle.newt_host.specs.Moments.{Anything, Leaves, Moment, here}
 use Rattle.newt_host.specs.Outside.{Outside, NoFault, OnlyReads, Spends, Wears}
-use Rattle.newt_host.proofs.Outside.{NoFault-append, OnlyReads-refl, Spends-refl, Spends-widen, Touches-append, Touches-refl, Wears-append, Wears-refl, Wears-widen}
+use Rattle.newt_host.proofs.Outside.{NoFault-append, NoFault-refl, OnlyReads-refl, Spends-refl, Spends-widen, Touches-append, Touches-refl, Wears-append, Wears-refl, Wears-widen}
 use Rattle.newt_nsof_read.specs.Reading.{decoded}
 use Rattle.newt_nsof_read.specs.declared.fault.NsofFault.{NsofFault}
 use Rattle.newt_nsof_read.specs.declared.fault.NsofFault.TheVariants as faults
@@ -141,7 +141,7 @@ restores-made {T = T} {told = told} {unit = unit} {before = before} {mid = mid} 
 
     made-ends : OnlyReads unit before mid → NoFault before mid → (r : Result T Stop) → ReadEnds unit mid after r → ReadEnds unit before after r
     made-ends looks free (Ok x) ends = record { cause = tt; no_fault = NoFault-append free ends.no_fault }
-    made-ends looks free (Err stop) ends = record { cause = stops-on stop after refl looks ends.cause; no_fault = tt }
+    made-ends looks free (Err stop) ends = record { cause = stops-on stop after refl looks free ends.cause; no_fault = tt }
 
 -- it has got it
 pub refills-ok : {T : Type 0} {told : Bool} {unit : ℕ} {s : Store} {before after : Outside} (x : Unit {0}) (value : T) → FormatsUnit told unit s before after (Ok x) → Refills {T = T} told unit s before after (Ok value)
@@ -165,7 +165,7 @@ refills-none {T = T} {told = told} {unit = unit} {s = s} before (Err stop) fails
   costs = spends-none (format_bytes (cost s)) unit before;
   wears = wears-none (bank_blocks (before.blocks unit) + 3) 9 (Wears-refl unit before);
   alone = Touches-refl unit before;
-  ends = record { cause = tt; no_fault = tt };
+  ends = record { cause = NoFault-refl before; no_fault = tt };
 })
 
 -- ---- what is written then
@@ -205,10 +205,10 @@ pub ends-of : {U : Type 0} {unit : ℕ} {before after : Outside} (stop : Stop) (
 ends-of stop (Ok x) cause fails = absurd fails
 ends-of {unit = unit} {before = before} {after = after} stop (Err e) cause fails = record { cause = subst (λ (e : Stop). StopsAt unit before after e) (sym fails) cause; no_fault = tt }
 
--- memory ran out
-pub ends-memory : {U : Type 0} {unit : ℕ} {before after : Outside} (r : Result U Stop) → IsErrAnd r (λ e. e ≡ Memory) → ReadEnds {T = U} unit before after r
-ends-memory (Ok x) fails = absurd fails
-ends-memory {unit = unit} {before = before} {after = after} (Err e) fails = record { cause = subst (λ (e : Stop). StopsAt unit before after e) (sym fails) tt; no_fault = tt }
+-- memory ran out, where no fault was counted
+pub ends-memory : {U : Type 0} {unit : ℕ} {before after : Outside} (r : Result U Stop) → NoFault before after → IsErrAnd r (λ e. e ≡ Memory) → ReadEnds {T = U} unit before after r
+ends-memory (Ok x) none fails = absurd fails
+ends-memory {unit = unit} {before = before} {after = after} (Err e) none fails = record { cause = subst (λ (e : Stop). StopsAt unit before after e) (sym fails) none; no_fault = tt }
 
 -- what is written of a store that is made, if it is
 pub done-if : {T : Type 0} (unit : ℕ) (before after : Outside) (input : List ℕ) (s : Store) (view : T → List ℕ) (r : Result T Stop) → IsAsked (decoded input) (Ok s) → None ≡ refused_on s (device_on unit before)

@@ -3,7 +3,7 @@ use Rattle.std.proofs.Common.{◌≡◌, ◌≢◌, inl, ℕ, ◌<◌, List, [],
 use Rattle.newt_host.specs.Meanings.{since}
 use Rattle.newt_host.specs.Outside.{Outside, Rose}
 use Rattle.newt_script_session.specs.Calls.{Faults}
-use Rattle.newt_script_session.specs.Causes.{HasCause, HasSinkCause, NeverLess}
+use Rattle.newt_script_session.specs.Causes.{HasCause, HasSinkCause, NeverLess, NoStreamFault}
 use Rattle.newt_script_session.specs.Named.{CountedNamed}
 use Rattle.newt_script_session.specs.Script.{script_items}
 use Rattle.newt_script_session.proofs.Throwing.{threw_none}
@@ -51,17 +51,17 @@ module _ (mode : Mode) (old new : Outside) where
   pub ends_ok : HasRunThrough (Some mode) old new → NeverLess old new → RunEnds mode statuses.Ok old new
   ends_ok through later = ends_quiet statuses.Ok tt through (λ same. absurd (cc)) later
 
-  pub ends_halted : {T : Type 0} (halt : Halt) → Faults {T = T} HasCause (Err halt) old new → RunEnds mode (status_of halt) old new
-  ends_halted Memory f = ends_quiet statuses.Memory f.cause tt (λ same. absurd (cc)) f.later
-  ends_halted Source f = ends_quiet statuses.Source f.cause tt (λ same. absurd (cc)) f.later
-  ends_halted Sink f = ends_quiet statuses.Sink f.cause tt (λ same. absurd (cc)) f.later
-  ends_halted TooLong f = ends_quiet statuses.TooLong f.cause tt (λ same. absurd (cc)) f.later
+  pub ends_halted : {T : Type 0} (halt : Halt) → (NoStreamFault old new → HasRunThrough (Some mode) old new) → Faults {T = T} HasCause (Err halt) old new → RunEnds mode (status_of halt) old new
+  ends_halted Memory through f = ends_quiet statuses.Memory (through f.cause) tt (λ same. absurd (cc)) f.later
+  ends_halted Source through f = ends_quiet statuses.Source f.cause tt (λ same. absurd (cc)) f.later
+  ends_halted Sink through f = ends_quiet statuses.Sink f.cause tt (λ same. absurd (cc)) f.later
+  ends_halted TooLong through f = ends_quiet statuses.TooLong (through f.cause) tt (λ same. absurd (cc)) f.later
 
-  pub ends_counting : {T : Type 0} (halt : Halt) → Faults {T = T} HasSinkCause (Err halt) old new → RunEnds mode (status_of halt) old new
-  ends_counting Memory f = ends_quiet statuses.Memory f.cause tt (λ same. absurd (cc)) f.later
-  ends_counting Source f = absurd f.cause
-  ends_counting Sink f = ends_quiet statuses.Sink f.cause tt (λ same. absurd (cc)) f.later
-  ends_counting TooLong f = absurd f.cause
+  pub ends_counting : {T : Type 0} (halt : Halt) → (NoStreamFault old new → HasRunThrough (Some mode) old new) → Faults {T = T} HasSinkCause (Err halt) old new → RunEnds mode (status_of halt) old new
+  ends_counting Memory through f = ends_quiet statuses.Memory (through f.cause) tt (λ same. absurd (cc)) f.later
+  ends_counting Source through f = absurd f.cause
+  ends_counting Sink through f = ends_quiet statuses.Sink f.cause tt (λ same. absurd (cc)) f.later
+  ends_counting TooLong through f = absurd f.cause
 
 -- memory was refused before a device was attached
 pub counted_nothing : (script : List ℕ) (names : List (List ℕ)) (old : Outside) → ((unit : ℕ) → since old unit ≡ None) → CountedNamed {T = Unit {0}} WholeStep readable script (Err Memory) names old old
@@ -70,6 +70,6 @@ counted_nothing script names old never = record {
   out = tt;
   halted = inl refl;
   threw = threw_none old.dev_faults old.dev_faults (λ unit. refl);
-  failed = tt;
+  failed = λ unit none. refl;
   crash = λ unit t left out at some. let apart : None ≡ Some t = sym (never unit) ∙ at in absurd (cc);
 }

@@ -160,9 +160,9 @@ free-read old mid looked free looks = record { in_faults = looks.alone.in_faults
 pub none-attached : (told : Bool) (names : List (List ℕ)) (old mid : Outside) → AreAttached told names old mid → NoFault old mid
 none-attached told names old mid a = record { in_faults = a.in_faults; out_faults = a.out_faults; dev_faults = a.counts.dev_faults }
 
--- out of memory
-pub ends-memory : (reading : Reading) (old looked : Outside) → NoStreamFault old looked → RunEnds (Read reading) Memory old looked
-ends-memory reading old looked free = ends_quiet (Read reading) old looked Memory free tt (λ same. absurd (cc)) (never_of free)
+-- out of memory, where no fault was counted
+pub ends-memory : (reading : Reading) (old looked : Outside) → NoStreamFault old looked → NoFault old looked → RunEnds (Read reading) Memory old looked
+ends-memory reading old looked free none = ends_quiet (Read reading) old looked Memory none tt (λ same. absurd (cc)) (never_of free)
 
 -- the device failed
 pub ends-device : (reading : Reading) (old mid looked : Outside) → NoStreamFault old looked → mid.dev_faults 0 ≡ old.dev_faults 0 → Rose (mid.dev_faults 0) (looked.dev_faults 0) → RunEnds (Read reading) (Device 0) old looked
@@ -179,6 +179,7 @@ ends-put {T} {E} reading told (Good x) old looked new free none call =
     )
 ends-put {T} {E} reading told (Bad e) old looked new free none call = (
   λ fails. ends_halted (Read reading) old new {T = T} NoSink
+      (λ same. record { in_faults = same.in_faults; out_faults = same.out_faults; dev_faults = λ unit. call.devices.counts.dev_faults unit ∙ none.dev_faults unit })
       (faults_err (OutputFailed {E = E}) HasCause old looked new free {T = T} {U = T} (Bad NoSink) e NoSink refl (λ rose. omega (arith, rose, free.out_faults)) call.faults),
   λ works. absurd (cc),
 )

@@ -45,13 +45,23 @@ abbrev pub HasDeviceCause : Option Mode → ℕ → (old new : Outside) → Type
 HasDeviceCause mode unit old new =
     ReadsDevice mode × (unit ≡ 0) × Rose (old.dev_faults 0) (new.dev_faults 0)
 
--- a fault was counted where one is told, and none of the input or of the output where memory was
+-- no fault was counted that would have ended a run: where a device is read none, in the other modes
+-- none of the input or of the output
+abbrev pub HasRunThrough : Option Mode → (old new : Outside) → Type 0
+HasRunThrough None old new = NoStreamFault old new
+HasRunThrough (Some Run) old new = NoStreamFault old new
+HasRunThrough (Some (Convert conversion)) old new = NoStreamFault old new
+HasRunThrough (Some (Generate seed count)) old new = NoStreamFault old new
+HasRunThrough (Some (Read reading)) old new = NoFault old new
+HasRunThrough (Some Restore) old new = NoFault old new
+
+-- a fault was counted where one is told, and none that would have ended the run where memory was
 -- refused or the input is too long
 abbrev pub HasStatusCause : Option Mode → Status → (old new : Outside) → Type 0
 HasStatusCause mode Ok old new = Unit {0}
 HasStatusCause mode Usage old new = Unit {0}
-HasStatusCause mode Memory old new = NoStreamFault old new
-HasStatusCause mode TooLong old new = NoStreamFault old new
+HasStatusCause mode Memory old new = HasRunThrough mode old new
+HasStatusCause mode TooLong old new = HasRunThrough mode old new
 HasStatusCause mode (Device unit) old new = HasDeviceCause mode unit old new
 HasStatusCause mode Source old new = Rose old.in_faults new.in_faults
 HasStatusCause mode Sink old new = Rose old.out_faults new.out_faults
@@ -63,16 +73,6 @@ IsFaultless Source = ⊥
 IsFaultless Sink = ⊥
 IsFaultless status = Unit {0}
 
--- no fault was counted that would have ended a run: where a device is read none, in the other modes
--- none of the input or of the output
-abbrev pub HasRunThrough : Option Mode → (old new : Outside) → Type 0
-HasRunThrough None old new = NoStreamFault old new
-HasRunThrough (Some Run) old new = NoStreamFault old new
-HasRunThrough (Some (Convert conversion)) old new = NoStreamFault old new
-HasRunThrough (Some (Generate seed count)) old new = NoStreamFault old new
-HasRunThrough (Some (Read reading)) old new = NoFault old new
-HasRunThrough (Some Restore) old new = NoFault old new
-
 -- with Usage no fault was counted, and with Ok none that would have ended the run
 abbrev pub IsFaultFree : Option Mode → Status → (old new : Outside) → Type 0
 IsFaultFree mode Ok old new = HasRunThrough mode old new
@@ -80,9 +80,9 @@ IsFaultFree mode Usage old new = NoFault old new
 IsFaultFree mode status old new = Unit {0}
 
 -- What a run promises of faults. No count has fallen. A fault is told only where it was counted;
--- with Ok, Memory and TooLong none of a stream was counted, with Ok where a device is read none of a
--- device, and with Usage none at all; and where none of a stream was counted, nor one of the device
--- that is read, none is told.
+-- with Ok, Memory and TooLong none was that would have ended the run, of a stream, or where a device
+-- is read of a device, and with Usage none at all; and where none of a stream was counted, nor one of
+-- the device that is read, none is told.
 pub record StatusFaults (mode : Option Mode) (status : Status) (old new : Outside) : Type 0 where
   pub later : NeverLess old new
   pub cause : HasStatusCause mode status old new

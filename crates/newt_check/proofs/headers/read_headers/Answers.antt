@@ -84,13 +84,14 @@ returns-in_err-read_header-clause-reads g c =
     Reads-ended p.place p.numbers p.spare p.stands g.H.Host.told c.from_residual.result c.in_err-read_header.field-0.0 c.from_residual.ensures.1
     (Looks-append p.place p.numbers p.spare p.stands g.H.Host.told i.book e.reads.book)
     (stop_since (p.place c.args.book.now) (p.place c.loop-number.book) (outside c.args.host.now) (outside c.loop-number.host) (outside c.read_header.new.host) c.in_err-read_header.field-0.0
-    i.book.same_place i.book.looks.alone e.reads.cause)
+    i.book.same_place i.no_fault e.reads.cause)
 
 pub returns-in_err-push-clause-reads : goal.returns-in_err-push-clause-reads
 returns-in_err-push-clause-reads g c =
     let p = g.P.PageBook in
     Reads-ended p.place p.numbers p.spare p.stands g.H.Host.told c.from_residual-in_err-push.result Memory c.from_residual-in_err-push.ensures.1
-    (Looks-append p.place p.numbers p.spare p.stands g.H.Host.told c.loop-number.invariant.book c.read_header.ensures.reads.book) tt
+    (Looks-append p.place p.numbers p.spare p.stands g.H.Host.told c.loop-number.invariant.book c.read_header.ensures.reads.book)
+    (NoFault-append c.loop-number.invariant.no_fault c.in_ok-read_header.ensures.reads.no_fault)
 
 pub returns-clause-headers : goal.returns-clause-headers
 returns-clause-headers g c =

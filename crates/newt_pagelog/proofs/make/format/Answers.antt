@@ -1,6 +1,6 @@
-use Rattle.std.proofs.Common.{◌≡◌, ℕ, ◌*◌, ◌-◌, ◌<◌, ◌≤◌, List, [], length, replicate, Some, drop, refl, sym, ◌∙◌, ap, subst, arith, rules, ◌+◌}
+use Rattle.std.proofs.Common.{◌≡◌, ℕ, ◌*◌, ◌-◌, ◌<◌, ◌≤◌, List, [], length, replicate, Some, drop, refl, sym, ◌∙◌, ap, subst, arith, ◌+◌}
 use Rattle.newt_host.proofs.Moments.{Leaves-start, Leaves-weaken}
-use Rattle.newt_host.proofs.Outside.{Spends-refl, Spends-widen, Touches-no_fault, Touches-refl, Wears-refl, Wears-widen}
+use Rattle.newt_host.proofs.Outside.{NoFault-refl, Spends-refl, Spends-widen, Touches-no_fault, Touches-refl, Wears-refl, Wears-widen}
 use Rattle.newt_spec_image.specs.Records.{bank_blocks, bank_size, bank_start}
 use Rattle.newt_spec_image.specs.Pages.{Change, cap, change_in, written_change}
 use Rattle.newt_host.specs.Moments.{Moment}
@@ -9,7 +9,7 @@ use Rattle.newt_journal.specs.Pieces.{IsTornIn}
 use Rattle.newt_pagebook.specs.Batch.{IsBatch}
 use Rattle.newt_pagebook.specs.Book.{IsLeftFrom, format_bytes}
 use Rattle.newt_pagelog.proofs.Committing.{open-for}
-use Rattle.newt_pagelog.proofs.Failing.{no-ok, not-err}
+use Rattle.newt_pagelog.proofs.Failing.{memory-stops, no-ok, not-err}
 use Rattle.newt_pagelog.proofs.Spelling.{written-says, written-length}
 use Rattle.newt_pagelog.proofs.Changing.{cap-few, cap-fits}
 use Rattle.newt_pagelog.proofs.make.format.Goals as goal
@@ -27,7 +27,7 @@ returns-in_err-payload g c =
       costs = Spends-widen 0 0 (format_bytes (length c.args.batch.now.puts)) 0 (omega arith) (omega arith) (Spends-refl u a);
       wears = Wears-widen 0 0 (bank_blocks (a.blocks u) + 3) 9 (omega arith) (omega arith) (Wears-refl u a);
       alone = Touches-refl u a;
-      cause = search rules;
+      cause = memory-stops r u c.from_residual.ensures.1 (NoFault-refl a);
       no_fault = no-ok r _ failed;
     }
 

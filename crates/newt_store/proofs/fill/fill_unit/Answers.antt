@@ -2,7 +2,7 @@ use Rattle.std.proofs.Common.{◌≡◌, ℕ, List, refl, ◌∙◌, subst, arit
 use Rattle.newt_host.specs.Moments.{image, Anything}
 use Rattle.newt_host.proofs.Moments.{Leaves-start, Leaves-weaken}
 use Rattle.newt_host.specs.Outside.{Spends}
-use Rattle.newt_host.proofs.Outside.{Spends-widen, Spends-refl, Touches-refl}
+use Rattle.newt_host.proofs.Outside.{NoFault-refl, Spends-widen, Spends-refl, Touches-refl}
 use Rattle.newt_pagebook.specs.Book.{format_bytes}
 use Rattle.newt_objects.specs.Changing.{HoldsObjects}
 use Rattle.newt_spec_store.specs.Cost.{cost}
@@ -26,7 +26,7 @@ returns-in_err-batch g c = λ s is.
       costs = Spends-widen 0 0 (format_bytes (cost s)) 0 (omega arith) (omega arith) (Spends-refl c.args.unit o);
       wears = record { erased = omega arith; synced = omega arith };
       alone = Touches-refl c.args.unit o;
-      ends = read-memory c.from_residual.result c.from_residual.ensures.1;
+      ends = read-memory c.from_residual.result (NoFault-refl o) c.from_residual.ensures.1;
     }
 
 pub returns-in-Ok : goal.returns-in-Ok

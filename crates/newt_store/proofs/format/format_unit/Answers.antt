@@ -4,7 +4,7 @@ use Rattle.newt_host.specs.Moments.{image, Anything}
 use Rattle.newt_spec_image.specs.Pages.{Change}
 use Rattle.newt_host.proofs.Moments.{Leaves-start, Leaves-weaken}
 use Rattle.newt_host.specs.Outside.{Spends}
-use Rattle.newt_host.proofs.Outside.{Spends-refl, Spends-widen, Touches-refl}
+use Rattle.newt_host.proofs.Outside.{NoFault-refl, Spends-refl, Spends-widen, Touches-refl}
 use Rattle.newt_pagebook.specs.Book.{format_bytes}
 use Rattle.newt_objects.specs.Changing.{IsUnderWay, HoldsObjects}
 use Rattle.newt_spec_store.specs.Cost.{cost, directory_bytes}
@@ -28,7 +28,7 @@ returns-in_err-bytes g c =
       costs = Spends-widen 0 0 (format_bytes (cost (new_store c.args.name.now c.args.sig))) 0 (omega arith) (omega arith) (Spends-refl c.args.unit o);
       wears = record { erased = omega arith; synced = omega arith };
       alone = Touches-refl c.args.unit o;
-      ends = read-memory c.from_residual.result c.from_residual.ensures.1;
+      ends = read-memory c.from_residual.result (NoFault-refl o) c.from_residual.ensures.1;
     }
 
 pub returns-in_err-plan_put : goal.returns-in_err-plan_put
@@ -43,7 +43,7 @@ returns-in_err-plan_put g c =
       costs = Spends-widen 0 0 (format_bytes (cost (new_store c.args.name.now c.args.sig))) 0 (omega arith) (omega arith) (Spends-refl c.args.unit o);
       wears = record { erased = omega arith; synced = omega arith };
       alone = Touches-refl c.args.unit o;
-      ends = read-memory c.from_residual-in_err-plan_put.result c.from_residual-in_err-plan_put.ensures.1;
+      ends = read-memory c.from_residual-in_err-plan_put.result (NoFault-refl o) c.from_residual-in_err-plan_put.ensures.1;
     }
 
 pub returns-in-Ok : goal.returns-in-Ok

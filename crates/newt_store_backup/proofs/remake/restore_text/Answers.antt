@@ -7,12 +7,12 @@ use Rattle.newt_store_backup.proofs.remake.restore_text.Goals as goal
 
 pub returns-in_err-directory-clause-restores : goal.returns-in_err-directory-clause-restores
 returns-in_err-directory-clause-restores g c =
-    restores-looked c.args.input.items c.from_residual.result (OnlyReads-refl c.args.unit (g.H.Host.outside c.args.host.now)) (ends-memory c.from_residual.result c.from_residual.ensures.1)
+    restores-looked c.args.input.items c.from_residual.result (OnlyReads-refl c.args.unit (g.H.Host.outside c.args.host.now)) (ends-memory c.from_residual.result (NoFault-refl (g.H.Host.outside c.args.host.now)) c.from_residual.ensures.1)
 
 pub returns-in_err-refused_line-in-Err-clause-restores : goal.returns-in_err-refused_line-in-Err-clause-restores
 returns-in_err-refused_line-in-Err-clause-restores g c =
     restores-looked c.args.input.items c.from_residual-in_err-refused_line-in-Err.result (OnlyReads-refl c.args.unit (g.H.Host.outside c.args.host.now))
-    (ends-memory c.from_residual-in_err-refused_line-in-Err.result c.from_residual-in_err-refused_line-in-Err.ensures.1)
+    (ends-memory c.from_residual-in_err-refused_line-in-Err.result (NoFault-refl (g.H.Host.outside c.args.host.now)) c.from_residual-in_err-refused_line-in-Err.ensures.1)
 
 pub returns-in_ok-refused_line-in-Err-clause-done : goal.returns-in_ok-refused_line-in-Err-clause-done
 returns-in_ok-refused_line-in-Err-clause-done g c = λ told.

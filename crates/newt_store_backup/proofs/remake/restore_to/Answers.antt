@@ -9,7 +9,7 @@ returns-in_err-refusal-clause-restores g c = λ input asked.
 
 pub returns-in_err-refused_line-in-Some-clause-restores : goal.returns-in_err-refused_line-in-Some-clause-restores
 returns-in_err-refused_line-in-Some-clause-restores g c = λ input asked.
-    restores-looked input c.from_residual-in_err-refused_line-in-Some.result c.in_ok-refusal.ensures.looks (ends-memory c.from_residual-in_err-refused_line-in-Some.result c.from_residual-in_err-refused_line-in-Some.ensures.1)
+    restores-looked input c.from_residual-in_err-refused_line-in-Some.result c.in_ok-refusal.ensures.looks (ends-memory c.from_residual-in_err-refused_line-in-Some.result c.in_ok-refusal.ensures.ends.no_fault c.from_residual-in_err-refused_line-in-Some.ensures.1)
 
 pub returns-in_ok-refused_line-in-Some-clause-done : goal.returns-in_ok-refused_line-in-Some-clause-done
 returns-in_ok-refused_line-in-Some-clause-done g c = λ input asked told.

@@ -82,7 +82,7 @@ returns-then-settles g c =
           reached_within a.desk sees k.0 k.1 k.2 k.3 command c.requires.no_cursor v (said c.in-Ok.reply) reached (done.unrefused t moves) (done.answered t) (is t) c.requires.form means u)));
       step = λ t unread. absurd (unread_uses_cursor (stood_for reads a o) command c.requires.no_cursor unread);
       alone = OnDevices-append e.alone s.read.alone;
-      cause = cause-after _ _ e.alone s.ends.cause;
+      cause = cause-after _ _ (done.no_fault tt) s.ends.cause;
       broke = err-device-both (λ u. FailsAlone m p u × (c.settled.new.self.desk ≡ c.obey.new.self.desk)) (λ u. IsTrue told → in_reach reached (mounted_store v u) ≡ true)
           (λ u. Fails reads g.C.Card.place g.C.Card.stands told command a c.settled.new.self o p u ⊎ FailsHalfway reads g.C.Card.place g.C.Card.stands told command a c.settled.new.self o p u) c.settled.result
           (λ u f reaches. inl (settling-fails laws told c.requires.stands command c.requires.no_cursor c.requires.within moves c.obey.new.self c.settled.new.self m p (answer sees command).0 e.moments (λ t. done.unrefused t moves) row
