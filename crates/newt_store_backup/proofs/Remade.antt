@@ -24,7 +24,7 @@ use Rattle.newt_spec_store.specs.Valid.{fits}
 use Rattle.newt_store.specs.Calls.{FormatsUnit}
 use Rattle.newt_store_catalog.specs.Readable.{readable}
 use Rattle.newt_store_backup.specs.Remade.{IsAsked, IsDone, IsLeft, IsRemade, Refills, Restores, refused_on, remade, remade_text, unless_refused}
-use Rattle.newt_store_backup.specs.Written.{device_on}
+use Rattle.newt_host.specs.Meanings.{device_on}
 use Rattle.newt_store_catalog.specs.Reading.{ReadEnds}
 use Rattle.newt_store_catalog.proofs.Exits.{stops-on}
 

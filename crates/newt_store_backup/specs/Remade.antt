@@ -22,7 +22,7 @@ use Rattle.newt_spec_world.specs.Reply as replies
 use Rattle.newt_backup.specs.Backup.{IsKept, Unbacked, backup}
 use Rattle.newt_store_catalog.specs.Readable.{readable}
 use Rattle.newt_store_catalog.specs.Reading.{ReadEnds}
-use Rattle.newt_store_backup.specs.Written.{device_on}
+use Rattle.newt_host.specs.Meanings.{device_on}
 
 -- the store that a stream is the backup of, or why it is none
 abbrev pub IsAsked : Result RawGraph NsofFault → Result Store Refusal → Type 0

@@ -1,5 +1,6 @@
 //! A store restored to a unit from the stream of its backup, and the reply.
 ghost use Rattle.std.specs.Prelude.{◌≡◌, ◌≤◌, ℕ, List, IsTrue, IfOk, IfErr, Ok, Err, None, is_some};
+ghost use Rattle.newt_host.specs.Meanings.{device_on};
 ghost use Rattle.newt_host.specs.Moments.{IsDurable, image};
 ghost use Rattle.newt_host.specs.Outside.{OnlyReads};
 ghost use Rattle.newt_nsof_read.specs.Reading.{decoded};
@@ -8,7 +9,6 @@ ghost use Rattle.newt_store_catalog.specs.Reading.{ReadEnds};
 ghost use Rattle.newt_backup.specs.Contents.{AreKept, store_in};
 ghost use Rattle.newt_store_backup.specs.Remade.{IsAsked, IsDone, MayTake, Refills, Restores};
 ghost use Rattle.newt_store_backup.specs.Remade.{refused_on, remade_text};
-ghost use Rattle.newt_store_backup.specs.Written.{device_on};
 
 use crate::restore::{fits_on, restore_store};
 use newt_backup::{BackupFault, FullEntry, read_backup};

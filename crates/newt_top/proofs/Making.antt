@@ -3,7 +3,7 @@ use Rattle.std.proofs.Common.{◌≡◌, inl, inr, ℕ, zero, suc, ◌+◌, ◌-
 use Rattle.std.proofs.lemmas.Bool.{cases_lt}
 use Rattle.std.proofs.lemmas.List.{length-append}
 use Rattle.newt_base.specs.declared.Refusal.{Refusal}
-use Rattle.newt_host.specs.Meanings.{out_of}
+use Rattle.newt_host.specs.Meanings.{device_on, out_of}
 use Rattle.newt_host.specs.Moments.{Change, On, Printed, Took, IsHistory, LeftBy, MayLeave, Moment, Always, here, bytes_after, changes, moment_at, output}
 use Rattle.newt_host.specs.Outside.{Outside, PrintsSome, SameCounts, SameWork, Wears}
 use Rattle.newt_host.proofs.Extending.{extends-always, moment-stays}
@@ -23,7 +23,6 @@ use Rattle.newt_spec_image.specs.Records.{bank_blocks}
 use Rattle.newt_spec_store.specs.Cost.{cost}
 use Rattle.newt_spec_store.specs.Store.{Store}
 use Rattle.newt_store_backup.specs.Remade.{IsAsked, IsDone, IsLeft, IsRemade, Restores}
-use Rattle.newt_store_backup.specs.Written.{device_on}
 use Rattle.newt_store_backup.proofs.Remade.{one-outcome}
 use Rattle.newt_store_catalog.specs.Readable.{readable}
 use Rattle.newt_top.specs.Restoring.{CrashLeaves, IsMade, RanRestored, Replied, WritesOneDevice}
