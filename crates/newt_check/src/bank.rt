@@ -12,7 +12,6 @@ ghost use Rattle.newt_spec_check.specs.Damage.{leaves_bank};
 ghost use Rattle.newt_check.specs.Gates.{first_from, unformed_in};
 ghost use Rattle.newt_check.specs.Reports.{HasRecords, IsReport, IsUnformed};
 
-use crate::lies::lies;
 use crate::look::{read_byte, read_number, read_version, read_votes, start_of};
 use crate::report::Report;
 use newt_host::{BLOCK, Failed, Host, Unit};
@@ -20,6 +19,7 @@ use newt_journal::{Journal, JournalFault};
 use newt_pagebook::{BookFault, Stop};
 use newt_pagelog::replay_record;
 use newt_spec_check::Layer;
+use newt_store_catalog::lies;
 use std::alloc::Global;
 use std::collections::HashMap;
 

@@ -12,7 +12,6 @@ mod bank;
 mod entries;
 mod headers;
 mod larges;
-mod lies;
 mod look;
 mod parts;
 mod report;
