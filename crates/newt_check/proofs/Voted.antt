@@ -15,7 +15,6 @@ use Rattle.newt_journal.specs.Journal.{Holds, Stands, written, records_bytes}
 use Rattle.newt_journal.specs.Places.{first_place}
 use Rattle.newt_journal.specs.Scan.{between}
 use Rattle.newt_journal.specs.declared.bank.Bank.{Bank}
-use Rattle.newt_journal.specs.declared.bank.Bank.TheVariants.{First, Second}
 use Rattle.newt_journal.specs.declared.journal.Journal.{Journal}
 use Rattle.newt_journal.proofs.Steps.{bank-fits, holds-body, version-2}
 use Rattle.newt_spec_graph.proofs.Lists.{none-some}
@@ -135,12 +134,6 @@ module _ (image : List ℕ) (blocks : ℕ) (size : length image ≡ blocks * 409
         header_is = header-none version rest is-body;
         record_is = ap (first_gate leaves_bank) (gates-are version rest is-body) ∙ h;
       }
-
--- a bank by its number
-pub bank-of : (n : ℕ) → n ≤ 1 → (bank : Bank) × (bank_number bank ≡ n)
-bank-of zero h = (First, refl)
-bank-of (suc zero) h = (Second, refl)
-bank-of (suc (suc n)) h = absurd (omega (arith, h))
 
 -- ---- an image that has records
 

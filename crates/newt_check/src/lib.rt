@@ -12,7 +12,6 @@ mod bank;
 mod entries;
 mod headers;
 mod larges;
-mod look;
 mod parts;
 mod report;
 mod rows;
