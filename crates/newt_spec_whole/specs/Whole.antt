@@ -73,18 +73,14 @@ get_of s = command.Get s.unit s.soup.name s.entry.uid
 abbrev pub change_of : Copy → Spot → Command
 change_of k s = command.Change s.unit s.soup.name s.entry.uid k.draft
 
--- A save reads the entry, and changes it to the draft where it still is as the copy's base.
--- (this project's own)
-abbrev pub save_of : Copy → Spot → Command
-save_of k s = if is_based s.entry.time s.entry.graph k then change_of k s else get_of s
-
 -- what is asked of the entry that a copy is of; nothing where there is no such copy, or its entry is
 -- not there (a word of these definitions)
 abbrev pub of_living : Whole → ℕ → (Copy → Spot → Command) → Option Command
 of_living h n ask = option_and_then (λ k. option_map (ask k) (living h k)) (copy h n)
 
--- The command that a command asks of the world: one of watches and copies alone asks none, and all
--- others ask themselves. (this project's own)
+-- The command that a command asks of the world, where it is done: one of watches and copies alone
+-- asks none; `open` and `revert` ask to read the entry, `save` to change it to the draft; all others
+-- ask themselves. (this project's own)
 unfoldable pub asks : Whole → Command → Option Command
 asks h (command.Watch _ _) = None
 asks h (command.Notes _) = None
@@ -92,7 +88,7 @@ asks h (command.Unwatch _) = None
 asks h (command.Open u s uid) = Some (command.Get u s uid)
 asks h (command.Draft _) = None
 asks h (command.Edit _ _ _) = None
-asks h (command.Save n) = of_living h n save_of
+asks h (command.Save n) = of_living h n change_of
 asks h (command.Revert n) = of_living h n (λ k s. get_of s)
 asks h (command.Discard _) = None
 asks h c = Some c
