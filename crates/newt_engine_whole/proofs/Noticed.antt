@@ -22,12 +22,13 @@ use Rattle.newt_spec_world.specs.Reply as replies
 use Rattle.newt_spec_world.specs.World.{change_at}
 use Rattle.newt_spec_world.specs.declared.command.Command.{Command}
 use Rattle.newt_spec_world.specs.declared.command.Command.TheVariants as command
+use Rattle.newt_laws_whole.specs.Runs.{DraftsFit}
 use Rattle.newt_engine.specs.Calls.{IsNotThrown}
 use Rattle.newt_engine.specs.Standing.{means}
 use Rattle.newt_engine.specs.declared.world.World.{World as Engine}
 use Rattle.newt_engine_whole.specs.Calls.{AnsweredApart}
 use Rattle.newt_engine_whole.specs.Ends.{whole_takes_memory}
-use Rattle.newt_engine_whole.specs.Standing.{AreKept, DraftsFit, Means}
+use Rattle.newt_engine_whole.specs.Standing.{AreKept, Means}
 use Rattle.newt_engine_whole.specs.declared.whole.Whole.{Whole}
 use Rattle.newt_engine_whole.proofs.Keeping.{kept-at, kept-emptied, kept-free, kept-set}
 

@@ -2,14 +2,14 @@
 -- working copies. Notifications of changes are Newton's (Newton Programmer's Guide 2.0, soup change
 -- notification); that a watch is asked for its notes, and working copies, are this project's own.
 use Rattle.std.specs.Prelude.{ℕ, Bool, List, [], ◌∷◌, Option, Some, None, option_map}
-use Rattle.std.specs.Prelude.{option_and_then, unwrap_or, replicate, slice_get, is_none}
+use Rattle.std.specs.Prelude.{option_and_then, unwrap_or, replicate, is_none}
 use Rattle.std.specs.Prelude.{if◌then◌else◌}
 use Rattle.std.specs.List.{position}
-use Rattle.newt_notify.specs.Watch.{Watching}
-use Rattle.newt_work.specs.Work.{Copy, is_based}
+use Rattle.newt_notify.specs.Watch.{Watching, watch_at}
+use Rattle.newt_work.specs.Work.{Copy, copy_at, is_based}
 use Rattle.newt_spec_store.specs.Store.{Store}
 use Rattle.newt_spec_world.specs.World as worlds
-use Rattle.newt_spec_world.specs.World.{World, flat}
+use Rattle.newt_spec_world.specs.World.{World}
 use Rattle.newt_spec_world.specs.Alias.{Alias, Spot, resolved}
 use Rattle.newt_spec_world.specs.declared.command.Command.{Command}
 use Rattle.newt_spec_world.specs.declared.command.Command.TheVariants as command
@@ -40,7 +40,7 @@ IsBlankOn h u = worlds.IsBlankOn h.world u
 
 -- the watch of this number, if there is one (a word of these definitions)
 abbrev pub watch : Whole → ℕ → Option Watching
-watch h n = flat (slice_get h.watches n)
+watch h n = watch_at n h.watches
 
 -- the least number that no watch has (this project's own)
 abbrev pub free_watch : Whole → Option ℕ
@@ -48,7 +48,7 @@ free_watch h = position is_none h.watches
 
 -- the working copy of this number, if there is one (a word of these definitions)
 abbrev pub copy : Whole → ℕ → Option Copy
-copy h n = flat (slice_get h.copies n)
+copy h n = copy_at n h.copies
 
 -- the least number that no working copy has (this project's own)
 abbrev pub free_copy : Whole → Option ℕ
