@@ -20,7 +20,8 @@ pub struct Alias {
 pub enum Reply {
     /// It was done, and there is nothing to show.
     Done,
-    /// The id of an entry that was added, or the signature of a soup that was made.
+    /// The id of an entry that was added, the signature of a soup that was made, how many hits
+    /// there are, or the number of a cursor, a watch or a working copy.
     Number(u32),
     /// The unit and the id of an entry that was added to the default store.
     Added(Unit, Uid),
