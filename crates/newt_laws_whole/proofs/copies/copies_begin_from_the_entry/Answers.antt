@@ -1,5 +1,5 @@
 use Rattle.newt_laws_whole.proofs.Drafts.{begun-open, begun-save, begun-revert}
-use Rattle.newt_laws_whole.proofs.copies.begun.Goals as goal
+use Rattle.newt_laws_whole.proofs.copies.copies_begin_from_the_entry.Goals as goal
 
 pub returns-clause-opened : goal.returns-clause-opened
 returns-clause-opened c = begun-open
