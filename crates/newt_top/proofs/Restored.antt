@@ -18,7 +18,7 @@ use Rattle.newt_store_backup.specs.Remade.{IsRemade}
 use Rattle.newt_top.specs.Reading.{OnlyReadsDevices}
 use Rattle.newt_top.specs.Restoring.{CrashLeaves, RanRestored, RanRestoring, Replied, WroteRestored}
 use Rattle.newt_top.specs.Status.{status_of}
-use Rattle.newt_top.specs.Whole.{HasReadCause}
+use Rattle.newt_top.specs.Converting.{HasReadCause}
 use Rattle.newt_top.specs.declared.status.Status.{Status}
 use Rattle.newt_top.specs.declared.status.Status.TheVariants.{Ok, Usage, Memory, Device, Source, Sink, TooLong}
 

@@ -20,7 +20,8 @@ use Rattle.newt_script_session.specs.declared.halt.Halt.TheVariants.{Memory, Sou
 use Rattle.newt_top.specs.declared.status.Conversion.{Conversion}
 use Rattle.newt_top.specs.declared.status.Conversion.TheVariants.{Show, Pack}
 
--- the literal of the graph that an object stream spells, or the refusal of its reading; no reading is defined to want memory
+-- the literal of the graph that an object stream spells, or the refusal of its reading; no reading
+-- is defined to want memory
 abbrev pub shown : Result RawGraph NsofFault → List ℕ
 shown (Ok graph) = replies.reply_text (replies.Reply.literal_of graph)
 shown (Err nsof_faults.Malformed) = replies.reply_text (replies.Reply.refused refusals.Malformed)
@@ -39,13 +40,16 @@ converted Show input = shown (decoded input)
 converted Pack input = packed (literal_of input)
 
 -- what a run leaves that converts an input and is halted before
-abbrev pub HaltedWhole : Conversion → ℕ → Halt → (input old now : List ℕ) → Type 0
-HaltedWhole conversion limit Memory input old now = WroteSome (converted conversion input) old now
-HaltedWhole conversion limit Sink input old now = WroteSome (converted conversion input) old now
-HaltedWhole conversion limit Source input old now = now ≡ old
-HaltedWhole conversion limit TooLong input old now = (limit < length input) × (now ≡ old)
+abbrev pub HaltedConverting : Conversion → ℕ → Halt → (input old now : List ℕ) → Type 0
+HaltedConverting conversion limit Memory input old now =
+    WroteSome (converted conversion input) old now
+HaltedConverting conversion limit Sink input old now =
+    WroteSome (converted conversion input) old now
+HaltedConverting conversion limit Source input old now = now ≡ old
+HaltedConverting conversion limit TooLong input old now = (limit < length input) × (now ≡ old)
 
--- what may halt the reading of all the input: out of memory, too long an input, or the input where it has failed
+-- what may halt the reading of all the input: out of memory, too long an input, or the input where
+-- it has failed
 abbrev pub HasReadCause : Halt → (old new : Outside) → Type 0
 HasReadCause Memory old new = Unit {0}
 HasReadCause TooLong old new = Unit {0}
@@ -62,7 +66,9 @@ pub record ReadsAll {T : Type 0} (told : Bool) (limit : ℕ) (read : List ℕ) (
   pub too_long : IsTrue told → IfErr result (λ halt. halt ≡ TooLong → limit < length old.input)
   pub quiet : IsTrue told → out_of new ≡ out_of old
 
--- What every call of a conversion promises: no device is other than it was, and no fault is swallowed.
-pub record WholeCall {T : Type 0} (told : Bool) (Cause : Halt → (old new : Outside) → Type 0) (result : Result T Halt) (old new : Outside) : Type 0 where
+-- What every call that takes an input as a whole promises: no device is other than it was, and no
+-- fault is swallowed.
+pub record InputCall {T : Type 0} (told : Bool) (Cause : Halt → (old new : Outside) → Type 0)
+    (result : Result T Halt) (old new : Outside) : Type 0 where
   pub devices : SameDevices told old new
   pub faults : Faults Cause result old new

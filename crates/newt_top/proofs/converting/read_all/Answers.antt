@@ -2,8 +2,8 @@ use Rattle.std.proofs.Common.{◌≡◌, ◌++◌, ℕ, List, Err, length, take,
 use Rattle.std.proofs.lemmas.Grind.{common_steps}
 use Rattle.std.proofs.lemmas.Result.{err_from_is_err_and}
 use Rattle.newt_host.specs.Moments.{Moment, output}
-use Rattle.newt_top.proofs.Wholes.{reading-refl, reading_more, unread, whole_unread}
-use Rattle.newt_top.proofs.whole.read_all.Goals as goal
+use Rattle.newt_top.proofs.Converted.{reading-refl, reading_more, unread, input_unread}
+use Rattle.newt_top.proofs.converting.read_all.Goals as goal
 
 pub pieces-init : goal.pieces-init
 pieces-init g c =
@@ -40,4 +40,4 @@ returns-in_err-moved-clause-all g c =
 pub returns-in_err-moved-clause-call : goal.returns-in_err-moved-clause-call
 returns-in_err-moved-clause-call g c =
     let p = err_from_is_err_and c.from_residual.result c.from_residual.ensures.1 in
-    whole_unread _ c.in_err-moved.field-0.0 (p.1 ∙ ap Err p.2) c.pieces.invariant.reading c.in_err-moved.ensures.call
+    input_unread _ c.in_err-moved.field-0.0 (p.1 ∙ ap Err p.2) c.pieces.invariant.reading c.in_err-moved.ensures.call

@@ -8,7 +8,7 @@ use Rattle.newt_script_session.specs.Causes.{HasCause, HasSinkCause, NoStreamFau
 use Rattle.newt_script_session.specs.declared.halt.Halt.{Halt}
 use Rattle.newt_script_session.specs.declared.halt.Halt.TheVariants.{Memory, Source, Sink, TooLong}
 use Rattle.newt_script_session.proofs.Counting.{faults_end, faults_err, faults_none, faults_same, none-append, none-refl, same-refl, same-trans, sink_from}
-use Rattle.newt_top.specs.Whole.{HasReadCause, ReadsAll, WholeCall}
+use Rattle.newt_top.specs.Converting.{HasReadCause, ReadsAll, InputCall}
 
 -- So far no device is other than it was, and no fault of a stream was counted.
 pub record Reading (told : Bool) (old now : Outside) : Type 0 where
@@ -21,12 +21,12 @@ reading-refl told a = record { devices = same-refl told a; no_fault = none-refl 
 pub reading_more : {told : Bool} {T : Type 0} {x : T} {a b c : Outside} → Reading told a b → ReadCall told (Ok x) b c → Reading told a c
 reading_more r w = record { devices = same-trans r.devices w.devices; no_fault = none-append r.no_fault w.faults.no_fault }
 
-pub whole_ok : {told : Bool} {T : Type 0} {x : T} {Cause : Halt → (old new : Outside) → Type 0} {a b : Outside} → Reading told a b → WholeCall told Cause (Ok x) a b
-whole_ok {x = x} {Cause = Cause} {a = a} {b = b} r = record { devices = r.devices; faults = faults_none Cause x a b r.no_fault }
+pub input_ok : {told : Bool} {T : Type 0} {x : T} {Cause : Halt → (old new : Outside) → Type 0} {a b : Outside} → Reading told a b → InputCall told Cause (Ok x) a b
+input_ok {x = x} {Cause = Cause} {a = a} {b = b} r = record { devices = r.devices; faults = faults_none Cause x a b r.no_fault }
 
 -- it ended where no fault was counted
-pub whole_end : {told : Bool} {T : Type 0} (halt : Halt) {a b : Outside} → HasReadCause halt a b → Reading told a b → WholeCall {T = T} told HasReadCause (Err halt) a b
-whole_end halt {a} {b} cause r = record { devices = r.devices; faults = faults_end HasReadCause halt a b r.no_fault cause }
+pub input_end : {told : Bool} {T : Type 0} (halt : Halt) {a b : Outside} → HasReadCause halt a b → Reading told a b → InputCall {T = T} told HasReadCause (Err halt) a b
+input_end halt {a} {b} cause r = record { devices = r.devices; faults = faults_end HasReadCause halt a b r.no_fault cause }
 
 -- not all of it was read
 pub unread : {told : Bool} {T : Type 0} {limit : ℕ} {read : List ℕ} (result : Result T Halt) (halt : Halt) {a b : Outside} → result ≡ Err halt
@@ -37,9 +37,9 @@ unread {told} {T} {limit} {read} result halt {a} {b} is long quiet = subst (λ (
 read_failed : (halt : Halt) (a b c : Outside) → NoStreamFault a b → ReadFailed halt b c → HasReadCause halt a c
 read_failed halt a b c none cause = subst (λ (h : Halt). HasReadCause h a c) (sym cause.0) (omega (arith, cause.1, none.in_faults))
 
-pub whole_unread : {told : Bool} {T U : Type 0} (result : Result T Halt) (halt : Halt) {a b c : Outside} → result ≡ Err halt → Reading told a b
-    → ReadCall {T = U} told (Err halt) b c → WholeCall told HasReadCause result a c
-whole_unread {T = T} {U = U} result halt {a} {b} {c} is r w = record {
+pub input_unread : {told : Bool} {T U : Type 0} (result : Result T Halt) (halt : Halt) {a b c : Outside} → result ≡ Err halt → Reading told a b
+    → ReadCall {T = U} told (Err halt) b c → InputCall told HasReadCause result a c
+input_unread {T = T} {U = U} result halt {a} {b} {c} is r w = record {
   devices = same-trans r.devices w.devices;
   faults = faults_err ReadFailed HasReadCause a b c r.no_fault {T = T} {U = U} result halt halt is (λ cause. read_failed halt a b c r.no_fault cause) w.faults;
 }
@@ -51,9 +51,9 @@ read_cause Source a b cause = cause
 read_cause Sink a b cause = absurd cause
 
 -- the run ends with it
-pub whole_ends : {told : Bool} {T U : Type 0} (result : Result T Halt) (halt : Halt) {a b : Outside} → result ≡ Err halt
-    → WholeCall {T = U} told HasReadCause (Err halt) a b → WholeCall told HasCause result a b
-whole_ends {T = T} {U = U} result halt {a} {b} is w = record {
+pub input_ends : {told : Bool} {T U : Type 0} (result : Result T Halt) (halt : Halt) {a b : Outside} → result ≡ Err halt
+    → InputCall {T = U} told HasReadCause (Err halt) a b → InputCall told HasCause result a b
+input_ends {T = T} {U = U} result halt {a} {b} is w = record {
   devices = w.devices;
   faults = faults_err HasReadCause HasCause a a b (none-refl a) {T = T} {U = U} result halt halt is (λ cause. read_cause halt a b cause) w.faults;
 }
@@ -65,8 +65,8 @@ sink_cause Source a b cause = absurd cause
 sink_cause TooLong a b cause = tt
 
 -- and then the text was put out
-pub whole_put : {told : Bool} {T U : Type 0} {x : U} {result : Result T Halt} {a b c : Outside} → WholeCall told HasReadCause (Ok x) a b → WriteCall told HasSinkCause result b c → WholeCall told HasCause result a c
-whole_put {result = result} {a} {b} {c} r w = record {
+pub input_put : {told : Bool} {T U : Type 0} {x : U} {result : Result T Halt} {a b c : Outside} → InputCall told HasReadCause (Ok x) a b → WriteCall told HasSinkCause result b c → InputCall told HasCause result a c
+input_put {result = result} {a} {b} {c} r w = record {
   devices = same-trans r.devices w.devices;
   faults = faults_same HasSinkCause HasCause a b c result r.faults.no_fault (λ halt cause. sink_cause halt a c (sink_from halt a b c r.faults.no_fault cause)) w.faults;
 }
