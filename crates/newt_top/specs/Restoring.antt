@@ -12,7 +12,7 @@ use Rattle.newt_script_session.specs.Stream.{WroteSome}
 use Rattle.newt_spec_image.specs.Records.{bank_blocks}
 use Rattle.newt_spec_store.specs.Cost.{cost}
 use Rattle.newt_spec_store.specs.Store.{Store}
-use Rattle.newt_store_backup.specs.Remade.{IsAsked, IsRemade, remade_text}
+use Rattle.newt_store_backup.specs.Restored.{IsAsked, IsRestored, restored_text}
 use Rattle.newt_store_catalog.specs.Readable.{readable}
 use Rattle.newt_top.specs.Reading.{OnlyReadsDevices}
 use Rattle.newt_top.specs.declared.status.Status.{Status}
@@ -28,8 +28,8 @@ IsMade (Refused refusal) new = Unit {0}
 pub record Replied (names : List (List ℕ)) (input : List ℕ) (IsWritten : List ℕ → Type 0)
     (old new : Outside) : Type 0 where
   pub outcome : Result Store Refusal
-  pub is_outcome : IsRemade input (held_by names old 0) outcome
-  pub written : IsWritten (remade_text outcome)
+  pub is_outcome : IsRestored input (held_by names old 0) outcome
+  pub written : IsWritten (restored_text outcome)
   pub made : IsMade outcome new
 
 -- what was written, by the status: with Ok all of the reply, where the output failed a first part,
@@ -59,7 +59,7 @@ CrashLeaves (Refused refusal) names old new = OnlyReadsDevices old new × IsAsHe
 pub record RanRestored (names : List (List ℕ)) (input : List ℕ) (status : Status)
     (old new : Outside) : Type 0 where
   pub wrote : WroteRestored status names input old new
-  pub crash : (outcome : Result Store Refusal) → IsRemade input (held_by names old 0) outcome → CrashLeaves outcome names old new
+  pub crash : (outcome : Result Store Refusal) → IsRestored input (held_by names old 0) outcome → CrashLeaves outcome names old new
   pub no_memory : status ≡ Memory → IsAsHeld names old new
   pub once : (s : Store) → IsAsked (decoded input) (Made s) →
       new.programmed 0 ≤ old.programmed 0 + format_bytes (cost s)

@@ -47,21 +47,21 @@ unless_refused s None = Ok s
 unless_refused s (Some refusal) = Err refusal
 
 -- the store that a device gets, or why it gets none
-abbrev pub remade : Result Store Refusal → Option (List ℕ) → Result Store Refusal
-remade (Err refusal) device = Err refusal
-remade (Ok s) device = unless_refused s (refused_on s device)
+abbrev pub restored : Result Store Refusal → Option (List ℕ) → Result Store Refusal
+restored (Err refusal) device = Err refusal
+restored (Ok s) device = unless_refused s (refused_on s device)
 
 -- the store that a device of this image, or none, gets of an input, or why it gets none
-pub record IsRemade (input : List ℕ) (device : Option (List ℕ))
+pub record IsRestored (input : List ℕ) (device : Option (List ℕ))
     (outcome : Result Store Refusal) : Type 0 where
   pub asked : Result Store Refusal
   pub is_asked : IsAsked (decoded input) asked
-  pub is : outcome ≡ remade asked device
+  pub is : outcome ≡ restored asked device
 
 -- what is written then: the signature and the name of the store, or the refusal
-abbrev pub remade_text : Result Store Refusal → List ℕ
-remade_text (Ok s) = replies.reply_text (replies.Reply.store s.sig s.name)
-remade_text (Err refusal) = replies.reply_text (replies.Reply.refused refusal)
+abbrev pub restored_text : Result Store Refusal → List ℕ
+restored_text (Ok s) = replies.reply_text (replies.Reply.store s.sig s.name)
+restored_text (Err refusal) = replies.reply_text (replies.Reply.refused refusal)
 
 -- what is left on the unit then: the store, and nothing is pending; or what was there
 abbrev pub IsLeft : Result Store Refusal → ℕ → (before after : Outside) → Type 0
@@ -73,8 +73,8 @@ IsLeft (Err refusal) unit before after = OnlyReads unit before after
 pub record IsDone (input : List ℕ) (unit : ℕ) (before after : Outside)
     (text : List ℕ) : Type 0 where
   pub outcome : Result Store Refusal
-  pub is_remade : IsRemade input (device_on unit before) outcome
-  pub text_is : text ≡ remade_text outcome
+  pub is_restored : IsRestored input (device_on unit before) outcome
+  pub text_is : text ≡ restored_text outcome
   pub left : IsLeft outcome unit before after
 
 -- What a restoring of an input to a unit promises. Where it is refused, nothing happens to the
@@ -83,7 +83,7 @@ pub record IsDone (input : List ℕ) (unit : ℕ) (before after : Outside)
 pub record Restores {T : Type 0} (told : Bool) (unit : ℕ) (input : List ℕ) (before after : Outside)
     (result : Result T Stop) : Type 0 where
   pub refused : IsTrue told → (outcome : Result Store Refusal)
-      → IsRemade input (device_on unit before) outcome → IsErr outcome → OnlyReads unit before after
+      → IsRestored input (device_on unit before) outcome → IsErr outcome → OnlyReads unit before after
   pub unchanged : IsErrOf result Memory → after.now ≡ before.now
   pub any_moment : IsTrue told → Leaves unit Anything before.now after.now
   -- each page of the store that is asked for is written once at most
@@ -95,7 +95,7 @@ pub record Restores {T : Type 0} (told : Bool) (unit : ℕ) (input : List ℕ) (
   pub ends : ReadEnds unit before after result
 
 -- The same where this store is not refused: it is left on the unit.
-pub record Refills {T : Type 0} (told : Bool) (unit : ℕ) (s : Store) (before after : Outside)
+pub record RestoresStore {T : Type 0} (told : Bool) (unit : ℕ) (s : Store) (before after : Outside)
     (result : Result T Stop) : Type 0 where
   pub left : IsTrue told → OnOk result (IsLeft (Ok s) unit before after)
   pub unchanged : IsErrOf result Memory → after.now ≡ before.now

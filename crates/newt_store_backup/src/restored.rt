@@ -7,8 +7,8 @@ ghost use Rattle.newt_nsof_read.specs.Reading.{decoded};
 ghost use Rattle.newt_store_catalog.specs.Readable.{readable};
 ghost use Rattle.newt_store_catalog.specs.Reading.{ReadEnds};
 ghost use Rattle.newt_backup.specs.Contents.{AreKept, store_in};
-ghost use Rattle.newt_store_backup.specs.Remade.{IsAsked, IsDone, MayTake, Refills, Restores};
-ghost use Rattle.newt_store_backup.specs.Remade.{refused_on, remade_text};
+ghost use Rattle.newt_store_backup.specs.Restored.{IsAsked, IsDone, MayTake, RestoresStore};
+ghost use Rattle.newt_store_backup.specs.Restored.{Restores, refused_on, restored_text};
 
 use crate::restore::{fits_on, restore_store};
 use newt_backup::{BackupFault, FullEntry, read_backup};
@@ -114,7 +114,7 @@ fn refusal_on<P: PageBook, H: Host>(
 
 /// The line of a refusal.
 fn refused_line(alloc: Global, refusal: Refusal) -> Result<Vec<u8>, AllocError>
-    ensures { IfOk result (λ text. text.items ≡ remade_text (Err refusal)) }
+    ensures { IfOk result (λ text. text.items ≡ restored_text (Err refusal)) }
 {
     write_reply(alloc, &Reply::Refused(refusal))
 }
@@ -126,7 +126,7 @@ fn restored_line(
     entries: &[FullEntry],
 ) -> Result<Vec<u8>, AllocError>
     ensures { IfOk result (λ text. text.items
-        ≡ remade_text (Ok (store_in directory.now entries.now))) }
+        ≡ restored_text (Ok (store_in directory.now entries.now))) }
 {
     let name = directory.name.copy()?;
     write_reply(alloc, &Reply::Store(directory.sig, name))
@@ -145,8 +145,8 @@ fn restore_here<P: PageBook, H: Host>(
     requires may { MayTake ((H.outside host.old).blocks unit)
         (store_in directory.now entries.now) }
     ensures text { IfOk result (λ text. text.items
-        ≡ remade_text (Ok (store_in directory.now entries.now))) }
-    ensures refills { Refills H.told unit (store_in directory.now entries.now)
+        ≡ restored_text (Ok (store_in directory.now entries.now))) }
+    ensures restores { RestoresStore H.told unit (store_in directory.now entries.now)
         (H.outside host.old) (H.outside host.new) result }
 {
     let text = restored_line(alloc, directory, entries)?;

@@ -2,9 +2,9 @@ use Rattle.std.proofs.Common.{rules, ◌≡◌, sym, ◌∙◌, ap, ℕ, true, f
 use Rattle.newt_host.specs.Moments.{image}
 use Rattle.newt_backup.specs.Contents.{store_in}
 use Rattle.newt_spec_store.specs.Valid.{fits}
-use Rattle.newt_store_backup.specs.Remade.{refused_on}
-use Rattle.newt_store_backup.proofs.Remade.{device-there, full-refused, none-refused}
-use Rattle.newt_store_backup.proofs.remake.refusal_on.Goals as goal
+use Rattle.newt_store_backup.specs.Restored.{refused_on}
+use Rattle.newt_store_backup.proofs.Outcomes.{device-there, full-refused, none-refused}
+use Rattle.newt_store_backup.proofs.restored.refusal_on.Goals as goal
 
 pub returns-then-not-branch-clause-refusal : goal.returns-then-not-branch-clause-refusal
 returns-then-not-branch-clause-refusal g c = λ told.

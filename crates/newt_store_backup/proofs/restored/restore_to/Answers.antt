@@ -1,7 +1,7 @@
 use Rattle.std.proofs.Common.{rules, ◌≡◌, None, Some, sym, ◌∙◌, ap, List, ℕ}
 use Rattle.newt_backup.specs.Contents.{store_in}
-use Rattle.newt_store_backup.proofs.Remade.{done-refused, done-if, restores-looked, restores-made, ends-memory, ends-of}
-use Rattle.newt_store_backup.proofs.remake.restore_to.Goals as goal
+use Rattle.newt_store_backup.proofs.Outcomes.{done-refused, done-if, restores-looked, restores-made, ends-memory, ends-of}
+use Rattle.newt_store_backup.proofs.restored.restore_to.Goals as goal
 
 pub returns-in_err-refusal-clause-restores : goal.returns-in_err-refusal-clause-restores
 returns-in_err-refusal-clause-restores g c = λ input asked.
@@ -24,9 +24,9 @@ pub returns-in-None-clause-done : goal.returns-in-None-clause-done
 returns-in-None-clause-done g c = λ input asked told.
     let o = g.H.Host.outside in
     done-if c.args.unit (o c.args.host.now) (o c.restore_here.new.host) input (store_in c.args.directory.now c.args.entries.now) (λ text. text.items) c.restore_here.result asked
-    (sym c.in-None.is ∙ c.in_ok-refusal.ensures.refusal told) c.restore_here.ensures.text (c.restore_here.ensures.refills.left told)
+    (sym c.in-None.is ∙ c.in_ok-refusal.ensures.refusal told) c.restore_here.ensures.text (c.restore_here.ensures.restores.left told)
 
 pub returns-in-None-clause-restores : goal.returns-in-None-clause-restores
 returns-in-None-clause-restores g c = λ input asked.
     restores-made input (store_in c.args.directory.now c.args.entries.now) c.restore_here.result c.in_ok-refusal.ensures.looks c.in_ok-refusal.ensures.ends.no_fault asked
-    (λ told. sym c.in-None.is ∙ c.in_ok-refusal.ensures.refusal told) c.restore_here.ensures.refills
+    (λ told. sym c.in-None.is ∙ c.in_ok-refusal.ensures.refusal told) c.restore_here.ensures.restores

@@ -23,7 +23,7 @@ use Rattle.newt_spec_store.specs.Store.{Store}
 use Rattle.newt_spec_store.specs.Valid.{fits}
 use Rattle.newt_store.specs.Calls.{FormatsUnit}
 use Rattle.newt_store_catalog.specs.Readable.{readable}
-use Rattle.newt_store_backup.specs.Remade.{IsAsked, IsDone, IsLeft, IsRemade, Refills, Restores, refused_on, remade, remade_text, unless_refused}
+use Rattle.newt_store_backup.specs.Restored.{IsAsked, IsDone, IsLeft, IsRestored, RestoresStore, Restores, refused_on, restored, restored_text, unless_refused}
 use Rattle.newt_host.specs.Meanings.{device_on}
 use Rattle.newt_store_catalog.specs.Reading.{ReadEnds}
 use Rattle.newt_store_catalog.proofs.Exits.{stops-on}
@@ -78,14 +78,14 @@ stores-one (Err faults.Compressed) s t one other = absurd (cc)
 stores-one (Err faults.Memory) s t one other = absurd one
 
 -- an input and a device have one outcome
-pub one-outcome : (input : List ℕ) (device : Option (List ℕ)) (one other : Result Store Refusal) → IsRemade input device one → IsRemade input device other → other ≡ one
+pub one-outcome : (input : List ℕ) (device : Option (List ℕ)) (one other : Result Store Refusal) → IsRestored input device one → IsRestored input device other → other ≡ one
 one-outcome input device one other first second =
-    second.is ∙ ap (λ (a : Result Store Refusal). remade a device) (asked-one (decoded input) first.asked second.asked first.is_asked second.is_asked) ∙ sym first.is
+    second.is ∙ ap (λ (a : Result Store Refusal). restored a device) (asked-one (decoded input) first.asked second.asked first.is_asked second.is_asked) ∙ sym first.is
 
 -- a store that is not refused is what a device gets
-pub remade-one : (input : List ℕ) (s : Store) (device : Option (List ℕ)) (outcome : Result Store Refusal) → IsAsked (decoded input) (Ok s) → None ≡ refused_on s device → IsRemade input device outcome → outcome ≡ Ok s
-remade-one input s device outcome asked none is =
-    is.is ∙ ap (λ (a : Result Store Refusal). remade a device) (asked-one (decoded input) (Ok s) is.asked asked is.is_asked) ∙ ap (unless_refused s) (sym none)
+pub restored-one : (input : List ℕ) (s : Store) (device : Option (List ℕ)) (outcome : Result Store Refusal) → IsAsked (decoded input) (Ok s) → None ≡ refused_on s device → IsRestored input device outcome → outcome ≡ Ok s
+restored-one input s device outcome asked none is =
+    is.is ∙ ap (λ (a : Result Store Refusal). restored a device) (asked-one (decoded input) (Ok s) is.asked asked is.is_asked) ∙ ap (unless_refused s) (sym none)
 
 -- ---- a unit that is only read
 
@@ -122,9 +122,9 @@ no-refusal s err = absurd (cc)
 
 -- it is not refused, so nothing is claimed of refusals
 pub restores-made : {T : Type 0} {told : Bool} {unit : ℕ} {before mid after : Outside} (input : List ℕ) (s : Store) (r : Result T Stop) → OnlyReads unit before mid → NoFault before mid
-    → IsAsked (decoded input) (Ok s) → (IsTrue told → None ≡ refused_on s (device_on unit before)) → Refills {T = T} told unit s mid after r → Restores {T = T} told unit input before after r
+    → IsAsked (decoded input) (Ok s) → (IsTrue told → None ≡ refused_on s (device_on unit before)) → RestoresStore {T = T} told unit s mid after r → Restores {T = T} told unit input before after r
 restores-made {T = T} {told = told} {unit = unit} {before = before} {mid = mid} {after = after} input s r looks free asked none f = record {
-  refused = λ tells outcome is err. no-refusal s (subst (λ (o : Result Store Refusal). IsErr o) (remade-one input s (device_on unit before) outcome asked (none tells) is) err);
+  refused = λ tells outcome is err. no-refusal s (subst (λ (o : Result Store Refusal). IsErr o) (restored-one input s (device_on unit before) outcome asked (none tells) is) err);
   unchanged = λ same. f.unchanged same ∙ looks.moment;
   any_moment = λ tells. subst (λ (now : Moment). Leaves unit Anything now after.now) looks.moment (f.any_moment tells);
   once = λ t other.
@@ -144,8 +144,8 @@ restores-made {T = T} {told = told} {unit = unit} {before = before} {mid = mid} 
     made-ends looks free (Err stop) ends = record { cause = stops-on stop after refl looks ends.cause; no_fault = tt }
 
 -- it has got it
-pub refills-ok : {T : Type 0} {told : Bool} {unit : ℕ} {s : Store} {before after : Outside} (x : Unit {0}) (value : T) → FormatsUnit told unit s before after (Ok x) → Refills {T = T} told unit s before after (Ok value)
-refills-ok x value f = record {
+pub restores-ok : {T : Type 0} {told : Bool} {unit : ℕ} {s : Store} {before after : Outside} (x : Unit {0}) (value : T) → FormatsUnit told unit s before after (Ok x) → RestoresStore {T = T} told unit s before after (Ok value)
+restores-ok x value f = record {
   left = λ tells. (f.formatted tells, f.durable tells);
   unchanged = λ same. absurd (cc);
   any_moment = f.any_moment;
@@ -156,9 +156,9 @@ refills-ok x value f = record {
 }
 
 -- memory ran out before anything happened
-pub refills-none : {T : Type 0} {told : Bool} {unit : ℕ} {s : Store} (before : Outside) (r : Result T Stop) → IsErrAnd r (λ stop. stop ≡ Memory) → Refills {T = T} told unit s before before r
-refills-none before (Ok x) fails = absurd fails
-refills-none {T = T} {told = told} {unit = unit} {s = s} before (Err stop) fails = subst (λ (e : Stop). Refills {T = T} told unit s before before (Err e)) (sym fails) (record {
+pub restores-none : {T : Type 0} {told : Bool} {unit : ℕ} {s : Store} (before : Outside) (r : Result T Stop) → IsErrAnd r (λ stop. stop ≡ Memory) → RestoresStore {T = T} told unit s before before r
+restores-none before (Ok x) fails = absurd fails
+restores-none {T = T} {told = told} {unit = unit} {s = s} before (Err stop) fails = subst (λ (e : Stop). RestoresStore {T = T} told unit s before before (Err e)) (sym fails) (record {
   left = λ tells. tt;
   unchanged = λ same. refl;
   any_moment = λ tells. here (record { others = λ other apart. refl; output = refl; unread = refl; crash = λ left may. tt });
@@ -171,30 +171,30 @@ refills-none {T = T} {told = told} {unit = unit} {s = s} before (Err stop) fails
 -- ---- what is written then
 
 -- an input is no backup
-pub done-unasked : {unit : ℕ} {before : Outside} (input : List ℕ) (refusal : Refusal) (text : List ℕ) → IsAsked (decoded input) (Err refusal) → text ≡ remade_text (Err refusal) → IsDone input unit before before text
+pub done-unasked : {unit : ℕ} {before : Outside} (input : List ℕ) (refusal : Refusal) (text : List ℕ) → IsAsked (decoded input) (Err refusal) → text ≡ restored_text (Err refusal) → IsDone input unit before before text
 done-unasked {unit = unit} {before = before} input refusal text asked is = record {
   outcome = Err refusal;
-  is_remade = record { asked = Err refusal; is_asked = asked; is = refl };
+  is_restored = record { asked = Err refusal; is_asked = asked; is = refl };
   text_is = is;
   left = OnlyReads-refl unit before;
 }
 
 -- a store is refused
 pub done-refused : {unit : ℕ} {before after : Outside} (input : List ℕ) (s : Store) (refusal : Refusal) (text : List ℕ) → IsAsked (decoded input) (Ok s) → Some refusal ≡ refused_on s (device_on unit before)
-    → text ≡ remade_text (Err refusal) → OnlyReads unit before after → IsDone input unit before after text
+    → text ≡ restored_text (Err refusal) → OnlyReads unit before after → IsDone input unit before after text
 done-refused input s refusal text asked some is looks = record {
   outcome = Err refusal;
-  is_remade = record { asked = Ok s; is_asked = asked; is = ap (unless_refused s) some };
+  is_restored = record { asked = Ok s; is_asked = asked; is = ap (unless_refused s) some };
   text_is = is;
   left = looks;
 }
 
 -- it is made
 pub done-made : (unit : ℕ) (before after : Outside) (input : List ℕ) (s : Store) (text : List ℕ) → IsAsked (decoded input) (Ok s) → None ≡ refused_on s (device_on unit before)
-    → text ≡ remade_text (Ok s) → IsLeft (Ok s) unit before after → IsDone input unit before after text
+    → text ≡ restored_text (Ok s) → IsLeft (Ok s) unit before after → IsDone input unit before after text
 done-made unit before after input s text asked none is left = record {
   outcome = Ok s;
-  is_remade = record { asked = Ok s; is_asked = asked; is = ap (unless_refused s) none };
+  is_restored = record { asked = Ok s; is_asked = asked; is = ap (unless_refused s) none };
   text_is = is;
   left = left;
 }
@@ -212,6 +212,6 @@ ends-memory {unit = unit} {before = before} {after = after} (Err e) fails = reco
 
 -- what is written of a store that is made, if it is
 pub done-if : {T : Type 0} (unit : ℕ) (before after : Outside) (input : List ℕ) (s : Store) (view : T → List ℕ) (r : Result T Stop) → IsAsked (decoded input) (Ok s) → None ≡ refused_on s (device_on unit before)
-    → IfOk r (λ text. view text ≡ remade_text (Ok s)) → OnOk r (IsLeft (Ok s) unit before after) → IfOk r (λ text. IsDone input unit before after (view text))
+    → IfOk r (λ text. view text ≡ restored_text (Ok s)) → OnOk r (IsLeft (Ok s) unit before after) → IfOk r (λ text. IsDone input unit before after (view text))
 done-if unit before after input s view (Ok text) asked none is left = done-made unit before after input s (view text) asked none is left
 done-if unit before after input s view (Err stop) asked none is left = tt
