@@ -2,18 +2,10 @@
 
 use crate::rows::{SoupRows, SpecRows, StoreRows, TagRow};
 use newt_base::{Name, Refusal, Sig, Uid};
+use newt_entries_alias::Alias;
 use newt_graph::{Bytes, Graph};
 use newt_host::Unit;
 use newt_notify::Notes;
-
-/// What names an entry for as long as it is there: the signatures of its store and soup, and its
-/// id.
-#[derive(Clone, Copy, PartialEq, Eq, Debug)]
-pub struct Alias {
-    pub store: Sig,
-    pub soup: Sig,
-    pub uid: Uid,
-}
 
 /// What is answered to a command.
 #[derive(Drop)]
