@@ -38,9 +38,9 @@ HasStoreToFormat reads w c u now =
     formats (seen reads w now c) c u ≡ true → IsSome (reads (image u now))
 
 -- What holds at each moment while a command turns the world w into v, where of these units a sync
--- is due, and w does not know what they hold: a unit that w knows is left as it has it, or v; one of
--- which a sync is due is left as it was, unless it is formatted; and nothing has happened to a unit
--- that is neither written nor formatted, nor looked at where a sync of it is due.
+-- is due, and w does not know what they hold: a unit that w knows is left as it has it, or v; one
+-- of which a sync is due is left as it was, unless it is formatted; and nothing has happened to a
+-- unit that is neither written nor formatted, nor looked at where a sync of it is due.
 pub record Meanwhile (reads : List ℕ → Option Store) (due : ℕ → Bool) (w : World) (c : Command)
     (v : World) (start now : Moment) : Type 0 where
   pub answering : Answering reads w c v start now

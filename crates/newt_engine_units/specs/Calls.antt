@@ -171,8 +171,8 @@ module _ {C : Type 0} (reads : List ℕ → Option Store) (place : C → ℕ)
   -- A command: it is answered as the world answers it that the units and the devices stand for, as
   -- the command sees it, whose units they then have; at each moment a crash leaves each store of
   -- that world as it was or as it is then; it programs no more than the command may, and fetches no
-  -- more for the entries that it means; the units stand for the host, unless the run ends, and where
-  -- a device has failed, but for that unit.
+  -- more for the entries that it means; the units stand for the host, unless the run ends, and
+  -- where a device has failed, but for that unit.
   pub record Obeys {T : Type 0} (told : Bool) (command : Command) (reply : T → Reply)
       (old new : Units C) (before after : Outside) (result : Result T StoreFault) : Type 0 where
     pub stands : GoesOn result → Stands place standing told new after
