@@ -1,6 +1,5 @@
 -- What the world promises of a command. All of it is this project's own.
-use Rattle.std.specs.Prelude.{◌≡◌, ◌≢◌, ◌⊎◌, ◌*◌, ℕ, ◌≤◌, Bool, true, false, IsTrue, List, Option}
-use Rattle.std.specs.Prelude.{Some, None, Result, Ok, IfErr, IfOk, IsOk, OnOk}
+use Rattle.std.specs.Prelude.{◌≡◌, ◌≢◌, ◌⊎◌, ◌*◌, ℕ, ◌≤◌, Bool, true, false, IsTrue, List, Option, Some, None, Result, Ok, IfErr, IfOk, IsOk, OnOk}
 use Rattle.newt_base.specs.Refusals.{first_of}
 use Rattle.newt_base.specs.declared.Refusal.{Refusal}
 use Rattle.newt_host.specs.Moments.{Always, changes}

@@ -48,8 +48,7 @@ HaltedConverting conversion limit Sink input old now =
 HaltedConverting conversion limit Source input old now = now ≡ old
 HaltedConverting conversion limit TooLong input old now = (limit < length input) × (now ≡ old)
 
--- what may halt the reading of all the input: out of memory, too long an input, or the input where
--- it has failed
+-- what may halt the reading of all the input: out of memory, too long an input, or the input where it has failed
 abbrev pub HasReadCause : Halt → (old new : Outside) → Type 0
 HasReadCause Memory old new = Unit {0}
 HasReadCause TooLong old new = Unit {0}
