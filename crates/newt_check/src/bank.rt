@@ -14,8 +14,7 @@ ghost use Rattle.newt_check.specs.Reports.{HasRecords, IsReport, IsUnformed};
 
 use crate::report::Report;
 use newt_host::{Failed, Host, Unit};
-use newt_journal::{Journal, JournalFault};
-use newt_journal::{read_byte, read_length, read_version, read_votes};
+use newt_journal::{Journal, JournalFault, read_byte, read_length, read_version, read_votes};
 use newt_pagebook::{BookFault, Stop};
 use newt_pagelog::replay_record;
 use newt_spec_check::Layer;

@@ -10,7 +10,6 @@
 
 mod bank;
 mod entries;
-mod headers;
 mod larges;
 mod parts;
 mod report;

@@ -202,11 +202,11 @@ even-by bytes (Ok row) h = even-rows bytes row h
 even-by bytes (Err e) h = tt
 
 -- the bytes of the rows' objects, none where one is missing
-abbrev bytes_of : Objects → EntryRow → Option (List (List ℕ))
+abbrev pub bytes_of : Objects → EntryRow → Option (List (List ℕ))
 bytes_of texts row = every (map_list (large_object (map.entries texts)) (map_list row_at row.larges))
 
 -- a record is read among objects as its entry, or not at all
-read-among : (texts : Objects) (bytes : List ℕ) (row : EntryRow) → record_read stream_graph bytes ≡ Some (said row)
+pub read-among : (texts : Objects) (bytes : List ℕ) (row : EntryRow) → record_read stream_graph bytes ≡ Some (said row)
     → (entry_read stream_graph texts bytes ≡ None) ⊎ ((e : Entry) × (entry_read stream_graph texts bytes ≡ Some (row.soup, e)) × (e.uid ≡ row.uid))
 read-among texts bytes row h = go (bytes_of texts row) refl
   where
