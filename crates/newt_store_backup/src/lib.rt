@@ -16,9 +16,7 @@ mod restore;
 mod restored;
 mod text;
 
-pub use backup::backup_of;
 pub use laws::backups_are_restored;
-pub use restore::{fits_on, restore_store};
 pub use restored::restore_text;
 pub use text::backup_text;
 
