@@ -59,17 +59,6 @@ among-one x z (inr m) = absurd m
 
 -- ---- ids
 
-pub next-ids-none : (first : ℕ) → first % 2 ≡ 0 → AreNextIds first first []
-next-ids-none first even = record {
-  last_even = even;
-  no_less = omega arith;
-  even = λ id m. absurd m;
-  fit = λ id m. absurd m;
-  behind = λ id m. absurd m;
-  most = λ id m. absurd m;
-  once = tt;
-}
-
 pub next-ids-more : (first last next : ℕ) (ids : List ℕ) → AreNextIds first last ids → next ≡ last + 2 → next < 4294967296 → AreNextIds first next (ids ++ next ∷ [])
 next-ids-more first last next ids so is below = record {
   last_even = next-even;

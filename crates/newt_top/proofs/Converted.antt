@@ -7,7 +7,7 @@ use Rattle.newt_laws_steps.specs.Devices.{SameDevices}
 use Rattle.newt_script_session.specs.Causes.{HasCause, HasSinkCause, NoStreamFault}
 use Rattle.newt_script_session.specs.declared.halt.Halt.{Halt}
 use Rattle.newt_script_session.specs.declared.halt.Halt.TheVariants.{Memory, Source, Sink, TooLong}
-use Rattle.newt_script_session.proofs.Counting.{faults_end, faults_err, faults_none, faults_same, none-append, none-refl, same-refl, same-trans, sink_from}
+use Rattle.newt_script_session.proofs.Counting.{faults_err, faults_same, none-append, none-refl, same-refl, same-trans, sink_from}
 use Rattle.newt_top.specs.Converting.{HasReadCause, ReadsAll, InputCall}
 
 -- So far no device is other than it was, and no fault of a stream was counted.
@@ -20,13 +20,6 @@ reading-refl told a = record { devices = same-refl told a; no_fault = none-refl 
 
 pub reading_more : {told : Bool} {T : Type 0} {x : T} {a b c : Outside} → Reading told a b → ReadCall told (Ok x) b c → Reading told a c
 reading_more r w = record { devices = same-trans r.devices w.devices; no_fault = none-append r.no_fault w.faults.no_fault }
-
-pub input_ok : {told : Bool} {T : Type 0} {x : T} {Cause : Halt → (old new : Outside) → Type 0} {a b : Outside} → Reading told a b → InputCall told Cause (Ok x) a b
-input_ok {x = x} {Cause = Cause} {a = a} {b = b} r = record { devices = r.devices; faults = faults_none Cause x a b r.no_fault }
-
--- it ended where no fault was counted
-pub input_end : {told : Bool} {T : Type 0} (halt : Halt) {a b : Outside} → HasReadCause halt a b → Reading told a b → InputCall {T = T} told HasReadCause (Err halt) a b
-input_end halt {a} {b} cause r = record { devices = r.devices; faults = faults_end HasReadCause halt a b r.no_fault cause }
 
 -- not all of it was read
 pub unread : {told : Bool} {T : Type 0} {limit : ℕ} {read : List ℕ} (result : Result T Halt) (halt : Halt) {a b : Outside} → result ≡ Err halt
