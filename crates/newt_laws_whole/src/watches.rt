@@ -5,7 +5,7 @@ ghost use Rattle.newt_laws_whole.specs.Steps.{notes_of};
 ghost use Rattle.newt_laws_whole.specs.Told.{told_to, events_since, entries_on, Watches};
 ghost use Rattle.newt_laws_whole.specs.Told.{with_notes};
 ghost use Rattle.newt_notify.specs.Watch.{Watching, emptied};
-ghost use Rattle.newt_spec_whole.specs.Answer.{whole_answer, whole_later, told};
+ghost use Rattle.newt_spec_whole.specs.Answer.{notes_reply, whole_answer, whole_later};
 ghost use Rattle.newt_spec_whole.specs.Whole.{Whole, watch};
 ghost use Rattle.newt_spec_world.specs.Answer.{answer};
 ghost use Rattle.newt_spec_world.specs.World.{World};
@@ -24,7 +24,7 @@ pub fn watches_get_their_notes()
 pub fn notes_are_taken_once()
     ensures { (h : Whole) (n : ℕ) (w : Watching) → IsDone h (command.Notes n) → watch h n ≡ Some w
         → (watch (whole_answer h (command.Notes n)).0 n ≡ Some (emptied w))
-        × ((whole_answer h (command.Notes n)).1 ≡ told w) }
+        × ((whole_answer h (command.Notes n)).1 ≡ notes_reply w) }
 {}
 
 /// A soup of whose name a command gives no note has the entries that it had, on each unit, and is
