@@ -18,7 +18,8 @@ record LabelsWithin (n : ℕ) (ks : List ℕ) (new : List Node) : Type 0 where
   pub each : All (λ k. k < n) ks
   pub nodes : All (Within n) new
 
-record ValuesWithin (n : ℕ) (values : List Ref) (new : List Node) : Type 0 where
+-- values that lead to so many nodes, and new nodes whose references do
+pub record ValuesWithin (n : ℕ) (values : List Ref) (new : List Node) : Type 0 where
   pub each : All (IsValue n) values
   pub nodes : All (Within n) new
 
@@ -46,7 +47,7 @@ one_node : (n : ℕ) (node : Node) → Within n node → All (Within n) (node �
 one_node n node h = All-cons (Within n) node [] h (All-nil (Within n))
 
 mutual
-  value_in : {room met : ℕ} {value : Ref} {new : List Node} → Walk room met value new → (n : ℕ) → met + length new ≤ n → ValuesWithin n (value ∷ []) new
+  pub value_in : {room met : ℕ} {value : Ref} {new : List Node} → Walk room met value new → (n : ℕ) → met + length new ≤ n → ValuesWithin n (value ∷ []) new
   value_in (Walk.word {w} is) n le = one n (refs.Imm w) [] is (All-nil (Within n))
   value_in (Walk.again {met} {k} lt) n le = one n (refs.Node k) [] (omega (arith, lt, le)) (All-nil (Within n))
   value_in (Walk.symbol {met} {name}) n le = one n (refs.Node met) (Symbol name ∷ []) (omega (arith, le)) (one_node n (Symbol name) (leaf n (Symbol name) refl refl))
