@@ -1,7 +1,6 @@
 -- The first four rows of an image, by its chosen bank.
-use Rattle.std.proofs.Common.{◌≡◌, ◌≢◌, ◌⊎◌, inl, inr, ℕ, zero, suc, ◌+◌, ◌-◌, ◌*◌, ◌≤◌, ◌==◌, if◌then◌else◌, Bool, true, false, List, [], ◌∷◌, ◌++◌, length, take, drop, Option, Some, None, option_map, option_and_then, refl, sym, ◌∙◌, ap, subst, arith, IsTrue, append_assoc, length-append, length-drop, length-take}
-use Rattle.std.proofs.lemmas.List.{take_at, drop-drop, drop-take}
-use Rattle.std.proofs.Math.Seq.{take-add}
+use Rattle.std.proofs.Common.{◌≡◌, ◌≢◌, ◌⊎◌, inl, inr, ℕ, ◌+◌, ◌-◌, ◌*◌, ◌≤◌, ◌==◌, if◌then◌else◌, Bool, true, false, List, [], ◌∷◌, ◌++◌, length, take, drop, Option, Some, None, option_map, option_and_then, refl, sym, ◌∙◌, ap, subst, arith, IsTrue, append_assoc}
+use Rattle.std.proofs.lemmas.List.{drop-drop, drop-take}
 use Rattle.std.proofs.lemmas.Bool.{cases_eq}
 use Rattle.std.proofs.lemmas.Bool.Decides.{nat_tests}
 use Rattle.std.specs.Option.{unwrap_or}
@@ -15,9 +14,9 @@ use Rattle.newt_journal.specs.Journal.{Holds, Stands, written, records_bytes}
 use Rattle.newt_journal.specs.Places.{first_place}
 use Rattle.newt_journal.specs.Scan.{between}
 use Rattle.newt_journal.specs.declared.bank.Bank.{Bank}
-use Rattle.newt_journal.specs.declared.bank.Bank.TheVariants.{First, Second}
 use Rattle.newt_journal.specs.declared.journal.Journal.{Journal}
-use Rattle.newt_journal.proofs.Steps.{bank-fits, holds-body, version-2}
+use Rattle.newt_journal.proofs.Opened as opened
+use Rattle.newt_journal.proofs.Steps.{holds-body, version-2}
 use Rattle.newt_spec_graph.proofs.Lists.{none-some}
 use Rattle.newt_spec_store.specs.OfImage.{blocks_of}
 use Rattle.newt_spec_check.specs.declared.Layer.{Layer}
@@ -89,29 +88,10 @@ module _ (image : List ℕ) (blocks : ℕ) (size : length image ≡ blocks * 409
           ∙ ap (λ (o : Option (List ℕ)). unwrap_or (option_map (gates_behind (start_in image (bank_number bank))) o) []) body-is
           ∙ ap (λ n. gates_after (bank_start n (bank_number bank) + 16) 0 rest) many
 
-    wide : 16 ≤ bank_size blocks
-    wide = omega (arith, enough)
-
-    in_two : bank_bytes blocks (bank_number bank) image ≡ take 16 (drop start image) ++ between (start + 16) limit image
-    in_two =
-        let parts : bank_size blocks ≡ 16 + (limit - (start + 16)) = omega (arith, wide) in
-        ap (λ (n : ℕ). take n (drop start image)) parts ∙ take-add 16 (limit - (start + 16)) (drop start image)
-        ∙ ap (λ (l : List ℕ). take 16 (drop start image) ++ take (limit - (start + 16)) l) (drop-drop 16 start image)
-
-    other_header : (version : ℕ) → take 16 (drop start image) ≢ header version → behind_header version (bank_bytes blocks (bank_number bank) image) ≡ None
-    unfolding header
-    other_header version differ =
-        let long : length (take 16 (drop start image)) ≡ 16 = omega (arith, length-take 16 (drop start image), length-drop start image, size, bank-fits blocks bank enough, wide) in
-        let more : 16 ≤ length (bank_bytes blocks (bank_number bank) image) = omega (arith, ap length in_two, length-append (take 16 (drop start image)) (between (start + 16) limit image), long) in
-        let none : without (header version) (bank_bytes blocks (bank_number bank) image) ≡ None = elim (without-cases (header version) (bank_bytes blocks (bank_number bank) image) more) [
-          | inl none ↦ none
-          | inr is ↦ absurd (differ (sym (take_at (take 16 (drop start image)) (between (start + 16) limit image) 16 long) ∙ ap (λ (l : List ℕ). take 16 l) (sym in_two) ∙ is))
-        ] in
-        ap (λ (o : Option (List ℕ)). and_then o (λ rest. Some (version, rest))) none
-
     pub bad-header : ((version : ℕ) → IsVersion version → take 16 (drop start image) ≢ header version) → IsDamaged layer.Header start image
     bad-header differ =
         let bytes = bank_bytes blocks (bank_number bank) image in
+        let other_header = opened.other_header blocks image size enough few bank voted in
         let none : versioned bytes ≡ None =
         ap (λ (o : Option (ℕ × List ℕ)). elim o as (λ _. Option (ℕ × List ℕ)) [ Some found ↦ Some found | None ↦ behind_header 2 bytes ]) (other_header 1 (differ 1 (omega arith, omega arith)))
         ∙ other_header 2 (differ 2 version-2) in
@@ -123,7 +103,7 @@ module _ (image : List ℕ) (blocks : ℕ) (size : length image ≡ blocks * 409
 
       is-body : versioned_body image ≡ Some (version, rest)
       is-body = holds-body blocks bank enough few version is_version rest image
-          (record { size = size; votes = voted; bank_is = in_two ∙ ap (λ (l : List ℕ). l ++ rest) headed })
+          (record { size = size; votes = voted; bank_is = opened.in_two blocks image size enough few bank voted ∙ ap (λ (l : List ℕ). l ++ rest) headed })
 
       pub long : (place : ℕ) → first_from leaves_bank (start + 16) limit image ≡ Some place → IsDamaged layer.RecordPlace place image
       long place h = no-store-at image layer.RecordPlace place refl (skip layer.Votes _ _ votes ∙ skip layer.Header _ _ (header-none version rest is-body)
@@ -135,12 +115,6 @@ module _ (image : List ℕ) (blocks : ℕ) (size : length image ≡ blocks * 409
         header_is = header-none version rest is-body;
         record_is = ap (first_gate leaves_bank) (gates-are version rest is-body) ∙ h;
       }
-
--- a bank by its number
-pub bank-of : (n : ℕ) → n ≤ 1 → (bank : Bank) × (bank_number bank ≡ n)
-bank-of zero h = (First, refl)
-bank-of (suc zero) h = (Second, refl)
-bank-of (suc (suc n)) h = absurd (omega (arith, h))
 
 -- ---- an image that has records
 

@@ -10,10 +10,7 @@
 
 mod bank;
 mod entries;
-mod headers;
 mod larges;
-mod lies;
-mod look;
 mod parts;
 mod report;
 mod rows;

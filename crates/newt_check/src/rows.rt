@@ -11,17 +11,16 @@ ghost use Rattle.newt_check.specs.Reports.{HasNoObjects, HasSoundRecords, IsRepo
 
 use crate::bank::report_of_bank;
 use crate::entries::{bad_record, find_root, nothing_seen};
-use crate::headers::read_headers;
 use crate::larges::{count_odd, first_stray};
-use crate::lies::lies;
 use crate::parts::broken_object;
 use crate::report::Report;
 use newt_host::{Host, Unit};
-use newt_objects::{Objects, ScanFault};
+use newt_objects::{Objects, ScanFault, read_headers};
 use newt_pagebook::{BookFault, PageBook, Stop, cap};
 use newt_pages::DiskBook;
 use newt_soupdir::Directory;
 use newt_spec_check::Layer;
+use newt_store_catalog::lies;
 use std::alloc::Global;
 use std::collections::BTreeMap;
 

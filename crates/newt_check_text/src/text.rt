@@ -1,9 +1,9 @@
 //! What is written of a unit whose image is looked through.
 ghost use Rattle.std.specs.Prelude.{◌≡◌, ◌≤◌, IsTrue, IfOk, is_some};
+ghost use Rattle.newt_host.specs.Meanings.{device_on};
 ghost use Rattle.newt_host.specs.Moments.{IsDurable, image};
 ghost use Rattle.newt_host.specs.Outside.{OnlyReads};
 ghost use Rattle.newt_store_catalog.specs.Reading.{ReadEnds};
-ghost use Rattle.newt_store_backup.specs.Written.{device_on};
 ghost use Rattle.newt_check_text.specs.Lines.{IsChecked, IsReported};
 
 use crate::line::report_line;

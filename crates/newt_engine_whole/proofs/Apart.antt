@@ -14,7 +14,7 @@ use Rattle.newt_script_session.specs.Steps.{Stepped}
 use Rattle.newt_spec_graph.proofs.Lists.{among-left, both-ways}
 use Rattle.newt_spec_script.specs.Rows.{throws}
 use Rattle.newt_spec_store.specs.Store.{Store}
-use Rattle.newt_spec_whole.specs.Answer.{told, whole_answer, whole_answered, whole_fields}
+use Rattle.newt_spec_whole.specs.Answer.{notes_reply, whole_answer, whole_answered, whole_fields}
 use Rattle.newt_spec_whole.specs.Refused.{whole_checks}
 use Rattle.newt_spec_whole.specs.Step.{WholeStep}
 use Rattle.newt_spec_whole.specs.Step as steps
@@ -69,7 +69,7 @@ apart-quiet h (command.Notes n) u a = go (first_of (whole_checks h (command.Note
   where
     go : (o : Option Refusal) → throws u (whole_answered h (command.Notes n) o).1 ≡ false
     go (Some r) = refl
-    go None = nil_quiet {X = Watching} told u (watch h n) (λ w. refl)
+    go None = nil_quiet {X = Watching} notes_reply u (watch h n) (λ w. refl)
 apart-quiet h (command.Unwatch n) u a = go (first_of (whole_checks h (command.Unwatch n)))
   where
     go : (o : Option Refusal) → throws u (whole_answered h (command.Unwatch n) o).1 ≡ false

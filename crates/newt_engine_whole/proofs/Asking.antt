@@ -29,6 +29,7 @@ use Rattle.newt_laws_steps.proofs.Seen.{seen-step}
 use Rattle.newt_laws_whole.specs.Steps.{notes_behind, noting}
 use Rattle.newt_laws_whole.proofs.Telling.{steps-tell}
 use Rattle.newt_laws_world.specs.Worlds.{is_plain}
+use Rattle.newt_laws_whole.specs.Runs.{DraftsFit}
 use Rattle.newt_engine_units.specs.Stands.{world_of}
 use Rattle.newt_engine_units.proofs.Known.{Laws}
 use Rattle.newt_engine.specs.Calls.{Applied as Inner}
@@ -39,7 +40,7 @@ use Rattle.newt_engine.proofs.Applying.{standing-told}
 use Rattle.newt_engine.proofs.Refusing.{answer_quiet}
 use Rattle.newt_engine_whole.specs.Calls.{Applied}
 use Rattle.newt_engine_whole.specs.Ends.{whole_takes_memory}
-use Rattle.newt_engine_whole.specs.Standing.{DraftsFit, Means, Standing}
+use Rattle.newt_engine_whole.specs.Standing.{Means, Standing}
 use Rattle.newt_engine_whole.specs.Told.{HasSig, Tells, all_due, due_told}
 use Rattle.newt_engine_whole.specs.declared.due.Due.{Due}
 use Rattle.newt_engine_whole.specs.declared.whole.Whole.{Whole}

@@ -34,7 +34,7 @@ use Rattle.newt_laws_world.proofs.Settled.{find-passes}
 use Rattle.newt_laws_steps.specs.Answering.{Answering}
 use Rattle.newt_laws_steps.specs.StandsFor.{Obeys}
 use Rattle.newt_laws_steps.specs.Thrown.{Failed, Threw}
-use Rattle.newt_laws_whole.specs.Runs.{AllFormed, CanBeEntry}
+use Rattle.newt_laws_whole.specs.Runs.{AllFormed, CanBeEntry, DraftsFit}
 use Rattle.newt_laws_whole.proofs.Fits.{entry-in-can, put-all}
 use Rattle.newt_laws_whole.proofs.Reading.{GetsOr, entry_tests, gets, open-done, open-full, open-refused, open-thrown}
 use Rattle.newt_engine_card.specs.Bounds.{IsOpenOrSame}
@@ -46,10 +46,9 @@ use Rattle.newt_engine_whole.specs.Bounds.{ProgramsInTurn, most_put, most_taken}
 use Rattle.newt_engine_whole.specs.Calls.{Applied, Ended}
 use Rattle.newt_engine_whole.specs.Copies.{PutsCopy}
 use Rattle.newt_engine_whole.specs.Ends.{whole_takes_memory, whole_uses_device}
-use Rattle.newt_engine_whole.specs.Standing.{AreKept, DraftsFit, Means, Standing, known_whole}
+use Rattle.newt_engine_whole.specs.Standing.{AreKept, Means, Standing, known_whole}
 use Rattle.newt_engine_whole.specs.declared.whole.Whole.{Whole}
 use Rattle.newt_engine_whole.proofs.Costing.{first-fetches, first-programs}
-use Rattle.newt_engine_whole.proofs.Drafted.{flat-is}
 use Rattle.newt_engine_whole.proofs.Turns.{as-other}
 
 -- ---- how a command ends that asks to read one entry, and nothing more was done
@@ -268,8 +267,8 @@ module _ {C : Type 0} {reads : List ℕ → Option Store} {place : C → ℕ} {s
             ended = ended (λ x. ap (throws x) says);
           }
           go (Some n) free (says, works) = record {
-            stands = stands-so (λ t j k at. put-all (λ j. CanBeEntry j.draft) old.works (λ i j on. begun.drafts t i j (flat-is (slice_get old.works i) ∙ on)) (Some n) (opened store soup uid time graph) (can t) j k
-                (sym (flat-is (slice_get (slice_set old.works n (Some (opened store soup uid time graph))) j)) ∙ ap (copy_at j) (sym works) ∙ at));
+            stands = stands-so (λ t j k at. put-all (λ j. CanBeEntry j.draft) old.works (begun.drafts t) (Some n) (opened store soup uid time graph) (can t) j k
+                (ap (copy_at j) (sym works) ∙ at));
             stepped = λ t h m.
                 let f = open-found t h m in
                 let k = known t h m in

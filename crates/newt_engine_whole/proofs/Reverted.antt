@@ -42,7 +42,7 @@ use Rattle.newt_engine_whole.specs.Copies.{IsAt}
 use Rattle.newt_engine_whole.specs.Standing.{AreKept, Means, Standing, known_whole}
 use Rattle.newt_engine_whole.specs.declared.saves.Place.{Place}
 use Rattle.newt_engine_whole.specs.declared.whole.Whole.{Whole}
-use Rattle.newt_engine_whole.proofs.Drafted.{change-as, flat-is, set-change}
+use Rattle.newt_engine_whole.proofs.Drafted.{change-as, set-change}
 use Rattle.newt_engine_whole.proofs.Living.{entry-passes, entry-there}
 use Rattle.newt_engine_whole.proofs.Opened.{reading-ended}
 use Rattle.newt_engine_whole.proofs.Turns.{as-other}
@@ -142,8 +142,8 @@ module _ {C : Type 0} {reads : List ℕ → Option Store} {place : C → ℕ} {s
     stands = record {
       world = subst (λ (e : Engine C). IsStanding reads place stands told e p) (sym world) a.stands;
       watches = subst AreKept (sym watches) begun.watches;
-      drafts = λ t j k there. change-all (λ j. CanBeEntry j.draft) old.works (λ i j on. begun.drafts t i j (flat-is (slice_get old.works i) ∙ on)) n (rebased time graph) (λ j on. can t) j k
-          (sym (flat-is (slice_get (change_at n (rebased time graph) old.works) j)) ∙ ap (copy_at j) (sym (works ∙ set-change (rebased time graph) old.works n)) ∙ there);
+      drafts = λ t j k there. change-all (λ j. CanBeEntry j.draft) old.works (begun.drafts t) n (rebased time graph) (λ j on. can t) j k
+          (ap (copy_at j) (sym (works ∙ set-change (rebased time graph) old.works n)) ∙ there);
     };
     stepped = λ t h m. go h m (found t h m) (read-so t h m (found t h m));
     ended = reading-ended at.unit at.uid at.name (λ w. refl) refl refl (λ t. ([], known-turn t)) a.finished (λ t x other. a.finished.open_after t x (λ k. cc))

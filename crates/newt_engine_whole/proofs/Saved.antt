@@ -20,7 +20,7 @@ use Rattle.newt_spec_whole.specs.Events.{events, events_of, note_all}
 use Rattle.newt_spec_whole.specs.Refused.{whole_checks}
 use Rattle.newt_spec_whole.specs.Step.{WholeStep}
 use Rattle.newt_spec_whole.specs.Whole as plain
-use Rattle.newt_spec_whole.specs.Whole.{asked_in_turn, asks, change_of, copy, get_of, living, save_in_turn, save_of}
+use Rattle.newt_spec_whole.specs.Whole.{asked_in_turn, asks, change_of, copy, get_of, living, save_in_turn}
 use Rattle.newt_spec_world.specs.Alias.{Spot}
 use Rattle.newt_spec_world.specs.Answer.{answer, answered, fields, or_nil}
 use Rattle.newt_spec_world.specs.Changed.{changed}
@@ -80,12 +80,11 @@ module _ (h : plain.Whole) (n : ℕ) (k : Copy) (there : copy h n ≡ Some k) (s
       ∙ ap {A = Bool} (λ b. whole_answered h (command.Save n) (first_of ((Changed, not b) ∷ (Full, is_full) ∷ []))) same
       ∙ ap {A = Bool} (λ b. whole_answered h (command.Save n) (first_of ((Full, b) ∷ []))) lacks
 
-  save-asks : based ≡ true → asks h (command.Save n) ≡ Some (change_of k s)
+  save-asks : asks h (command.Save n) ≡ Some (change_of k s)
   unfolding asks
-  save-asks same =
-      ap {A = Option Copy} {B = Option Command} (λ o. option_and_then (λ k. option_map (save_of k) (living h k)) o) there
-      ∙ ap {A = Option Spot} {B = Option Command} (option_map (save_of k)) lives
-      ∙ ap {A = Bool} {B = Option Command} (λ b. Some (if b then change_of k s else get_of s)) same
+  save-asks =
+      ap {A = Option Copy} {B = Option Command} (λ o. option_and_then (λ k. option_map (change_of k) (living h k)) o) there
+      ∙ ap {A = Option Spot} {B = Option Command} (option_map (change_of k)) lives
 
   pub save-done : based ≡ true → is_full ≡ false → whole_answer h (command.Save n) ≡ (
     record {
@@ -107,7 +106,7 @@ module _ (h : plain.Whole) (n : ℕ) (k : Copy) (there : copy h n ≡ Some k) (s
           copies = change_at n (λ k. rebased h.world.minute k.draft k) h.copies;
         },
         replies.Reply.done,
-      )) (save-asks same)
+      )) save-asks
 
   -- what is asked one after another
   pub save-turn : asked_in_turn h (command.Save n) ≡ get_of s ∷ (if based then change_of k s ∷ [] else [])

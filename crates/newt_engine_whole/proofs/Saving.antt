@@ -36,7 +36,7 @@ use Rattle.newt_work.specs.Work.{Copy, copy_at, is_based, rebased}
 use Rattle.newt_laws_world.proofs.Units.{has-mounted}
 use Rattle.newt_laws_steps.specs.Answering.{Answering}
 use Rattle.newt_laws_steps.specs.StandsFor.{Obeys, seen}
-use Rattle.newt_laws_whole.specs.Runs.{AllFormed, CanBeEntry}
+use Rattle.newt_laws_whole.specs.Runs.{AllFormed, CanBeEntry, DraftsFit}
 use Rattle.newt_laws_whole.proofs.Fits.{change-all}
 use Rattle.newt_engine.specs.Calls.{Applied as Inner}
 use Rattle.newt_engine.specs.Standing.{IsStanding, means, stood_for}
@@ -45,13 +45,13 @@ use Rattle.newt_laws_world.specs.Worlds.{is_plain}
 use Rattle.newt_engine_whole.specs.Bounds.{ProgramsInTurn, most_put, most_taken}
 use Rattle.newt_engine_whole.specs.Calls.{AppliedRest, Ended, rest_asked}
 use Rattle.newt_engine_whole.specs.Copies.{IsAt, IsRead, saved_event}
-use Rattle.newt_engine_whole.specs.Standing.{DraftsFit, Means, Standing, known_whole}
+use Rattle.newt_engine_whole.specs.Standing.{Means, Standing, known_whole}
 use Rattle.newt_engine_whole.specs.Told.{Tells}
 use Rattle.newt_engine_whole.proofs.Apart.{apart-quiet, apart-stepped, rest-ended}
 use Rattle.newt_engine_whole.specs.declared.saves.Place.{Place}
 use Rattle.newt_engine_whole.specs.declared.whole.Whole.{Whole}
 use Rattle.newt_engine_whole.proofs.Costing.{first-fetches, first-programs}
-use Rattle.newt_engine_whole.proofs.Drafted.{change-as, flat-is, set-change}
+use Rattle.newt_engine_whole.proofs.Drafted.{change-as, set-change}
 use Rattle.newt_engine_whole.proofs.Living.{entry-there, named, soup-there}
 use Rattle.newt_engine_whole.proofs.Saved.{ChangesOr, changes, save-changed, save-done, save-full, save-turn}
 use Rattle.newt_engine_whole.proofs.Turns.{as-other}
@@ -262,9 +262,9 @@ module _ {C : Type 0} {reads : List ℕ → Option Store} {place : C → ℕ} {s
       stands = record {
         world = subst (λ (e : Engine C). IsStanding reads place stands told e p) (sym (tells.world ∙ world)) a.stands;
         watches = let w = begun.watches in (note_all (saved_event at ∷ []) w.0, tells.watches w.0 (watches ∙ w.1));
-        drafts = λ t j i found. change-all (λ j. CanBeEntry j.draft) old.works (λ i j on. begun.drafts t i j (flat-is (slice_get old.works i) ∙ on)) n (rebased mid.units.minute draft)
+        drafts = λ t j i found. change-all (λ j. CanBeEntry j.draft) old.works (begun.drafts t) n (rebased mid.units.minute draft)
             (λ i on. subst CanBeEntry (sym same) (begun.drafts t n k (sym there))) j i
-            (sym (flat-is (slice_get (change_at n (rebased mid.units.minute draft) old.works) j)) ∙ ap (copy_at j) (sym (tells.works ∙ works ∙ set-change (rebased mid.units.minute draft) old.works n)) ∙ found);
+            (ap (copy_at j) (sym (tells.works ∙ works ∙ set-change (rebased mid.units.minute draft) old.works n)) ∙ found);
       };
       stepped = change-done a (tells.world ∙ world) (λ ws kept. tells.watches ws (watches ∙ kept)) (tells.works ∙ works);
       ended = save-ended a;
@@ -307,7 +307,7 @@ rest-changed {C} {reads} {place} {stands} {told} {old} {o} {n} {time} {graph} {a
     says : (h : plain.Whole) → Means reads old o h → IsRead h n at time graph → whole_answer h (command.Save n) ≡ (h, replies.Reply.changed time)
     says h m r =
         let i = r.at in
-        let same : i.of ≡ k = some-same i.of k (sym i.there ∙ sym (ap (copy_at n) m.copies ∙ flat-is (slice_get h.copies n)) ∙ sym there) in
+        let same : i.of ≡ k = some-same i.of k (sym i.there ∙ sym (ap (copy_at n) m.copies) ∙ sym there) in
         save-changed h n i.of i.there i.spot i.lives ((λ j. is_based (r.timed j) (r.shows j) (same j)) ∙ other)
         ∙ ap {A = ℕ} {B = plain.Whole × replies.Reply} (λ x. (h, replies.Reply.changed x)) r.timed
 
@@ -317,7 +317,7 @@ pub base-of : {C : Type 0} {reads : List ℕ → Option Store} {old : Whole C} {
     → draft ≡ k.draft → Means reads old o h → AllFormed h.world → DraftsFit old.works → IsBase h n at draft
 base-of {old = old} {h = h} {n} r k there same is m formed fit =
     let i = r.at in
-    let copies : i.of ≡ k = some-same i.of k (sym i.there ∙ sym (ap (copy_at n) m.copies ∙ flat-is (slice_get h.copies n)) ∙ sym there) in
+    let copies : i.of ≡ k = some-same i.of k (sym i.there ∙ sym (ap (copy_at n) m.copies) ∙ sym there) in
     record {
       formed = formed;
       is = i;

@@ -151,8 +151,8 @@ impl<C: Card> Whole<C> {
         if !work.based(time, graph) {
             return Ok(Reply::Changed(time));
         }
-        // A graph that is read is known to be within the limits, as `change` requires. (used by the
-        // proof alone)
+        // (used by the proof alone: what a type says of a value is known where the value is read;
+        // here that the draft is within the limits, as `change` requires)
         let _root = work.draft().root();
         let base = work.draft().copy()?;
         let draft = work.draft().copy()?;

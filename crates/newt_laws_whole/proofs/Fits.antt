@@ -174,7 +174,7 @@ edit-put h m path g k done here = let p = edit-passed h m path g k done here in 
 
 -- ---- one command
 
-opened-can : (h : Whole) (t : Option Store) (p : Option Soup) (e : Option Entry) → DraftsFit h → ((x : Entry) → e ≡ Some x → CanBeEntry x.graph)
+opened-can : (h : Whole) (t : Option Store) (p : Option Soup) (e : Option Entry) → DraftsFit h.copies → ((x : Entry) → e ≡ Some x → CanBeEntry x.graph)
     → (n : ℕ) (k : Copy) → flat (slice_get (put_copy (free_copy h) (opened_of t p e) h.copies) n) ≡ Some k → CanBeEntry k.draft
 opened-can h None p e fits can n k i = fits n k i
 opened-can h (Some t) None e fits can n k i = fits n k i
@@ -192,7 +192,7 @@ reverted-can h k formed can = go (living h k) refl
     go None e = can
     go (Some s) e = living-can h k s formed e
 
-row-fits : (h : Whole) (c : Command) → AllFormed h.world → DraftsFit h → IsDone h c → (n : ℕ) (k : Copy) → flat (slice_get (copies_after h c) n) ≡ Some k → CanBeEntry k.draft
+row-fits : (h : Whole) (c : Command) → AllFormed h.world → DraftsFit h.copies → IsDone h c → (n : ℕ) (k : Copy) → flat (slice_get (copies_after h c) n) ≡ Some k → CanBeEntry k.draft
 unfolding copies_after
 row-fits h (command.Open u s uid) formed fits done =
     opened-can h (mounted_store h.world u) (soup_in h.world u s) (entry_in h.world u s uid) fits (λ e. entry-in-can h.world u s uid e formed)
@@ -203,10 +203,10 @@ row-fits h (command.Revert m) formed fits done = change-all (λ k. CanBeEntry k.
 row-fits h (command.Discard m) formed fits done = gone-all (λ k. CanBeEntry k.draft) h.copies fits m
 row-fits h _ formed fits done = fits
 
-pub drafts-fit : (h : Whole) (c : Command) → AllFormed h.world → DraftsFit h → DraftsFit (whole_answer h c).0
+pub drafts-fit : (h : Whole) (c : Command) → AllFormed h.world → DraftsFit h.copies → DraftsFit (whole_answer h c).0.copies
 unfolding whole_answer
 drafts-fit h c formed fits = go (first_of (whole_checks h c)) refl
   where
-    go : (o : Option Refusal) → first_of (whole_checks h c) ≡ o → DraftsFit (whole_answered h c o).0
+    go : (o : Option Refusal) → first_of (whole_checks h c) ≡ o → DraftsFit (whole_answered h c o).0.copies
     go (Some r) e = fits
     go None e = row-fits h c formed fits e

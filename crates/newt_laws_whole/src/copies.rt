@@ -16,7 +16,7 @@ ghost use Rattle.newt_work.specs.Work.{Copy, draft_with, drafted, edited, opened
 /// An open that is done makes a copy at the least free number of the entry as it is; a save that is
 /// done makes its draft the base, at the present minute, which is what the entry then is; a revert
 /// that is done begins anew from the entry as it is.
-pub fn begun()
+pub fn copies_begin_from_the_entry()
     ensures opened { (h : Whole) (u : ℕ) (name : List ℕ) (uid n : ℕ) (t : Store) (p : Soup)
         (e : Entry) → IsDone h (command.Open u name uid) → free_copy h ≡ Some n
         → mounted_store h.world u ≡ Some t → soup_in h.world u name ≡ Some p
@@ -41,7 +41,7 @@ pub fn edits_are_put()
 
 /// While commands go on, a copy keeps its entry and its base, and its draft is the one before with
 /// the edits since put into it one after another.
-pub fn kept()
+pub fn copies_keep_their_edits()
     ensures { (h : Whole) (cs : List IsCommand) (n : ℕ) (k : Copy) → copy h n ≡ Some k
         → GoesOn n h cs
         → copy (whole_later h cs) n ≡ Some (edited (put_all k.draft (edits_since n h cs)) k) }
@@ -50,7 +50,7 @@ pub fn kept()
 /// A save that is done replaces exactly the state of the entry at which the copy was opened, saved
 /// or reverted last, and the new graph is that state's with the edits since put into it one after
 /// another.
-pub fn saved()
+pub fn saves_replace_what_was_read()
     ensures { (h : Whole) (cs : List IsCommand) (n : ℕ) (k : Copy) → copy h n ≡ Some k
         → k.draft ≡ k.base → GoesOn n h cs → IsDone (whole_later h cs) (command.Save n)
         → Saves (whole_later h cs) (whole_answer (whole_later h cs) (command.Save n)).0 k

@@ -125,13 +125,6 @@ write_failed {T = T} {U = U} {E = E} {F = F} result error failed {a} {b} {c} is 
   faults = faults_err (OutputFailed {E = F}) (OutputFailed {E = E}) a b c s.no_fault {T = T} {U = U} result error failed is (λ rose. omega (arith, rose, s.no_fault.out_faults)) w.faults;
 }
 
--- the output failed
-pub write_sink : {told : Bool} {T U F : Type 0} {error : F} {a b : Outside} → WriteCall {T = U} told (OutputFailed {E = F}) (Err error) a b → WriteCall {T = T} told HasSinkCause (Err Sink) a b
-write_sink {error = error} {a = a} {b = b} w = record { unread = w.unread; devices = w.devices; faults = record { later = w.faults.later; cause = w.faults.cause; no_fault = tt } }
-
-pub write_sunk : {told : Bool} {T U F : Type 0} {x : T} {y : U} {a b : Outside} → WriteCall {T = U} told (OutputFailed {E = F}) (Ok y) a b → WriteCall {T = T} told HasSinkCause (Ok x) a b
-write_sunk w = record { unread = w.unread; devices = w.devices; faults = record { later = w.faults.later; cause = tt; no_fault = w.faults.no_fault } }
-
 -- what a host promises of a write
 pub write_call : {told : Bool} {T E : Type 0} (result : Result T E) (bytes : List ℕ) (a b : Outside) → (IsTrue told → PrintsSome bytes a.now b.now) → OutputCall result a b → WriteCall told OutputFailed result a b
 write_call {told = told} {T = T} {E = E} result bytes a b prints call = record {

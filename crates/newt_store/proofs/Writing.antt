@@ -46,10 +46,6 @@ use Rattle.newt_store.proofs.Unanswered.{IsMemory, memory-on, memory-err, memory
 abbrev pub failed : StoreFault → Result (Unit {0}) StoreFault
 failed fault = Err fault
 
-pub full-goes-on : (fault : StoreFault) → RefusesOnly Full fault → GoesOn (failed fault) → fault ≡ Refused Full
-full-goes-on (Refused refusal) only goes = ap (λ (r : Refusal). Refused r) only
-full-goes-on (Stop stop) only goes = absurd goes
-
 pub full-refused : (fault : StoreFault) → RefusesOnly Full fault → IsRefused (failed fault) → fault ≡ Refused Full
 full-refused (Refused refusal) only goes = ap (λ (r : Refusal). Refused r) only
 full-refused (Stop stop) only goes = absurd goes

@@ -3,7 +3,7 @@ use Rattle.std.proofs.Common.{◌≡◌, refl, ℕ, ◌*◌, List, length, None,
 use Rattle.newt_base.specs.declared.Refusal.TheVariants as refusals
 use Rattle.newt_spec_store.specs.Store.{Store}
 use Rattle.newt_spec_world.specs.Reply as replies
-use Rattle.newt_store_backup.specs.Remade.{refused_on}
+use Rattle.newt_store_backup.specs.Restored.{refused_on}
 use Rattle.newt_store_backup.specs.Written.{backed_up}
 
 -- no device

@@ -12,14 +12,12 @@
 mod backup;
 mod gather;
 mod laws;
-mod remake;
 mod restore;
+mod restored;
 mod text;
 
-pub use backup::backup_of;
 pub use laws::backups_are_restored;
-pub use remake::restore_text;
-pub use restore::{fits_on, restore_store};
+pub use restored::restore_text;
 pub use text::backup_text;
 
 #[cfg(test)]

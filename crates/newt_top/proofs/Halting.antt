@@ -12,16 +12,16 @@ use Rattle.newt_script_session.specs.declared.halt.Halt.TheVariants.{Memory, Sou
 use Rattle.newt_spec_whole.specs.Step.{WholeStep}
 use Rattle.newt_store_catalog.specs.Readable.{readable}
 use Rattle.newt_top.specs.Calls.{RunEnds}
-use Rattle.newt_top.specs.Status.{HasRunThrough, HasStatusCause, IsFaultFree, IsFaultless, ReadsDevice, StatusFaults, status_of}
+use Rattle.newt_top.specs.Status.{HasRunThrough, HasStatusCause, IsFaultFree, IsFaultless, NeedsDevice, StatusFaults, status_of}
 use Rattle.newt_top.specs.declared.status.Mode.{Mode}
 use Rattle.newt_top.specs.declared.status.Status.{Status}
 use Rattle.newt_top.specs.declared.status.Status.TheVariants as statuses
-use Rattle.newt_top.specs.Whole.{converted, HaltedWhole, HasReadCause}
+use Rattle.newt_top.specs.Converting.{converted, HaltedConverting, HasReadCause}
 use Rattle.newt_top.specs.declared.status.Conversion.{Conversion}
 
 -- nothing was written
 pub halted_reading : (conversion : Conversion) (limit : ℕ) (halt : Halt) (before after : Outside) (input old now : List ℕ)
-    → HasReadCause halt before after → (halt ≡ TooLong → limit < length input) → now ≡ old → HaltedWhole conversion limit halt input old now
+    → HasReadCause halt before after → (halt ≡ TooLong → limit < length input) → now ≡ old → HaltedConverting conversion limit halt input old now
 halted_reading conversion limit Memory before after input old now cause long same = (converted conversion input, record { done = []; split = refl; out = same ∙ sym (append-nil old) })
 halted_reading conversion limit TooLong before after input old now cause long same = (long refl, same)
 halted_reading conversion limit Source before after input old now cause long same = same
@@ -31,7 +31,7 @@ halted_reading conversion limit Sink before after input old now cause long same 
 
 module _ (mode : Option Mode) (old new : Outside) where
   complete_of : (status : Status) → HasStatusCause mode status old new → ¬ Rose old.in_faults new.in_faults → ¬ Rose old.out_faults new.out_faults
-      → (ReadsDevice mode → ¬ Rose (old.dev_faults 0) (new.dev_faults 0)) → IsFaultless status
+      → (NeedsDevice mode → ¬ Rose (old.dev_faults 0) (new.dev_faults 0)) → IsFaultless status
   complete_of statuses.Ok cause source sink device = tt
   complete_of statuses.Usage cause source sink device = tt
   complete_of statuses.Memory cause source sink device = tt

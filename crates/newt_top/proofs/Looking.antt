@@ -2,7 +2,7 @@
 use Rattle.std.proofs.Common.{◌≡◌, inl, inr, ℕ, zero, suc, ◌*◌, ◌≤◌, Bool, true, false, List, [], ◌∷◌, ◌++◌, length, Option, Some, None, IsSome, Result, Ok as Good, Err as Bad, is_err, refl, sym, ◌∙◌, ap, subst, arith}
 use Rattle.std.specs.Prelude.{slice_get, option_map, option_and_then}
 use Rattle.std.proofs.lemmas.Bool.{cases_lt}
-use Rattle.newt_host.specs.Meanings.{out_of, since}
+use Rattle.newt_host.specs.Meanings.{device_on, out_of, since}
 use Rattle.newt_host.specs.Moments.{Attached, Change, IsDurable, IsHistory, LeftBy, Moment, Always, here, bytes_after, changes, image, moment_at, output}
 use Rattle.newt_host.specs.Outside.{Outside, NoFault, OnlyReads, PrintsSome, Rose, SameWork, Wears}
 use Rattle.newt_host.proofs.Extending.{extends-always}
@@ -20,7 +20,6 @@ use Rattle.newt_script_session.specs.Named.{AtEachMoment, held_by}
 use Rattle.newt_script_session.specs.Stream.{Puts, WroteSome}
 use Rattle.newt_script_session.specs.declared.halt.Halt.TheVariants.{Sink as NoSink}
 use Rattle.newt_script_session.proofs.Counting.{faults_err, never_of, none-append}
-use Rattle.newt_store_backup.specs.Written.{device_on}
 use Rattle.newt_top.specs.Calls.{RunEnds}
 use Rattle.newt_top.specs.Reading.{IsSaid, RanReading, WroteSaid}
 use Rattle.newt_top.specs.declared.status.Mode.TheVariants.{Read}

@@ -3,7 +3,7 @@ use Rattle.std.proofs.Common.{◌≡◌, inl, inr, ℕ, zero, suc, ◌+◌, ◌-
 use Rattle.std.proofs.lemmas.Bool.{cases_lt}
 use Rattle.std.proofs.lemmas.List.{length-append}
 use Rattle.newt_base.specs.declared.Refusal.{Refusal}
-use Rattle.newt_host.specs.Meanings.{out_of}
+use Rattle.newt_host.specs.Meanings.{device_on, out_of}
 use Rattle.newt_host.specs.Moments.{Change, On, Printed, Took, IsHistory, LeftBy, MayLeave, Moment, Always, here, bytes_after, changes, moment_at, output}
 use Rattle.newt_host.specs.Outside.{Outside, PrintsSome, SameCounts, SameWork, Wears}
 use Rattle.newt_host.proofs.Extending.{extends-always, moment-stays}
@@ -21,9 +21,8 @@ use Rattle.newt_script_session.specs.Stream.{Puts, WroteSome}
 use Rattle.newt_spec_image.specs.Records.{bank_blocks}
 use Rattle.newt_spec_store.specs.Cost.{cost}
 use Rattle.newt_spec_store.specs.Store.{Store}
-use Rattle.newt_store_backup.specs.Remade.{IsAsked, IsDone, IsLeft, IsRemade, Restores}
-use Rattle.newt_store_backup.specs.Written.{device_on}
-use Rattle.newt_store_backup.proofs.Remade.{one-outcome}
+use Rattle.newt_store_backup.specs.Restored.{IsAsked, IsDone, IsLeft, IsRestored, Restores}
+use Rattle.newt_store_backup.proofs.Outcomes.{one-outcome}
 use Rattle.newt_store_catalog.specs.Readable.{readable}
 use Rattle.newt_top.specs.Restoring.{CrashLeaves, IsMade, RanRestored, Replied, WritesOneDevice}
 use Rattle.newt_top.specs.declared.status.Status.TheVariants.{Ok, Memory, Device, Sink}
@@ -82,11 +81,11 @@ pub record HasHistory (new : Outside) : Type 0 where
 module _ {T : Type 0} (names : List (List ℕ)) (input : List ℕ) (old mid done : Outside) (r : Result T Stop) (fresh : (unit : ℕ) → changes unit old.now ≡ []) (a : AreAttached true names old mid)
     (restores : Restores true 0 input mid done r) where
   -- the device is attached as it was held
-  at-hand : (outcome : Result Store Refusal) → IsRemade input (held_by names old 0) outcome → IsRemade input (device_on 0 mid) outcome
-  at-hand outcome is = subst (λ (d : Option (List ℕ)). IsRemade input d outcome) (sym (device-held names old mid a 0)) is
+  at-hand : (outcome : Result Store Refusal) → IsRestored input (held_by names old 0) outcome → IsRestored input (device_on 0 mid) outcome
+  at-hand outcome is = subst (λ (d : Option (List ℕ)). IsRestored input d outcome) (sym (device-held names old mid a 0)) is
 
-  as-held : (outcome : Result Store Refusal) → IsRemade input (device_on 0 mid) outcome → IsRemade input (held_by names old 0) outcome
-  as-held outcome is = subst (λ (d : Option (List ℕ)). IsRemade input d outcome) (device-held names old mid a 0) is
+  as-held : (outcome : Result Store Refusal) → IsRestored input (device_on 0 mid) outcome → IsRestored input (held_by names old 0) outcome
+  as-held outcome is = subst (λ (d : Option (List ℕ)). IsRestored input d outcome) (device-held names old mid a 0) is
 
   -- each page was written once, and nothing was programmed after that
   once-by : (new : Outside) → SameWork 0 done new → (s : Store) → IsAsked (decoded input) (Good s) → new.programmed 0 ≤ old.programmed 0 + format_bytes (cost s)
@@ -102,7 +101,7 @@ module _ {T : Type 0} (names : List (List ℕ)) (input : List ℕ) (old mid done
   module _ (new : Outside) (past : HasHistory new) (text : List ℕ) (prints : Always (PrintsSome text done.now) done.now new.now) (cards : (unit : ℕ) → new.card unit ≡ done.card unit)
       (work : (unit : ℕ) → SameWork unit done new) where
     -- a store was refused
-    crash-refused : (refusal : Refusal) → IsRemade input (held_by names old 0) (Bad refusal) → CrashLeaves (Bad refusal) names old new
+    crash-refused : (refusal : Refusal) → IsRestored input (held_by names old 0) (Bad refusal) → CrashLeaves (Bad refusal) names old new
     crash-refused refusal is =
         let looks = restores.refused refl (Bad refusal) (at-hand (Bad refusal) is) refl in (
           λ unit. only-read old mid done new unit (a.counts.work unit) looks (work unit),
@@ -110,10 +109,10 @@ module _ {T : Type 0} (names : List (List ℕ)) (input : List ℕ) (old mid done
         )
 
     -- the call has answered
-    crash-done : IsDone input 0 mid done text → (outcome : Result Store Refusal) → IsRemade input (held_by names old 0) outcome → CrashLeaves outcome names old new
-    crash-done d outcome is = go outcome is (one-outcome input (device_on 0 mid) outcome d.outcome (at-hand outcome is) d.is_remade)
+    crash-done : IsDone input 0 mid done text → (outcome : Result Store Refusal) → IsRestored input (held_by names old 0) outcome → CrashLeaves outcome names old new
+    crash-done d outcome is = go outcome is (one-outcome input (device_on 0 mid) outcome d.outcome (at-hand outcome is) d.is_restored)
       where
-        go : (outcome : Result Store Refusal) → IsRemade input (held_by names old 0) outcome → d.outcome ≡ outcome → CrashLeaves outcome names old new
+        go : (outcome : Result Store Refusal) → IsRestored input (held_by names old 0) outcome → d.outcome ≡ outcome → CrashLeaves outcome names old new
         go (Good s) is same = made-left old done new quiet-done (still text done new prints) s mid (subst (λ (o : Result Store Refusal). IsLeft o 0 mid done) same d.left)
         go (Bad refusal) is same = crash-refused refusal is
 
@@ -121,7 +120,7 @@ module _ {T : Type 0} (names : List (List ℕ)) (input : List ℕ) (old mid done
   replied : (new : Outside) (text : List ℕ) → Always (PrintsSome text done.now) done.now new.now → (P : List ℕ → Type 0) → IsDone input 0 mid done text → P text → Replied names input P old new
   replied new text prints P d put = record {
     outcome = d.outcome;
-    is_outcome = as-held d.outcome d.is_remade;
+    is_outcome = as-held d.outcome d.is_restored;
     written = subst P d.text_is put;
     made = made-still old done new quiet-done (still text done new prints) d.outcome mid d.left;
   }
@@ -131,7 +130,7 @@ module _ {T : Type 0} (names : List (List ℕ)) (input : List ℕ) (old mid done
     none-put : Always (PrintsSome [] done.now) done.now done.now
     none-put = here (record { done = []; rest = []; split = refl; moment = refl })
 
-    crash-halted : (outcome : Result Store Refusal) → IsRemade input (held_by names old 0) outcome → CrashLeaves outcome names old done
+    crash-halted : (outcome : Result Store Refusal) → IsRestored input (held_by names old 0) outcome → CrashLeaves outcome names old done
     crash-halted (Good s) is = λ unit t left shown at was first more. none-shown was.0 old done shown quiet-done was.4 more
     crash-halted (Bad refusal) is = crash-refused done past [] none-put (λ unit. refl) (λ unit. SameWork-refl unit done) refusal is
 

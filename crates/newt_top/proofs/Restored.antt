@@ -14,11 +14,11 @@ use Rattle.newt_script_session.specs.declared.halt.Halt.TheVariants as halts
 use Rattle.newt_pagebook.specs.Book.{format_bytes}
 use Rattle.newt_spec_store.specs.Cost.{cost}
 use Rattle.newt_spec_store.specs.Store.{Store}
-use Rattle.newt_store_backup.specs.Remade.{IsRemade}
+use Rattle.newt_store_backup.specs.Restored.{IsRestored}
 use Rattle.newt_top.specs.Reading.{OnlyReadsDevices}
 use Rattle.newt_top.specs.Restoring.{CrashLeaves, RanRestored, RanRestoring, Replied, WroteRestored}
 use Rattle.newt_top.specs.Status.{status_of}
-use Rattle.newt_top.specs.Whole.{HasReadCause}
+use Rattle.newt_top.specs.Converting.{HasReadCause}
 use Rattle.newt_top.specs.declared.status.Status.{Status}
 use Rattle.newt_top.specs.declared.status.Status.TheVariants.{Ok, Usage, Memory, Device, Source, Sink, TooLong}
 
@@ -67,11 +67,11 @@ module _ (names : List (List ℕ)) (old mid new : Outside) (quiet : out_of mid �
       go None = refl
       go (Some name) = same.cards.devices name
 
-  is-over : (input : List ℕ) (outcome : Result Store Refusal) → IsRemade input (held_by names mid 0) outcome → IsRemade input (held_by names old 0) outcome
-  is-over input outcome is = subst (λ (d : Option (List ℕ)). IsRemade input d outcome) (held-same 0) is
+  is-over : (input : List ℕ) (outcome : Result Store Refusal) → IsRestored input (held_by names mid 0) outcome → IsRestored input (held_by names old 0) outcome
+  is-over input outcome is = subst (λ (d : Option (List ℕ)). IsRestored input d outcome) (held-same 0) is
 
-  is-under : (input : List ℕ) (outcome : Result Store Refusal) → IsRemade input (held_by names old 0) outcome → IsRemade input (held_by names mid 0) outcome
-  is-under input outcome is = subst (λ (d : Option (List ℕ)). IsRemade input d outcome) (sym (held-same 0)) is
+  is-under : (input : List ℕ) (outcome : Result Store Refusal) → IsRestored input (held_by names old 0) outcome → IsRestored input (held_by names mid 0) outcome
+  is-under input outcome is = subst (λ (d : Option (List ℕ)). IsRestored input d outcome) (sym (held-same 0)) is
 
   crash-over : (outcome : Result Store Refusal) → CrashLeaves outcome names mid new → CrashLeaves outcome names old new
   crash-over (Made s) crash = λ unit t left shown at was first out. crash unit t left shown at was first (subst (λ (o : List ℕ). length o < length shown) (sym quiet) out)

@@ -32,18 +32,18 @@ ended_as (Answered x) = Ok
 ended_as (Ended halt) = status_of halt
 
 -- a device is read in this mode, or a store is made on it, and where it fails the run ends
-abbrev pub ReadsDevice : Option Mode → Type 0
-ReadsDevice None = ⊥
-ReadsDevice (Some Run) = ⊥
-ReadsDevice (Some (Convert conversion)) = ⊥
-ReadsDevice (Some (Generate seed count)) = ⊥
-ReadsDevice (Some (Read reading)) = Unit {0}
-ReadsDevice (Some Restore) = Unit {0}
+abbrev pub NeedsDevice : Option Mode → Type 0
+NeedsDevice None = ⊥
+NeedsDevice (Some Run) = ⊥
+NeedsDevice (Some (Convert conversion)) = ⊥
+NeedsDevice (Some (Generate seed count)) = ⊥
+NeedsDevice (Some (Read reading)) = Unit {0}
+NeedsDevice (Some Restore) = Unit {0}
 
 -- the device of unit 0 failed where it was read; in the other modes a device that fails ends no run
 abbrev pub HasDeviceCause : Option Mode → ℕ → (old new : Outside) → Type 0
 HasDeviceCause mode unit old new =
-    ReadsDevice mode × (unit ≡ 0) × Rose (old.dev_faults 0) (new.dev_faults 0)
+    NeedsDevice mode × (unit ≡ 0) × Rose (old.dev_faults 0) (new.dev_faults 0)
 
 -- no fault was counted that would have ended a run: where a device is read none, in the other modes
 -- none of the input or of the output
@@ -88,4 +88,4 @@ pub record StatusFaults (mode : Option Mode) (status : Status) (old new : Outsid
   pub cause : HasStatusCause mode status old new
   pub no_fault : IsFaultFree mode status old new
   pub complete : ¬ Rose old.in_faults new.in_faults → ¬ Rose old.out_faults new.out_faults
-      → (ReadsDevice mode → ¬ Rose (old.dev_faults 0) (new.dev_faults 0)) → IsFaultless status
+      → (NeedsDevice mode → ¬ Rose (old.dev_faults 0) (new.dev_faults 0)) → IsFaultless status

@@ -3,8 +3,8 @@ ghost use Rattle.std.specs.Prelude.{◌≡◌, IsTrue, map, string_bytes};
 ghost use Rattle.newt_top.specs.Calls.{MayRun, RunEnds};
 ghost use Rattle.newt_top.specs.Restoring.{RanRestored, RanRestoring, WritesOneDevice};
 
+use crate::converting::whole_input;
 use crate::status::{Mode, Status, halted};
-use crate::whole::whole_input;
 use newt_host::{Host, Unit};
 use newt_host_attach::attach_names;
 use newt_pagebook::Stop;

@@ -5,7 +5,7 @@ use Rattle.newt_host.proofs.Outside.{NoFault-append, SameWork-refl}
 use Rattle.newt_script_session.specs.Calls.{OutputFailed, WriteCall}
 use Rattle.newt_script_session.specs.Named.{held_by}
 use Rattle.newt_script_session.proofs.Beginning.{attached_faultless}
-use Rattle.newt_store_backup.specs.Written.{device_on}
+use Rattle.newt_host.specs.Meanings.{device_on}
 use Rattle.newt_top.specs.Reading.{IsSaid}
 use Rattle.newt_top.specs.declared.status.Status.TheVariants.{Memory, Device}
 use Rattle.newt_top.proofs.Looking.{device-held, durable-held, ran-put, ran-unput, only-read, free-read, none-attached, ends-memory, ends-device, ends-put}

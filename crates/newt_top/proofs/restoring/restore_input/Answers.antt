@@ -1,7 +1,7 @@
 use Rattle.std.proofs.Common.{Bool, List, ℕ, Err, map, Global, string_bytes, sym, ap, ◌∙◌, subst}
 use Rattle.newt_host_attach.specs.Named.{AreAttached}
 use Rattle.newt_script_session.specs.Calls.{OutputFailed, WriteCall}
-use Rattle.newt_store_backup.specs.Remade.{IsDone, Restores}
+use Rattle.newt_store_backup.specs.Restored.{IsDone, Restores}
 use Rattle.newt_top.proofs.Making.{ran-failed, ran-replied, ran-short, writes-after, writes-before, writes-restored}
 use Rattle.newt_top.proofs.Naming.{distinct_names}
 use Rattle.newt_top.proofs.restoring.restore_input.Goals as goal

@@ -8,7 +8,7 @@ pub returns-in-Err-clause-ends : goal.returns-in-Err-clause-ends
 returns-in-Err-clause-ends g c = rw c.halted.ensures (ends_halted _ _ _ c.in-Err.halt (λ same. same) c.in-Err.ensures.call.faults)
 
 pub returns-in-Ok-clause-devices : goal.returns-in-Ok-clause-devices
-returns-in-Ok-clause-devices g c = c.run_whole.ensures.call.devices
+returns-in-Ok-clause-devices g c = c.convert_input.ensures.call.devices
 
 pub returns-in-Err-clause-devices : goal.returns-in-Err-clause-devices
-returns-in-Err-clause-devices g c = c.run_whole.ensures.call.devices
+returns-in-Err-clause-devices g c = c.convert_input.ensures.call.devices
