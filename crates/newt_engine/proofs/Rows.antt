@@ -15,7 +15,7 @@ use Rattle.newt_spec_world.specs.Changed.{changed}
 use Rattle.newt_spec_world.specs.Refused.{checks}
 use Rattle.newt_spec_world.specs.World.{World, one}
 use Rattle.newt_laws_answers.specs.Fetched.{pages_meant}
-use Rattle.newt_engine.specs.Bounds.{most_settled, most_stepped}
+use Rattle.newt_engine.specs.Bounds.{is_format, most_settled, most_stepped}
 use Rattle.newt_engine.specs.Ends.{takes_memory, uses_device}
 
 -- ---- ends
@@ -35,6 +35,10 @@ without_memory : (u n : ℕ) (s : List ℕ) (g : RawGraph) → list_any takes_me
 without_memory u n s g = refl
 
 -- ---- bytes
+
+-- what a mount programs is bounded
+bounded : (u : ℕ) → is_format (command.Mount u) ≡ false
+bounded u = refl
 
 -- commands and flat texts, open to computation
 unfoldable open_tables : Unit {0}
