@@ -1,6 +1,10 @@
 -- Steps of the whole, worked by hand: what a watch is told and what becomes of a working copy where a card fails.
-use Rattle.std.proofs.Common.{◌≡◌, refl, inl, inr, ℕ, List, [], ◌∷◌, ◌++◌, map, codes, false}
+-- Beside them, how many notes a watch has lost.
+use Rattle.std.proofs.Common.{◌≡◌, ◌≤◌, ◌<◌, ◌-◌, ◌^◌, arith, refl, inl, inr, ℕ, List, [], ◌∷◌}
+use Rattle.std.proofs.Common.{◌++◌, map, length, codes, false}
 use Rattle.std.specs.Prelude.{Ok}
+use Rattle.newt_notify.specs.declared.note.Note.{Note}
+use Rattle.newt_notify.specs.Watch.{lost_of}
 use Rattle.newt_spec_store.specs.Store.{Store, new_store, make_soup, add_entry, change_entry, change_soup, with_graph}
 use Rattle.newt_spec_world.specs.declared.command.Command.{Command}
 use Rattle.newt_spec_world.specs.declared.command.Command.TheVariants as command
@@ -149,3 +153,14 @@ neither_is_said = refl
 neither_is_run : IsRun WholeStep edited_once (sent (command.Open 0 S 0 ∷ command.Draft 1 ∷ command.Mount 0 ∷ command.Revert 0 ∷ command.Draft 0 ∷ [])) neither
 unfolding open_tables
 neither_is_run = (thrown {u = 0} (command.Get 0 S 0) (inl refl) refl refl, (plain refl refl, (plain refl refl, (thrown {u = 0} (command.Get 0 S 0) (inl refl) refl refl, (plain refl refl, tt)))))
+
+-- ---- how many notes a watch has lost
+
+-- the count is exact up to 2^32 - 1, and stops there
+counted : (most : ℕ) (notes : List Note) → length notes - most < 2 ^ 32
+    → lost_of most notes ≡ length notes - most
+counted most notes few = omega (arith, few)
+
+stopped : (most : ℕ) (notes : List Note) → 2 ^ 32 ≤ length notes - most
+    → lost_of most notes ≡ 4_294_967_295
+stopped most notes many = omega (arith, many)
