@@ -15,9 +15,9 @@ use Rattle.newt_reply.specs.declared.reply.Reply.{Reply}
 use Rattle.newt_reply.specs.declared.reply.Reply.TheVariants as reply
 use Rattle.newt_script_session.specs.Steps.{Stepped}
 use Rattle.newt_laws_whole.specs.Runs.{DraftsFit}
-use Rattle.newt_engine_card.specs.Bounds.{FetchesAtMost, FetchesWithin, IsOpenOrSame}
+use Rattle.newt_engine_card.specs.Bounds.{FetchesAtMost, FetchesWithin, FormatsOnce, IsOpenOrSame}
 use Rattle.newt_engine_cursors.specs.Unread.{steps_unread}
-use Rattle.newt_engine.specs.Bounds.{is_format, most_stepped}
+use Rattle.newt_engine.specs.Bounds.{is_format, most_formatted, most_stepped}
 use Rattle.newt_engine.specs.Calls.{IsNotThrown}
 use Rattle.newt_engine.specs.Standing.{stood_for}
 use Rattle.newt_engine_whole.specs.Bounds.{ProgramsInTurn, most_put, most_taken}
@@ -45,6 +45,8 @@ module _ {C : Type 0} (reads : List ℕ → Option Store) where
     pub alone : OnDevices before after
     pub bound : IsTrue told → is_format command ≡ false →
         (u : ℕ) → ProgramsInTurn (stood_for reads old.world before) asked u before after
+    pub format : IsTrue told → is_format command ≡ true →
+        (u : ℕ) → FormatsOnce (most_formatted command) 10 u before after
     pub fetched : IsTrue told → whole_means_entries command ≡ true →
         let w = stood_for reads old.world before in
         FetchesWithin (most_put w asked) (most_taken w asked) before after
