@@ -54,12 +54,14 @@ handed_obeyed {reads = reads} {place} {standing} {told} {found = found} {result 
       (ok_on on _ (unrefused_on _ _ _ _ never (call.answered t)));
   costs = λ t. costs_on on is other (call.costs t);
   alone = call.alone;
-  cause = err_on on _ call.cause;
   broke = subst (λ x. IfErr result (AtDevice (BreaksIn reads place standing told x old.units new.units o p))) (sym is) (err_on on _ call.broke);
-  no_fault = λ goes. call.no_fault (goes_back on goes);
-  ends = λ none. absurd (both-ways (sym none ∙ ap takes_memory is ∙ memory));
-  device = λ none. absurd (both-ways (sym none ∙ ap uses_device is ∙ device));
-  quiet = quiet_on on quiet;
+  ends = record {
+    cause = err_on on _ call.cause;
+    no_fault = λ goes. call.no_fault (goes_back on goes);
+    memory = λ none. absurd (both-ways (sym none ∙ ap takes_memory is ∙ memory));
+    device = λ none. absurd (both-ways (sym none ∙ ap uses_device is ∙ device));
+    quiet = quiet_on on quiet;
+  };
 }
 
 -- what shows or names where a cursor stands says of no unit that its device failed
@@ -87,13 +89,15 @@ handed_walked {reads = reads} {old = old} {o = o} {p} on is memory device quiet 
   answered = λ t apart settled. answered_on on _ _ is (call.answered t apart settled);
   fetches = λ t apart settled. subst (λ x. steps_unread (world_with reads old.units old.desk o) x ≡ true → FetchesAtMost (most_stepped (world_with reads old.units old.desk o) x) o p) (sym is)
       (call.fetches t apart settled);
-  cause = err_on on _ call.cause;
   failed = err_on on _ call.failed;
   kept = err_on on _ call.kept;
-  no_fault = λ goes. call.no_fault (goes_back on goes);
-  ends = λ no. absurd (both-ways (sym no ∙ ap takes_memory is ∙ memory));
-  device = λ no. absurd (both-ways (sym no ∙ ap uses_device is ∙ device));
-  quiet = quiet_on on quiet;
+  ends = record {
+    cause = err_on on _ call.cause;
+    no_fault = λ goes. call.no_fault (goes_back on goes);
+    memory = λ no. absurd (both-ways (sym no ∙ ap takes_memory is ∙ memory));
+    device = λ no. absurd (both-ways (sym no ∙ ap uses_device is ∙ device));
+    quiet = quiet_on on quiet;
+  };
 }
 
 -- and one that uses the cursors alone
@@ -107,13 +111,15 @@ handed_placed {reads = reads} {found = found} {c = c} {old = old} {o = o} on is 
   desk = desk;
   answered = λ t apart settled. answered_on on _ _ is (answered settled);
   fetches = λ t apart settled unread u. up (o.fetched u) (most_stepped (world_with reads old.units old.desk o) c u);
-  cause = err_on on _ (has_cause o o found (NoFault-refl o) none);
   failed = err_on on _ (none-devices _ found none);
   kept = err_on on _ (none-devices _ found none);
-  no_fault = λ goes. NoFault-refl o;
-  ends = λ no. err_on on _ (only (sym (ap takes_memory is) ∙ no));
-  device = λ no. err_on on _ none;
-  quiet = quiet_on on quiet;
+  ends = record {
+    cause = err_on on _ (has_cause o o found (NoFault-refl o) none);
+    no_fault = λ goes. NoFault-refl o;
+    memory = λ no. err_on on _ (only (sym (ap takes_memory is) ∙ no));
+    device = λ no. err_on on _ none;
+    quiet = quiet_on on quiet;
+  };
 }
   where
     up : (a b : ℕ) → a ≤ a + b

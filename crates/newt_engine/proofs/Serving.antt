@@ -124,12 +124,8 @@ served_fault {reads = reads} laws told old new o p s eight c none fault e =
           (λ means. alone_few old.desk (world_of reads old.units o) c o p (whole_known laws told old o s t c none) ((e.costs t).fetched means));
       step = λ t unread. absurd (unread_uses_cursor (stood_for reads old o) c none unread);
       alone = e.alone;
-      cause = e.cause;
       broke = at-device-map _ _ fault (λ u b. inl (fails_with c none e.desk b)) e.broke;
-      no_fault = e.no_fault;
       ends = e.ends;
-      device = e.device;
-      quiet = tt;
     }
 
 -- the same of a call whose fault is handed on
@@ -163,10 +159,12 @@ served_ended {reads = reads} {place} {stands = stands} laws told old new o p s e
       costs = λ t. let k = costs t in record { bound = k.bound; format = k.format; fetched = k.fetched; open_after = λ goes. k.open_after (fault-goes {T = Reply} S (Err fault) (fault, refl, refl) goes) };
       step = λ t unread. absurd (unread_uses_cursor (stood_for reads old o) c none unread);
       alone = over.alone;
-      cause = over.cause;
       broke = broke;
-      no_fault = over.no_fault;
-      ends = λ no. absurd (both-ways (sym no ∙ memory));
-      device = λ no. absurd (both-ways (sym no ∙ device));
-      quiet = tt;
+      ends = record {
+        cause = over.cause;
+        no_fault = over.no_fault;
+        memory = λ no. absurd (both-ways (sym no ∙ memory));
+        device = λ no. absurd (both-ways (sym no ∙ device));
+        quiet = tt;
+      };
     })

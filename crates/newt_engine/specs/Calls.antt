@@ -46,6 +46,17 @@ use Rattle.std.specs.declared.alloc.AllocError.{AllocError}
 abbrev pub IsNotThrown : Reply → Type 0
 IsNotThrown it = (u : ℕ) → throws u (said it) ≡ false
 
+-- How a command ends: with its cause, and where it goes on, no fault was counted; only what may take
+-- memory ends in want of it, only what uses a device ends at one, and a reply says of no unit that it
+-- was thrown out.
+pub record CommandEnds (command : Command) (before after : Outside)
+    (result : Result Reply StoreFault) : Type 0 where
+  pub cause : IfErr result (λ fault. HasFaultCause fault before after)
+  pub no_fault : GoesOn result → NoFault before after
+  pub memory : takes_memory command ≡ false → IfErr result (λ fault. IsRefusal fault)
+  pub device : uses_device command ≡ false → IfErr result (λ fault. NoDevice fault)
+  pub quiet : IfOk result (λ it. IsNotThrown it)
+
 module _ {C : Type 0} (reads : List ℕ → Option Store) (place : C → ℕ)
     (standing : Bool → C → Outside → Type 0) where
   -- A command that uses no cursor, by the world without cursors, as the command sees it: the units
@@ -67,13 +78,9 @@ module _ {C : Type 0} (reads : List ℕ → Option Store) (place : C → ℕ)
     pub costs : IsTrue told → let w = world_of reads old.units before in
         CommandCosts w command (most_fetched w command) result before after
     pub alone : OnDevices before after
-    pub cause : IfErr result (λ fault. HasFaultCause fault before after)
     pub broke : IfErr result
         (AtDevice (BreaksIn reads place standing told command old.units new.units before after))
-    pub no_fault : GoesOn result → NoFault before after
-    pub ends : takes_memory command ≡ false → IfErr result (λ fault. IsRefusal fault)
-    pub device : uses_device command ≡ false → IfErr result (λ fault. NoDevice fault)
-    pub quiet : IfOk result (λ it. IsNotThrown it)
+    pub ends : CommandEnds command before after result
 
   -- A command that uses no device, by the world without cursors, whatever the devices hold: the
   -- units answer it, the cursors stay what they were, and only want of memory ends the run, and
@@ -123,13 +130,9 @@ module _ {C : Type 0} (reads : List ℕ → Option Store) (place : C → ℕ)
     pub fetches : IsTrue told → let w = world_with reads old.units old.desk before in
         MountedApart w → IsSettled w → steps_unread w command ≡ true
         → FetchesAtMost (most_stepped w command) before after
-    pub cause : IfErr result (λ fault. HasFaultCause fault before after)
     pub failed : IfErr result (AtDevice (FailsAlone before after))
     pub kept : IfErr result (AtDevice (λ u. new.desk ≡ old.desk))
-    pub no_fault : GoesOn result → NoFault before after
-    pub ends : takes_memory command ≡ false → IfErr result (λ fault. IsRefusal fault)
-    pub device : uses_device command ≡ false → IfErr result (λ fault. NoDevice fault)
-    pub quiet : IfOk result (λ it. IsNotThrown it)
+    pub ends : CommandEnds command before after result
 
   -- What stands where the device of a unit has failed in a command: but for that unit all is as it
   -- was; and nothing has happened to it where the store of the unit was not to be written, no sync
@@ -173,13 +176,9 @@ module _ {C : Type 0} (reads : List ℕ → Option Store) (place : C → ℕ)
     pub step : IsTrue told → let w = world_with reads old.units old.desk before in
         steps_unread w command ≡ true → FetchesAtMost (most_stepped w command) before after
     pub alone : OnDevices before after
-    pub cause : IfErr result (λ fault. HasFaultCause fault before after)
     pub broke : IfErr result (AtDevice (λ u. Fails told command old new before after u
         ⊎ FailsHalfway told command old new before after u))
-    pub no_fault : GoesOn result → NoFault before after
-    pub ends : takes_memory command ≡ false → IfErr result (λ fault. IsRefusal fault)
-    pub device : uses_device command ≡ false → IfErr result (λ fault. NoDevice fault)
-    pub quiet : IfOk result (λ it. IsNotThrown it)
+    pub ends : CommandEnds command before after result
 
 module _ {C : Type 0} (reads : List ℕ → Option Store) where
   -- How a command ends. What is attached, the input and the output are as they were. But for a

@@ -13,11 +13,11 @@ mod backup;
 mod gather;
 mod laws;
 mod restore;
-mod restored;
+mod restoring;
 mod text;
 
 pub use laws::backups_are_restored;
-pub use restored::restore_text;
+pub use restoring::restore_text;
 pub use text::backup_text;
 
 #[cfg(test)]

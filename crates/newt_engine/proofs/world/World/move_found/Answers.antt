@@ -246,10 +246,12 @@ returns g c name target both =
       costs = λ t. moved-costs (b t) first s.read (few t) second (λ goes. tt);
       step = λ t unread. absurd (unread_uses_cursor (with_cursors start.desk w) cmd none unread);
       alone = ends.alone;
-      cause = ends.cause;
       broke = tt;
-      no_fault = ends.no_fault;
-      ends = λ no. absurd (both-ways (sym no));
-      device = λ no. absurd (both-ways (sym no));
-      quiet = λ v. ap (λ (k : Shown). throws v (said k)) s.same;
+      ends = record {
+        cause = ends.cause;
+        no_fault = ends.no_fault;
+        memory = λ no. absurd (both-ways (sym no));
+        device = λ no. absurd (both-ways (sym no));
+        quiet = λ v. ap (λ (k : Shown). throws v (said k)) s.same;
+      };
     }

@@ -35,12 +35,14 @@ returns-in-Nsof g c =
       unrefused = λ t moves. absurd (moves_on_devices _ moves (ap uses_device c.in-Nsof.is));
       costs = λ t. still_costs (λ u. alone-refl u _) (λ means. idle-fetches _ _ o);
       alone = OnDevices-refl o;
-      cause = tt;
       broke = tt;
-      no_fault = λ goes. NoFault-refl o;
-      ends = λ none. tt;
-      device = λ none. tt;
-      quiet = λ u. refl;
+      ends = record {
+        cause = tt;
+        no_fault = λ goes. NoFault-refl o;
+        memory = λ none. tt;
+        device = λ none. tt;
+        quiet = λ u. refl;
+      };
     }
 
 pub returns-in-Lit : goal.returns-in-Lit
@@ -54,12 +56,14 @@ returns-in-Lit g c =
       unrefused = λ t moves. absurd (moves_on_devices _ moves (ap uses_device c.in-Lit.is));
       costs = λ t. still_costs (λ u. alone-refl u _) (λ means. idle-fetches _ _ o);
       alone = OnDevices-refl o;
-      cause = tt;
       broke = tt;
-      no_fault = λ goes. NoFault-refl o;
-      ends = λ none. tt;
-      device = λ none. tt;
-      quiet = λ u. refl;
+      ends = record {
+        cause = tt;
+        no_fault = λ goes. NoFault-refl o;
+        memory = λ none. tt;
+        device = λ none. tt;
+        quiet = λ u. refl;
+      };
     }
 
 pub format-requires-clause-sig : goal.format-requires-clause-sig
@@ -85,12 +89,14 @@ returns-in-Format g c =
       unrefused = λ t moves. absurd (moves_no_format _ _ _ (subst (λ x. moves_keys x ≡ true) c.in-Format.is moves));
       costs = λ t. format_costs c.in-Format.is call.costs (λ goes. call.open_after t (goes_back on goes));
       alone = call.ends.alone;
-      cause = err_on on _ call.ends.cause;
       broke = subst (λ x. IfErr c.done.result (AtDevice (BreaksIn g.C.Card.reads g.C.Card.place g.C.Card.stands g.H.Host.told x c.args.self.now.units c.format.new.self o p))) (sym c.in-Format.is) (err_on on _ call.broke);
-      no_fault = λ goes. call.ends.no_fault (goes_back on goes);
-      ends = λ none. absurd (both-ways (sym none ∙ ap takes_memory c.in-Format.is));
-      device = λ none. absurd (both-ways (sym none ∙ ap uses_device c.in-Format.is));
-      quiet = quiet_on on (λ x u. refl);
+      ends = record {
+        cause = err_on on _ call.ends.cause;
+        no_fault = λ goes. call.ends.no_fault (goes_back on goes);
+        memory = λ none. absurd (both-ways (sym none ∙ ap takes_memory c.in-Format.is));
+        device = λ none. absurd (both-ways (sym none ∙ ap uses_device c.in-Format.is));
+        quiet = quiet_on on (λ x u. refl);
+      };
     }
 
 pub returns-in-Mount : goal.returns-in-Mount
@@ -172,10 +178,12 @@ returns-in_default g c =
       unrefused = λ t moves. absurd (moves_on_devices c.args.command moves no_device);
       costs = λ t. still_costs (λ u. alone-refl u _) (λ means. idle-fetches _ _ o);
       alone = OnDevices-refl o;
-      cause = has_cause _ _ _ (NoFault-refl o) call.device;
       broke = none-devices _ _ call.device;
-      no_fault = λ goes. NoFault-refl o;
-      ends = call.ends;
-      device = λ uses_none. call.device;
-      quiet = call.quiet;
+      ends = record {
+        cause = has_cause _ _ _ (NoFault-refl o) call.device;
+        no_fault = λ goes. NoFault-refl o;
+        memory = call.ends;
+        device = λ uses_none. call.device;
+        quiet = call.quiet;
+      };
     }

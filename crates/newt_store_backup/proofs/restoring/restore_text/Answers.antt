@@ -3,7 +3,7 @@ use Rattle.newt_host.proofs.Outside.{NoFault-refl, OnlyReads-refl}
 use Rattle.newt_nsof_read.specs.Reading.{decoded}
 use Rattle.newt_store_backup.specs.Restored.{IsAsked}
 use Rattle.newt_store_backup.proofs.Outcomes.{done-unasked, ends-memory, restores-looked}
-use Rattle.newt_store_backup.proofs.restored.restore_text.Goals as goal
+use Rattle.newt_store_backup.proofs.restoring.restore_text.Goals as goal
 
 pub returns-in_err-directory-clause-restores : goal.returns-in_err-directory-clause-restores
 returns-in_err-directory-clause-restores g c =

@@ -4,7 +4,7 @@ use Rattle.newt_backup.specs.Contents.{store_in}
 use Rattle.newt_spec_store.specs.Valid.{fits}
 use Rattle.newt_store_backup.specs.Restored.{refused_on}
 use Rattle.newt_store_backup.proofs.Outcomes.{device-there, full-refused, none-refused}
-use Rattle.newt_store_backup.proofs.restored.refusal_on.Goals as goal
+use Rattle.newt_store_backup.proofs.restoring.refusal_on.Goals as goal
 
 pub returns-then-not-branch-clause-refusal : goal.returns-then-not-branch-clause-refusal
 returns-then-not-branch-clause-refusal g c = λ told.

@@ -1,7 +1,7 @@
 use Rattle.std.proofs.Common.{rules, ◌≡◌, None, Some, sym, ◌∙◌, ap, List, ℕ}
 use Rattle.newt_backup.specs.Contents.{store_in}
 use Rattle.newt_store_backup.proofs.Outcomes.{done-refused, done-if, restores-looked, restores-made, ends-memory, ends-of}
-use Rattle.newt_store_backup.proofs.restored.restore_to.Goals as goal
+use Rattle.newt_store_backup.proofs.restoring.restore_to.Goals as goal
 
 pub returns-in_err-refusal-clause-restores : goal.returns-in_err-refusal-clause-restores
 returns-in_err-refusal-clause-restores g c = λ input asked.
