@@ -57,6 +57,7 @@ module _ {C : Type 0} {reads : List ℕ → Option Store} {place : C → ℕ} {s
     finished = record {
       alone = e.alone;
       bound = λ t other. (e.costs t).bound other;
+      format = λ t. (e.costs t).format;
       settling = λ t. (e.costs t).fetched;
       step = e.step;
       open_after = λ t u other. (e.costs t).open_after tt u;
@@ -82,7 +83,7 @@ module _ {C : Type 0} {reads : List ℕ → Option Store} {place : C → ℕ} {s
     stands = λ goes. e.stands tt;
     answered = e.answered;
     moments = e.moments;
-    costs = λ t. let k = e.costs t in record { bound = k.bound; fetched = k.fetched; open_after = λ goes. k.open_after tt };
+    costs = λ t. let k = e.costs t in record { bound = k.bound; format = k.format; fetched = k.fetched; open_after = λ goes. k.open_after tt };
     step = e.step;
     alone = e.alone;
     broke = tt;
@@ -104,6 +105,7 @@ module _ {C : Type 0} {reads : List ℕ → Option Store} {place : C → ℕ} {s
     finished = record {
       alone = e.alone;
       bound = λ t other. (e.costs t).bound other;
+      format = λ t. (e.costs t).format;
       settling = λ t. (e.costs t).fetched;
       step = e.step;
       open_after = λ t. tt;
@@ -128,6 +130,7 @@ module _ {C : Type 0} {reads : List ℕ → Option Store} {place : C → ℕ} {s
     finished-thrown opens failed = record {
       alone = e.alone;
       bound = λ t other. (e.costs t).bound other;
+      format = λ t. (e.costs t).format;
       settling = λ t. (e.costs t).fetched;
       step = e.step;
       open_after = λ t n other. opens t n (λ is. other (ap {B = Reply} (λ k. reply.Thrown k) (sym is)));

@@ -33,7 +33,7 @@ use Rattle.newt_spec_world.specs.Answer.{or_nil}
 use Rattle.newt_engine_cursors.specs.Unread.{steps_unread}
 use Rattle.newt_engine_cursors.specs.Fits.{DeskFits}
 use Rattle.newt_engine_cursors.specs.World.{world_with}
-use Rattle.newt_engine.specs.Bounds.{most_stepped}
+use Rattle.newt_engine.specs.Bounds.{is_format, most_stepped}
 use Rattle.newt_engine.specs.Calls.{Obeyed, Walked}
 use Rattle.newt_engine.specs.Ends.{takes_memory, uses_device}
 use Rattle.newt_engine.specs.Handed.{HandsOn}
@@ -43,16 +43,16 @@ use Rattle.newt_engine.proofs.Handed.{answered_on, err_on, goes_back, has_cause,
 
 -- the command is one that may take memory and use a device
 pub handed_obeyed : {C : Type 0} {reads : List ℕ → Option Store} {place : C → ℕ} {standing : Bool → C → Outside → Type 0} {told : Bool} {T : Type 0} {made : T → plain.Reply} {found : Result T StoreFault}
-    {result : Result Reply StoreFault} {c d : Command} {old new : World C} {o p : Outside} → HandsOn made found result → c ≡ d → takes_memory d ≡ true → uses_device d ≡ true
+    {result : Result Reply StoreFault} {c d : Command} {old new : World C} {o p : Outside} → HandsOn made found result → c ≡ d → takes_memory d ≡ true → uses_device d ≡ true → is_format d ≡ false
     → ((x : T) (r : Refusal) → made x ≡ plain.Reply.refused r → ⊥) → ((x : T) (u : ℕ) → throws u (made x) ≡ false) → Obeys reads place standing told d made old.units new.units o p found → new.desk ≡ old.desk → Obeyed reads place standing told c old new o p result
-handed_obeyed {reads = reads} {place} {standing} {told} {found = found} {result = result} {c = c} {old = old} {new = new} {o = o} {p} on is memory device never quiet call desk = record {
+handed_obeyed {reads = reads} {place} {standing} {told} {found = found} {result = result} {c = c} {old = old} {new = new} {o = o} {p} on is memory device other never quiet call desk = record {
   stands = λ goes. call.stands (goes_back on goes);
   answered = λ t. subst (λ x. Answers (seen reads (world_of reads old.units o) o.now x) (world_of reads new.units p) x said result) (sym is) (answered_on on _ _ refl (call.answered t));
   moments = λ t. moments_same reads _ _ _ _ c _ is (call.moments t);
   desk = desk;
   unrefused = λ t moves. subst (λ x. OnOk result (first_of (checks (seen reads (world_of reads old.units o) o.now x) x) ≡ None)) (sym is)
       (ok_on on _ (unrefused_on _ _ _ _ never (call.answered t)));
-  costs = λ t. costs_on on is (call.costs t);
+  costs = λ t. costs_on on is other (call.costs t);
   alone = call.alone;
   broke = subst (λ x. IfErr result (AtDevice (BreaksIn reads place standing told x old.units new.units o p))) (sym is) (err_on on _ call.broke);
   ends = record {

@@ -25,7 +25,8 @@ use Rattle.newt_laws_reach.specs.Reach.{Reach, entry_reached, is_of_one, settle_
 use Rattle.newt_store_change.specs.Change.{pages_of_entry}
 use Rattle.newt_store_change.specs.Faults.{GoesOn, HasFaultCause, IsEnd, IsRefusal, NoDevice}
 use Rattle.newt_store_change.specs.declared.fault.StoreFault.{StoreFault}
-use Rattle.newt_engine_card.specs.Bounds.{FetchesAtMost, FetchesWithin, IsOpenOrSame, ProgramsAtMost}
+use Rattle.newt_engine_card.specs.Bounds.{FetchesAtMost, FetchesWithin, FormatsOnce}
+use Rattle.newt_engine_card.specs.Bounds.{IsOpenOrSame, ProgramsAtMost}
 use Rattle.newt_engine_units.specs.Answers.{Answers}
 use Rattle.newt_engine_units.specs.Breaks.{AtDevice, FailsAlone, HasStoreToFormat, Meanwhile}
 use Rattle.newt_engine_units.specs.Calls.{AreRead, BreaksIn, Ended}
@@ -34,7 +35,8 @@ use Rattle.newt_engine_cursors.specs.Fits.{DeskFits}
 use Rattle.newt_engine_cursors.specs.Reached.{in_reach}
 use Rattle.newt_engine_cursors.specs.Unread.{steps_unread}
 use Rattle.newt_engine_cursors.specs.World.{world_with}
-use Rattle.newt_engine.specs.Bounds.{CommandCosts, is_format, most_settled, most_stepped}
+use Rattle.newt_engine.specs.Bounds.{CommandCosts, is_format, most_formatted, most_settled}
+use Rattle.newt_engine.specs.Bounds.{most_stepped}
 use Rattle.newt_engine.specs.Ends.{takes_memory, uses_device}
 use Rattle.newt_engine.specs.Standing.{Standing, means, stood_for}
 use Rattle.newt_engine.specs.declared.world.World.{World}
@@ -180,17 +182,19 @@ module _ {C : Type 0} (reads : List ℕ → Option Store) (place : C → ℕ)
 
 module _ {C : Type 0} (reads : List ℕ → Option Store) where
   -- How a command ends. What is attached, the input and the output are as they were. But for a
-  -- format each unit that has room is programmed by no more than the command may, is not erased, and
-  -- is synced twice at most; where the command is one of entries, for each page of those that it
-  -- means 1024 bytes at most are fetched there; one that opens, shows, moves or counts a cursor whose
-  -- query asks for no words or texts fetches 512 for each page of the entry that it answers. After a
-  -- reply each bank is not closed or is as it was, but for a unit that was thrown out. No fault was
-  -- counted but of a unit that the reply says was thrown out, and of that one a fault was; want of
-  -- memory hides none, and only what may take memory ends in it; and only what uses a device throws a
-  -- unit out.
+  -- format each unit that has room is programmed by no more than the command may, is not erased,
+  -- and is synced twice at most, and a format wears once; where the command is one of entries, for
+  -- each page of those that it means 1024 bytes at most are fetched there; one that opens, shows,
+  -- moves or counts a cursor whose query asks for no words or texts fetches 512 for each page of
+  -- the entry that it answers. After a reply each bank is not closed or is as it was, but for a
+  -- unit that was thrown out. No fault was counted but of a unit that the reply says was thrown
+  -- out, and of that one a fault was; want of memory hides none, and only what may take memory ends
+  -- in it; and only what uses a device throws a unit out.
   pub record Finished (told : Bool) (command : Command) (old : World C) (before after : Outside) (result : Result Reply AllocError) : Type 0 where
     pub alone : OnDevices before after
     pub bound : IsTrue told → is_format command ≡ false → (u : ℕ) → ProgramsAtMost (most_programmed (stood_for reads old before) command u) u before after
+    pub format : IsTrue told → is_format command ≡ true → (u : ℕ)
+        → FormatsOnce (most_formatted command) 10 u before after
     pub settling : IsTrue told → means_entries command ≡ true → let w = stood_for reads old before in FetchesWithin (most_programmed w command) (most_settled w command) before after
     pub step : IsTrue told → let w = stood_for reads old before in steps_unread w command ≡ true → FetchesAtMost (most_stepped w command) before after
     pub open_after : IsTrue told → IfOk result (λ it. (u : ℕ) → it ≢ reply.Thrown u → IsOpenOrSame u before.now after.now)

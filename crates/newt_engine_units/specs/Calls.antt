@@ -3,9 +3,11 @@ use Rattle.std.specs.Prelude.{◌≡◌, ◌≢◌, ◌*◌, ℕ, ◌≤◌, Boo
 use Rattle.std.specs.Prelude.{Some, None, IsSome, Result, IfOk, IfErr, OnOk, OnErr, if◌then◌else◌}
 use Rattle.newt_host.specs.Moments.{Always, On, Synced, changes}
 use Rattle.newt_host.specs.Outside.{Outside, NoFault, OnDevices, Touches, Wears}
+use Rattle.newt_pagebook.specs.Book.{format_bytes}
 use Rattle.newt_pagebook.specs.Stops.{HasStopCause}
 use Rattle.newt_pagebook.specs.declared.book.Stop.{Stop}
 use Rattle.newt_pagebook.specs.declared.book.Stop.TheVariants.{Device as Broken}
+use Rattle.newt_spec_store.specs.Cost.{cost}
 use Rattle.newt_spec_store.specs.Keys.{Path}
 use Rattle.newt_spec_store.specs.Store.{Store, entry_at, new_store}
 use Rattle.newt_spec_world.specs.declared.command.Command.{Command}
@@ -26,7 +28,8 @@ use Rattle.newt_store_change.specs.declared.change.Change.{Change}
 use Rattle.newt_store_change.specs.declared.entry.Entry.{Entry}
 use Rattle.newt_store_change.specs.declared.fault.StoreFault.{StoreFault}
 use Rattle.newt_store_change.specs.declared.fault.StoreFault.TheVariants.{Stop as Ends}
-use Rattle.newt_engine_card.specs.Bounds.{Costs, CostsOn, FetchesAtMost, FetchesOn, IsOpenOrSame, LeftAlone, of_unit}
+use Rattle.newt_engine_card.specs.Bounds.{Costs, CostsOn, FetchesAtMost, FetchesOn, FormatsOnce}
+use Rattle.newt_engine_card.specs.Bounds.{IsOpenOrSame, LeftAlone, of_unit}
 use Rattle.newt_engine_units.specs.Answers.{Answers}
 use Rattle.newt_engine_units.specs.Breaks.{AtDevice, AtStop, FailsAlone, HasStoreToFormat, Meanwhile}
 use Rattle.newt_engine_units.specs.Faces.{with_due}
@@ -200,12 +203,15 @@ module _ {C : Type 0} (reads : List ℕ → Option Store) (place : C → ℕ)
         → store_on_unit v unit ≡ Some (new_store name sig)
         → Always (Meanwhile reads (due_in units.slots.items) w command v before.now)
         before.now after.now
+    pub costs : (u : ℕ)
+        → FormatsOnce (format_bytes (cost (new_store name sig))) 9 u before after
     pub open_after : IsTrue told → GoesOn result → (u : ℕ) → IsOpenOrSame u before.now after.now
     pub ends : Ended result before after
     pub broke : IfErr result (AtDevice (λ u. (u ≡ unit) × Breaks told units units before after u))
 
-  -- A format that is commanded promises what every command does but how much it programs: where the
-  -- run goes on, each bank is not closed or its unit is read as it was.
+  -- A format that is commanded promises what every command does, but that it costs what a format
+  -- does, with one sync more, that of a unit in doubt: where the run goes on, each bank is not
+  -- closed or its unit is read as it was.
   pub record Formats (told : Bool) (unit : ℕ) (name : List ℕ) (sig : ℕ) (old new : Units C)
       (before after : Outside) (result : Result (Unit {0}) StoreFault) : Type 0 where
     pub stands : GoesOn result → Stands place standing told new after
@@ -216,6 +222,8 @@ module _ {C : Type 0} (reads : List ℕ → Option Store) (place : C → ℕ)
         let c = command.Format unit name sig in
         Always (Meanwhile reads (due_in old.slots.items) w c
         (answer (seen reads w before.now c) c).0 before.now) before.now after.now
+    pub costs : (u : ℕ)
+        → FormatsOnce (format_bytes (cost (new_store name sig))) 10 u before after
     pub open_after : IsTrue told → GoesOn result → (u : ℕ) → IsOpenOrSame u before.now after.now
     pub ends : Ended result before after
     pub broke : IfErr result

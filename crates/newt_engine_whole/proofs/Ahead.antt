@@ -92,7 +92,7 @@ module _ {C : Type 0} {reads : List ℕ → Option Store} {place : C → ℕ} {s
   read-handed {it} other turn a = record {
     stands = record { world = a.stands; watches = begun.watches; drafts = begun.drafts };
     stepped = λ t h m. go h m (found t h m) (a.obeyed t h.world m.world);
-    ended = reading-ended at.unit at.uid at.name (λ w. refl) refl refl turn a.finished a.finished.open_after a.finished.threw a.finished.failed tt;
+    ended = reading-ended at.unit at.uid at.name (λ w. refl) refl refl refl turn a.finished a.finished.open_after a.finished.threw a.finished.failed tt;
   }
     where
       go : (h : plain.Whole) → Means reads old o h → AllFormed h.world × IsAt h n at → Obeys reads {R = Reply} {E = AllocError} said (means reads mid p) h.world (command.Get at.unit at.name at.uid) (Ok it) o.now p.now

@@ -34,6 +34,7 @@ use Rattle.newt_laws_steps.specs.StandsFor.{Marks, StandsFor}
 use Rattle.newt_laws_steps.specs.Thrown.{Threw}
 use Rattle.newt_laws_steps.proofs.Held.{stands-left}
 use Rattle.newt_laws_world.specs.Worlds.{is_plain}
+use Rattle.newt_engine_units.proofs.Costs.{alone-once, alone-refl}
 use Rattle.newt_engine.specs.Calls.{IsNotThrown}
 use Rattle.newt_engine.specs.Standing.{IsStanding, marks_of}
 use Rattle.newt_engine.specs.declared.world.World.{World as Engine}
@@ -170,6 +171,7 @@ pub rest-ended : {C : Type 0} (reads : List ℕ → Option Store) (told : Bool) 
 rest-ended reads told old o c {asked} result memory quiet = record {
   alone = OnDevices-refl o;
   bound = λ t other u. record { programmed = λ room. no-more (o.programmed u) _; wears = λ room. Wears-widen 0 0 0 (2 * length asked) (omega arith) (omega arith) (Wears-refl u o) };
+  format = λ t is u. alone-once 10 (alone-refl u o);
   fetched = λ t means u room. no-more (o.fetched u) _;
   step = λ t unread u. no-more (o.fetched u) _;
   open_after = λ t. each_ok result (λ it u other. inr refl);

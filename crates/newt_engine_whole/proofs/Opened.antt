@@ -39,6 +39,7 @@ use Rattle.newt_laws_whole.proofs.Fits.{entry-in-can, put-all}
 use Rattle.newt_laws_whole.proofs.Reading.{GetsOr, entry_tests, gets, open-done, open-full, open-refused, open-thrown}
 use Rattle.newt_engine_card.specs.Bounds.{IsOpenOrSame}
 use Rattle.newt_engine_cursors.specs.Unread.{steps_unread}
+use Rattle.newt_engine.specs.Bounds.{is_format}
 use Rattle.newt_engine.specs.Calls.{Applied as Inner, Finished}
 use Rattle.newt_engine.specs.Standing.{IsStanding, means, stood_for}
 use Rattle.newt_engine.specs.declared.world.World.{World as Engine}
@@ -54,17 +55,18 @@ use Rattle.newt_engine_whole.proofs.Turns.{as-other}
 -- ---- how a command ends that asks to read one entry, and nothing more was done
 
 pub reading-ended : {C : Type 0} {reads : List ℕ → Option Store} {told : Bool} {c : Command} {old : Whole C} {o p : Outside} {inner result : Result Reply AllocError} (u uid : ℕ) (s : List ℕ)
-    → ((w : World) → steps_unread w c ≡ false) → whole_takes_memory c ≡ true → whole_uses_device c ≡ true
+    → ((w : World) → steps_unread w c ≡ false) → is_format c ≡ false → whole_takes_memory c ≡ true → whole_uses_device c ≡ true
     → (IsTrue told → (rest : List Command) × (asked_in_turn (known_whole reads old o) c ≡ command.Get u s uid ∷ rest))
     → Finished reads told (command.Get u s uid) old.world o p inner → (IsTrue told → IfOk result (λ it. (x : ℕ) → (it ≡ reply.Thrown x → ⊥) → IsOpenOrSame x o.now p.now))
     → IfOk result (λ it. Threw (said it) o.dev_faults p.dev_faults) → IfOk result (λ it. Failed (said it) o.dev_faults p.dev_faults) → OnErr result ((x : ℕ) → p.dev_faults x ≡ o.dev_faults x)
     → Ended reads told c (asked_in_turn (known_whole reads old o) c) old o p result
-reading-ended {C} {reads} {told} {c} {old} {o} {p} {inner} {result} u uid s unread memory device turn f opens threw failed unhidden =
+reading-ended {C} {reads} {told} {c} {old} {o} {p} {inner} {result} u uid s unread other memory device turn f opens threw failed unhidden =
     let w = stood_for reads old.world o in
     let get = command.Get u s uid in
     record {
       alone = f.alone;
       bound = λ t other x. let k = turn t in subst (λ (ds : List Command). ProgramsInTurn w ds x o p) (sym k.1) (first-programs w get k.0 x (f.bound t refl x));
+      format = λ t is. absurd (both-ways (sym other ∙ is));
       fetched = λ t entries x. let k = turn t in
           subst (λ (ds : List Command). IsOpenFor (most_put w ds x) (image x o.now) → p.fetched x ≤ o.fetched x + most_taken w ds x) (sym k.1) (first-fetches w get k.0 x o p (f.settling t refl x));
       step = λ t steps. absurd (both-ways (sym (unread w) ∙ steps));
@@ -162,7 +164,7 @@ module _ {C : Type 0} {reads : List ℕ → Option Store} {place : C → ℕ} {s
   open-handed {it} other a = record {
     stands = record { world = a.stands; watches = begun.watches; drafts = begun.drafts };
     stepped = λ t h m. go h m (a.obeyed t h.world m.world);
-    ended = reading-ended u uid s (λ w. refl) refl refl (λ t. ([], open-turn (known_whole reads old o) u uid s)) a.finished a.finished.open_after a.finished.threw a.finished.failed tt;
+    ended = reading-ended u uid s (λ w. refl) refl refl refl (λ t. ([], open-turn (known_whole reads old o) u uid s)) a.finished a.finished.open_after a.finished.threw a.finished.failed tt;
   }
     where
       go : (h : plain.Whole) → Means reads old o h → Obeys reads {R = Reply} {E = AllocError} said (means reads mid p) h.world (command.Get u s uid) (Ok it) o.now p.now
@@ -241,7 +243,7 @@ module _ {C : Type 0} {reads : List ℕ → Option Store} {place : C → ℕ} {s
       }
 
       ended : ((x : ℕ) → throws x (said it) ≡ false) → Ended reads told (command.Open u s uid) (asked_in_turn (known_whole reads old o) (command.Open u s uid)) old o p (Ok it)
-      ended none = reading-ended u uid s (λ w. refl) refl refl (λ t. ([], open-turn (known_whole reads old o) u uid s)) a.finished (λ t x other. a.finished.open_after t x (λ k. cc))
+      ended none = reading-ended u uid s (λ w. refl) refl refl refl (λ t. ([], open-turn (known_whole reads old o) u uid s)) a.finished (λ t x other. a.finished.open_after t x (λ k. cc))
           (record { later = a.finished.later; rose = λ x k. absurd (both-ways (sym (none x) ∙ k)) }) (λ x k. a.finished.failed x refl) tt
 
       pub open-put : (IsTrue told → (h : plain.Whole) × Means reads old o h × AllFormed h.world) → Applied reads place stands told (command.Open u s uid) old new o p (Ok it)

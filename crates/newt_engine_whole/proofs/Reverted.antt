@@ -113,7 +113,7 @@ module _ {C : Type 0} {reads : List ℕ → Option Store} {place : C → ℕ} {s
   revert-handed {it} other a = record {
     stands = record { world = a.stands; watches = begun.watches; drafts = begun.drafts };
     stepped = λ t h m. go h m (found t h m) (a.obeyed t h.world m.world);
-    ended = reading-ended at.unit at.uid at.name (λ w. refl) refl refl (λ t. ([], known-turn t)) a.finished a.finished.open_after a.finished.threw a.finished.failed tt;
+    ended = reading-ended at.unit at.uid at.name (λ w. refl) refl refl refl (λ t. ([], known-turn t)) a.finished a.finished.open_after a.finished.threw a.finished.failed tt;
   }
     where
       go : (h : plain.Whole) → Means reads old o h → AllFormed h.world × IsAt h n at → Obeys reads {R = Reply} {E = AllocError} said (means reads mid p) h.world (command.Get at.unit at.name at.uid) (Ok it) o.now p.now
@@ -146,7 +146,7 @@ module _ {C : Type 0} {reads : List ℕ → Option Store} {place : C → ℕ} {s
           (ap (copy_at j) (sym (works ∙ set-change (rebased time graph) old.works n)) ∙ there);
     };
     stepped = λ t h m. go h m (found t h m) (read-so t h m (found t h m));
-    ended = reading-ended at.unit at.uid at.name (λ w. refl) refl refl (λ t. ([], known-turn t)) a.finished (λ t x other. a.finished.open_after t x (λ k. cc))
+    ended = reading-ended at.unit at.uid at.name (λ w. refl) refl refl refl (λ t. ([], known-turn t)) a.finished (λ t x other. a.finished.open_after t x (λ k. cc))
         (record { later = a.finished.later; rose = λ u x. absurd (both-ways x) }) (λ u x. a.finished.failed u refl) tt;
   }
     where
