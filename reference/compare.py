@@ -1,11 +1,12 @@
 """Plays scripts to the program and to this reference, and compares the replies and the stores that are left.
 
-usage: python3 reference/compare.py [PROGRAM [FIRST [COUNT]]]
+usage: python3 reference/compare.py [PROGRAM [FIRST [COUNT [LINES]]]]
 
 PROGRAM is the built program, crates/newton/out/newton if left out. First come the scripts at the limits, and then random
 ones, each with an image made at random: FIRST is their first seed, 0 if left out, and COUNT their number, 100 if left
 out. The scripts run over one to five new files, and half of them go on with a second run. What an image is read as is
-asked with a script of its own. It stops at the first difference, with status 1.
+asked with a script of its own. With LINES there are random scripts alone, each run of so many lines. It stops at the
+first difference, with status 1.
 """
 
 import subprocess
@@ -68,12 +69,12 @@ def is_same_at_limits(program: Path, lines: list[str], blocks: tuple) -> bool:
         return is_same_run(program, script, [it for it in replies if it is not None], units, files)
 
 
-def is_same_at_random(program: Path, seed: int) -> bool:
+def is_same_at_random(program: Path, seed: int, lines: tuple = (60, 150, 400)) -> bool:
     random = Random(seed)
     units = [Unit(random.choice(BLOCKS)) for _ in range(random.choice((1, 2, 3, 3, 5)))]
     with blank_files(units) as files:
         for _ in range(random.choice((1, 2))):
-            script, wanted = written(random, World(units), len(units), random.choice((60, 150, 400)))
+            script, wanted = written(random, World(units), len(units), random.choice(lines))
             if not is_same_run(program, script, wanted, units, files):
                 return False
     return True
@@ -109,13 +110,18 @@ def is_same_image(program: Path, seed: int) -> bool:
         return is_same_run(program, script, [answer(world, it) for it in script], [unit], files)
 
 
-def main(program: str = "", first: str = "0", count: str = "100") -> int:
+def main(program: str = "", first: str = "0", count: str = "100", lines: str = "") -> int:
     path = (Path(program) if program else Path(__file__).parent.parent / "crates/newton/out/newton").resolve()
+    seeds = range(int(first), int(first) + int(count))
+    if lines:
+        differ = next((it for it in seeds if not is_same_at_random(path, it, (int(lines),))), None)
+        print(f"{count} scripts from seed {first} on: " + ("no difference" if differ is None else f"seed {differ} differs"))
+        return 0 if differ is None else 1
     for lines, blocks in EDGES:
         if not is_same_at_limits(path, lines(), blocks):
             print(f"{lines.__name__}: the program and the reference differ")
             return 1
-    for seed in range(int(first), int(first) + int(count)):
+    for seed in seeds:
         if not is_same_at_random(path, seed) or not is_same_image(path, seed):
             print(f"seed {seed}: the program and the reference differ")
             return 1

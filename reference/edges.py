@@ -151,6 +151,7 @@ def watches() -> list[str]:
 def copies() -> list[str]:
     lines = [*START, "add 0 S {a: 1}", *["open 0 S 0"] * 17, "discard 4", "open 0 S 0", "open 0 S 1", "edit 4 a 2"]
     lines += ["save 4", "save 5", "revert 5", "edit 5 b.c 1", "edit 5 b {c: 2}", "save 5", "draft 5", "time 9", "save 5"]
+    lines += [f"edit 5 b.d {nested(199)}", "draft 5"]
     lines += ["edit 5 t " + string(15_000), "edit 5 u " + string(16_500), "save 5", "edit 6 d " + nested(64), "save 6"]
     return lines + ["unmount 0", "save 5", "draft 5", "mount 0", "save 5", "remove 0 S 0", "revert 5", "save 5", "discard 5"]
 

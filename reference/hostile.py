@@ -39,7 +39,7 @@ from literals import NoLiteral, read_literal
 from newton import packed_answer, shown_answer
 from preload import built_library
 from replies import of_name
-from scripts import written
+from scripts import COMMANDS, written
 from stores import Store
 from streams import encode
 from values import Values
@@ -49,9 +49,7 @@ MOST_SECONDS = 60
 MOST_MEMORY = 1 << 30
 TOGETHER = 2000
 BLOCKS = (13, 13, 14, 20, 40)
-WORDS = b"format mount unmount stores default soup soups drop index unindex indexes tags add addx addu get getx".split()
-WORDS += b"remove set change copy move vread vwrite alias resolve query entry next prev reset end moveby goto".split()
-WORDS += b"gotokey count which clone close time lit nsof quit 0 1 S N k n.x nil".split()
+WORDS = [it.encode() for it in COMMANDS] + b"quit 0 1 S N k n.x nil".split()
 WORDS += b"{} {k:1} [1] 'a \"b\" % * -1 020A".split()
 
 

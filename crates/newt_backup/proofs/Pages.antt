@@ -1,10 +1,10 @@
 -- Entries and their pages, as they are counted.
-use Rattle.std.proofs.Common.{◌≡◌, refl, sym, ◌∙◌, ap, ℕ, suc, ◌+◌, ◌-◌, ◌≤◌, true, get_or, List, [], ◌∷◌, map, length, take, drop, All, arith, flat_map, sum, nat_le}
+use Rattle.std.proofs.Common.{◌≡◌, refl, sym, ◌∙◌, ap, ℕ, suc, ◌+◌, ◌-◌, ◌≤◌, true, get_or, List, [], ◌∷◌, map, length, take, drop, arith, flat_map, sum, nat_le}
 use Rattle.std.specs.List.{sum_by}
 use Rattle.std.proofs.lemmas.List.Sums.{sum_by-cons}
 use Rattle.newt_graph.specs.declared.node.Node.{Node}
 use Rattle.newt_graph.specs.declared.node.Node.TheVariants.{Symbol, Str, Binary, Large, Array, Frame}
-use Rattle.newt_graph.specs.Graph.{RawGraph, IsGraph, IsNode, payload}
+use Rattle.newt_graph.specs.Graph.{RawGraph, IsGraph}
 use Rattle.newt_spec_image.specs.Objects.{pages_for}
 use Rattle.newt_spec_nsof.specs.Flat.{flat}
 use Rattle.newt_spec_nsof.specs.Lengths.{large_len}
@@ -62,19 +62,3 @@ pub pages-step : (x : Node) (left : List Node) (pages more total : ℕ) → 1 �
     → pages + more + sum (map pages_for (flat_map large_length (take (length left - 1) (drop 1 left)))) ≡ total
 pages-step x left pages more total h is e m =
     omega (arith, ap (λ l. sum (map pages_for (flat_map large_length l))) (opened x left h is), flat-pages x (take (length left - 1) (drop 1 left)), e, m)
-
-pub sum-step : {X : Type 0} (f : X → ℕ) (x : X) (left : List X) (pages more total : ℕ) → 1 ≤ length left → x ≡ get_or left 0 x → pages + sum_by f left ≡ total → more ≡ f x
-    → pages + more + sum_by f (take (length left - 1) (drop 1 left)) ≡ total
-sum-step f x left pages more total h is e m =
-    omega (arith, ap (λ l. sum_by f l) (opened x left h is), sum_by-cons f x (take (length left - 1) (drop 1 left)), e, m)
-
-pub payload-few : (nodes : List Node) → All (IsNode nodes) nodes → All (λ node. payload node ≤ 1_000_000) nodes
-payload-few nodes each = λ k d lt. one (get_or nodes k d) (each k d lt)
-  where
-    one : (node : Node) → IsNode nodes node → payload node ≤ 1_000_000
-    one (Symbol name) is = omega arith
-    one (Str units) is = is.few
-    one (Binary class bytes) is = is.1.few
-    one (Large class bytes) is = is.1.few
-    one (Array c values) is = omega arith
-    one (Frame tags values) is = omega arith

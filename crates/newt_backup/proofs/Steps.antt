@@ -25,10 +25,6 @@ row-step new old out at k e h = h ∙ ap (λ l. l ++ At (at + k) ∷ []) e ∙ a
     next : (k : ℕ) → suc k ≡ k + 1
     next k = omega arith
 
-pub no-pieces : (left : List ℕ) → length left ≡ 0 → pieces left ≡ []
-no-pieces [] h = refl
-no-pieces (x ∷ left) h = absurd (omega (arith, h))
-
 pub next-piece : (left : List ℕ) → 0 < length left → pieces left ≡ take 500_000 left ∷ pieces (drop 500_000 left)
 next-piece left h = ap (λ n. pieces_from n left) (fewer 500_000 left h refl)
   where

@@ -162,6 +162,9 @@ fn fit(size: usize, entries: &[FullEntry], most: u64) -> bool
     pages <= most
 }
 
+// The functions below do nothing when they run: what a type says of a value is known only behind a
+// call that lends it, here of each entry.
+
 /// A graph is in normal form, as its type says.
 fn know_graph(graph: &Graph)
     ensures { IsGraph graph.now }

@@ -26,7 +26,7 @@ use Rattle.newt_spec_store.specs.Store.{Entry, Store}
 use Rattle.newt_spec_graph.specs.Graph.{every}
 use Rattle.newt_spec_store.specs.StoreOf.{large_object}
 use Rattle.newt_laws_images.specs.Found.{HasGiven}
-use Rattle.newt_laws_images.proofs.Alone.{missing, bad-alone, among, entry_with}
+use Rattle.newt_laws_images.proofs.Alone.{missing, bad-alone}
 use Rattle.newt_laws_images.proofs.Finite.{object-get, entries-rising, entry-get, get-entry}
 use Rattle.newt_laws_images.proofs.Rows.{large-parts}
 use Rattle.newt_laws_check.proofs.Complete.{true-given}
@@ -35,7 +35,7 @@ use Rattle.newt_laws_check.proofs.Sound.{both, given-true, again-some}
 use Rattle.newt_spec_check.specs.Damage.{directory_in, first_object, is_odd, is_again, is_given, is_named_before, is_sound, is_bad_record, entry_of, bad_entry, all_named}
 use Rattle.newt_store_catalog.specs.Calls.{IsDirectory}
 use Rattle.newt_store_catalog.specs.Opening.{AreFoundTo, HasObject, IsRoot, OfObjects, objects_named}
-use Rattle.newt_store_catalog.proofs.Opening.{kept-none, kept-length, names-are, even-rows, now-formed}
+use Rattle.newt_store_catalog.proofs.Opening.{bytes_of, kept-none, kept-length, names-are, even-rows, now-formed, read-among}
 use Rattle.newt_store_catalog.proofs.OpeningPlaces.{even-next, row-next, found-none}
 use Rattle.newt_store_catalog.proofs.Owning.{all-there, not-there}
 use Rattle.newt_check.specs.Seen.{AreCounts, AreRecordBytes, HasSeen, IsBadRow, KeepsRow, names_in, names_at, named_to}
@@ -76,20 +76,6 @@ among-rows : (rows : List LargeAt) (l : LargeAt) → Among rows l → Among (lis
 among-rows [] l m = m
 among-rows (x ∷ rows) l (inl same) = inl (ap row_at same)
 among-rows (x ∷ rows) l (inr m) = inr (among-rows rows l m)
-
--- the bytes of the rows' objects, none where one is missing
-abbrev bytes_of : Objects → EntryRow → Option (List (List ℕ))
-bytes_of texts row = every (list_map (large_object (map.entries texts)) (list_map row_at row.larges))
-
--- a record is read among objects as its entry, or not at all
-read-among : (texts : Objects) (bytes : List ℕ) (row : EntryRow) → record_read stream_graph bytes ≡ Some (said row)
-    → (entry_read stream_graph texts bytes ≡ None) ⊎ ((e : Entry) × (entry_read stream_graph texts bytes ≡ Some (row.soup, e)) × (e.uid ≡ row.uid))
-read-among texts bytes row h = go (bytes_of texts row) refl
-  where
-    go : (o : Option (List (List ℕ))) → bytes_of texts row ≡ o
-        → (entry_read stream_graph texts bytes ≡ None) ⊎ ((e : Entry) × (entry_read stream_graph texts bytes ≡ Some (row.soup, e)) × (e.uid ≡ row.uid))
-    go None e = inl (missing stream_graph texts bytes (said row).0 (said row).1 h e)
-    go (Some bs) e = inr ((entry_with (said row).0 (said row).1 bs).1, among stream_graph texts bytes (said row).0 (said row).1 bs h e, refl)
 
 -- ---- the directory
 

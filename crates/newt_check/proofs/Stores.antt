@@ -1,9 +1,8 @@
 -- What is said of an image whose records are sound.
-use Rattle.std.proofs.Common.{arith, ◌≡◌, ap, sym, ◌∙◌, subst, ℕ, ◌+◌, ◌*◌, ◌%◌, ◌<◌, ◌≤◌, ◌==◌, ◌⊎◌, inl, inr, Bool, true, false, cond, List, [], ◌∷◌, length, find, filter, Option, Some, None}
+use Rattle.std.proofs.Common.{arith, ◌≡◌, ap, sym, ◌∙◌, subst, ℕ, ◌+◌, ◌*◌, ◌%◌, ◌<◌, ◌≤◌, ◌==◌, ◌⊎◌, inl, inr, Bool, true, false, cond, List, [], ◌∷◌, length, find, filter, Some, None}
 use Rattle.std.specs.FinMap as map
 use Rattle.std.specs.BTreeMap.{BTreeMap}
 use Rattle.std.proofs.lemmas.List.Sums.{sum_by-cons}
-use Rattle.newt_nsof_flat.specs.Stream.{stream_graph}
 use Rattle.newt_spec_nsof.specs.Text.{AreBytes}
 use Rattle.newt_spec_image.specs.Objects.{Objects, pages_for}
 use Rattle.newt_spec_image.specs.Pages.{cap}
@@ -16,9 +15,9 @@ use Rattle.newt_spec_store.specs.Laid.{bare, bare_soup as plain_soup}
 use Rattle.newt_spec_store.specs.OfImage.{blocks_of}
 use Rattle.newt_spec_store.specs.Store.{Store}
 use Rattle.newt_spec_store.specs.Valid.{well_formed}
-use Rattle.newt_spec_check.specs.Damage.{Damage, all_named, bad_large, damage, is_odd, pages_taken}
+use Rattle.newt_spec_check.specs.Damage.{all_named, bad_large, is_odd, pages_taken}
 use Rattle.newt_spec_check.specs.declared.Layer.TheVariants as layer
-use Rattle.newt_check.specs.Reports.{HasSoundRecords, IsClean}
+use Rattle.newt_check.specs.Reports.{HasSoundRecords, IsClean, IsDamaged}
 use Rattle.newt_check.specs.Seen.{is_stray_id}
 use Rattle.newt_check.proofs.Damages.{at-large, at-cost, at-store}
 use Rattle.newt_check.proofs.Listed.{strays-are, odds-are}
@@ -47,21 +46,20 @@ module _ (now : List ℕ) (texts : Objects) (d : Directory) (ids : List ℕ) (co
   large-row : find (is_stray_id (all_named (map.entries texts))) ids ≡ bad_large (map.entries texts)
   large-row = ap (find (is_stray_id (all_named (map.entries texts)))) s.ids_are ∙ sym (strays-are (all_named (map.entries texts)) (map.entries texts))
 
-  pub of-large : (id : ℕ) → Some id ≡ find (is_stray_id (all_named (map.entries texts))) ids → damage stream_graph now ≡ Some (record { layer = layer.Large; place = id })
+  pub of-large : (id : ℕ) → Some id ≡ find (is_stray_id (all_named (map.entries texts))) ids → IsDamaged layer.Large id now
   of-large id h = at-large now texts s.holds (bare_store d) (root-is now d texts s.root) s.records id (sym (h ∙ large-row))
+
+  bytes-of : (id : ℕ) (bytes : List ℕ) → map.get texts id ≡ Some bytes → (id ≡ 0) ⊎ (id % 2 ≡ 1) → AreBytes bytes
+  bytes-of id bytes at (inl e) = subst AreBytes (some-same s.root.bytes bytes (sym s.root.object ∙ ap (map.get texts) (sym e) ∙ at)) s.root.are_bytes
+  bytes-of id bytes at (inr e) = s.bytes id bytes at e
 
   module _ (none : None ≡ find (is_stray_id (all_named (map.entries texts))) ids) where
     larges : bad_large (map.entries texts) ≡ None
     larges = sym (none ∙ large-row)
 
-    pub of-cost : cap blocks < pages → damage stream_graph now ≡ Some (record { layer = layer.Cost; place = pages })
-    of-cost more = at-cost now texts s.holds (bare_store d) (root-is now d texts s.root) s.records larges
-        (subst (λ n. cap n < pages_taken (map.entries texts)) (sym s.blocks_are) (subst (λ n. cap blocks < n) s.pages_are more))
-        ∙ ap (λ (n : ℕ). let r : Option Damage = Some (record { layer = layer.Cost; place = n }) in r) (sym s.pages_are)
-
-    bytes-of : (id : ℕ) (bytes : List ℕ) → map.get texts id ≡ Some bytes → (id ≡ 0) ⊎ (id % 2 ≡ 1) → AreBytes bytes
-    bytes-of id bytes at (inl e) = subst AreBytes (some-same s.root.bytes bytes (sym s.root.object ∙ ap (map.get texts) (sym e) ∙ at)) s.root.are_bytes
-    bytes-of id bytes at (inr e) = s.bytes id bytes at e
+    pub of-cost : cap blocks < pages → IsDamaged layer.Cost pages now
+    of-cost more = subst (λ (n : ℕ). IsDamaged layer.Cost n now) (sym s.pages_are) (at-cost now texts s.holds (bare_store d) (root-is now d texts s.root) s.records larges bytes-of
+        (subst (λ n. cap n < pages_taken (map.entries texts)) (sym s.blocks_are) (subst (λ n. cap blocks < n) s.pages_are more)))
 
     pub odd-few : length (filter (λ id. id % 2 == 1) ids) ≤ pages
     odd-few =

@@ -1,7 +1,6 @@
 -- The first four rows of an image, by its chosen bank.
-use Rattle.std.proofs.Common.{◌≡◌, ◌≢◌, ◌⊎◌, inl, inr, ℕ, zero, suc, ◌+◌, ◌-◌, ◌*◌, ◌≤◌, ◌==◌, if◌then◌else◌, Bool, true, List, [], ◌∷◌, ◌++◌, length, take, drop, Option, Some, None, option_map, option_and_then, refl, sym, ◌∙◌, ap, subst, arith, IsTrue, append_assoc, length-append, length-drop, length-take}
-use Rattle.std.proofs.lemmas.List.{take_at, drop-drop, drop-take}
-use Rattle.std.proofs.Math.Seq.{take-add}
+use Rattle.std.proofs.Common.{◌≡◌, ◌≢◌, ◌⊎◌, inl, inr, ℕ, ◌+◌, ◌-◌, ◌*◌, ◌≤◌, ◌==◌, if◌then◌else◌, Bool, true, false, List, [], ◌∷◌, ◌++◌, length, take, drop, Option, Some, None, option_map, option_and_then, refl, sym, ◌∙◌, ap, subst, arith, IsTrue, append_assoc}
+use Rattle.std.proofs.lemmas.List.{drop-drop, drop-take}
 use Rattle.std.proofs.lemmas.Bool.{cases_eq}
 use Rattle.std.proofs.lemmas.Bool.Decides.{nat_tests}
 use Rattle.std.specs.Option.{unwrap_or}
@@ -15,23 +14,26 @@ use Rattle.newt_journal.specs.Journal.{Holds, Stands, written, records_bytes}
 use Rattle.newt_journal.specs.Places.{first_place}
 use Rattle.newt_journal.specs.Scan.{between}
 use Rattle.newt_journal.specs.declared.bank.Bank.{Bank}
-use Rattle.newt_journal.specs.declared.bank.Bank.TheVariants.{First, Second}
 use Rattle.newt_journal.specs.declared.journal.Journal.{Journal}
-use Rattle.newt_journal.proofs.Steps.{bank-fits, holds-body, version-2}
+use Rattle.newt_journal.proofs.Opened as opened
+use Rattle.newt_journal.proofs.Steps.{holds-body, version-2}
 use Rattle.newt_spec_graph.proofs.Lists.{none-some}
 use Rattle.newt_spec_store.specs.OfImage.{blocks_of}
 use Rattle.newt_spec_check.specs.declared.Layer.{Layer}
 use Rattle.newt_spec_check.specs.declared.Layer.TheVariants as layer
 use Rattle.newt_spec_check.specs.Damage.{damage, first_row, if_missing, start_of as start_in, behind, no_bank, no_header, gates, gates_after, gates_behind, first_gate, leaves_bank, is_unformed, bad_payload}
+use Rattle.newt_laws_check.proofs.Finds.{skip}
 use Rattle.newt_laws_check.proofs.Journal.{whole-pages, whole-records}
+use Rattle.newt_laws_check.proofs.Law.{is_cost, no-store}
 use Rattle.newt_check.specs.Gates.{first_from, unformed_in}
-use Rattle.newt_check.specs.Reports.{HasRecords}
-
-pub skip : (at : Layer) (o : Option ℕ) (rows : List (Layer × Option ℕ)) → o ≡ None → first_row ((at, o) ∷ rows) ≡ first_row rows
-skip at o rows h = ap (λ o. first_row ((at, o) ∷ rows)) h
+use Rattle.newt_check.specs.Reports.{HasRecords, IsDamaged}
 
 pub hit : (at : Layer) (o : Option ℕ) (place : ℕ) (rows : List (Layer × Option ℕ)) → o ≡ Some place → first_row ((at, o) ∷ rows) ≡ Some (record { layer = at; place = place })
 hit at o place rows h = ap (λ o. first_row ((at, o) ∷ rows)) h
+
+-- a row that is not of the cost is said of no store
+pub no-store-at : (image : List ℕ) (at : Layer) (place : ℕ) → is_cost at ≡ false → damage stream_graph image ≡ Some (record { layer = at; place = place }) → IsDamaged at place image
+no-store-at image at place other h = record { no_store = no-store stream_graph image (record { layer = at; place = place }) other h; first = h }
 
 without-cases : (front bytes : List ℕ) → length front ≤ length bytes → (without front bytes ≡ None) ⊎ (take (length front) bytes ≡ front)
 without-cases [] bytes long = inr refl
@@ -51,8 +53,8 @@ module _ (image : List ℕ) (blocks : ℕ) (size : length image ≡ blocks * 409
   pub banks : has_banks image ≡ true
   banks = grind (arith, nat_tests, many)
 
-  pub no-votes : chosen_bank image ≡ None → damage stream_graph image ≡ Some (record { layer = layer.Votes; place = 0 })
-  no-votes h = hit layer.Votes _ 0 _ (ap (if_missing 0) h)
+  pub no-votes : chosen_bank image ≡ None → IsDamaged layer.Votes 0 image
+  no-votes h = no-store-at image layer.Votes 0 refl (hit layer.Votes _ 0 _ (ap (if_missing 0) h))
 
   module _ (bank : Bank) (voted : chosen_bank image ≡ Some (bank_number bank)) where
     abbrev start : ℕ
@@ -86,33 +88,14 @@ module _ (image : List ℕ) (blocks : ℕ) (size : length image ≡ blocks * 409
           ∙ ap (λ (o : Option (List ℕ)). unwrap_or (option_map (gates_behind (start_in image (bank_number bank))) o) []) body-is
           ∙ ap (λ n. gates_after (bank_start n (bank_number bank) + 16) 0 rest) many
 
-    wide : 16 ≤ bank_size blocks
-    wide = omega (arith, enough)
-
-    in_two : bank_bytes blocks (bank_number bank) image ≡ take 16 (drop start image) ++ between (start + 16) limit image
-    in_two =
-        let parts : bank_size blocks ≡ 16 + (limit - (start + 16)) = omega (arith, wide) in
-        ap (λ (n : ℕ). take n (drop start image)) parts ∙ take-add 16 (limit - (start + 16)) (drop start image)
-        ∙ ap (λ (l : List ℕ). take 16 (drop start image) ++ take (limit - (start + 16)) l) (drop-drop 16 start image)
-
-    other_header : (version : ℕ) → take 16 (drop start image) ≢ header version → behind_header version (bank_bytes blocks (bank_number bank) image) ≡ None
-    unfolding header
-    other_header version differ =
-        let long : length (take 16 (drop start image)) ≡ 16 = omega (arith, length-take 16 (drop start image), length-drop start image, size, bank-fits blocks bank enough, wide) in
-        let more : 16 ≤ length (bank_bytes blocks (bank_number bank) image) = omega (arith, ap length in_two, length-append (take 16 (drop start image)) (between (start + 16) limit image), long) in
-        let none : without (header version) (bank_bytes blocks (bank_number bank) image) ≡ None = elim (without-cases (header version) (bank_bytes blocks (bank_number bank) image) more) [
-          | inl none ↦ none
-          | inr is ↦ absurd (differ (sym (take_at (take 16 (drop start image)) (between (start + 16) limit image) 16 long) ∙ ap (λ (l : List ℕ). take 16 l) (sym in_two) ∙ is))
-        ] in
-        ap (λ (o : Option (List ℕ)). and_then o (λ rest. Some (version, rest))) none
-
-    pub bad-header : ((version : ℕ) → IsVersion version → take 16 (drop start image) ≢ header version) → damage stream_graph image ≡ Some (record { layer = layer.Header; place = start })
+    pub bad-header : ((version : ℕ) → IsVersion version → take 16 (drop start image) ≢ header version) → IsDamaged layer.Header start image
     bad-header differ =
         let bytes = bank_bytes blocks (bank_number bank) image in
+        let other_header = opened.other_header blocks image size enough few bank voted in
         let none : versioned bytes ≡ None =
         ap (λ (o : Option (ℕ × List ℕ)). elim o as (λ _. Option (ℕ × List ℕ)) [ Some found ↦ Some found | None ↦ behind_header 2 bytes ]) (other_header 1 (differ 1 (omega arith, omega arith)))
         ∙ other_header 2 (differ 2 version-2) in
-        skip layer.Votes _ _ votes ∙ hit layer.Header _ start _ (header-row ∙ ap (if_missing start) none)
+        no-store-at image layer.Header start refl (skip layer.Votes _ _ votes ∙ hit layer.Header _ start _ (header-row ∙ ap (if_missing start) none))
 
     module _ (version : ℕ) (is_version : IsVersion version) (headed : take 16 (drop start image) ≡ header version) where
       abbrev rest : List ℕ
@@ -120,11 +103,11 @@ module _ (image : List ℕ) (blocks : ℕ) (size : length image ≡ blocks * 409
 
       is-body : versioned_body image ≡ Some (version, rest)
       is-body = holds-body blocks bank enough few version is_version rest image
-          (record { size = size; votes = voted; bank_is = in_two ∙ ap (λ (l : List ℕ). l ++ rest) headed })
+          (record { size = size; votes = voted; bank_is = opened.in_two blocks image size enough few bank voted ∙ ap (λ (l : List ℕ). l ++ rest) headed })
 
-      pub long : (place : ℕ) → first_from leaves_bank (start + 16) limit image ≡ Some place → damage stream_graph image ≡ Some (record { layer = layer.RecordPlace; place = place })
-      long place h = skip layer.Votes _ _ votes ∙ skip layer.Header _ _ (header-none version rest is-body)
-          ∙ hit layer.RecordPlace _ place _ (ap (first_gate leaves_bank) (gates-are version rest is-body) ∙ h)
+      pub long : (place : ℕ) → first_from leaves_bank (start + 16) limit image ≡ Some place → IsDamaged layer.RecordPlace place image
+      long place h = no-store-at image layer.RecordPlace place refl (skip layer.Votes _ _ votes ∙ skip layer.Header _ _ (header-none version rest is-body)
+          ∙ hit layer.RecordPlace _ place _ (ap (first_gate leaves_bank) (gates-are version rest is-body) ∙ h))
 
       pub has-records : first_from leaves_bank (start + 16) limit image ≡ None → HasRecords image
       has-records h = record {
@@ -133,20 +116,14 @@ module _ (image : List ℕ) (blocks : ℕ) (size : length image ≡ blocks * 409
         record_is = ap (first_gate leaves_bank) (gates-are version rest is-body) ∙ h;
       }
 
--- a bank by its number
-pub bank-of : (n : ℕ) → n ≤ 1 → (bank : Bank) × (bank_number bank ≡ n)
-bank-of zero h = (First, refl)
-bank-of (suc zero) h = (Second, refl)
-bank-of (suc (suc n)) h = absurd (omega (arith, h))
-
 -- ---- an image that has records
 
 module _ (image : List ℕ) (banks : has_banks image ≡ true) (h : HasRecords image) where
   pub some-records : records image ≡ None → ⊥
   some-records none = let r = whole-records image banks h.votes h.header_is h.record_is in none-some r.0 (sym none ∙ r.1)
 
-  pub bad : (place : ℕ) → bad_payload image ≡ Some place → damage stream_graph image ≡ Some (record { layer = layer.Payload; place = place })
-  bad place k = skip layer.Votes _ _ h.votes ∙ skip layer.Header _ _ h.header_is ∙ skip layer.RecordPlace _ _ h.record_is ∙ hit layer.Payload _ place _ k
+  pub bad : (place : ℕ) → bad_payload image ≡ Some place → IsDamaged layer.Payload place image
+  bad place k = no-store-at image layer.Payload place refl (skip layer.Votes _ _ h.votes ∙ skip layer.Header _ _ h.header_is ∙ skip layer.RecordPlace _ _ h.record_is ∙ hit layer.Payload _ place _ k)
 
   pub some-payload : bad_payload image ≡ None → pages image ≡ None → ⊥
   some-payload k none =
@@ -189,7 +166,7 @@ module _ (told : Bool) (j : Journal) (outside : Outside) (unit : ℕ) (of_unit :
   row-is : bad_payload (image_of unit outside.now) ≡ unformed_in j (image_of j.unit outside.now)
   row-is = ap (λ (u : ℕ). bad_payload (image_of u outside.now)) (sym of_unit) ∙ journal-payload told j outside stands tells
 
-  pub found-bad : (place : ℕ) → unformed_in j (image_of j.unit outside.now) ≡ Some place → damage stream_graph (image_of unit outside.now) ≡ Some (record { layer = layer.Payload; place = place })
+  pub found-bad : (place : ℕ) → unformed_in j (image_of j.unit outside.now) ≡ Some place → IsDamaged layer.Payload place (image_of unit outside.now)
   found-bad place k = bad (image_of unit outside.now) banks whole place (row-is ∙ k)
 
   pub found-none : unformed_in j (image_of j.unit outside.now) ≡ None → pages (image_of unit outside.now) ≡ None → ⊥

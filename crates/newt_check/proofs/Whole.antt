@@ -306,9 +306,6 @@ not-true : (b : Bool) → (b ≡ true → ⊥) → b ≡ false
 not-true true h = absurd (h refl)
 not-true false h = refl
 
-some-is-some : {X : Type 0} (x : X) (o : Option X) → o ≡ Some x → is_some o ≡ true
-some-is-some x o e = ap is_some e
-
 none-not-some : {X : Type 0} (o : Option X) → o ≡ None → is_some o ≡ true → ⊥
 none-not-some o e h = both-ways (sym (ap is_some e) ∙ h)
 

@@ -1,9 +1,12 @@
 -- What a report says of an image. This project's own.
-use Rattle.std.specs.Prelude.{◌≡◌, ℕ, nat_lt, Bool, List, length, filter, map as list_map, Some, None}
+use Rattle.std.specs.Prelude.{◌≡◌, ℕ, nat_lt, Bool, List, length, filter, map as list_map}
+use Rattle.std.specs.Prelude.{Some, None}
 use Rattle.std.specs.BTreeMap.{BTreeMap}
 use Rattle.std.specs.FinMap as map
 use Rattle.newt_nsof_flat.specs.Stream.{stream_graph}
-use Rattle.newt_spec_check.specs.Damage.{damage, all_named, bad_entry, no_bank, no_header, long_record}
+use Rattle.newt_spec_check.specs.Damage.{damage, all_named, bad_entry}
+use Rattle.newt_spec_check.specs.Damage.{no_bank, no_header, long_record}
+use Rattle.newt_spec_check.specs.declared.Layer.{Layer}
 use Rattle.newt_objects.specs.Changing.{HoldsObjects, total_pages}
 use Rattle.newt_soupdir.specs.declared.rows.Directory.{Directory}
 use Rattle.newt_spec_image.specs.Objects.{Objects, Table, IsTableOf}
@@ -27,10 +30,15 @@ pub record IsClean (soups entries pages : ℕ) (image : List ℕ) : Type 0 where
   pub entries_are : length (all_entries store) ≡ entries
   pub pages_are : cost store ≡ pages
 
--- The report says what the image is: a store, or the first row that holds of it.
+-- The image is no store, and the first row that holds of it is of this layer, at this place.
+pub record IsDamaged (layer : Layer) (place : ℕ) (image : List ℕ) : Type 0 where
+  pub no_store : readable image ≡ None
+  pub first : damage stream_graph image ≡ Some (record { layer = layer; place = place })
+
+-- The report says what the image is: a store, or none, and then the first row that holds of it.
 abbrev pub IsReport : Report → List ℕ → Type 0
 IsReport (Clean soups entries pages) image = IsClean soups entries pages image
-IsReport (Damaged layer place) image = damage stream_graph image ≡ Some (record { layer = layer; place = place })
+IsReport (Damaged layer place) image = IsDamaged layer place image
 
 -- none of the first three rows holds: the image has records
 pub record HasRecords (image : List ℕ) : Type 0 where
@@ -45,11 +53,13 @@ pub record IsUnformed (image : List ℕ) : Type 0 where
 
 -- the pages of the image are no objects
 abbrev pub HasNoObjects : List ℕ → Type 0
-HasNoObjects image = (live : Pages) (table : Table) → pages image ≡ Some live → IsTableOf live table → ⊥
+HasNoObjects image =
+    (live : Pages) (table : Table) → pages image ≡ Some live → IsTableOf live table → ⊥
 
 -- The image holds these objects, of which object 0 is this directory and no record breaks a rule;
 -- the ids above 0 and how often each id is named are known, and the pages that the objects take.
-pub record HasSoundRecords (now : List ℕ) (texts : Objects) (directory : Directory) (ids : List ℕ) (counts : BTreeMap ℕ Bool) (blocks pages : ℕ) : Type 0 where
+pub record HasSoundRecords (now : List ℕ) (texts : Objects) (directory : Directory) (ids : List ℕ)
+    (counts : BTreeMap ℕ Bool) (blocks pages : ℕ) : Type 0 where
   pub holds : HoldsObjects now texts
   pub root : IsRoot (version now) directory texts
   pub records : bad_entry stream_graph (version now) (map.entries texts) ≡ None

@@ -12,14 +12,13 @@ ghost use Rattle.newt_spec_check.specs.Damage.{leaves_bank};
 ghost use Rattle.newt_check.specs.Gates.{first_from, unformed_in};
 ghost use Rattle.newt_check.specs.Reports.{HasRecords, IsReport, IsUnformed};
 
-use crate::lies::lies;
-use crate::look::{read_byte, read_number, read_version, read_votes, start_of};
 use crate::report::Report;
-use newt_host::{BLOCK, Failed, Host, Unit};
-use newt_journal::{Journal, JournalFault};
+use newt_host::{Failed, Host, Unit};
+use newt_journal::{Journal, JournalFault, read_byte, read_length, read_version, read_votes};
 use newt_pagebook::{BookFault, Stop};
 use newt_pagelog::replay_record;
 use newt_spec_check::Layer;
+use newt_store_catalog::lies;
 use std::alloc::Global;
 use std::collections::HashMap;
 
@@ -45,7 +44,7 @@ fn long_record<H: Host>(
         if limit - at < 5 {
             return Ok(Some(at));
         }
-        let length = read_number(host, unit, at + 1)?;
+        let length = read_length(host, unit, at + 1)?;
         if length > limit - at - 5 {
             return Ok(Some(at));
         }
@@ -65,11 +64,11 @@ fn report_of_records<H: Host>(host: &mut H, unit: Unit) -> Result<Option<Report>
         (H.outside host.old) (H.outside host.new) }
 {
     let blocks = host.blocks(unit);
-    let Some(bank) = read_votes(host, unit)? else {
+    let Some(bank) = read_votes(host, unit, blocks)? else {
         return Ok(Some(Report::Damaged(Layer::Votes, 0)));
     };
-    let start = start_of(blocks, bank);
-    let limit = start + (blocks - 3) / 2 * BLOCK;
+    let start = bank.start(blocks);
+    let limit = bank.limit(blocks);
     if read_version(host, unit, start)?.is_none() {
         return Ok(Some(Report::Damaged(Layer::Header, start)));
     }

@@ -1,6 +1,5 @@
 // The rows of the directory and of the records of entries.
 ghost use Rattle.std.specs.Prelude.{IsTrue, ◌≡◌, ◌+◌, ℕ, [], true, false, Some, None, IfOk, MatchOption};
-ghost use Rattle.std.specs.List.{list_all};
 ghost use Rattle.std.specs.FinMap as map;
 ghost use Rattle.newt_host.specs.Moments.{image};
 ghost use Rattle.newt_nsof_flat.specs.Stream.{stream_graph};
@@ -16,17 +15,17 @@ ghost use Rattle.newt_spec_store.specs.Lies.{directory_read, record_read};
 ghost use Rattle.newt_entries.specs.Entry.{said};
 ghost use Rattle.newt_spec_store.specs.Valid.{well_formed};
 ghost use Rattle.newt_store_catalog.specs.Calls.{CanRead, IsDirectory, Reads};
-ghost use Rattle.newt_laws_images.specs.Found.{HasGiven};
-ghost use Rattle.newt_store_catalog.specs.Opening.{OfObjects, has_length};
+ghost use Rattle.newt_store_catalog.specs.Opening.{OfObjects};
 ghost use Rattle.newt_check.specs.Seen.{AreCounts, AreRecordBytes, HasSeen, IsBadRow, KeepsRow};
 
 use crate::larges::count_names;
-use newt_entries::{EntryFault, EntryRow, LargeAt, read_entry};
+use newt_entries::{EntryFault, EntryRow, read_entry};
 use newt_host::Host;
 use newt_objects::Objects;
 use newt_objects_commit::PlaceTable;
 use newt_pagebook::{PageBook, Stop};
 use newt_soupdir::{DirFault, Directory, read_directory};
+use newt_store_catalog::{are_there, has_given};
 use std::alloc::{AllocError, Global};
 use std::collections::BTreeMap;
 
@@ -101,36 +100,6 @@ pub(crate) fn find_root<P: PageBook, H: Host>(
     }
     let bytes = objects.read(host, book, 0)?;
     Ok(directory_of(alloc, &bytes, book.version())?)
-}
-
-/// Whether a soup of the directory has given this id.
-fn has_given(directory: &Directory, row: &EntryRow) -> bool
-    requires { IsTrue (well_formed (bare_store directory.now)) }
-    ensures given { result ≡ true → HasGiven (bare_store directory.now) row.now.soup row.now.uid }
-    ensures not_given { result ≡ false → HasGiven (bare_store directory.now) row.now.soup
-        row.now.uid → ⊥ }
-{
-    match directory.soup_of(row.soup) {
-        Some(soup) => row.uid.0 < soup.next_uid,
-        None => false,
-    }
-}
-
-/// Whether the object that a row names is there, with the row's length.
-fn is_there(objects: &Objects, row: &LargeAt) -> bool
-    ensures { result ≡ has_length (held objects.now) row.now }
-{
-    match objects.length(row.object) {
-        Some(length) => length == row.length,
-        None => false,
-    }
-}
-
-/// Whether each object that rows name is there, with the row's length.
-fn are_there(objects: &Objects, rows: &[LargeAt]) -> bool
-    ensures { result ≡ list_all (λ row. has_length (held objects.now) row) rows.now }
-{
-    rows.iter().all(|row| is_there(objects, row))
 }
 
 /// Keeps what is seen of a record. False where its id is not given, its entry has a place, or one

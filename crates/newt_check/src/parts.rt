@@ -2,22 +2,14 @@
 ghost use Rattle.std.specs.Prelude.{◌≡◌, ◌++◌, ◌∷◌, [], ℕ, List, Some, IfOk, OnOk};
 ghost use Rattle.std.specs.Prelude.{if◌then◌else◌};
 ghost use Rattle.newt_spec_check.specs.Damage.{least as least_of};
-ghost use Rattle.newt_spec_image.specs.Objects.{pages_for as pages_of};
 ghost use Rattle.newt_objects.specs.declared.header.Header.{Header as Said};
 ghost use Rattle.newt_check.specs.Parts.{first_of, kept_first, has_parts, length_of};
 ghost use Rattle.newt_check.specs.Parts.{is_own as is_own_page};
 ghost use Rattle.newt_check.specs.Parts.{AreLengths, broken_in};
 
-use newt_objects::Header;
+use newt_objects::{Header, pages_for};
 use std::alloc::{AllocError, Global};
 use std::collections::BTreeMap;
-
-/// How many pages an object of so many bytes has.
-fn pages_for(length: u32) -> u32
-    ensures { result ≡ pages_of length }
-{
-    length.div_ceil(500).max(1)
-}
 
 /// Keeps a page, where none is kept of its part.
 fn keep_first(parts: &mut BTreeMap<(u32, u32), Header>, header: &Header) -> Result<(), AllocError>

@@ -11,17 +11,16 @@ ghost use Rattle.newt_check.specs.Reports.{HasNoObjects, HasSoundRecords, IsRepo
 
 use crate::bank::report_of_bank;
 use crate::entries::{bad_record, find_root, nothing_seen};
-use crate::headers::read_headers;
 use crate::larges::{count_odd, first_stray};
-use crate::lies::lies;
 use crate::parts::broken_object;
 use crate::report::Report;
 use newt_host::{Host, Unit};
-use newt_objects::{Objects, ScanFault};
+use newt_objects::{Objects, ScanFault, read_headers};
 use newt_pagebook::{BookFault, PageBook, Stop, cap};
 use newt_pages::DiskBook;
 use newt_soupdir::Directory;
 use newt_spec_check::Layer;
+use newt_store_catalog::lies;
 use std::alloc::Global;
 use std::collections::BTreeMap;
 
@@ -118,11 +117,7 @@ fn report_of_book<P: PageBook, H: Host>(
 }
 
 /// What is said of an image, over any book of pages.
-pub fn check_with<P: PageBook, H: Host>(
-    alloc: Global,
-    host: &mut H,
-    unit: Unit,
-) -> Result<Report, Stop>
+fn check_with<P: PageBook, H: Host>(alloc: Global, host: &mut H, unit: Unit) -> Result<Report, Stop>
     requires enough { 13 ≤ (H.outside host.old).blocks unit }
     requires not_too_many { (H.outside host.old).blocks unit ≤ 4099 }
     requires at_rest { IsTrue H.told → IsDurable unit (H.outside host.old).now }
@@ -142,9 +137,9 @@ pub fn check_with<P: PageBook, H: Host>(
     }
 }
 
-/// Looks one image through and writes nothing to it: the report is the first row that holds of the
-/// table of damage, or that none does. It takes at most the memory of the tables of a store and of
-/// one object.
+/// Looks one image through and writes nothing to it: the report is of the store that the image is
+/// read as, or where it is read as none of the first row that holds of the table of damage. It
+/// takes at most the memory of the tables of a store and of one object.
 pub fn check<H: Host>(alloc: Global, host: &mut H, unit: Unit) -> Result<Report, Stop>
     requires enough { 13 ≤ (H.outside host.old).blocks unit }
     requires not_too_many { (H.outside host.old).blocks unit ≤ 4099 }

@@ -5,7 +5,7 @@ ghost use Rattle.newt_check_text.specs.Lines as spec;
 use newt_check::{Layer, Report};
 use std::alloc::{AllocError, Global};
 
-/// The word of a row.
+/// The word of a layer.
 fn layer_word(layer: Layer) -> &'static str
     ensures { result.now ≡ spec.layer_word layer }
 {

@@ -1,9 +1,9 @@
 //! What is written of a unit whose image is looked through.
 ghost use Rattle.std.specs.Prelude.{◌≡◌, ◌≤◌, IsTrue, IfOk, is_some};
+ghost use Rattle.newt_host.specs.Meanings.{device_on};
 ghost use Rattle.newt_host.specs.Moments.{IsDurable, image};
 ghost use Rattle.newt_host.specs.Outside.{OnlyReads};
 ghost use Rattle.newt_store_catalog.specs.Reading.{ReadEnds};
-ghost use Rattle.newt_store_backup.specs.Written.{device_on};
 ghost use Rattle.newt_check_text.specs.Lines.{IsChecked, IsReported};
 
 use crate::line::report_line;
@@ -14,7 +14,7 @@ use newt_pagebook::{LEAST_BLOCKS, MOST_BLOCKS, Stop};
 use newt_reply::{Reply, write_reply};
 use std::alloc::Global;
 
-/// The line of the report on a unit of 13 to 4,099 blocks.
+/// The line of the report on the image of a unit of 13 to 4,099 blocks.
 fn report_text<H: Host>(alloc: Global, host: &mut H, unit: Unit) -> Result<Vec<u8>, Stop>
     requires enough { 13 ≤ (H.outside host.old).blocks unit }
     requires not_too_many { (H.outside host.old).blocks unit ≤ 4099 }
@@ -28,8 +28,9 @@ fn report_text<H: Host>(alloc: Global, host: &mut H, unit: Unit) -> Result<Vec<u
     Ok(report_line(alloc, report)?)
 }
 
-/// The line of the report on a unit, or the line that says why there is none: it has no device, or
-/// one of fewer than 13 or more than 4,099 blocks.
+/// The line of the report on a unit's image, with the byte 10 at its end: it is clean exactly where
+/// it is read as a store; or the line that says why there is none: the unit has no device, or one of
+/// fewer than 13 or more than 4,099 blocks.
 pub fn check_text<H: Host>(
     alloc: Global,
     host: &mut H,

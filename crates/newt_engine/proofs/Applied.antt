@@ -57,14 +57,16 @@ module _ {C : Type 0} {reads : List ℕ → Option Store} {place : C → ℕ} {s
     finished = record {
       alone = e.alone;
       bound = λ t other. (e.costs t).bound other;
+      format = λ t. (e.costs t).format;
       settling = λ t. (e.costs t).fetched;
       step = e.step;
       open_after = λ t u other. (e.costs t).open_after tt u;
-      threw = quiet-threw it o p e.quiet e.alone;
-      failed = λ u h. (e.no_fault tt).dev_faults u;
+      threw = quiet-threw it o p e.ends.quiet e.alone;
+      failed = λ u h. (e.ends.no_fault tt).dev_faults u;
+      unhidden = tt;
       later = e.alone.dev_faults;
       never_memory = λ none. refl;
-      never_thrown = λ none. e.quiet;
+      never_thrown = λ none. e.ends.quiet;
     };
     known = λ t quiet. sym (ap {A = plain_world.World × plain.Reply} (λ a. a.0) (e.answered t));
     beside = λ t. (Always-last (e.moments t)).beside;
@@ -81,15 +83,17 @@ module _ {C : Type 0} {reads : List ℕ → Option Store} {place : C → ℕ} {s
     stands = λ goes. e.stands tt;
     answered = e.answered;
     moments = e.moments;
-    costs = λ t. let k = e.costs t in record { bound = k.bound; fetched = k.fetched; open_after = λ goes. k.open_after tt };
+    costs = λ t. let k = e.costs t in record { bound = k.bound; format = k.format; fetched = k.fetched; open_after = λ goes. k.open_after tt };
     step = e.step;
     alone = e.alone;
-    cause = tt;
     broke = tt;
-    no_fault = λ goes. e.no_fault tt;
-    ends = λ none. tt;
-    device = λ none. tt;
-    quiet = λ u. refl;
+    ends = record {
+      cause = tt;
+      no_fault = λ goes. e.ends.no_fault tt;
+      memory = λ none. tt;
+      device = λ none. tt;
+      quiet = λ u. refl;
+    };
   })
 
   -- ---- memory was refused
@@ -101,13 +105,15 @@ module _ {C : Type 0} {reads : List ℕ → Option Store} {place : C → ℕ} {s
     finished = record {
       alone = e.alone;
       bound = λ t other. (e.costs t).bound other;
+      format = λ t. (e.costs t).format;
       settling = λ t. (e.costs t).fetched;
       step = e.step;
       open_after = λ t. tt;
       threw = tt;
       failed = tt;
+      unhidden = e.ends.cause.dev_faults;
       later = e.alone.dev_faults;
-      never_memory = λ none. absurd (e.ends none);
+      never_memory = λ none. absurd (e.ends.memory none);
       never_thrown = λ none. tt;
     };
     known = λ t. tt;
@@ -124,14 +130,16 @@ module _ {C : Type 0} {reads : List ℕ → Option Store} {place : C → ℕ} {s
     finished-thrown opens failed = record {
       alone = e.alone;
       bound = λ t other. (e.costs t).bound other;
+      format = λ t. (e.costs t).format;
       settling = λ t. (e.costs t).fetched;
       step = e.step;
       open_after = λ t n other. opens t n (λ is. other (ap {B = Reply} (λ k. reply.Thrown k) (sym is)));
-      threw = thrown-threw u o p e.alone e.cause;
+      threw = thrown-threw u o p e.alone e.ends.cause;
       failed = thrown-failed u o p failed;
+      unhidden = tt;
       later = e.alone.dev_faults;
       never_memory = λ none. refl;
-      never_thrown = λ none. absurd (e.device none);
+      never_thrown = λ none. absurd (e.ends.device none);
     }
 
     -- the known world then, by the one before

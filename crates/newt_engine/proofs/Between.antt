@@ -188,7 +188,7 @@ module _ {C : Type 0} {reads : List ℕ → Option Store} {place : C → ℕ} {s
 
     module _ {settled : Units C} {r : Outside} (settles : AreRead reads place stands told later settled q r) (reads_few : FetchesAtMost (λ j. 512 * new_pages j) q r) where
       pub settled-costs : {T : Type 0} {result : Result T StoreFault} → CommandCosts (with_cursors ks w) cmd (most_settled (with_cursors ks w) cmd) result o r
-      settled-costs = settled_costs ks (move_no_cursor u name uid to target) (of_costs (added-costs first)) (λ goes. tt) settles.moment settles.untouched
+      settled-costs = settled_costs ks (move_no_cursor u name uid to target) (of_costs refl (added-costs first)) (λ goes. tt) settles.moment settles.untouched
           (λ means. settled_few ks w cmd o q r new_pages all ((added-costs first).fetched refl) reads_few within)
 
       then : WasAdded w u to name target sig into uid b.from b.there refl entry b.found b.apart (world_of reads settled r) n
@@ -214,7 +214,7 @@ module _ {C : Type 0} {reads : List ℕ → Option Store} {place : C → ℕ} {s
             whole-costs w u to name target sig into uid b.from b.there entry b.found b.apart (world_of reads read p) same seen (λ j. 512 * new_pages j)
             (said-costs first b.tells on_target (add-said b.there.blocks read.minute into b.there.store b.there.soup b.there.by_sig entry.graph)) tt was.passed settles.untouched reads_few
             (said-costs second b.tells on_source (remove-said b.from.blocks settled.minute sig b.from.store b.from.soup b.from.by_sig uid entry b.found)) in
-            settled_costs ks (move_no_cursor u name uid to target) (of_costs both) goes refl (λ j. alone-refl j s)
+            settled_costs ks (move_no_cursor u name uid to target) (of_costs refl both) goes refl (λ j. alone-refl j s)
             (λ means. settled_whole ks w cmd o s new_pages all (both.fetched refl) within)
 
       pub removal-ends : {last : Units C} {s : Outside} {fault : StoreFault} → Changes reads place stands told u (change.Remove sig uid) settled last r s (Err fault) → IsEnd fault

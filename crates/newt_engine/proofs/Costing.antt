@@ -3,10 +3,12 @@ use Rattle.std.proofs.Common.{arith, ◌≡◌, ap, sym, ◌∙◌, subst, ℕ, 
 use Rattle.std.specs.Prelude.{Result}
 use Rattle.newt_host.specs.Moments.{bytes_after, image}
 use Rattle.newt_host.specs.Outside.{Outside}
-use Rattle.newt_pagebook.specs.Book.{IsOpenFor}
+use Rattle.newt_pagebook.specs.Book.{IsOpenFor, format_bytes}
 use Rattle.newt_reply.specs.declared.reply.Reply.{Reply}
 use Rattle.newt_spec_graph.proofs.Lists.{both-ways}
 use Rattle.newt_spec_query.specs.Cursor.{Cursor}
+use Rattle.newt_spec_store.specs.Cost.{cost}
+use Rattle.newt_spec_store.specs.Store.{new_store}
 use Rattle.newt_spec_world.specs.declared.command.Command.{Command}
 use Rattle.newt_spec_world.specs.declared.command.Command.TheVariants as command
 use Rattle.newt_spec_world.specs.Reply as plain
@@ -18,29 +20,31 @@ use Rattle.newt_laws_answers.proofs.Fetched.{meant-beside}
 use Rattle.newt_laws_answers.proofs.Most.{cursors-cost-nothing}
 use Rattle.newt_laws_world.specs.Cursors.{with_cursors, uses_cursors}
 use Rattle.newt_store_change.specs.declared.fault.StoreFault.{StoreFault}
-use Rattle.newt_engine_card.specs.Bounds.{Costs, FetchesAtMost, FetchesWithin, IsOpenOrSame, LeftAlone, ProgramsAtMost}
+use Rattle.newt_engine_card.specs.Bounds.{Costs, FetchesAtMost, FetchesWithin, FormatsOnce, IsOpenOrSame, LeftAlone, ProgramsAtMost}
 use Rattle.newt_store_change.specs.Faults.{GoesOn}
 use Rattle.newt_engine_cursors.specs.Unread.{steps_unread}
 use Rattle.newt_engine_units.specs.Calls.{CostsOf}
-use Rattle.newt_engine_units.proofs.Costs.{alone-bound, bound-before}
-use Rattle.newt_engine.specs.Bounds.{CommandCosts, is_format, most_settled}
+use Rattle.newt_engine_units.proofs.Costs.{alone-bound, alone-once, bound-before, once-before}
+use Rattle.newt_engine.specs.Bounds.{CommandCosts, is_format, most_formatted, most_settled}
 use Rattle.newt_engine.specs.Handed.{HandsOn}
 use Rattle.newt_engine.proofs.Handed.{goes_back}
 
 -- the command costs what the call does
 pub costs_on : {T : Type 0} {made : T → plain.Reply} {found : Result T StoreFault} {result : Result Reply StoreFault} {w : World} {c d : Command} {o p : Outside} → HandsOn made found result → c ≡ d
-    → CostsOf w d found o p → CommandCosts w c (most_fetched w c) result o p
-costs_on {T} {made} {found} {result} {w} {c} {d} {o} {p} on same k = record {
+    → is_format d ≡ false → CostsOf w d found o p → CommandCosts w c (most_fetched w c) result o p
+costs_on {T} {made} {found} {result} {w} {c} {d} {o} {p} on same none k = record {
   bound = λ _ u. subst (λ x. ProgramsAtMost (most_programmed w x u) u o p) (sym same) (k.bound u);
+  format = λ is. absurd (both-ways (sym none ∙ ap is_format (sym same) ∙ is));
   fetched = λ means. subst (λ x. FetchesWithin (most_programmed w x) (most_fetched w x) o p) (sym same) (k.fetched (sym (ap means_entries same) ∙ means));
   open_after = λ h. k.open_after (goes_back on h);
 }
 
--- a format is no command that is bounded
+-- a format is bounded by itself
 pub format_costs : {T : Type 0} {w : World} {c : Command} {fetches : ℕ → ℕ} {unit : ℕ} {name : List ℕ} {sig : ℕ} {result : Result T StoreFault} {o p : Outside} → c ≡ command.Format unit name sig
-    → (GoesOn result → (u : ℕ) → IsOpenOrSame u o.now p.now) → CommandCosts w c fetches result o p
-format_costs same leaves = record {
+    → ((u : ℕ) → FormatsOnce (format_bytes (cost (new_store name sig))) 10 u o p) → (GoesOn result → (u : ℕ) → IsOpenOrSame u o.now p.now) → CommandCosts w c fetches result o p
+format_costs {o = o} {p} same once leaves = record {
   bound = λ other. absurd (both-ways (sym other ∙ ap is_format same));
+  format = λ is u. subst (λ (x : Command). FormatsOnce (most_formatted x) 10 u o p) (sym same) (once u);
   fetched = λ means. absurd (both-ways (sym (ap means_entries same) ∙ means));
   open_after = leaves;
 }
@@ -48,7 +52,7 @@ format_costs same leaves = record {
 -- nothing is programmed, and nothing has happened
 pub still_costs : {T : Type 0} {w : World} {c : Command} {fetches : ℕ → ℕ} {result : Result T StoreFault} {o p : Outside} → ((u : ℕ) → LeftAlone u o p)
     → (means_entries c ≡ true → FetchesWithin (most_programmed w c) fetches o p) → CommandCosts w c fetches result o p
-still_costs alone few = record { bound = λ _ u. alone-bound _ (alone u); fetched = few; open_after = λ _ u. inr (ap bytes_after (alone u).changes) }
+still_costs alone few = record { bound = λ _ u. alone-bound _ (alone u); format = λ _ u. alone-once 10 (alone u); fetched = few; open_after = λ _ u. inr (ap bytes_after (alone u).changes) }
 
 -- a command that uses a cursor means no entry
 pub means_no_cursor : (c : Command) → uses_cursors c ≡ true → means_entries c ≡ true → ⊥
@@ -78,6 +82,7 @@ pub settled_costs : {S T : Type 0} (ks : List (Option Cursor)) {w : World} {c : 
     → (means_entries c ≡ true → FetchesWithin (most_programmed w c) fetches o p) → CommandCosts (with_cursors ks w) c fetches result o p
 settled_costs ks {w} {c} {few} {fetches} {call} {result} {o} {m} {p} none k goes same alone fetched = record {
   bound = λ other u. subst (λ n. ProgramsAtMost n u o p) (sym (cursors-cost-nothing ks w c u none)) (bound-before (k.bound other u) (alone u));
+  format = λ is u. once-before (k.format is u) (alone u);
   fetched = λ means u room. fetched means u (subst (λ n. IsOpenFor n (image u o.now)) (cursors-cost-nothing ks w c u none) room);
   open_after = λ h u. subst (λ now. IsOpenOrSame u o.now now) (sym same) (k.open_after (goes h) u);
 }
@@ -119,5 +124,5 @@ settled_whole ks w c o p reached whole few within u room = low (p.fetched u) (o.
     low a d r x y z h l e = omega (arith, h, l, e)
 
 -- what a command costs that is no format
-pub of_costs : {T : Type 0} {w : World} {c : Command} {few : ℕ → ℕ} {result : Result T StoreFault} {o p : Outside} → Costs (most_programmed w c) (means_entries c) few result o p → CommandCosts w c few result o p
-of_costs k = record { bound = λ _ u. k.bound u; fetched = k.fetched; open_after = k.open_after }
+pub of_costs : {T : Type 0} {w : World} {c : Command} {few : ℕ → ℕ} {result : Result T StoreFault} {o p : Outside} → is_format c ≡ false → Costs (most_programmed w c) (means_entries c) few result o p → CommandCosts w c few result o p
+of_costs none k = record { bound = λ _ u. k.bound u; format = λ is. absurd (both-ways (sym none ∙ is)); fetched = k.fetched; open_after = k.open_after }

@@ -4,7 +4,7 @@ use Rattle.std.specs.Prelude.{Result, Ok, Err, IfErr, IfOk, OnOk}
 use Rattle.newt_base.specs.Refusals.{first_of}
 use Rattle.newt_base.specs.declared.Refusal.{Refusal}
 use Rattle.newt_host.specs.Moments.{Moment, Always}
-use Rattle.newt_host.specs.Outside.{Outside}
+use Rattle.newt_host.specs.Outside.{NoFault, Outside}
 use Rattle.newt_pagebook.specs.declared.book.Stop.TheVariants as stops
 use Rattle.newt_reply.specs.Said.{said}
 use Rattle.newt_reply.specs.declared.reply.Reply.{Reply}
@@ -127,11 +127,11 @@ told_stands {C} {place} {stands} told units o s t = subst (λ b. Stands place st
 
 -- ---- causes
 
-pub has_cause : {T : Type 0} (o p : Outside) (result : Result T StoreFault) → IfErr result (λ fault. NoDevice fault) → IfErr result (λ fault. HasFaultCause fault o p)
-has_cause o p (Ok x) h = tt
-has_cause o p (Err (Refused r)) h = tt
-has_cause o p (Err (Stop stops.Memory)) h = tt
-has_cause o p (Err (Stop (stops.Device unit))) h = absurd h
+pub has_cause : {T : Type 0} (o p : Outside) (result : Result T StoreFault) → NoFault o p → IfErr result (λ fault. NoDevice fault) → IfErr result (λ fault. HasFaultCause fault o p)
+has_cause o p (Ok x) none h = tt
+has_cause o p (Err (Refused r)) none h = tt
+has_cause o p (Err (Stop stops.Memory)) none h = none
+has_cause o p (Err (Stop (stops.Device unit))) none h = absurd h
 
 -- a refusal has no device to blame
 pub blameless : {T : Type 0} (result : Result T StoreFault) → IfErr result (λ fault. IsRefusal fault) → IfErr result (λ fault. NoDevice fault)

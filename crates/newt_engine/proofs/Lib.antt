@@ -20,3 +20,4 @@ pub mod Applied
 pub mod Alone
 pub mod Failing
 pub mod Halved
+mod Rows

@@ -22,7 +22,7 @@ use Rattle.newt_laws_steps.proofs.Meant.{device-m}
 use Rattle.newt_laws_steps.proofs.Seen.{seen-step}
 use Rattle.newt_laws_steps.proofs.StoodFor.{meant-stands, stood-for-meant}
 use Rattle.newt_engine_units.specs.Breaks.{IsLeftAs, Meanwhile}
-use Rattle.newt_engine.proofs.Seeing.{answer-due, answer-seen, blank-same, due-answer, formats-known, formats-seen, formatted-one, known-due, known-lost, known-none, known-some, known-sure, stores-same}
+use Rattle.newt_engine.proofs.Seeing.{answer-due, answer-seen, blank-same, due-answer, formats-known, formats-seen, formatted-one, known-due, known-none, known-some, known-sure, stores-same}
 
 -- what is held goes on where the unit is left as it was
 pub holds-left : (reads : List ℕ → Option Store) (start now : Moment) (u : ℕ) (m : Media) → IsLeftAs u start now → Holds reads start u m → Holds reads now u m

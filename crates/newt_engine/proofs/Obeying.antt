@@ -33,7 +33,7 @@ use Rattle.newt_spec_world.specs.Answer.{or_nil}
 use Rattle.newt_engine_cursors.specs.Unread.{steps_unread}
 use Rattle.newt_engine_cursors.specs.Fits.{DeskFits}
 use Rattle.newt_engine_cursors.specs.World.{world_with}
-use Rattle.newt_engine.specs.Bounds.{most_stepped}
+use Rattle.newt_engine.specs.Bounds.{is_format, most_stepped}
 use Rattle.newt_engine.specs.Calls.{Obeyed, Walked}
 use Rattle.newt_engine.specs.Ends.{takes_memory, uses_device}
 use Rattle.newt_engine.specs.Handed.{HandsOn}
@@ -43,23 +43,25 @@ use Rattle.newt_engine.proofs.Handed.{answered_on, err_on, goes_back, has_cause,
 
 -- the command is one that may take memory and use a device
 pub handed_obeyed : {C : Type 0} {reads : List ℕ → Option Store} {place : C → ℕ} {standing : Bool → C → Outside → Type 0} {told : Bool} {T : Type 0} {made : T → plain.Reply} {found : Result T StoreFault}
-    {result : Result Reply StoreFault} {c d : Command} {old new : World C} {o p : Outside} → HandsOn made found result → c ≡ d → takes_memory d ≡ true → uses_device d ≡ true
+    {result : Result Reply StoreFault} {c d : Command} {old new : World C} {o p : Outside} → HandsOn made found result → c ≡ d → takes_memory d ≡ true → uses_device d ≡ true → is_format d ≡ false
     → ((x : T) (r : Refusal) → made x ≡ plain.Reply.refused r → ⊥) → ((x : T) (u : ℕ) → throws u (made x) ≡ false) → Obeys reads place standing told d made old.units new.units o p found → new.desk ≡ old.desk → Obeyed reads place standing told c old new o p result
-handed_obeyed {reads = reads} {place} {standing} {told} {found = found} {result = result} {c = c} {old = old} {new = new} {o = o} {p} on is memory device never quiet call desk = record {
+handed_obeyed {reads = reads} {place} {standing} {told} {found = found} {result = result} {c = c} {old = old} {new = new} {o = o} {p} on is memory device other never quiet call desk = record {
   stands = λ goes. call.stands (goes_back on goes);
   answered = λ t. subst (λ x. Answers (seen reads (world_of reads old.units o) o.now x) (world_of reads new.units p) x said result) (sym is) (answered_on on _ _ refl (call.answered t));
   moments = λ t. moments_same reads _ _ _ _ c _ is (call.moments t);
   desk = desk;
   unrefused = λ t moves. subst (λ x. OnOk result (first_of (checks (seen reads (world_of reads old.units o) o.now x) x) ≡ None)) (sym is)
       (ok_on on _ (unrefused_on _ _ _ _ never (call.answered t)));
-  costs = λ t. costs_on on is (call.costs t);
+  costs = λ t. costs_on on is other (call.costs t);
   alone = call.alone;
-  cause = err_on on _ call.cause;
   broke = subst (λ x. IfErr result (AtDevice (BreaksIn reads place standing told x old.units new.units o p))) (sym is) (err_on on _ call.broke);
-  no_fault = λ goes. call.no_fault (goes_back on goes);
-  ends = λ none. absurd (both-ways (sym none ∙ ap takes_memory is ∙ memory));
-  device = λ none. absurd (both-ways (sym none ∙ ap uses_device is ∙ device));
-  quiet = quiet_on on quiet;
+  ends = record {
+    cause = err_on on _ call.cause;
+    no_fault = λ goes. call.no_fault (goes_back on goes);
+    memory = λ none. absurd (both-ways (sym none ∙ ap takes_memory is ∙ memory));
+    device = λ none. absurd (both-ways (sym none ∙ ap uses_device is ∙ device));
+    quiet = quiet_on on quiet;
+  };
 }
 
 -- what shows or names where a cursor stands says of no unit that its device failed
@@ -87,13 +89,15 @@ handed_walked {reads = reads} {old = old} {o = o} {p} on is memory device quiet 
   answered = λ t apart settled. answered_on on _ _ is (call.answered t apart settled);
   fetches = λ t apart settled. subst (λ x. steps_unread (world_with reads old.units old.desk o) x ≡ true → FetchesAtMost (most_stepped (world_with reads old.units old.desk o) x) o p) (sym is)
       (call.fetches t apart settled);
-  cause = err_on on _ call.cause;
   failed = err_on on _ call.failed;
   kept = err_on on _ call.kept;
-  no_fault = λ goes. call.no_fault (goes_back on goes);
-  ends = λ no. absurd (both-ways (sym no ∙ ap takes_memory is ∙ memory));
-  device = λ no. absurd (both-ways (sym no ∙ ap uses_device is ∙ device));
-  quiet = quiet_on on quiet;
+  ends = record {
+    cause = err_on on _ call.cause;
+    no_fault = λ goes. call.no_fault (goes_back on goes);
+    memory = λ no. absurd (both-ways (sym no ∙ ap takes_memory is ∙ memory));
+    device = λ no. absurd (both-ways (sym no ∙ ap uses_device is ∙ device));
+    quiet = quiet_on on quiet;
+  };
 }
 
 -- and one that uses the cursors alone
@@ -107,13 +111,15 @@ handed_placed {reads = reads} {found = found} {c = c} {old = old} {o = o} on is 
   desk = desk;
   answered = λ t apart settled. answered_on on _ _ is (answered settled);
   fetches = λ t apart settled unread u. up (o.fetched u) (most_stepped (world_with reads old.units old.desk o) c u);
-  cause = err_on on _ (has_cause o o found none);
   failed = err_on on _ (none-devices _ found none);
   kept = err_on on _ (none-devices _ found none);
-  no_fault = λ goes. NoFault-refl o;
-  ends = λ no. err_on on _ (only (sym (ap takes_memory is) ∙ no));
-  device = λ no. err_on on _ none;
-  quiet = quiet_on on quiet;
+  ends = record {
+    cause = err_on on _ (has_cause o o found (NoFault-refl o) none);
+    no_fault = λ goes. NoFault-refl o;
+    memory = λ no. err_on on _ (only (sym (ap takes_memory is) ∙ no));
+    device = λ no. err_on on _ none;
+    quiet = quiet_on on quiet;
+  };
 }
   where
     up : (a b : ℕ) → a ≤ a + b

@@ -178,14 +178,6 @@ module _ (reads : List ℕ → Option Store) (marks : Marks) (outside : Outside)
       go None h = absurd (none-some d h)
       go (Some name) h = ap (λ (x : Device). is_unsure x.media) (sym (some-same _ d h)) ∙ its (marks.due u)
 
-  -- and of such a unit nothing is known
-  pub known-lost : (u : ℕ) (d : Device) → device (known reads marks outside) u ≡ Some d → marks.due u ≡ true → d.media ≡ lost
-  known-lost u d e due = go (outside.card u) (sym (known-at u) ∙ e)
-    where
-      go : (card : Option (List ℕ)) → its-device card u ≡ Some d → d.media ≡ lost
-      go None h = absurd (none-some d h)
-      go (Some name) h = ap (λ (x : Device). x.media) (sym (some-same _ d h)) ∙ ap (λ (b : Bool). let m : Media = if b then lost else media_of (reads (image u outside.now)) in m) due
-
   -- a unit of which none is due is sure
   pub known-sure : (u : ℕ) → marks.due u ≡ false → unsure_on (known reads marks outside) u ≡ false
   known-sure u due = go (device (known reads marks outside) u) refl

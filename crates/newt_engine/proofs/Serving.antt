@@ -34,7 +34,7 @@ use Rattle.newt_engine_units.proofs.Obeying.{end-answers, fault-goes, handed-end
 use Rattle.newt_engine_units.proofs.Settings.{is-err}
 use Rattle.newt_engine_cursors.specs.Fits.{DeskFits}
 use Rattle.newt_engine_cursors.specs.World.{world_with}
-use Rattle.newt_engine.specs.Bounds.{CommandCosts, most_settled}
+use Rattle.newt_engine.specs.Bounds.{CommandCosts, is_format, most_settled}
 use Rattle.newt_engine.specs.Calls.{Fails, FailsHalfway, Obeyed, Served}
 use Rattle.newt_engine.specs.Ends.{takes_memory, uses_device}
 use Rattle.newt_engine.specs.Standing.{IsStanding, stood_for}
@@ -124,22 +124,18 @@ served_fault {reads = reads} laws told old new o p s eight c none fault e =
           (λ means. alone_few old.desk (world_of reads old.units o) c o p (whole_known laws told old o s t c none) ((e.costs t).fetched means));
       step = λ t unread. absurd (unread_uses_cursor (stood_for reads old o) c none unread);
       alone = e.alone;
-      cause = e.cause;
       broke = at-device-map _ _ fault (λ u b. inl (fails_with c none e.desk b)) e.broke;
-      no_fault = e.no_fault;
       ends = e.ends;
-      device = e.device;
-      quiet = tt;
     }
 
 -- the same of a call whose fault is handed on
 pub served_handed : {C : Type 0} {reads : List ℕ → Option Store} {place : C → ℕ} {soups : C → Store} {stands : Bool → C → Outside → Type 0} (laws : Laws reads place soups stands) (told : Bool) (old new : World C)
-    (o p : Outside) → IsStanding reads place stands told old o → Eight p → (c : Command) → uses_cursors c ≡ false → takes_memory c ≡ true → uses_device c ≡ true → new.desk ≡ old.desk
+    (o p : Outside) → IsStanding reads place stands told old o → Eight p → (c : Command) → uses_cursors c ≡ false → takes_memory c ≡ true → uses_device c ≡ true → is_format c ≡ false → new.desk ≡ old.desk
     → (fault : StoreFault) (result : Result Reply StoreFault) → (e : StoreFault) × (result ≡ Err e) × (e ≡ fault)
     → Obeys reads place stands told c (λ n. plain.Reply.number n) old.units new.units o p (Err fault) → Served reads place stands told c old new o p result
-served_handed {reads = reads} {place} {stands = stands} laws told old new o p s eight c none memory device desk fault result h obeys =
+served_handed {reads = reads} {place} {stands = stands} laws told old new o p s eight c none memory device other desk fault result h obeys =
     subst (λ (r : Result Reply StoreFault). Served reads place stands told c old new o p r) (sym (is-err result fault h))
-    (served_fault laws told old new o p s eight c none fault (handed_obeyed (record { same = refl }) refl memory device (λ x r k. cc) (λ x u. refl) obeys desk))
+    (served_fault laws told old new o p s eight c none fault (handed_obeyed (record { same = refl }) refl memory device other (λ x r k. cc) (λ x u. refl) obeys desk))
 
 -- and of one that ends the command behind what was done
 pub served_ended : {C : Type 0} {reads : List ℕ → Option Store} {place : C → ℕ} {soups : C → Store} {stands : Bool → C → Outside → Type 0} (laws : Laws reads place soups stands) (told : Bool) (old new : World C)
@@ -160,13 +156,15 @@ served_ended {reads = reads} {place} {stands = stands} laws told old new o p s e
           (λ t. let k = seen-whole laws told old.units old.desk o s t c in subst (λ x. MountedApart x × IsSettled x) (sym (seen_is laws told old o s t c none)) (k.2, k.3)) answers goes;
       answered = answers;
       moments = moments;
-      costs = λ t. let k = costs t in record { bound = k.bound; fetched = k.fetched; open_after = λ goes. k.open_after (fault-goes {T = Reply} S (Err fault) (fault, refl, refl) goes) };
+      costs = λ t. let k = costs t in record { bound = k.bound; format = k.format; fetched = k.fetched; open_after = λ goes. k.open_after (fault-goes {T = Reply} S (Err fault) (fault, refl, refl) goes) };
       step = λ t unread. absurd (unread_uses_cursor (stood_for reads old o) c none unread);
       alone = over.alone;
-      cause = over.cause;
       broke = broke;
-      no_fault = over.no_fault;
-      ends = λ no. absurd (both-ways (sym no ∙ memory));
-      device = λ no. absurd (both-ways (sym no ∙ device));
-      quiet = tt;
+      ends = record {
+        cause = over.cause;
+        no_fault = over.no_fault;
+        memory = λ no. absurd (both-ways (sym no ∙ memory));
+        device = λ no. absurd (both-ways (sym no ∙ device));
+        quiet = tt;
+      };
     })

@@ -31,7 +31,7 @@ use Rattle.newt_laws_steps.proofs.Stepping.{accepted}
 use Rattle.newt_laws_steps.proofs.StoodFor.{known-stands, thrown-stands}
 use Rattle.newt_engine_units.specs.Breaks.{HasStoreToFormat, IsLeftAs, Meanwhile}
 use Rattle.newt_engine_units.proofs.Left.{left-same}
-use Rattle.newt_engine.proofs.Seeing.{known-due, known-lost, known-some}
+use Rattle.newt_engine.proofs.Seeing.{known-due, known-some}
 use Rattle.newt_engine.proofs.Lifting.{blank-left, due-left, held-holds, held-none, held-on, holds-left, is-read, meant-held, moments-to, sure-stores}
 
 -- ---- what happened to a unit goes on

@@ -1,6 +1,9 @@
 -- How much a command programs and fetches, and that it leaves no bank closed.
 use Rattle.std.specs.Prelude.{◌≡◌, ◌*◌, ℕ, Bool, true, false, Result}
 use Rattle.newt_host.specs.Outside.{Outside}
+use Rattle.newt_pagebook.specs.Book.{format_bytes}
+use Rattle.newt_spec_store.specs.Cost.{cost}
+use Rattle.newt_spec_store.specs.Store.{new_store}
 use Rattle.newt_spec_world.specs.World.{World}
 use Rattle.newt_spec_world.specs.declared.command.Command.{Command}
 use Rattle.newt_spec_world.specs.declared.command.Command.TheVariants as command
@@ -8,7 +11,7 @@ use Rattle.newt_spec_world.specs.Answer.{answer}
 use Rattle.newt_laws_answers.specs.Bounds.{most_programmed}
 use Rattle.newt_laws_answers.specs.Fetched.{means_entries, pages_meant, pages_shown}
 use Rattle.newt_store_change.specs.declared.fault.StoreFault.{StoreFault}
-use Rattle.newt_engine_card.specs.Bounds.{FetchesWithin, ProgramsAtMost, IsOpenOrSame}
+use Rattle.newt_engine_card.specs.Bounds.{FetchesWithin, FormatsOnce, ProgramsAtMost, IsOpenOrSame}
 use Rattle.newt_store_change.specs.Faults.{GoesOn}
 
 -- a device is made one with a store
@@ -16,11 +19,17 @@ abbrev pub is_format : Command → Bool
 is_format (command.Format _ _ _) = true
 is_format _ = false
 
+-- and is programmed by the pages of a store without soups
+abbrev pub most_formatted : Command → ℕ
+most_formatted (command.Format _ name sig) = format_bytes (cost (new_store name sig))
+most_formatted _ = 0
+
 -- What a command costs: but for a format, each unit is programmed by no more than the command may
--- where there is room for that; where it is one of entries, no more is fetched there than is said;
--- and where the run goes on, each bank is not closed or is as it was.
+-- where there is room for that; a format wears once; where it is one of entries, no more is fetched
+-- there than is said; and where the run goes on, each bank is not closed or is as it was.
 pub record CommandCosts {T : Type 0} (w : World) (c : Command) (fetches : ℕ → ℕ) (result : Result T StoreFault) (old new : Outside) : Type 0 where
   pub bound : is_format c ≡ false → (u : ℕ) → ProgramsAtMost (most_programmed w c u) u old new
+  pub format : is_format c ≡ true → (u : ℕ) → FormatsOnce (most_formatted c) 10 u old new
   pub fetched : means_entries c ≡ true → FetchesWithin (most_programmed w c) fetches old new
   pub open_after : GoesOn result → (u : ℕ) → IsOpenOrSame u old.now new.now
 

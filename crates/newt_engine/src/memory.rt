@@ -40,7 +40,7 @@ impl<C: Card> World<C> {
                 alias_of(commands::alias(&self.units, *unit, name, *uid), *uid)
             }
             Command::Resolve(graph) => place(self.units.resolve(graph)),
-            // (of watches and working copies: the world has none)
+            // `watch` to `discard`: never asked of the world, which would do nothing
             _ => Ok(Reply::Done),
         }
     }

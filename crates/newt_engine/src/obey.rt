@@ -86,7 +86,7 @@ impl<C: Card> World<C> {
             }
             other => {
                 let obeyed = self.obey_in_memory(&other);
-                // (as one call, and not part by part here)
+                // Let go here as one value: else each exit lets go of each variant's parts.
                 drop(other);
                 obeyed
             }

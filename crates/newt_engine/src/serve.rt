@@ -33,7 +33,7 @@ impl<C: Card> World<C> {
     {
         if is_on_cursor(&command) {
             let served = self.obey_on_cursor(host, &command);
-            // (as one call, and not part by part here)
+            // Let go here as one value: else each exit lets go of each variant's parts.
             drop(command);
             served
         } else {

@@ -2,6 +2,7 @@
 use Rattle.std.specs.Prelude.{◌≡◌, ◌≢◌, ◌⊎◌, ℕ, ◌+◌, ◌≤◌, ◌==◌, if◌then◌else◌, Bool, true, Result}
 use Rattle.newt_host.specs.Moments.{Moment, changes, image}
 use Rattle.newt_host.specs.Outside.{Outside, Wears}
+use Rattle.newt_spec_image.specs.Records.{bank_blocks}
 use Rattle.newt_pagebook.specs.Book.{IsOpenFor}
 use Rattle.newt_store_change.specs.declared.fault.StoreFault.{StoreFault}
 use Rattle.newt_store_change.specs.Faults.{GoesOn}
@@ -19,6 +20,12 @@ FetchesAtMost most old new = (u : ℕ) → new.fetched u ≤ old.fetched u + mos
 pub record ProgramsAtMost (n unit : ℕ) (old new : Outside) : Type 0 where
   pub programmed : IsOpenFor n (image unit old.now) → new.programmed unit ≤ old.programmed unit + n
   pub wears : IsOpenFor n (image unit old.now) → Wears unit 0 2 old new
+
+-- What a format costs a unit, whatever the answer: it is programmed by so many bytes at most, each
+-- block of a bank and each vote is erased once, and it is synced so often at most.
+pub record FormatsOnce (n syncs unit : ℕ) (old new : Outside) : Type 0 where
+  pub programmed : new.programmed unit ≤ old.programmed unit + n
+  pub wears : Wears unit (bank_blocks (old.blocks unit) + 3) syncs old new
 
 -- A unit's bank is not closed, or the unit is read as it was.
 abbrev pub IsOpenOrSame : ℕ → Moment → Moment → Type 0

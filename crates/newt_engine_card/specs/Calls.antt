@@ -1,14 +1,16 @@
 -- What calls on a card promise. All of it is this project's own.
-use Rattle.std.specs.Prelude.{◌≡◌, ◌*◌, ℕ, Bool, IsTrue, List, Option, Some, None, IsSome, Result, OnOk, IfOk, IfErr, IsErrOf}
+use Rattle.std.specs.Prelude.{◌≡◌, ◌+◌, ◌*◌, ℕ, Bool, IsTrue, List, Option, Some, None, IsSome, Result, OnOk, IfOk, IfErr, IsErrOf}
 use Rattle.newt_base.specs.Refusals.{first_of}
 use Rattle.newt_host.specs.Moments.{image, IsDurable, Leaves, Anything}
 use Rattle.newt_host.specs.Outside.{Outside, NoFault, OnlyReads, Rose, Spends, Touches, Wears}
-use Rattle.newt_pagebook.specs.Book.{IsOpenFor}
-use Rattle.newt_pagebook.specs.Stops.{IsOpening, StopsAt}
+use Rattle.newt_spec_image.specs.Records.{bank_blocks}
+use Rattle.newt_pagebook.specs.Book.{IsOpenFor, format_bytes}
+use Rattle.newt_pagebook.specs.Stops.{BlamesNone, StopsAt}
 use Rattle.newt_pagebook.specs.declared.book.BookFault.{BookFault}
 use Rattle.newt_pagebook.specs.declared.book.BookFault.TheVariants.{NotStore, Device as DeviceFault}
 use Rattle.newt_pagebook.specs.declared.book.Stop.{Stop}
 use Rattle.newt_pagebook.specs.declared.book.Stop.TheVariants.{Memory}
+use Rattle.newt_spec_store.specs.Cost.{cost}
 use Rattle.newt_spec_store.specs.Keys.{Path}
 use Rattle.newt_spec_store.specs.Store.{Store, entry_at, new_store}
 use Rattle.newt_store_change.specs.Change.{changed_by, answer_of, refusals, most_bytes, bytes_fetched, pages_of_entry}
@@ -25,6 +27,10 @@ module _ (reads : List ℕ → Option Store) where
     pub formatted : IsTrue told → OnOk result ((reads (image unit after.now) ≡ Some (new_store name sig)) × IsDurable unit after.now)
     pub unchanged : IsErrOf result Memory → after.now ≡ before.now
     pub any_moment : IsTrue told → Leaves unit Anything before.now after.now
+    -- each page of the store is written once, and nothing is read
+    pub costs : Spends unit (format_bytes (cost (new_store name sig))) 0 before after
+    -- each block of a bank and each vote once
+    pub wears : Wears unit (bank_blocks (before.blocks unit) + 3) 9 before after
     pub open_after : IsTrue told → OnOk result (IsOpenFor 0 (image unit after.now))
     pub alone : Touches unit before after
     pub cause : IfErr result (StopsAt unit before after)
@@ -42,7 +48,7 @@ module _ {C : Type 0} (reads : List ℕ → Option Store) (place : C → ℕ) (s
     pub not_store : IsErrOf result NotStore → IsTrue told → reads (image unit before.now) ≡ None
     pub looks : OnlyReads unit before after
     pub cause : IsErrOf result DeviceFault → Rose (before.dev_faults unit) (after.dev_faults unit)
-    pub no_fault : IsOpening result → NoFault before after
+    pub no_fault : BlamesNone result → NoFault before after
 
   -- A change at a minute: it makes of the unit's store what it makes of the plain store, and answers so, or is refused by the first of its refusals, and then
   -- nothing has happened.

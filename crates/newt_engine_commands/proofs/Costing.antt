@@ -1,6 +1,6 @@
 -- What the commands cost, by what the calls on one store cost that they are done by.
 use Rattle.std.proofs.Common.{arith, ◌≡◌, refl, ap, sym, ◌∙◌, subst, ◌⊎◌, inl, inr, ℕ, ◌+◌, ◌*◌, ◌≤◌, ◌==◌, List, [], ◌∷◌, ◌++◌, Bool, true, false, cond, None, Some, length, nat_lt, option_and_then, Option}
-use Rattle.std.specs.Prelude.{Result, Err}
+use Rattle.std.specs.Prelude.{Result}
 use Rattle.newt_base.specs.Refusals.{first_of}
 use Rattle.newt_graph.specs.Graph.{RawGraph}
 use Rattle.newt_host.specs.Moments.{bytes_after, changes, image}
@@ -28,13 +28,12 @@ use Rattle.newt_laws_answers.proofs.Fetched.{first-pages, named-pages}
 use Rattle.newt_laws_answers.proofs.Tests.{add_tests, replace_tests, replaced, patch_tests, move_tests, moved_within, index_tests, tagged, tags_tests, informed, info_tests}
 use Rattle.newt_laws_answers.proofs.Most.{drop-most, add-most, addx-most, addu-most, remove-most, change-most, set-most, vwrite-most, copy-most, move-to-most, move-from-most, within-most, index-most, unindex-most, set-tags-most, set-info-most}
 use Rattle.newt_store_change.specs.declared.fault.StoreFault.{StoreFault}
-use Rattle.newt_store_change.specs.declared.fault.StoreFault.TheVariants.{Refused, Stop}
 use Rattle.newt_engine_card.specs.Bounds.{Costs, CostsOn, FetchesAtMost, FetchesOn, FetchesWithin, LeftAlone, of_unit}
 use Rattle.newt_store_change.specs.Change.{pages_of_entry}
 use Rattle.newt_store_change.specs.Faults.{GoesOn}
 use Rattle.newt_engine_units.specs.Calls.{CostsOf}
 use Rattle.newt_engine_units.specs.Found.{HasSoup, HasEntry}
-use Rattle.newt_engine_units.proofs.Costs.{after-read, behind-read, both-costs, costs-of, none-fits, on-costs, on-few, on-within, read-few, same-fits}
+use Rattle.newt_engine_units.proofs.Costs.{after-read, behind-read, both-costs, none-fits, on-costs, on-few, on-within, read-few, same-fits}
 use Rattle.newt_engine_commands.specs.Declares.{has_parts, has_real}
 use Rattle.newt_engine_commands.proofs.Commands.{entry-fits}
 use Rattle.newt_engine_commands.proofs.Replacing.{raw-of}
@@ -307,12 +306,3 @@ module _ (w : World) (u to : ℕ) (name target : List ℕ) (sig into uid : ℕ) 
 
         read : FetchesWithin most (λ j. fetches j + more j) o r
         read j room = low (r.fetched j) (m.fetched j) (q.fetched j) (more j) (o.fetched j) (fetches j) (removed_few most o m r removed.reads (from-most passed) still j room) (reads j) (added_few j room)
-
--- the fault of a call is handed on
-pub handed-costs : {S T : Type 0} {most : ℕ → ℕ} {said : Bool} {fetches : ℕ → ℕ} {fault : StoreFault} {result : Result T StoreFault} {o p : Outside} → result ≡ Err fault
-    → Costs {T = S} most said fetches (Err fault) o p → Costs most said fetches result o p
-handed-costs {S} {T} {fault = fault} is costs = costs-of costs (λ goes. go fault (subst (λ r. GoesOn r) is goes))
-  where
-    go : (f : StoreFault) → GoesOn {T = T} (Err f) → GoesOn {T = S} (Err f)
-    go (Refused refusal) h = tt
-    go (Stop stop) h = h

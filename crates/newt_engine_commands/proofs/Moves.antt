@@ -1,6 +1,5 @@
 -- Entries that are moved.
 use Rattle.std.proofs.Common.{◌≡◌, refl, ap, sym, ◌∙◌, subst, ℕ, List, [], ◌∷◌, ◌++◌, ◌⊎◌, inl, inr, Bool, false, Option, Some, None, option_and_then, replicate}
-use Rattle.std.specs.Bool.{⊤}
 use Rattle.std.specs.Prelude.{Result, Ok, Err, is_some}
 use Rattle.newt_base.specs.Refusals.{Checks, first_of}
 use Rattle.newt_base.specs.declared.Refusal.{Refusal}
@@ -73,11 +72,6 @@ one-there w u s h = go (device w u) h
     go : (o : Option Device) → option_and_then (λ (d : Device). store_of d.media) o ≡ Some s → elim o [ None ↦ [] | Some d ↦ stores_of d.media ] ≡ s ∷ []
     go None h = absurd (none-some s h)
     go (Some d) h = media d.media h
-
--- a removal is not refused
-pub never-refused : (w x a b v : World) (c : Command) (fault : StoreFault) → Does {T = ℕ} [] (λ _. ⊤) a b v (Err fault) → Answers {T = ℕ} w x c (λ n. Reply.number n) (Err fault)
-never-refused w x a b v c (Refused r) d = absurd (none-some r d.0)
-never-refused w x a b v c (Stop stop) d = tt
 
 -- ---- within one store
 

@@ -1,16 +1,11 @@
 -- What a query asks: its frame, its index and its keys.
-use Rattle.std.proofs.Common.{◌≡◌, refl, ap, sym, ◌∙◌, ℕ, ◌+◌, ◌<◌, List, [], ◌∷◌, Bool, true, false, cond, drop, Option, Some, None, option_map, option_and_then}
-use Rattle.std.specs.Prelude.{Result, Ok, Err, not, is_none, unwrap_or, filter_map}
+use Rattle.std.proofs.Common.{◌≡◌, refl, ap, sym, ◌∙◌, ℕ, ◌+◌, ◌<◌, List, Bool, true, false, cond, drop, Option, Some, None, option_map, option_and_then}
+use Rattle.std.specs.Prelude.{Result, Ok, Err, filter_map}
 use Rattle.std.specs.List.{cons_option}
 use Rattle.newt_base.specs.Refusals.{Checks, first_of}
-use Rattle.newt_base.specs.declared.Refusal.TheVariants.{Spec as BadSpec, Index as BadIndex, Key as BadKey}
-use Rattle.newt_graph.specs.Graph.{RawGraph}
 use Rattle.newt_spec_graph.proofs.Lists.{none-some}
 use Rattle.newt_spec_store.specs.Keys.{IndexSpec, Path}
 use Rattle.newt_spec_query.specs.Hits.{Query}
-use Rattle.newt_spec_query.specs.Spec.{is_query, keys_fit, query_paths, spec_of}
-use Rattle.newt_spec_world.specs.Changed.{index_of, query_of}
-use Rattle.newt_spec_world.specs.Refused.{on_some}
 use Rattle.newt_spec_world.specs.World.{World}
 use Rattle.newt_cursor.specs.declared.query.Query as code
 use Rattle.newt_store_change.specs.declared.fault.StoreFault.{StoreFault}
@@ -29,7 +24,7 @@ use Rattle.newt_engine_units.proofs.Shown.{drop-step}
 use Rattle.newt_engine_hits.proofs.Searching.{chosen-kept, chosen-twice}
 use Rattle.newt_engine_hits.proofs.Stores.{chosen-map}
 use Rattle.newt_engine_cursors.specs.Opening.{index_in}
-use Rattle.newt_engine_cursors.specs.Opening.{Binds, Indexes, bind_tests}
+use Rattle.newt_engine_cursors.specs.Opening.{Binds}
 
 -- ---- the tests
 
@@ -37,27 +32,6 @@ pub binds-same : (xs ys : Checks) (p q : Query) → first_of xs ≡ first_of ys 
 binds-same xs ys p q e is (Ok query) h = (sym e ∙ h.0, h.1 ∙ is)
 binds-same xs ys p q e is (Err (Refused refusal)) h = sym e ∙ h
 binds-same xs ys p q e is (Err (Stop stop)) h = tt
-
-module _ (w : World) (scope : Option ℕ) (name : List ℕ) (g : RawGraph) where
-  -- the frame has not the form of a query
-  pub no-form : is_query g ≡ false → first_of (bind_tests w scope name g) ≡ Some BadSpec
-  no-form e = ap (λ b. first_of ((BadSpec, not b) ∷ (BadIndex, is_none (index_of w scope name g)) ∷ (BadKey, on_some (index_of w scope name g) (λ spec. not (keys_fit g spec))) ∷ [])) e
-
-  abbrev tests_by : Bool → Option IndexSpec → Checks
-  tests_by form index = (BadSpec, not form) ∷ (BadIndex, is_none index) ∷ (BadKey, on_some index (λ spec. not (keys_fit g spec))) ∷ []
-
-  module _ (form : is_query g ≡ true) where
-    -- its index is found
-    pub bound-goal : (spec : IndexSpec) → index_of w scope name g ≡ Some spec → (r : Result code.Query StoreFault)
-        → Binds ((BadKey, not (keys_fit g spec)) ∷ []) (record { scope = scope; name = name; spec = spec_of g spec }) r → Binds (bind_tests w scope name g) (query_of w scope name g) r
-    bound-goal spec e r h = binds-same ((BadKey, not (keys_fit g spec)) ∷ []) (bind_tests w scope name g) (record { scope = scope; name = name; spec = spec_of g spec }) (query_of w scope name g)
-        (sym (λ i. first_of (tests_by (form i) (e i))))
-        (ap {A = Option IndexSpec} {B = Query} (λ o. record { scope = scope; name = name; spec = spec_of g (unwrap_or o []) }) (sym e)) r h
-
-    -- it is not
-    pub index-goal : (fault : StoreFault) → Indexes w scope name (query_paths g) (Err fault) → Binds (bind_tests w scope name g) (query_of w scope name g) (Err fault)
-    index-goal (Refused refusal) h = (λ i. first_of (tests_by (form i) (h.0 i))) ∙ ap Some (sym h.1)
-    index-goal (Stop stop) h = tt
 
 -- ---- the index of the soups
 
@@ -86,9 +60,6 @@ module _ (f : ℕ → Option IndexSpec) (all : Option IndexSpec) (n : ℕ) (h : 
 
   pub index-some : (x : IndexSpec) → n < 8 → f n ≡ Some x → Some x ≡ all
   index-some x lt e = next-unit (Some x) lt e
-
-  pub index-end : n ≡ 8 → None ≡ all
-  index-end is = sym (ap (λ n. first_of_list (filter_map f (drop n unit_numbers))) is) ∙ h
 
 -- a store without the soup
 pub no-soup-index : (scope : Option ℕ) (name : List ℕ) (paths : List Path) (o : Option Store) → None ≡ option_map (λ p. p.sig) (option_and_then (soup_named name) o)

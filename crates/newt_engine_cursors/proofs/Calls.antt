@@ -63,7 +63,7 @@ module _ {C : Type 0} {reads : List ℕ → Option Store} {place : C → ℕ} {s
     read = not-read s;
     desk = d;
     turned = turned;
-    cause = none-cause result o o none;
+    cause = none-cause result o o (NoFault-refl o) none;
     failed = none-devices _ result none;
     kept = none-devices _ result none;
     no_fault = λ goes. NoFault-refl o;
@@ -77,7 +77,7 @@ module _ {C : Type 0} {reads : List ℕ → Option Store} {place : C → ℕ} {s
     read = a;
     desk = d;
     turned = λ t apart. subst (λ (x : World). becomes (world_with reads units was o) (with_cursors was x)) (sym (a.world t)) (turned t apart);
-    cause = none-cause result o q none;
+    cause = none-cause result o q f none;
     failed = none-devices _ result none;
     kept = none-devices _ result none;
     no_fault = λ goes. f;
@@ -163,7 +163,7 @@ module _ {C : Type 0} {reads : List ℕ → Option Store} {place : C → ℕ} {s
         read = read-then a h.read;
         desk = d;
         settled = λ t apart. ends _ _;
-        cause = cause-since _ _ _ stop a.alone h.cause;
+        cause = cause-since _ _ _ stop f h.cause;
         failed = failed-since {T = S} q a f (Err stop) h.failed;
         kept = kept;
         no_fault = tt;

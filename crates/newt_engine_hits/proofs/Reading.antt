@@ -1,7 +1,7 @@
 -- Units and devices that are read alone, call after call.
 use Rattle.std.proofs.Common.{arith, ◌≡◌, refl, sym, ◌∙◌, ap, subst, ℕ, Bool, true, false, List, Option}
 use Rattle.std.specs.Prelude.{Result, Ok, Err, IfErr}
-use Rattle.newt_host.specs.Outside.{Outside, NoFault, OnDevices}
+use Rattle.newt_host.specs.Outside.{Outside, NoFault}
 use Rattle.newt_host.proofs.Outside.{NoFault-append, OnDevices-refl, OnDevices-append}
 use Rattle.newt_pagebook.specs.Stops.{HasStopCause}
 use Rattle.newt_pagebook.specs.declared.book.Stop.{Stop}
@@ -16,10 +16,10 @@ use Rattle.newt_engine_units.specs.Calls.{AreRead}
 use Rattle.newt_engine_units.proofs.Broken.{err-stop-map, fails-after}
 use Rattle.newt_engine_hits.specs.Calls.{IsReading}
 
--- what has failed since has failed since an earlier moment
-pub cause-since : (o p q : Outside) (stop : Stop) → OnDevices o p → HasStopCause stop p q → HasStopCause stop o q
-cause-since o p q Memory a h = tt
-cause-since o p q (Device u) a h = let x = a.dev_faults u in omega (arith, h)
+-- why a run ends behind calls in which no fault was counted
+pub cause-since : (o p q : Outside) (stop : Stop) → NoFault o p → HasStopCause stop p q → HasStopCause stop o q
+cause-since o p q Memory f h = NoFault-append f h
+cause-since o p q (Device u) f h = let x = f.dev_faults u in omega (arith, h)
 
 -- what holds of a device that failed, where the error is handed on
 pub handed-stop : {T : Type 0} (P : ℕ → Type 0) (stop : Stop) → AtStop P stop → (result : Result T Stop) → (e : Stop) × (result ≡ Err e) × (e ≡ stop) → IfErr result (AtStop P)
@@ -77,18 +77,18 @@ module _ {C : Type 0} {reads : List ℕ → Option Store} {place : C → ℕ} {s
   read-more {result = Ok x} a f n r = record { read = read-then a r.read; cause = tt; failed = tt; no_fault = NoFault-append f r.no_fault; unread = then-unread a r.read n r.unread }
   read-more {T = T} {q = q} {result = Err stop} a f n r = record {
     read = read-then a r.read;
-    cause = cause-since _ _ _ stop a.alone r.cause;
+    cause = cause-since _ _ _ stop f r.cause;
     failed = failed-since {T = T} q a f (Err stop) r.failed;
     no_fault = tt;
     unread = then-unread a r.read n r.unread;
   }
 
-  -- want of memory
-  pub end-memory : {T : Type 0} {units later : Units C} {o q : Outside} → AreRead reads place stands told units later o q → Unread asks o q → (r : Result T Stop)
+  -- want of memory, where no fault was counted
+  pub end-memory : {T : Type 0} {units later : Units C} {o q : Outside} → AreRead reads place stands told units later o q → NoFault o q → Unread asks o q → (r : Result T Stop)
       → (e : Stop) × (r ≡ Err e) × (e ≡ Memory) → IsReading reads place stands asks told units later o q r
-  end-memory {T = T} {units} {later} {o} {q} a n r is =
+  end-memory {T = T} {units} {later} {o} {q} a f n r is =
       subst (λ (r : Result T Stop). IsReading reads place stands asks told units later o q r) (sym (is.1 ∙ ap {B = Result T Stop} (λ e. Err e) is.2))
-      (record { read = a; cause = tt; failed = tt; no_fault = tt; unread = n })
+      (record { read = a; cause = f; failed = tt; no_fault = tt; unread = n })
 
   -- an error that is handed on
   pub end-read : {S T : Type 0} {stop : Stop} {units mid later : Units C} {o p q : Outside} → AreRead reads place stands told units mid o p → NoFault o p → Unread asks o p
@@ -98,7 +98,7 @@ module _ {C : Type 0} {reads : List ℕ → Option Store} {place : C → ℕ} {s
       subst (λ (r : Result T Stop). IsReading reads place stands asks told units later o q r) (sym (is.1 ∙ ap {B = Result T Stop} (λ e. Err e) is.2))
       (record {
         read = read-then a h.read;
-        cause = cause-since _ _ _ stop a.alone h.cause;
+        cause = cause-since _ _ _ stop f h.cause;
         failed = failed-since {T = S} q a f (Err stop) h.failed;
         no_fault = tt;
         unread = then-unread a h.read n h.unread;

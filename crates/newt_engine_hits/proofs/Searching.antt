@@ -176,12 +176,6 @@ probe-in index key bytes (m ∷ ms) a p =
 pub members-probe-in : (index : IndexSpec) (key : Key) (bytes : List ℕ) (ms : List Member) → AreMembers index ms → IsProbeOf (declared index) key bytes → IsProbeIn ms key bytes
 members-probe-in index key bytes ms are p = probe-in index key bytes ms are.agree (declared-probe index key bytes p)
 
--- without an index the one key is empty
-pub empty-key : (index : IndexSpec) (key : Key) → None ≡ declared index → IsKeyOf index key → [] ≡ key
-empty-key [] [] e k = refl
-empty-key [] (x ∷ key) e k = absurd k.0
-empty-key (i ∷ index) key e k = absurd (none-some (i ∷ index) e)
-
 pub no-members : (index : IndexSpec) → AreMembers index []
 no-members index = record { agree = All-nil (OneAgrees index); sorted = All-nil OneSorted }
 

@@ -8,9 +8,8 @@ use Rattle.newt_base.specs.Refusals.{Checks, first_of}
 use Rattle.newt_host.specs.Moments.{changes, image, Always, IsDurable, Leaves}
 use Rattle.newt_host.specs.Outside.{Outside, NoFault, OnlyReads, Touches, Rose, OnDevices, Spends}
 use Rattle.newt_pagebook.specs.Book.{IsOpenFor, IsSameFor}
-use Rattle.newt_pagebook.specs.Stops.{IsOpening, StopsAt, HasStopCause}
+use Rattle.newt_pagebook.specs.Stops.{BlamesNone, StopsAt, HasStopCause}
 use Rattle.newt_pagebook.specs.declared.book.BookFault.{BookFault}
-use Rattle.newt_pagebook.specs.declared.book.BookFault.TheVariants.{NotStore}
 use Rattle.newt_pagebook.specs.declared.book.Stop.{Stop as Ends}
 use Rattle.newt_pagebook.specs.declared.book.Stop.TheVariants as stops
 use Rattle.newt_spec_graph.proofs.Lists.{both-ways}
@@ -81,12 +80,12 @@ not-there slots u n slot is value h none =
 pub cause-of : {T : Type 0} (u : ℕ) (o p : Outside) (result : Result T StoreFault) → IfErr result (FaultsAt u o p) → IfErr result (λ fault. HasFaultCause fault o p)
 cause-of u o p (Ok x) h = h
 cause-of u o p (Err (Refused refusal)) h = tt
-cause-of u o p (Err (Stop stops.Memory)) h = tt
+cause-of u o p (Err (Stop stops.Memory)) h = h
 cause-of u o p (Err (Stop (stops.Device at))) h = subst (λ k. Rose (o.dev_faults k) (p.dev_faults k)) (sym h.0) h.1
 
 pub stop-cause : {T : Type 0} (u : ℕ) (o p : Outside) (result : Result T Ends) → IfErr result (StopsAt u o p) → IfErr result (λ stop. HasStopCause stop o p)
 stop-cause u o p (Ok x) h = h
-stop-cause u o p (Err stops.Memory) h = tt
+stop-cause u o p (Err stops.Memory) h = h
 stop-cause u o p (Err (stops.Device at)) h = subst (λ k. Rose (o.dev_faults k) (p.dev_faults k)) (sym h.0) h.1
 
 -- no device has fewer faults
@@ -135,9 +134,9 @@ all-alone {u} {o} {p} r j = go (same-or-not j u)
     go (inl e) = subst (λ k. LeftAlone k o p) (sym e) (record { programmed = r.programmed; wears = r.wears; changes = ap (changes u) r.moment })
     go (inr e) = beside r.alone (λ k h. ap (changes k) r.moment) j e
 
--- an image that holds no store was opened
-pub is-opening : (T : Type 0) (fault : BookFault) → fault ≡ NotStore → IsOpening {T = T} (Err fault)
-is-opening T fault is = subst (λ (e : BookFault). IsOpening {T = T} (Err e)) (sym is) tt
+-- a fault that is one of which no device is to blame
+pub blames-none : (T : Type 0) {other : BookFault} (fault : BookFault) → fault ≡ other → BlamesNone {T = T} (Err other) → BlamesNone {T = T} (Err fault)
+blames-none T fault is none = subst (λ (e : BookFault). BlamesNone {T = T} (Err e)) (sym is) none
 
 -- how a call on one unit ends
 pub ends-of : {T : Type 0} {u : ℕ} {o p : Outside} (result : Result T StoreFault) → IsSome (o.card u) → Touches u o p → IfErr result (FaultsAt u o p) → (GoesOn result → NoFault o p) → Ended result o p

@@ -3,13 +3,14 @@ use Rattle.std.proofs.Common.{arith, ◌≡◌, ◌≢◌, refl, ap, sym, ◌∙
 use Rattle.std.specs.Prelude.{Result}
 use Rattle.std.proofs.lemmas.Bool.{eq-eqb, ne_eqb}
 use Rattle.newt_host.specs.Moments.{Moment, bytes_after, changes, image}
-use Rattle.newt_host.specs.Outside.{Outside, Touches, Wears}
+use Rattle.newt_host.specs.Outside.{Outside, Spends, Touches, Wears}
 use Rattle.newt_host.proofs.Outside.{Wears-append, Wears-refl, Wears-widen}
+use Rattle.newt_spec_image.specs.Records.{bank_blocks}
 use Rattle.newt_pagebook.specs.Book.{IsOpenFor}
 use Rattle.newt_laws_world.proofs.Units.{same-or-not}
 use Rattle.newt_spec_graph.proofs.Lists.{both-ways}
 use Rattle.newt_store_change.specs.declared.fault.StoreFault.{StoreFault}
-use Rattle.newt_engine_card.specs.Bounds.{Costs, CostsOn, FetchesAtMost, FetchesOn, FetchesWithin, IsOpenOrSame, LeftAlone, ProgramsAtMost, of_unit}
+use Rattle.newt_engine_card.specs.Bounds.{Costs, CostsOn, FetchesAtMost, FetchesOn, FetchesWithin, FormatsOnce, IsOpenOrSame, LeftAlone, ProgramsAtMost, of_unit}
 use Rattle.newt_store_change.specs.Faults.{GoesOn}
 
 -- a bank with room for so many bytes has room for fewer
@@ -75,6 +76,55 @@ bound-before b a = record {
   programmed = λ room. let h = b.programmed room in let k = a.programmed in omega (arith, h, k);
   wears = λ room. Wears-append 0 2 0 0 (b.wears room) a.wears;
 }
+
+-- ---- a format
+
+-- a unit that was left alone costs no more than a format
+pub alone-once : {u n : ℕ} {o p : Outside} (syncs : ℕ) → LeftAlone u o p → FormatsOnce n syncs u o p
+alone-once {u} {n} {o} {p} syncs a = record {
+  programmed = let h = a.programmed in omega (arith, h);
+  wears = Wears-widen 0 0 (bank_blocks (o.blocks u) + 3) syncs (omega arith) (omega arith) a.wears;
+}
+
+-- a format behind what left the unit alone
+pub once-after : {u n syncs : ℕ} {o p q : Outside} → LeftAlone u o p → p.blocks u ≡ o.blocks u → FormatsOnce n syncs u p q → FormatsOnce n syncs u o q
+once-after {u} {n} {syncs} {o} {p} {q} a same b = let bank = bank_blocks (p.blocks u) + 3 in record {
+  programmed = let h = a.programmed in let k = b.programmed in omega (arith, h, k);
+  wears = subst (λ (k : ℕ). Wears u (bank_blocks k + 3) syncs o q) same
+      (Wears-widen (0 + bank) (0 + syncs) bank syncs (omega arith) (omega arith) (Wears-append 0 0 bank syncs a.wears b.wears));
+}
+
+-- and one before it
+pub once-before : {u n syncs : ℕ} {o p q : Outside} → FormatsOnce n syncs u o p → LeftAlone u p q → FormatsOnce n syncs u o q
+once-before {u} {n} {syncs} {o} {p} {q} b a = let bank = bank_blocks (o.blocks u) + 3 in record {
+  programmed = let h = b.programmed in let k = a.programmed in omega (arith, h, k);
+  wears = Wears-widen (bank + 0) (syncs + 0) bank syncs (omega arith) (omega arith) (Wears-append bank syncs 0 0 b.wears a.wears);
+}
+
+-- a unit is formatted, and no other is touched
+pub format-once : {unit n : ℕ} {o p : Outside} → Spends unit n 0 o p → Wears unit (bank_blocks (o.blocks unit) + 3) 9 o p → Touches unit o p → (u : ℕ) → FormatsOnce n 9 u o p
+format-once {unit} {n} {o} {p} spends wears touches u = go (same-or-not u unit)
+  where
+    go : (u ≡ unit) ⊎ (u ≡ unit → ⊥) → FormatsOnce n 9 u o p
+    go (inl is) = subst (λ (k : ℕ). FormatsOnce n 9 k o p) (sym is) (record { programmed = spends.programmed; wears = wears })
+    go (inr other) = let work = touches.others u other in record {
+      programmed = let h = work.programmed in omega (arith, h);
+      wears = let a = work.erased in let b = work.synced in
+          Wears-widen 0 0 (bank_blocks (o.blocks u) + 3) 9 (omega arith) (omega arith) (record { erased = omega (arith, a); synced = omega (arith, b) });
+    }
+
+-- and it was synced before
+pub synced-once : {unit n : ℕ} {o m p : Outside} → Touches unit o m → (m.programmed unit ≤ o.programmed unit) × Wears unit 0 1 o m → ((u : ℕ) → FormatsOnce n 9 u m p) → (u : ℕ) → FormatsOnce n 10 u o p
+synced-once {unit} {n} {o} {m} {p} touches costs once u = let bank = bank_blocks (m.blocks u) + 3 in let b = once u in let s = synced (same-or-not u unit) in record {
+  programmed = let h = s.0 in let k = b.programmed in omega (arith, h, k);
+  wears = subst (λ (k : ℕ). Wears u (bank_blocks k + 3) 10 o p) (touches.cards.blocks u)
+      (Wears-widen (0 + bank) 10 bank 10 (omega arith) (omega arith) (Wears-append 0 1 bank 9 s.1 b.wears));
+}
+  where
+    synced : (u ≡ unit) ⊎ (u ≡ unit → ⊥) → (m.programmed u ≤ o.programmed u) × Wears u 0 1 o m
+    synced (inl is) = subst (λ (k : ℕ). (m.programmed k ≤ o.programmed k) × Wears k 0 1 o m) (sym is) costs
+    synced (inr other) = let work = touches.others u other in
+        (let h = work.programmed in omega (arith, h), let a = work.erased in let b = work.synced in record { erased = omega (arith, a); synced = omega (arith, b) })
 
 -- ---- what is fetched
 

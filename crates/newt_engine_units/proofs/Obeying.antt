@@ -1,9 +1,9 @@
 -- What a command promises where nothing has changed, and behind a call that read.
-use Rattle.std.proofs.Common.{◌≡◌, refl, ap, sym, ◌∙◌, subst, ℕ, ◌≤◌, List, Bool, true, IsTrue, Option, arith}
+use Rattle.std.proofs.Common.{◌≡◌, refl, ap, sym, ◌∙◌, subst, ℕ, List, Bool, true, IsTrue, Option, arith}
 use Rattle.std.specs.Prelude.{Result, Ok, Err, IfErr}
 use Rattle.newt_base.specs.Refusals.{Checks}
 use Rattle.newt_host.specs.Moments.{changes}
-use Rattle.newt_host.specs.Outside.{Outside, NoFault, OnDevices, Rose}
+use Rattle.newt_host.specs.Outside.{Outside, NoFault, Rose}
 use Rattle.newt_host.proofs.Outside.{NoFault-append, NoFault-refl, OnDevices-append, OnDevices-refl}
 use Rattle.newt_path.specs.declared.fault.SetFault.{SetFault}
 use Rattle.newt_path.specs.declared.fault.SetFault.TheVariants as put
@@ -45,11 +45,11 @@ none-put put.NoPath = tt
 none-put put.Limit = tt
 none-put put.Memory = tt
 
-pub none-cause : {T : Type 0} (result : Result T StoreFault) (o p : Outside) → IfErr result (λ fault. NoDevice fault) → IfErr result (λ fault. HasFaultCause fault o p)
-none-cause (Ok x) o p h = tt
-none-cause (Err (Refused refusal)) o p h = tt
-none-cause (Err (Stop Memory)) o p h = tt
-none-cause (Err (Stop (Device unit))) o p h = absurd h
+pub none-cause : {T : Type 0} (result : Result T StoreFault) (o p : Outside) → NoFault o p → IfErr result (λ fault. NoDevice fault) → IfErr result (λ fault. HasFaultCause fault o p)
+none-cause (Ok x) o p none h = tt
+none-cause (Err (Refused refusal)) o p none h = tt
+none-cause (Err (Stop Memory)) o p none h = none
+none-cause (Err (Stop (Device unit))) o p none h = absurd h
 
 -- a fault that was handed on
 pub handed : {T : Type 0} (P : StoreFault → Type 0) (result : Result T StoreFault) (fault : StoreFault) → (e : StoreFault) × (result ≡ Err e) × (e ≡ fault) → P fault → IfErr result P
@@ -72,19 +72,19 @@ fault-goes {T} S {fault} result p goes = go fault (subst (λ (r : Result T Store
     go (Refused refusal) h = tt
     go (Stop stop) h = h
 
--- the cause of a fault behind calls that are done
-pub cause-after : {T : Type 0} (result : Result T StoreFault) {o m : Outside} (p : Outside) → OnDevices o m → IfErr result (λ fault. HasFaultCause fault m p) → IfErr result (λ fault. HasFaultCause fault o p)
+-- the cause of a fault behind calls that are done, in which none was counted
+pub cause-after : {T : Type 0} (result : Result T StoreFault) {o m : Outside} (p : Outside) → NoFault o m → IfErr result (λ fault. HasFaultCause fault m p) → IfErr result (λ fault. HasFaultCause fault o p)
 cause-after (Ok x) p before h = tt
 cause-after (Err (Refused refusal)) p before h = tt
-cause-after (Err (Stop Memory)) p before h = tt
-cause-after (Err (Stop (Device unit))) {o} {m} p before h = let low = before.dev_faults unit in go (o.dev_faults unit) (m.dev_faults unit) (p.dev_faults unit) low h
+cause-after (Err (Stop Memory)) p before h = NoFault-append before h
+cause-after (Err (Stop (Device unit))) {o} {m} p before h = go (o.dev_faults unit) (m.dev_faults unit) (p.dev_faults unit) (before.dev_faults unit) h
   where
-    go : (a b c : ℕ) → a ≤ b → Rose b c → Rose a c
-    go a b c low rose = omega (arith, low, rose)
+    go : (a b c : ℕ) → b ≡ a → Rose b c → Rose a c
+    go a b c same rose = omega (arith, same, rose)
 
 -- a call that did nothing
 pub none-ends : {T : Type 0} {o : Outside} (result : Result T StoreFault) → IfErr result (λ fault. NoDevice fault) → Ended result o o
-none-ends {o = o} result none = record { alone = OnDevices-refl o; cause = none-cause result o o none; failed = none-devices _ result none; no_fault = λ goes. NoFault-refl o }
+none-ends {o = o} result none = record { alone = OnDevices-refl o; cause = none-cause result o o (NoFault-refl o) none; failed = none-devices _ result none; no_fault = λ goes. NoFault-refl o }
 
 -- a fault of a call that is handed on ends it as it ended that call
 pub handed-ends : {S T : Type 0} {o p : Outside} {fault : StoreFault} (result : Result T StoreFault) → (e : StoreFault) × (result ≡ Err e) × (e ≡ fault) → Ended {T = S} (Err fault) o p → Ended result o p
@@ -107,7 +107,7 @@ ends-ok e = record { alone = e.alone; cause = tt; failed = tt; no_fault = λ goe
 pub ends-after : {S T : Type 0} {first : Result S StoreFault} {result : Result T StoreFault} {o m p : Outside} → Ended first o m → GoesOn first → Ended result m p → Ended result o p
 ends-after {result = result} {o} {m} {p} a goes b = record {
   alone = OnDevices-append a.alone b.alone;
-  cause = cause-after result p a.alone b.cause;
+  cause = cause-after result p (a.no_fault goes) b.cause;
   failed = err-device-map _ _ result (λ u f. fails-after a.alone.cards (a.no_fault goes) f) b.failed;
   no_fault = λ on. NoFault-append (a.no_fault goes) (b.no_fault on);
 }
@@ -155,7 +155,7 @@ module _ {C : Type 0} {reads : List ℕ → Option Store} {place : C → ℕ} {s
     moments = λ t. still at t _ _ _ refl;
     costs = λ t. idle-costs _ _ _ _ _;
     alone = OnDevices-refl o;
-    cause = none-cause result o o none;
+    cause = none-cause result o o (NoFault-refl o) none;
     broke = none-devices _ result none;
     no_fault = λ goes. NoFault-refl o;
   }

@@ -34,11 +34,16 @@ pub record IsLeftAs (u : ℕ) (before after : Moment) : Type 0 where
 
 -- the command does not format the unit: where it would, the unit is read as a store
 abbrev pub HasStoreToFormat : (List ℕ → Option Store) → World → Command → ℕ → Moment → Type 0
-HasStoreToFormat reads w c u now = formats (seen reads w now c) c u ≡ true → IsSome (reads (image u now))
+HasStoreToFormat reads w c u now =
+    formats (seen reads w now c) c u ≡ true → IsSome (reads (image u now))
 
--- What holds at each moment while a command turns the world w into v, where of these units a sync is due, and w does not know what they hold: a unit that w knows is
--- left as it has it, or v; one of which a sync is due is left as it was, unless it is formatted; and nothing has happened to a unit that is neither written nor formatted, nor looked at where a sync of it is due.
-pub record Meanwhile (reads : List ℕ → Option Store) (due : ℕ → Bool) (w : World) (c : Command) (v : World) (start now : Moment) : Type 0 where
+-- What holds at each moment while a command turns the world w into v, where of these units a sync
+-- is due, and w does not know what they hold: a unit that w knows is left as it has it, or v; one
+-- of which a sync is due is left as it was, unless it is formatted; and nothing has happened to a
+-- unit that is neither written nor formatted, nor looked at where a sync of it is due.
+pub record Meanwhile (reads : List ℕ → Option Store) (due : ℕ → Bool) (w : World) (c : Command)
+    (v : World) (start now : Moment) : Type 0 where
   pub answering : Answering reads w c v start now
   pub unsure : (u : ℕ) → due u ≡ true → HasStoreToFormat reads w c u start → IsLeftAs u start now
-  pub beside : (u : ℕ) → writes w c u ≡ false → is_format_of c u ≡ false → (looks_at c ≡ Some u → due u ≡ false) → changes u now ≡ changes u start
+  pub beside : (u : ℕ) → writes w c u ≡ false → is_format_of c u ≡ false
+      → (looks_at c ≡ Some u → due u ≡ false) → changes u now ≡ changes u start

@@ -92,7 +92,7 @@ module _ {C : Type 0} {reads : List ℕ → Option Store} {place : C → ℕ} {s
   read-handed {it} other turn a = record {
     stands = record { world = a.stands; watches = begun.watches; drafts = begun.drafts };
     stepped = λ t h m. go h m (found t h m) (a.obeyed t h.world m.world);
-    ended = reading-ended at.unit at.uid at.name (λ w. refl) refl refl turn a.finished a.finished.open_after;
+    ended = reading-ended at.unit at.uid at.name (λ w. refl) refl refl refl turn a.finished a.finished.open_after a.finished.threw a.finished.failed tt;
   }
     where
       go : (h : plain.Whole) → Means reads old o h → AllFormed h.world × IsAt h n at → Obeys reads {R = Reply} {E = AllocError} said (means reads mid p) h.world (command.Get at.unit at.name at.uid) (Ok it) o.now p.now
@@ -106,7 +106,8 @@ module _ {C : Type 0} {reads : List ℕ → Option Store} {place : C → ℕ} {s
             reply = said it;
             steps = wholes.thrown (command.Get at.unit at.name at.uid) (subst (λ (ds : List Command). Among ds (command.Get at.unit at.name at.uid)) (sym (first-turn n at h i).1) (inl refl)) refl says;
             threw = a.finished.threw;
-            answered = (refl, record { world = subst (means reads mid p) next there; watches = m.watches; copies = m.copies }, a.finished.failed);
+            failed = a.finished.failed;
+            answered = (refl, record { world = subst (means reads mid p) next there; watches = m.watches; copies = m.copies });
             moments = as-other reads h.world (whole_thrown h (command.Get at.unit at.name at.uid) x).world (command.Get at.unit at.name at.uid) (command.Save n) o.now p.now (λ u. refl)
                 (subst (λ (w : World). Always (Answering reads h.world (command.Get at.unit at.name at.uid) w o.now) o.now p.now) next moments);
           }

@@ -1,7 +1,7 @@
 -- A command that asks nothing of the world.
 use Rattle.std.proofs.Common.{◌≡◌, refl, ap, sym, ◌∙◌, subst, arith, ℕ, ◌+◌, ◌*◌, ◌≤◌, inr, List, length, Bool, false, Option, Some, None, option_and_then}
 use Rattle.std.specs.declared.alloc.AllocError.{AllocError}
-use Rattle.std.specs.Prelude.{IfOk, IsOk, OnOk, Result, Ok, Err}
+use Rattle.std.specs.Prelude.{IfOk, IsOk, OnErr, OnOk, Result, Ok, Err}
 use Rattle.newt_base.specs.Refusals.{first_of}
 use Rattle.newt_base.specs.declared.Refusal.{Refusal}
 use Rattle.newt_base.specs.declared.Refusal.TheVariants.{Changed}
@@ -14,7 +14,7 @@ use Rattle.newt_script_session.specs.Steps.{Stepped}
 use Rattle.newt_spec_graph.proofs.Lists.{among-left, both-ways}
 use Rattle.newt_spec_script.specs.Rows.{throws}
 use Rattle.newt_spec_store.specs.Store.{Store}
-use Rattle.newt_spec_whole.specs.Answer.{told, whole_answer, whole_answered, whole_fields}
+use Rattle.newt_spec_whole.specs.Answer.{notes_reply, whole_answer, whole_answered, whole_fields}
 use Rattle.newt_spec_whole.specs.Refused.{whole_checks}
 use Rattle.newt_spec_whole.specs.Step.{WholeStep}
 use Rattle.newt_spec_whole.specs.Step as steps
@@ -31,8 +31,10 @@ use Rattle.newt_spec_world.specs.declared.command.Command.{Command}
 use Rattle.newt_spec_world.specs.declared.command.Command.TheVariants as command
 use Rattle.newt_laws_steps.specs.Answering.{Answering}
 use Rattle.newt_laws_steps.specs.StandsFor.{Marks, StandsFor}
+use Rattle.newt_laws_steps.specs.Thrown.{Threw}
 use Rattle.newt_laws_steps.proofs.Held.{stands-left}
 use Rattle.newt_laws_world.specs.Worlds.{is_plain}
+use Rattle.newt_engine_units.proofs.Costs.{alone-once, alone-refl}
 use Rattle.newt_engine.specs.Calls.{IsNotThrown}
 use Rattle.newt_engine.specs.Standing.{IsStanding, marks_of}
 use Rattle.newt_engine.specs.declared.world.World.{World as Engine}
@@ -68,7 +70,7 @@ apart-quiet h (command.Notes n) u a = go (first_of (whole_checks h (command.Note
   where
     go : (o : Option Refusal) → throws u (whole_answered h (command.Notes n) o).1 ≡ false
     go (Some r) = refl
-    go None = nil_quiet {X = Watching} told u (watch h n) (λ w. refl)
+    go None = nil_quiet {X = Watching} notes_reply u (watch h n) (λ w. refl)
 apart-quiet h (command.Unwatch n) u a = go (first_of (whole_checks h (command.Unwatch n)))
   where
     go : (o : Option Refusal) → throws u (whole_answered h (command.Unwatch n) o).1 ≡ false
@@ -122,6 +124,7 @@ apart-stepped reads old new o c h result apart m answered = record {
   reply = a.1;
   steps = steps.plain (ap (option_and_then (unsure_look h.world)) (apart-looks c apart)) refl;
   threw = record { later = λ u. omega arith; rose = λ u k. absurd (both-ways (sym (apart-quiet h c u apart) ∙ k)) };
+  failed = λ u k. refl;
   answered = go result answered;
   moments = at-rest reads (marks_of old.world) o h.world m.world c a.0.world;
 }
@@ -130,11 +133,10 @@ apart-stepped reads old new o c h result apart m answered = record {
     a = whole_answer h c
 
     go : (r : Result Reply AllocError) → IfOk r (λ it. (next : plain.Whole) × (whole_answer h c ≡ (next, said it)) × Means reads new o next)
-        → IfOk r (λ it. (said it ≡ a.1) × Means reads new o a.0 × ((unit : ℕ) → throws unit a.1 ≡ false → o.dev_faults unit ≡ o.dev_faults unit))
+        → IfOk r (λ it. (said it ≡ a.1) × Means reads new o a.0)
     go (Ok it) (next, is, means) = (
       sym (ap (λ (x : plain.Whole × replies.Reply). x.1) is),
       subst (Means reads new o) (sym (ap (λ (x : plain.Whole × replies.Reply). x.0) is)) means,
-      λ unit k. refl,
     )
     go (Err e) x = tt
 
@@ -144,6 +146,10 @@ pub on_ok : {T E P : Type 0} (r : Result T E) → P → OnOk r P
 on_ok (Ok x) p = p
 on_ok (Err e) p = tt
 
+pub on_err : {T E P : Type 0} (r : Result T E) → P → OnErr r P
+on_err (Ok x) p = tt
+on_err (Err e) p = p
+
 pub each_ok : {T E : Type 0} {P : T → Type 0} (r : Result T E) → ((x : T) → P x) → IfOk r P
 each_ok (Ok x) p = p x
 each_ok (Err e) p = tt
@@ -151,15 +157,28 @@ each_ok (Err e) p = tt
 no-more : (a b : ℕ) → a ≤ a + b
 no-more a b = omega arith
 
+no-less : (a : ℕ) → a ≤ a
+no-less a = omega arith
+
+-- no fault of them is counted
+still-threw : (r : Result Reply AllocError) (faults : ℕ → ℕ) → IfOk r (λ it. IsNotThrown it) → IfOk r (λ it. Threw (said it) faults faults)
+still-threw (Ok it) faults quiet = record { later = λ u. no-less (faults u); rose = λ u is. absurd (both-ways (sym (quiet u) ∙ is)) }
+still-threw (Err e) faults quiet = tt
+
 -- nothing happens to the devices
 pub rest-ended : {C : Type 0} (reads : List ℕ → Option Store) (told : Bool) (old : Whole C) (o : Outside) (c : Command) {asked : List Command} (result : Result Reply AllocError) → (whole_takes_memory c ≡ false → IsOk result)
     → IfOk result (λ it. IsNotThrown it) → Ended reads told c asked old o o result
 rest-ended reads told old o c {asked} result memory quiet = record {
   alone = OnDevices-refl o;
   bound = λ t other u. record { programmed = λ room. no-more (o.programmed u) _; wears = λ room. Wears-widen 0 0 0 (2 * length asked) (omega arith) (omega arith) (Wears-refl u o) };
+  format = λ t is u. alone-once 10 (alone-refl u o);
   fetched = λ t means u room. no-more (o.fetched u) _;
   step = λ t unread u. no-more (o.fetched u) _;
   open_after = λ t. each_ok result (λ it u other. inr refl);
+  threw = still-threw result o.dev_faults quiet;
+  failed = each_ok result (λ it u none. refl);
+  unhidden = on_err result (λ u. refl);
+  later = λ u. no-less (o.dev_faults u);
   never_memory = memory;
   never_thrown = λ none. quiet;
 }

@@ -29,6 +29,7 @@ use Rattle.newt_laws_steps.proofs.Seen.{seen-step}
 use Rattle.newt_laws_whole.specs.Steps.{notes_behind, noting}
 use Rattle.newt_laws_whole.proofs.Telling.{steps-tell}
 use Rattle.newt_laws_world.specs.Worlds.{is_plain}
+use Rattle.newt_laws_whole.specs.Runs.{DraftsFit}
 use Rattle.newt_engine_units.specs.Stands.{world_of}
 use Rattle.newt_engine_units.proofs.Known.{Laws}
 use Rattle.newt_engine.specs.Calls.{Applied as Inner}
@@ -39,7 +40,7 @@ use Rattle.newt_engine.proofs.Applying.{standing-told}
 use Rattle.newt_engine.proofs.Refusing.{answer_quiet}
 use Rattle.newt_engine_whole.specs.Calls.{Applied}
 use Rattle.newt_engine_whole.specs.Ends.{whole_takes_memory}
-use Rattle.newt_engine_whole.specs.Standing.{DraftsFit, Means, Standing}
+use Rattle.newt_engine_whole.specs.Standing.{Means, Standing}
 use Rattle.newt_engine_whole.specs.Told.{HasSig, Tells, all_due, due_told}
 use Rattle.newt_engine_whole.specs.declared.due.Due.{Due}
 use Rattle.newt_engine_whole.specs.declared.whole.Whole.{Whole}
@@ -112,6 +113,7 @@ asked-step reads old new o p c h it notes plain m (v, turned, stands, moments) t
   reply = said it;
   steps = steps-tell h c v (said it) plain turned.step;
   threw = threw;
+  failed = failed;
   answered = (
     refl,
     record {
@@ -119,7 +121,6 @@ asked-step reads old new o p c h it notes plain m (v, turned, stands, moments) t
       watches = watches h.watches m.watches ∙ ap (λ (es : List Event). kept_all (note_all es h.watches)) (told v turned.step stands);
       copies = works ∙ m.copies;
     },
-    failed,
   );
   moments = moments;
 }
@@ -127,14 +128,15 @@ asked-step reads old new o p c h it notes plain m (v, turned, stands, moments) t
 -- it was not answered, for want of memory
 pub asked-memory : {C : Type 0} (reads : List ℕ → Option Store) (old : Whole C) (o p : Outside) (c : Command) (h : plain.Whole) (error : AllocError) (After : plain.Whole → Type 0) → is_plain c ≡ true → Means reads old o h
     → ((u : ℕ) → IsSome (o.card u) → MayLeave u o.now (image u o.now)) → ((u : ℕ) (s : Store) → IsSome (o.card u) → reads (image u o.now) ≡ Some s → IsTrue (valid (o.blocks u) s))
-    → Always (Answering reads h.world c (answer (seen reads h.world o.now c) c).0 o.now) o.now p.now → ((u : ℕ) → o.dev_faults u ≤ p.dev_faults u)
+    → Always (Answering reads h.world c (answer (seen reads h.world o.now c) c).0 o.now) o.now p.now → ((u : ℕ) → o.dev_faults u ≤ p.dev_faults u) → ((u : ℕ) → p.dev_faults u ≡ o.dev_faults u)
     → Stepped {E = AllocError} WholeStep reads c (Err error) h After o.now p.now o.dev_faults p.dev_faults
-asked-memory reads old o p c h error After plain m may good moments later =
+asked-memory reads old o p c h error After plain m may good moments later none =
     let a = answer (seen reads h.world o.now c) c in record {
       next = noting h a.0 (notes_behind h.world c a.0 a.1);
       reply = a.1;
       steps = steps-tell h c a.0 a.1 plain (seen-step reads (marks_of old.world) o h.world c m.world may good);
       threw = record { later = later; rose = λ u k. absurd (both-ways (sym (answer_quiet (seen reads h.world o.now c) c u) ∙ k)) };
+      failed = λ u k. none u;
       answered = tt;
       moments = moments;
     }
@@ -168,7 +170,7 @@ module _ {C : Type 0} {reads : List ℕ → Option Store} {place : C → ℕ} {s
     pub asked-ends : {mid : Engine C} {new : Whole C} {p : Outside} (error : AllocError) → Inner reads place stands told c old.world mid o p (Err error) → Applied reads place stands told c old new o p (Err error)
     asked-ends {mid} {new} {p} error a = record {
       stands = tt;
-      stepped = λ t h m. asked-memory reads old o p c h error (Means reads new p) itself m (may t) (good t) (a.obeyed t h.world m.world) a.finished.later;
+      stepped = λ t h m. asked-memory reads old o p c h error (Means reads new p) itself m (may t) (good t) (a.obeyed t h.world m.world) a.finished.later a.finished.unhidden;
       ended = ended-plain itself a.finished;
     }
 
@@ -176,6 +178,6 @@ module _ {C : Type 0} {reads : List ℕ → Option Store} {place : C → ℕ} {s
     pub unasked-ends : {new : Whole C} (error : AllocError) → whole_takes_memory c ≡ true → Applied reads place stands told c old new o o (Err error)
     unasked-ends {new} error takes = record {
       stands = tt;
-      stepped = λ t h m. asked-memory reads old o o c h error (Means reads new o) itself m (may t) (good t) (at-rest reads (marks_of old.world) o h.world m.world c _) (λ u. omega arith);
+      stepped = λ t h m. asked-memory reads old o o c h error (Means reads new o) itself m (may t) (good t) (at-rest reads (marks_of old.world) o h.world m.world c _) (λ u. omega arith) (λ u. refl);
       ended = rest-ended reads told old o c (Err error) (λ none. absurd (both-ways (sym none ∙ takes))) tt;
     }

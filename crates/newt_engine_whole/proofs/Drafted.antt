@@ -23,32 +23,28 @@ use Rattle.newt_spec_whole.specs.Whole.{asks, copy}
 use Rattle.newt_spec_world.specs.Answer.{or_nil}
 use Rattle.newt_spec_world.specs.Refused.{on_some}
 use Rattle.newt_spec_world.specs.Reply as replies
-use Rattle.newt_spec_world.specs.World.{change_at, flat}
+use Rattle.newt_spec_world.specs.World.{change_at}
 use Rattle.newt_spec_world.specs.declared.command.Command.TheVariants as command
 use Rattle.newt_work.specs.Work.{Copy, copy_at, draft_with, drafted, edited}
 use Rattle.newt_laws_images.proofs.Within.{graph-within}
-use Rattle.newt_laws_whole.specs.Runs.{CanBeEntry}
+use Rattle.newt_laws_whole.specs.Runs.{CanBeEntry, DraftsFit}
 use Rattle.newt_laws_whole.proofs.Fits.{change-all, edit-can, gone-all}
 use Rattle.newt_engine.specs.Standing.{means}
 use Rattle.newt_engine.specs.declared.world.World.{World as Engine}
 use Rattle.newt_engine_commands.proofs.Replacing.{raw-of}
 use Rattle.newt_engine_whole.specs.Calls.{AnsweredApart}
-use Rattle.newt_engine_whole.specs.Standing.{AreKept, DraftsFit, Means}
+use Rattle.newt_engine_whole.specs.Standing.{AreKept, Means}
 use Rattle.newt_engine_whole.specs.declared.whole.Whole.{Whole}
 use Rattle.newt_engine_whole.proofs.Noticed.{apart-refused}
 
 -- ---- places
-
-pub flat-is : {X : Type 0} (o : Option (Option X)) → option_and_then (λ place. place) o ≡ flat o
-flat-is None = refl
-flat-is (Some x) = refl
 
 pub set-change : (f : Copy → Copy) (ks : List (Option Copy)) (n : ℕ) → slice_set ks n (option_map f (copy_at n ks)) ≡ change_at n f ks
 set-change f [] n = refl
 set-change f (x ∷ ks) zero = refl
 set-change f (x ∷ ks) (suc n) = ap (λ ys. x ∷ ys) (set-change f ks n)
 
-pub change-as : (f g : Copy → Copy) (ks : List (Option Copy)) (n : ℕ) (k : Copy) → flat (slice_get ks n) ≡ Some k → f k ≡ g k → change_at n f ks ≡ change_at n g ks
+pub change-as : (f g : Copy → Copy) (ks : List (Option Copy)) (n : ℕ) (k : Copy) → copy_at n ks ≡ Some k → f k ≡ g k → change_at n f ks ≡ change_at n g ks
 change-as f g [] n k there same = refl
 change-as f g (x ∷ ks) zero k there same = ap (λ (y : Option Copy). y ∷ ks) (ap (option_map f) there ∙ ap Some same ∙ ap (option_map g) (sym there))
 change-as f g (x ∷ ks) (suc n) k there same = ap (λ ys. x ∷ ys) (change-as f g ks n k there same)
@@ -132,7 +128,7 @@ module _ (h : plain.Whole) (n : ℕ) where
 -- ---- what is promised
 
 at-copies : (n : ℕ) (works : List (Option Copy)) (h : plain.Whole) → works ≡ h.copies → copy_at n works ≡ copy h n
-at-copies n works h copies = ap (copy_at n) copies ∙ flat-is (slice_get h.copies n)
+at-copies n works h copies = ap (copy_at n) copies
 
 there-in : (n : ℕ) (works : List (Option Copy)) (h : plain.Whole) (k : Copy) → works ≡ h.copies → Some k ≡ copy_at n works → copy h n ≡ Some k
 there-in n works h k copies there = sym (at-copies n works h copies) ∙ sym there
@@ -156,8 +152,8 @@ module _ {C : Type 0} {reads : List ℕ → Option Store} {old new : Whole C} (n
   discarded k there world watches works = record {
     world = world;
     watches = subst AreKept (sym watches);
-    drafts = λ fit m j at. gone-all (λ j. CanBeEntry j.draft) old.works (λ i j on. fit i j (flat-is (slice_get old.works i) ∙ on)) n m j
-        (sym (flat-is (slice_get (slice_set old.works n None) m)) ∙ ap (copy_at m) (sym works) ∙ at);
+    drafts = λ fit m j at. gone-all (λ j. CanBeEntry j.draft) old.works fit n m j
+        (ap (copy_at m) (sym works) ∙ at);
     answered = λ outside h m. (
       record h { copies = slice_set h.copies n None },
       discard-answered h n k (there-in n old.works h k m.copies there),
@@ -229,8 +225,8 @@ module _ {C : Type 0} {reads : List ℕ → Option Store} {old new : Whole C} (n
           go raw made nf within false size (says, works) = record {
             world = world;
             watches = subst AreKept (sym watches);
-            drafts = λ fit m j at. change-all (λ j. CanBeEntry j.draft) old.works (λ i j on. fit i j (flat-is (slice_get old.works i) ∙ on)) n (edited x)
-                (λ j on. can fit j on) m j (sym (flat-is (slice_get (change_at n (edited x) old.works) m)) ∙ ap (copy_at m) (sym (works ∙ set-change (edited x) old.works n)) ∙ at);
+            drafts = λ fit m j at. change-all (λ j. CanBeEntry j.draft) old.works fit n (edited x)
+                (λ j on. can fit j on) m j (ap (copy_at m) (sym (works ∙ set-change (edited x) old.works n)) ∙ at);
             answered = λ outside h m. (
               record h { copies = change_at n (drafted path g) h.copies },
               edit-done h n path g k (there-in n old.works h k m.copies there) raw made x nf within size ∙ ap {B = plain.Whole × replies.Reply} (λ q. (record h { copies = change_at n (drafted path g) h.copies }, q)) (sym says),
@@ -245,7 +241,7 @@ module _ {C : Type 0} {reads : List ℕ → Option Store} {old new : Whole C} (n
             memory = λ none. refl;
           }
             where
-              can : DraftsFit old.works → (j : Copy) → flat (slice_get old.works n) ≡ Some j → CanBeEntry x
+              can : DraftsFit old.works → (j : Copy) → copy_at n old.works ≡ Some j → CanBeEntry x
               can fit j on =
                   let after : (drafted path g k).draft ≡ x = ap {A = Option RawGraph} (λ o. unwrap_or (option_and_then normal_form o) k.draft) made ∙ ap {A = Option RawGraph} (λ o. unwrap_or o k.draft) nf in
                   subst CanBeEntry after (edit-can k.draft g path (fit n k (sym there))

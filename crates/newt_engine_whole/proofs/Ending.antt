@@ -51,9 +51,14 @@ ended-plain {C} {reads} {told} {c} {old} {o} {p} {result} plain f =
     let ended : Ended reads told c (c ∷ []) old o p result = record {
       alone = f.alone;
       bound = λ t other u. first-programs w c [] u (f.bound t other u);
+      format = f.format;
       fetched = λ t means u. first-fetches w c [] u o p (f.settling t (sym s.entries ∙ means) u);
       step = f.step;
       open_after = f.open_after;
+      threw = f.threw;
+      failed = f.failed;
+      unhidden = f.unhidden;
+      later = f.later;
       never_memory = λ none. f.never_memory (sym s.memory ∙ none);
       never_thrown = λ none. f.never_thrown (sym s.device ∙ none);
     } in

@@ -4,7 +4,7 @@ use Rattle.std.specs.Prelude.{slice_get, is_none, not, nat_lt}
 use Rattle.std.specs.List.{position, prefix_len}
 use Rattle.std.proofs.lemmas.List.{map-set}
 use Rattle.newt_notify.specs.Watch.{Watching, as_new, emptied, kept_all, kept_of, watch_at}
-use Rattle.newt_spec_world.specs.World.{change_at, flat}
+use Rattle.newt_spec_world.specs.World.{change_at}
 
 taken-before : (ws : List (Option Watching)) → prefix_len (λ x. not (is_none x)) (kept_all ws) ≡ prefix_len (λ x. not (is_none x)) ws
 taken-before [] = refl
@@ -24,7 +24,7 @@ kept-free ws =
 pub kept-set : (ws : List (Option Watching)) (n : ℕ) (x : Option Watching) → slice_set (kept_all ws) n (option_map kept_of x) ≡ kept_all (slice_set ws n x)
 kept-set ws n x = sym (map-set (option_map kept_of) ws n x)
 
-pub kept-at : (ws : List (Option Watching)) (n : ℕ) → watch_at n (kept_all ws) ≡ option_map kept_of (flat (slice_get ws n))
+pub kept-at : (ws : List (Option Watching)) (n : ℕ) → watch_at n (kept_all ws) ≡ option_map kept_of (watch_at n ws)
 kept-at [] n = refl
 kept-at (w ∷ ws) zero = refl
 kept-at (w ∷ ws) (suc n) = kept-at ws n

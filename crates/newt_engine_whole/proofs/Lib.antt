@@ -22,3 +22,4 @@ pub mod Reverted
 pub mod Saved
 pub mod Saving
 pub mod Ahead
+mod Rows

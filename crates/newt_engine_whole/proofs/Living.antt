@@ -19,18 +19,14 @@ use Rattle.newt_laws_world.proofs.Aliases.{named-by}
 use Rattle.newt_laws_world.proofs.Units.{entry-has, has-mounted, soup-has}
 use Rattle.newt_laws_whole.specs.Runs.{AllFormed}
 use Rattle.newt_laws_whole.proofs.Reading.{entry_tests}
+use Rattle.newt_laws_whole.proofs.Saving.{row-none}
 use Rattle.newt_engine_units.specs.Spots.{spot_reply}
 use Rattle.newt_engine_units.specs.Stands.{world_of}
 use Rattle.newt_engine_units.proofs.Known.{Laws}
 use Rattle.newt_engine_whole.specs.Copies.{FindsLiving, IsAt}
 use Rattle.newt_engine_whole.specs.Standing.{Means, Standing}
 use Rattle.newt_engine_whole.specs.declared.whole.Whole.{Whole}
-use Rattle.newt_engine_whole.proofs.Drafted.{flat-is}
 use Rattle.newt_engine_whole.proofs.Meant.{resolved-same}
-
--- a row whose tests all fail
-row-none : (r : Refusal) (b : Bool) (rest : Checks) → b ≡ false → first_of rest ≡ None → first_of ((r, b) ∷ rest) ≡ None
-row-none r b rest h k = ap (λ c. first_of ((r, c) ∷ rest)) h ∙ k
 
 -- ---- the entry is there to be read
 
@@ -60,7 +56,7 @@ module _ (h : plain.Whole) (formed : AllFormed h.world) (k : Copy) (s : Spot) (l
 module _ {C : Type 0} {reads : List ℕ → Option Store} {place : C → ℕ} {soups : C → Store} {stands : Bool → C → Outside → Type 0} (laws : Laws reads place soups stands) (it : Whole C) (o : Outside)
     (s : Standing reads place stands true it o) (h : plain.Whole) (m : Means reads it o h) (n : ℕ) where
   at-copies : copy_at n it.works ≡ copy h n
-  at-copies = ap (copy_at n) m.copies ∙ flat-is (slice_get h.copies n)
+  at-copies = ap (copy_at n) m.copies
 
   living-same : (k : Copy) → living h k ≡ resolved (world_of reads it.world.units o) (alias_of_copy k)
   living-same k = resolved-same laws it.world.units it.world.desk o s.world h.world m.world (alias_of_copy k)

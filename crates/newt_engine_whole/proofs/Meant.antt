@@ -19,10 +19,10 @@ use Rattle.newt_laws_steps.proofs.Held.{stands-sure}
 use Rattle.newt_laws_steps.proofs.Meant.{store-m}
 use Rattle.newt_laws_steps.proofs.MeantRows.{first-m, resolved-m}
 use Rattle.newt_laws_steps.proofs.StoodFor.{known-stands, stood-for-meant}
-use Rattle.newt_engine_units.specs.Looks.{next_uid_on, soup_on}
+use Rattle.newt_engine_units.specs.Looks.{next_uid_on}
 use Rattle.newt_engine_units.specs.Stands.{world_of}
 use Rattle.newt_engine_units.specs.declared.units.Units.{Units}
-use Rattle.newt_engine_units.proofs.Known.{Laws, soup-is, uid-is}
+use Rattle.newt_engine_units.proofs.Known.{Laws, uid-is}
 use Rattle.newt_engine.specs.Laws.{units_kept}
 use Rattle.newt_engine.specs.Standing.{Standing, marks_with}
 use Rattle.newt_engine.proofs.Applying.{known-formed}
@@ -43,10 +43,6 @@ module _ {C : Type 0} {reads : List ℕ → Option Store} {place : C → ℕ} {s
 
     pub soup-same : (u : ℕ) (name : List ℕ) → soup_in w u name ≡ soup_in (world_of reads units o) u name
     soup-same u name = ap (option_and_then (soup_named name)) (mounted-same u)
-
-    -- the signature and the next id of a soup are those that the card of its unit has
-    pub sig-on : (u : ℕ) (name : List ℕ) → option_map (λ p. p.sig) (soup_in w u name) ≡ soup_on soups units u name
-    sig-on u name = ap (option_map (λ (p : Soup). p.sig)) (soup-same u name) ∙ soup-is laws units o s.eight s.stand u name
 
     pub uid-on : (u : ℕ) (name : List ℕ) → option_map (λ p. p.next_uid) (soup_in w u name) ≡ next_uid_on soups units u name
     uid-on u name = ap (option_map (λ (p : Soup). p.next_uid)) (soup-same u name) ∙ uid-is laws units o s.eight s.stand u name

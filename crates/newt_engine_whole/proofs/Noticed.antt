@@ -13,7 +13,7 @@ use Rattle.newt_reply.specs.declared.reply.Reply.{Reply}
 use Rattle.newt_reply.specs.declared.reply.Reply.TheVariants as reply
 use Rattle.newt_spec_graph.proofs.Lists.{both-ways, none-some, some-same}
 use Rattle.newt_spec_store.specs.Store.{Store}
-use Rattle.newt_spec_whole.specs.Answer.{copies_after, put_at, told, watches_after, whole_answer, whole_answered, whole_fields}
+use Rattle.newt_spec_whole.specs.Answer.{copies_after, put_at, notes_reply, watches_after, whole_answer, whole_answered, whole_fields}
 use Rattle.newt_spec_whole.specs.Refused.{whole_checks}
 use Rattle.newt_spec_whole.specs.Whole as plain
 use Rattle.newt_spec_whole.specs.Whole.{asks, watch}
@@ -22,12 +22,13 @@ use Rattle.newt_spec_world.specs.Reply as replies
 use Rattle.newt_spec_world.specs.World.{change_at}
 use Rattle.newt_spec_world.specs.declared.command.Command.{Command}
 use Rattle.newt_spec_world.specs.declared.command.Command.TheVariants as command
+use Rattle.newt_laws_whole.specs.Runs.{DraftsFit}
 use Rattle.newt_engine.specs.Calls.{IsNotThrown}
 use Rattle.newt_engine.specs.Standing.{means}
 use Rattle.newt_engine.specs.declared.world.World.{World as Engine}
 use Rattle.newt_engine_whole.specs.Calls.{AnsweredApart}
 use Rattle.newt_engine_whole.specs.Ends.{whole_takes_memory}
-use Rattle.newt_engine_whole.specs.Standing.{AreKept, DraftsFit, Means}
+use Rattle.newt_engine_whole.specs.Standing.{AreKept, Means}
 use Rattle.newt_engine_whole.specs.declared.whole.Whole.{Whole}
 use Rattle.newt_engine_whole.proofs.Keeping.{kept-at, kept-emptied, kept-free, kept-set}
 
@@ -46,11 +47,11 @@ module _ (h : plain.Whole) where
   watch-full s most full = ap {A = Option ℕ} (λ o. whole_answered h (command.Watch s most) (first_of ((Limit, is_none o) ∷ []))) full
 
   module _ (n : ℕ) where
-    notes-answered : (w : Watching) → watch h n ≡ Some w → whole_answer h (command.Notes n) ≡ (record h { watches = change_at n emptied h.watches }, told w)
+    notes-answered : (w : Watching) → watch h n ≡ Some w → whole_answer h (command.Notes n) ≡ (record h { watches = change_at n emptied h.watches }, notes_reply w)
     unfolding whole_answer whole_checks whole_fields watches_after copies_after asks
     notes-answered w is =
         ap {A = Option Watching} (λ o. whole_answered h (command.Notes n) (first_of ((NoWatch, is_none o) ∷ []))) is
-        ∙ ap {A = Option Watching} {B = plain.Whole × replies.Reply} (λ o. (record h { watches = change_at n emptied h.watches }, or_nil told o)) is
+        ∙ ap {A = Option Watching} {B = plain.Whole × replies.Reply} (λ o. (record h { watches = change_at n emptied h.watches }, or_nil notes_reply o)) is
 
     notes-none : watch h n ≡ None → whole_answer h (command.Notes n) ≡ (h, replies.Reply.refused NoWatch)
     unfolding whole_answer whole_checks

@@ -1,7 +1,7 @@
 -- An entry is read, and a copy of it is opened.
 use Rattle.std.proofs.Common.{◌≡◌, inl, inr, refl, ap, sym, ◌∙◌, subst, ℕ, ◌+◌, ◌≤◌, List, [], ◌∷◌, Bool, true, false, IsTrue, ◌==◌, Option, Some, None, option_and_then, slice_set}
 use Rattle.std.specs.declared.alloc.AllocError.{AllocError}
-use Rattle.std.specs.Prelude.{IfOk, MatchOption, Result, Ok, is_none, slice_get}
+use Rattle.std.specs.Prelude.{IfOk, MatchOption, OnErr, Result, Ok, is_none, slice_get}
 use Rattle.std.specs.List.{position}
 use Rattle.newt_base.specs.Refusals.{first_of}
 use Rattle.newt_base.specs.declared.Refusal.{Refusal}
@@ -33,11 +33,13 @@ use Rattle.newt_work.specs.Work.{Copy, copy_at, opened}
 use Rattle.newt_laws_world.proofs.Settled.{find-passes}
 use Rattle.newt_laws_steps.specs.Answering.{Answering}
 use Rattle.newt_laws_steps.specs.StandsFor.{Obeys}
-use Rattle.newt_laws_whole.specs.Runs.{AllFormed, CanBeEntry}
+use Rattle.newt_laws_steps.specs.Thrown.{Failed, Threw}
+use Rattle.newt_laws_whole.specs.Runs.{AllFormed, CanBeEntry, DraftsFit}
 use Rattle.newt_laws_whole.proofs.Fits.{entry-in-can, put-all}
 use Rattle.newt_laws_whole.proofs.Reading.{GetsOr, entry_tests, gets, open-done, open-full, open-refused, open-thrown}
 use Rattle.newt_engine_card.specs.Bounds.{IsOpenOrSame}
 use Rattle.newt_engine_cursors.specs.Unread.{steps_unread}
+use Rattle.newt_engine.specs.Bounds.{is_format}
 use Rattle.newt_engine.specs.Calls.{Applied as Inner, Finished}
 use Rattle.newt_engine.specs.Standing.{IsStanding, means, stood_for}
 use Rattle.newt_engine.specs.declared.world.World.{World as Engine}
@@ -45,29 +47,34 @@ use Rattle.newt_engine_whole.specs.Bounds.{ProgramsInTurn, most_put, most_taken}
 use Rattle.newt_engine_whole.specs.Calls.{Applied, Ended}
 use Rattle.newt_engine_whole.specs.Copies.{PutsCopy}
 use Rattle.newt_engine_whole.specs.Ends.{whole_takes_memory, whole_uses_device}
-use Rattle.newt_engine_whole.specs.Standing.{AreKept, DraftsFit, Means, Standing, known_whole}
+use Rattle.newt_engine_whole.specs.Standing.{AreKept, Means, Standing, known_whole}
 use Rattle.newt_engine_whole.specs.declared.whole.Whole.{Whole}
 use Rattle.newt_engine_whole.proofs.Costing.{first-fetches, first-programs}
-use Rattle.newt_engine_whole.proofs.Drafted.{flat-is}
 use Rattle.newt_engine_whole.proofs.Turns.{as-other}
 
 -- ---- how a command ends that asks to read one entry, and nothing more was done
 
 pub reading-ended : {C : Type 0} {reads : List ℕ → Option Store} {told : Bool} {c : Command} {old : Whole C} {o p : Outside} {inner result : Result Reply AllocError} (u uid : ℕ) (s : List ℕ)
-    → ((w : World) → steps_unread w c ≡ false) → whole_takes_memory c ≡ true → whole_uses_device c ≡ true
+    → ((w : World) → steps_unread w c ≡ false) → is_format c ≡ false → whole_takes_memory c ≡ true → whole_uses_device c ≡ true
     → (IsTrue told → (rest : List Command) × (asked_in_turn (known_whole reads old o) c ≡ command.Get u s uid ∷ rest))
     → Finished reads told (command.Get u s uid) old.world o p inner → (IsTrue told → IfOk result (λ it. (x : ℕ) → (it ≡ reply.Thrown x → ⊥) → IsOpenOrSame x o.now p.now))
+    → IfOk result (λ it. Threw (said it) o.dev_faults p.dev_faults) → IfOk result (λ it. Failed (said it) o.dev_faults p.dev_faults) → OnErr result ((x : ℕ) → p.dev_faults x ≡ o.dev_faults x)
     → Ended reads told c (asked_in_turn (known_whole reads old o) c) old o p result
-reading-ended {C} {reads} {told} {c} {old} {o} {p} {inner} {result} u uid s unread memory device turn f opens =
+reading-ended {C} {reads} {told} {c} {old} {o} {p} {inner} {result} u uid s unread other memory device turn f opens threw failed unhidden =
     let w = stood_for reads old.world o in
     let get = command.Get u s uid in
     record {
       alone = f.alone;
       bound = λ t other x. let k = turn t in subst (λ (ds : List Command). ProgramsInTurn w ds x o p) (sym k.1) (first-programs w get k.0 x (f.bound t refl x));
+      format = λ t is. absurd (both-ways (sym other ∙ is));
       fetched = λ t entries x. let k = turn t in
           subst (λ (ds : List Command). IsOpenFor (most_put w ds x) (image x o.now) → p.fetched x ≤ o.fetched x + most_taken w ds x) (sym k.1) (first-fetches w get k.0 x o p (f.settling t refl x));
       step = λ t steps. absurd (both-ways (sym (unread w) ∙ steps));
       open_after = opens;
+      threw = threw;
+      failed = failed;
+      unhidden = unhidden;
+      later = f.later;
       never_memory = λ none. absurd (both-ways (sym none ∙ memory));
       never_thrown = λ none. absurd (both-ways (sym none ∙ device));
     }
@@ -157,7 +164,7 @@ module _ {C : Type 0} {reads : List ℕ → Option Store} {place : C → ℕ} {s
   open-handed {it} other a = record {
     stands = record { world = a.stands; watches = begun.watches; drafts = begun.drafts };
     stepped = λ t h m. go h m (a.obeyed t h.world m.world);
-    ended = reading-ended u uid s (λ w. refl) refl refl (λ t. ([], open-turn (known_whole reads old o) u uid s)) a.finished a.finished.open_after;
+    ended = reading-ended u uid s (λ w. refl) refl refl refl (λ t. ([], open-turn (known_whole reads old o) u uid s)) a.finished a.finished.open_after a.finished.threw a.finished.failed tt;
   }
     where
       go : (h : plain.Whole) → Means reads old o h → Obeys reads {R = Reply} {E = AllocError} said (means reads mid p) h.world (command.Get u s uid) (Ok it) o.now p.now
@@ -170,7 +177,8 @@ module _ {C : Type 0} {reads : List ℕ → Option Store} {place : C → ℕ} {s
             reply = said it;
             steps = wholes.plain refl (open-refused h u s uid r first ∙ ap {B = plain.Whole × replies.Reply} (λ q. (h, q)) (sym says));
             threw = a.finished.threw;
-            answered = (refl, record { world = subst (means reads mid p) same there; watches = m.watches; copies = m.copies }, a.finished.failed);
+            failed = a.finished.failed;
+            answered = (refl, record { world = subst (means reads mid p) same there; watches = m.watches; copies = m.copies });
             moments = as-open reads u uid s o.now p.now h.world h.world (subst (λ (w : World). Always (Answering reads h.world (command.Get u s uid) w o.now) o.now p.now) same moments);
           }
           by (inr (inl (e, first, entry, same, says))) = absurd (other e.time e.graph says)
@@ -179,7 +187,8 @@ module _ {C : Type 0} {reads : List ℕ → Option Store} {place : C → ℕ} {s
             reply = said it;
             steps = subst (WholeStep h (command.Open u s uid) (whole_thrown h (command.Get u s uid) x)) (sym says) (open-thrown h u s uid x);
             threw = a.finished.threw;
-            answered = (refl, record { world = subst (means reads mid p) next there; watches = m.watches; copies = m.copies }, a.finished.failed);
+            failed = a.finished.failed;
+            answered = (refl, record { world = subst (means reads mid p) next there; watches = m.watches; copies = m.copies });
             moments = as-open reads u uid s o.now p.now h.world (whole_thrown h (command.Get u s uid) x).world (subst (λ (w : World). Always (Answering reads h.world (command.Get u s uid) w o.now) o.now p.now) next moments);
           }
 
@@ -228,12 +237,14 @@ module _ {C : Type 0} {reads : List ℕ → Option Store} {place : C → ℕ} {s
         reply = said it;
         steps = wholes.plain refl (is ∙ ap {B = plain.Whole × replies.Reply} (λ r. (record h { copies = copies }, r)) (sym says));
         threw = record { later = a.finished.later; rose = λ x k. absurd (both-ways (sym (ap (throws x) says ∙ none x) ∙ k)) };
-        answered = (refl, there, λ x k. a.finished.failed x refl);
+        failed = λ x k. a.finished.failed x refl;
+        answered = (refl, there);
         moments = moments;
       }
 
-      ended : Ended reads told (command.Open u s uid) (asked_in_turn (known_whole reads old o) (command.Open u s uid)) old o p (Ok it)
-      ended = reading-ended u uid s (λ w. refl) refl refl (λ t. ([], open-turn (known_whole reads old o) u uid s)) a.finished (λ t x other. a.finished.open_after t x (λ k. cc))
+      ended : ((x : ℕ) → throws x (said it) ≡ false) → Ended reads told (command.Open u s uid) (asked_in_turn (known_whole reads old o) (command.Open u s uid)) old o p (Ok it)
+      ended none = reading-ended u uid s (λ w. refl) refl refl refl (λ t. ([], open-turn (known_whole reads old o) u uid s)) a.finished (λ t x other. a.finished.open_after t x (λ k. cc))
+          (record { later = a.finished.later; rose = λ x k. absurd (both-ways (sym (none x) ∙ k)) }) (λ x k. a.finished.failed x refl) tt
 
       pub open-put : (IsTrue told → (h : plain.Whole) × Means reads old o h × AllFormed h.world) → Applied reads place stands told (command.Open u s uid) old new o p (Ok it)
       open-put has = go (position is_none old.works) refl put
@@ -255,11 +266,11 @@ module _ {C : Type 0} {reads : List ℕ → Option Store} {place : C → ℕ} {s
             stepped = λ t h m.
                 let f = open-found t h m in
                 answered-by h h.copies (replies.Reply.refused Limit) says (λ x. refl) (open-full h u s uid f.1 (ap (position is_none) (sym m.copies) ∙ free)) f.6 (now-means h h.copies m f.5 (works ∙ m.copies));
-            ended = ended;
+            ended = ended (λ x. ap (throws x) says);
           }
           go (Some n) free (says, works) = record {
-            stands = stands-so (λ t j k at. put-all (λ j. CanBeEntry j.draft) old.works (λ i j on. begun.drafts t i j (flat-is (slice_get old.works i) ∙ on)) (Some n) (opened store soup uid time graph) (can t) j k
-                (sym (flat-is (slice_get (slice_set old.works n (Some (opened store soup uid time graph))) j)) ∙ ap (copy_at j) (sym works) ∙ at));
+            stands = stands-so (λ t j k at. put-all (λ j. CanBeEntry j.draft) old.works (begun.drafts t) (Some n) (opened store soup uid time graph) (can t) j k
+                (ap (copy_at j) (sym works) ∙ at));
             stepped = λ t h m.
                 let f = open-found t h m in
                 let k = known t h m in
@@ -268,5 +279,5 @@ module _ {C : Type 0} {reads : List ℕ → Option Store} {place : C → ℕ} {s
                 (open-done h u s uid n k.0 k.3 f.0 m.world.settled f.1 (ap (position is_none) (sym m.copies) ∙ free) k.1 k.4 f.2) f.6
                 (now-means h (slice_set h.copies n (Some (opened k.0.sig k.3.sig f.0.uid f.0.time f.0.graph))) m f.5
                 (works ∙ ap (λ (ks : List (Option Copy)). slice_set ks n (Some (opened store soup uid time graph))) m.copies ∙ ap (λ (c : Copy). slice_set h.copies n (Some c)) (sym same)));
-            ended = ended;
+            ended = ended (λ x. ap (throws x) says);
           }

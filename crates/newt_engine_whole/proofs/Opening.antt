@@ -45,5 +45,5 @@ module _ {C : Type 0} {reads : List ℕ → Option Store} {place : C → ℕ} {s
   unfolding is_plain
   opening known has {new} world watches (Ok it) put = open-put u uid s begun a known new world watches it put has
   opening known has {new} world watches (Err error) put =
-      read-memory refl begun u uid s a error (λ w. refl) refl refl (λ t. ([], open-turn (known_whole reads old o) u uid s))
-      (still-read begun u uid s a (λ t h m v it e g. timed-stays h.world v u uid s time graph it e g))
+      read-memory refl begun u uid s a error (λ w. refl) refl refl refl (λ t. ([], open-turn (known_whole reads old o) u uid s))
+      (still-read begun u uid s a (λ t h m v it e g. timed-stays h.world v u uid s time graph it e g)) (λ x. a.finished.failed x refl)

@@ -42,7 +42,7 @@ use Rattle.newt_engine_whole.specs.Copies.{IsAt}
 use Rattle.newt_engine_whole.specs.Standing.{AreKept, Means, Standing, known_whole}
 use Rattle.newt_engine_whole.specs.declared.saves.Place.{Place}
 use Rattle.newt_engine_whole.specs.declared.whole.Whole.{Whole}
-use Rattle.newt_engine_whole.proofs.Drafted.{change-as, flat-is, set-change}
+use Rattle.newt_engine_whole.proofs.Drafted.{change-as, set-change}
 use Rattle.newt_engine_whole.proofs.Living.{entry-passes, entry-there}
 use Rattle.newt_engine_whole.proofs.Opened.{reading-ended}
 use Rattle.newt_engine_whole.proofs.Turns.{as-other}
@@ -113,7 +113,7 @@ module _ {C : Type 0} {reads : List ℕ → Option Store} {place : C → ℕ} {s
   revert-handed {it} other a = record {
     stands = record { world = a.stands; watches = begun.watches; drafts = begun.drafts };
     stepped = λ t h m. go h m (found t h m) (a.obeyed t h.world m.world);
-    ended = reading-ended at.unit at.uid at.name (λ w. refl) refl refl (λ t. ([], known-turn t)) a.finished a.finished.open_after;
+    ended = reading-ended at.unit at.uid at.name (λ w. refl) refl refl refl (λ t. ([], known-turn t)) a.finished a.finished.open_after a.finished.threw a.finished.failed tt;
   }
     where
       go : (h : plain.Whole) → Means reads old o h → AllFormed h.world × IsAt h n at → Obeys reads {R = Reply} {E = AllocError} said (means reads mid p) h.world (command.Get at.unit at.name at.uid) (Ok it) o.now p.now
@@ -127,7 +127,8 @@ module _ {C : Type 0} {reads : List ℕ → Option Store} {place : C → ℕ} {s
             reply = said it;
             steps = wholes.thrown (command.Get at.unit at.name at.uid) (subst (λ (ds : List Command). Among ds (command.Get at.unit at.name at.uid)) (sym (revert-turn h n k.of k.there k.spot k.lives)) (inl (is-read n at h k))) refl says;
             threw = a.finished.threw;
-            answered = (refl, record { world = subst (means reads mid p) next there; watches = m.watches; copies = m.copies }, a.finished.failed);
+            failed = a.finished.failed;
+            answered = (refl, record { world = subst (means reads mid p) next there; watches = m.watches; copies = m.copies });
             moments = as-other reads h.world (whole_thrown h (command.Get at.unit at.name at.uid) x).world (command.Get at.unit at.name at.uid) (command.Revert n) o.now p.now (λ u. refl)
                 (subst (λ (w : World). Always (Answering reads h.world (command.Get at.unit at.name at.uid) w o.now) o.now p.now) next moments);
           }
@@ -141,11 +142,12 @@ module _ {C : Type 0} {reads : List ℕ → Option Store} {place : C → ℕ} {s
     stands = record {
       world = subst (λ (e : Engine C). IsStanding reads place stands told e p) (sym world) a.stands;
       watches = subst AreKept (sym watches) begun.watches;
-      drafts = λ t j k there. change-all (λ j. CanBeEntry j.draft) old.works (λ i j on. begun.drafts t i j (flat-is (slice_get old.works i) ∙ on)) n (rebased time graph) (λ j on. can t) j k
-          (sym (flat-is (slice_get (change_at n (rebased time graph) old.works) j)) ∙ ap (copy_at j) (sym (works ∙ set-change (rebased time graph) old.works n)) ∙ there);
+      drafts = λ t j k there. change-all (λ j. CanBeEntry j.draft) old.works (begun.drafts t) n (rebased time graph) (λ j on. can t) j k
+          (ap (copy_at j) (sym (works ∙ set-change (rebased time graph) old.works n)) ∙ there);
     };
     stepped = λ t h m. go h m (found t h m) (read-so t h m (found t h m));
-    ended = reading-ended at.unit at.uid at.name (λ w. refl) refl refl (λ t. ([], known-turn t)) a.finished (λ t x other. a.finished.open_after t x (λ k. cc));
+    ended = reading-ended at.unit at.uid at.name (λ w. refl) refl refl refl (λ t. ([], known-turn t)) a.finished (λ t x other. a.finished.open_after t x (λ k. cc))
+        (record { later = a.finished.later; rose = λ u x. absurd (both-ways x) }) (λ u x. a.finished.failed u refl) tt;
   }
     where
       -- the entry is as it was read, and nothing has happened
@@ -182,6 +184,7 @@ module _ {C : Type 0} {reads : List ℕ → Option Store} {place : C → ℕ} {s
         reply = replies.Reply.done;
         steps = wholes.plain refl (revert-answered h n k.of k.there k.spot k.lives m.world.settled);
         threw = record { later = a.finished.later; rose = λ u x. absurd (both-ways x) };
+        failed = λ u x. a.finished.failed u refl;
         answered = (
           refl,
           record {
@@ -189,7 +192,6 @@ module _ {C : Type 0} {reads : List ℕ → Option Store} {place : C → ℕ} {s
             watches = watches ∙ m.watches;
             copies = works ∙ set-change (rebased time graph) old.works n ∙ ap (change_at n (rebased time graph)) m.copies ∙ (λ i. change_at n (rebased (times i) (graphs i)) h.copies);
           },
-          λ u x. a.finished.failed u refl,
         );
         moments = moments;
       }

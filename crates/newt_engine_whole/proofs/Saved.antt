@@ -1,7 +1,7 @@
 -- An entry is given the draft of its copy.
 use Rattle.std.proofs.Common.{arith, ◌≡◌, ◌⊎◌, inl, inr, refl, ap, sym, ◌∙◌, subst, ℕ, ◌+◌, ◌-◌, ◌^◌, ◌≤◌, List, [], ◌∷◌, Bool, true, false, not, IsTrue, Option, Some, option_map, option_and_then, unwrap_or, if◌then◌else◌, drop}
 use Rattle.std.specs.declared.alloc.AllocError.{AllocError}
-use Rattle.std.specs.Prelude.{IfOk, Result, Ok, Err, is_none, min}
+use Rattle.std.specs.Prelude.{IfOk, OnErr, Result, Ok, Err, is_none, min}
 use Rattle.newt_base.specs.Refusals.{first_of}
 use Rattle.newt_base.specs.declared.Refusal.TheVariants.{Changed, Copy as NoCopy, Entry as NoEntry, Full}
 use Rattle.newt_graph.specs.Graph.{RawGraph}
@@ -20,7 +20,7 @@ use Rattle.newt_spec_whole.specs.Events.{events, events_of, note_all}
 use Rattle.newt_spec_whole.specs.Refused.{whole_checks}
 use Rattle.newt_spec_whole.specs.Step.{WholeStep}
 use Rattle.newt_spec_whole.specs.Whole as plain
-use Rattle.newt_spec_whole.specs.Whole.{asked_in_turn, asks, change_of, copy, get_of, living, save_in_turn, save_of}
+use Rattle.newt_spec_whole.specs.Whole.{asked_in_turn, asks, change_of, copy, get_of, living, save_in_turn}
 use Rattle.newt_spec_world.specs.Alias.{Spot}
 use Rattle.newt_spec_world.specs.Answer.{answer, answered, fields, or_nil}
 use Rattle.newt_spec_world.specs.Changed.{changed}
@@ -32,7 +32,7 @@ use Rattle.newt_spec_world.specs.declared.command.Command.{Command}
 use Rattle.newt_spec_world.specs.declared.command.Command.TheVariants as command
 use Rattle.newt_work.specs.Work.{Copy, is_based, rebased}
 use Rattle.newt_laws_steps.specs.Answering.{Answering}
-use Rattle.newt_laws_steps.specs.Thrown.{Failed}
+use Rattle.newt_laws_steps.specs.Thrown.{Failed, Threw}
 use Rattle.newt_engine_card.specs.Bounds.{IsOpenOrSame}
 use Rattle.newt_engine.specs.Calls.{Applied as Inner}
 use Rattle.newt_engine.specs.Standing.{means, stood_for}
@@ -80,12 +80,11 @@ module _ (h : plain.Whole) (n : ℕ) (k : Copy) (there : copy h n ≡ Some k) (s
       ∙ ap {A = Bool} (λ b. whole_answered h (command.Save n) (first_of ((Changed, not b) ∷ (Full, is_full) ∷ []))) same
       ∙ ap {A = Bool} (λ b. whole_answered h (command.Save n) (first_of ((Full, b) ∷ []))) lacks
 
-  save-asks : based ≡ true → asks h (command.Save n) ≡ Some (change_of k s)
+  save-asks : asks h (command.Save n) ≡ Some (change_of k s)
   unfolding asks
-  save-asks same =
-      ap {A = Option Copy} {B = Option Command} (λ o. option_and_then (λ k. option_map (save_of k) (living h k)) o) there
-      ∙ ap {A = Option Spot} {B = Option Command} (option_map (save_of k)) lives
-      ∙ ap {A = Bool} {B = Option Command} (λ b. Some (if b then change_of k s else get_of s)) same
+  save-asks =
+      ap {A = Option Copy} {B = Option Command} (λ o. option_and_then (λ k. option_map (change_of k) (living h k)) o) there
+      ∙ ap {A = Option Spot} {B = Option Command} (option_map (change_of k)) lives
 
   pub save-done : based ≡ true → is_full ≡ false → whole_answer h (command.Save n) ≡ (
     record {
@@ -107,7 +106,7 @@ module _ (h : plain.Whole) (n : ℕ) (k : Copy) (there : copy h n ≡ Some k) (s
           copies = change_at n (λ k. rebased h.world.minute k.draft k) h.copies;
         },
         replies.Reply.done,
-      )) (save-asks same)
+      )) save-asks
 
   -- what is asked one after another
   pub save-turn : asked_in_turn h (command.Save n) ≡ get_of s ∷ (if based then change_of k s ∷ [] else [])
@@ -182,11 +181,16 @@ module _ {C : Type 0} {reads : List ℕ → Option Store} {place : C → ℕ} {s
         bound = λ t other x. subst (λ (ds : List Command). ProgramsInTurn w ds x o q) (sym (turn t).1)
             (then-programs w get (turn t).0 x o p q (same-room t x) (a.finished.bound t refl x)
             (rest-of t (λ v ds. ProgramsInTurn v ds x p q) (b.ended.bound t refl x)));
+        format = λ t is. absurd (both-ways is);
         fetched = λ t entries x. subst (λ (ds : List Command). IsOpenFor (most_put w ds x) (image x o.now) → q.fetched x ≤ o.fetched x + most_taken w ds x) (sym (turn t).1)
             (then-fetches w get (turn t).0 x o p q (same-room t x) (a.finished.settling t refl x)
             (rest-of t (λ v ds. IsOpenFor (most_put v ds x) (image x p.now) → q.fetched x ≤ p.fetched x + most_taken v ds x) (b.ended.fetched t refl x)));
         step = λ t is. absurd (both-ways is);
         open_after = λ t. opens t result (b.ended.open_after t);
+        threw = risen result b.ended.threw;
+        failed = none-more result b.ended.failed;
+        unhidden = none-hidden result b.ended.unhidden;
+        later = b-later;
         never_memory = λ none. absurd (both-ways (sym none));
         never_thrown = λ none. absurd (both-ways (sym none));
       };
@@ -207,6 +211,24 @@ module _ {C : Type 0} {reads : List ℕ → Option Store} {place : C → ℕ} {s
         opens t (Ok it) last = λ x other. open-append x o.now p.now q.now (a.finished.open_after t x (λ k. cc)) (last x other)
         opens t (Err e) last = tt
 
+        b-later : (x : ℕ) → o.dev_faults x ≤ q.dev_faults x
+        b-later x = let one = a.finished.later x in let two = b.ended.later x in omega (arith, one, two)
+
+        risen : (r : Result Reply AllocError) → IfOk r (λ it. Threw (said it) p.dev_faults q.dev_faults) → IfOk r (λ it. Threw (said it) o.dev_faults q.dev_faults)
+        risen (Ok it) k = record {
+          later = b-later;
+          rose = λ x is. rose-later (o.dev_faults x) (p.dev_faults x) (q.dev_faults x) (a.finished.later x) (k.rose x is);
+        }
+        risen (Err e) k = tt
+
+        none-more : (r : Result Reply AllocError) → IfOk r (λ it. Failed (said it) p.dev_faults q.dev_faults) → IfOk r (λ it. Failed (said it) o.dev_faults q.dev_faults)
+        none-more (Ok it) k = λ x none. k x none ∙ a.finished.failed x refl
+        none-more (Err e) k = tt
+
+        none-hidden : (r : Result Reply AllocError) → OnErr r ((x : ℕ) → q.dev_faults x ≡ p.dev_faults x) → OnErr r ((x : ℕ) → q.dev_faults x ≡ o.dev_faults x)
+        none-hidden (Ok it) k = tt
+        none-hidden (Err e) k = λ x. k x ∙ a.finished.failed x refl
+
         go : IsTrue told → (h : plain.Whole) → Always (Answering reads h.world (command.Get u s uid) h.world o.now) o.now p.now
             → Stepped {E = AllocError} WholeStep reads (command.Save n) result h (Means reads last q) p.now q.now p.dev_faults q.dev_faults
             → Stepped {E = AllocError} WholeStep reads (command.Save n) result h (Means reads last q) o.now q.now o.dev_faults q.dev_faults
@@ -218,11 +240,7 @@ module _ {C : Type 0} {reads : List ℕ → Option Store} {place : C → ℕ} {s
             later = λ x. let one = a.finished.later x in let two = k.threw.later x in omega (arith, one, two);
             rose = λ x is. rose-later (o.dev_faults x) (p.dev_faults x) (q.dev_faults x) (a.finished.later x) (k.threw.rose x is);
           };
-          answered = done result k.answered;
+          failed = λ x none. k.failed x none ∙ a.finished.failed x refl;
+          answered = k.answered;
           moments = in-turn reads h.world (command.Get u s uid) (command.Save n) k.next.world o.now p.now q.now (λ x. refl) first k.moments;
         }
-          where
-            done : (r : Result Reply AllocError) → IfOk r (λ it. (said it ≡ k.reply) × Means reads last q k.next × Failed k.reply p.dev_faults q.dev_faults)
-                → IfOk r (λ it. (said it ≡ k.reply) × Means reads last q k.next × Failed k.reply o.dev_faults q.dev_faults)
-            done (Ok it) (says, there, failed) = (says, there, λ x none. failed x none ∙ a.finished.failed x refl)
-            done (Err e) x = tt

@@ -36,7 +36,7 @@ use Rattle.newt_work.specs.Work.{Copy, copy_at, is_based, rebased}
 use Rattle.newt_laws_world.proofs.Units.{has-mounted}
 use Rattle.newt_laws_steps.specs.Answering.{Answering}
 use Rattle.newt_laws_steps.specs.StandsFor.{Obeys, seen}
-use Rattle.newt_laws_whole.specs.Runs.{AllFormed, CanBeEntry}
+use Rattle.newt_laws_whole.specs.Runs.{AllFormed, CanBeEntry, DraftsFit}
 use Rattle.newt_laws_whole.proofs.Fits.{change-all}
 use Rattle.newt_engine.specs.Calls.{Applied as Inner}
 use Rattle.newt_engine.specs.Standing.{IsStanding, means, stood_for}
@@ -45,13 +45,13 @@ use Rattle.newt_laws_world.specs.Worlds.{is_plain}
 use Rattle.newt_engine_whole.specs.Bounds.{ProgramsInTurn, most_put, most_taken}
 use Rattle.newt_engine_whole.specs.Calls.{AppliedRest, Ended, rest_asked}
 use Rattle.newt_engine_whole.specs.Copies.{IsAt, IsRead, saved_event}
-use Rattle.newt_engine_whole.specs.Standing.{DraftsFit, Means, Standing, known_whole}
+use Rattle.newt_engine_whole.specs.Standing.{Means, Standing, known_whole}
 use Rattle.newt_engine_whole.specs.Told.{Tells}
 use Rattle.newt_engine_whole.proofs.Apart.{apart-quiet, apart-stepped, rest-ended}
 use Rattle.newt_engine_whole.specs.declared.saves.Place.{Place}
 use Rattle.newt_engine_whole.specs.declared.whole.Whole.{Whole}
 use Rattle.newt_engine_whole.proofs.Costing.{first-fetches, first-programs}
-use Rattle.newt_engine_whole.proofs.Drafted.{change-as, flat-is, set-change}
+use Rattle.newt_engine_whole.proofs.Drafted.{change-as, set-change}
 use Rattle.newt_engine_whole.proofs.Living.{entry-there, named, soup-there}
 use Rattle.newt_engine_whole.proofs.Saved.{ChangesOr, changes, save-changed, save-done, save-full, save-turn}
 use Rattle.newt_engine_whole.proofs.Turns.{as-other}
@@ -168,7 +168,8 @@ module _ {C : Type 0} {reads : List ℕ → Option Store} {place : C → ℕ} {s
         reply = said it;
         steps = wholes.plain refl (save-full h n b.is.of b.is.there b.is.spot b.is.lives b.based no_room ∙ ap {B = plain.Whole × replies.Reply} (λ q. (h, q)) (sym says));
         threw = a.finished.threw;
-        answered = (refl, record { world = subst (means reads mid p) same there; watches = m.watches; copies = m.copies }, a.finished.failed);
+        failed = a.finished.failed;
+        answered = (refl, record { world = subst (means reads mid p) same there; watches = m.watches; copies = m.copies });
         moments = subst (λ (w : World). Always (Answering reads h.world (command.Save n) w o.now) o.now p.now) same moments;
       }
       go b v (inr (inl (room, done, says))) there moments = absurd (other says)
@@ -177,7 +178,8 @@ module _ {C : Type 0} {reads : List ℕ → Option Store} {place : C → ℕ} {s
         reply = said it;
         steps = subst (WholeStep h (command.Save n) (whole_thrown h (change_of b.is.of b.is.spot) x)) (sym says) (change-thrown n at draft a t h m b.formed b.is b.can b.drafted b.based x);
         threw = a.finished.threw;
-        answered = (refl, record { world = subst (means reads mid p) next there; watches = m.watches; copies = m.copies }, a.finished.failed);
+        failed = a.finished.failed;
+        answered = (refl, record { world = subst (means reads mid p) next there; watches = m.watches; copies = m.copies });
         moments = subst (λ (w : World). Always (Answering reads h.world (command.Save n) w o.now) o.now p.now) next moments;
       }
 
@@ -207,6 +209,7 @@ module _ {C : Type 0} {reads : List ℕ → Option Store} {place : C → ℕ} {s
             reply = replies.Reply.done;
             steps = wholes.plain refl (save-done h n b.is.of b.is.there b.is.spot b.is.lives b.based room);
             threw = record { later = a.finished.later; rose = λ u x. absurd (both-ways x) };
+            failed = λ u x. a.finished.failed u refl;
             answered = (
               refl,
               record {
@@ -216,7 +219,6 @@ module _ {C : Type 0} {reads : List ℕ → Option Store} {place : C → ℕ} {s
                 copies = works ∙ set-change (rebased mid.units.minute draft) old.works n ∙ ap (change_at n (rebased mid.units.minute draft)) m.copies
                     ∙ change-as (rebased mid.units.minute draft) (λ k. rebased h.world.minute k.draft k) h.copies n b.is.of b.is.there (λ i. rebased (minute i) (b.drafted i) b.is.of);
               },
-              λ u x. a.finished.failed u refl,
             );
             moments = subst (λ (w : World). Always (Answering reads h.world (command.Save n) w o.now) o.now p.now) done moments;
           }
@@ -233,10 +235,15 @@ module _ {C : Type 0} {reads : List ℕ → Option Store} {place : C → ℕ} {s
         record {
           alone = a.finished.alone;
           bound = λ t other x. subst (λ (ds : List Command). ProgramsInTurn w ds x o p) (sym (last-turn n at draft base known t)) (first-programs w change [] x (a.finished.bound t refl x));
+          format = λ t is. absurd (both-ways is);
           fetched = λ t entries x. subst (λ (ds : List Command). IsOpenFor (most_put w ds x) (image x o.now) → p.fetched x ≤ o.fetched x + most_taken w ds x) (sym (last-turn n at draft base known t))
               (first-fetches w change [] x o p (a.finished.settling t refl x));
           step = λ t is. absurd (both-ways is);
           open_after = a.finished.open_after;
+          threw = a.finished.threw;
+          failed = a.finished.failed;
+          unhidden = a.finished.unhidden;
+          later = a.finished.later;
           never_memory = λ none. absurd (both-ways (sym none));
           never_thrown = λ none. absurd (both-ways (sym none));
         }
@@ -256,9 +263,9 @@ module _ {C : Type 0} {reads : List ℕ → Option Store} {place : C → ℕ} {s
       stands = record {
         world = subst (λ (e : Engine C). IsStanding reads place stands told e p) (sym (tells.world ∙ world)) a.stands;
         watches = let w = begun.watches in (note_all (saved_event at ∷ []) w.0, tells.watches w.0 (watches ∙ w.1));
-        drafts = λ t j i found. change-all (λ j. CanBeEntry j.draft) old.works (λ i j on. begun.drafts t i j (flat-is (slice_get old.works i) ∙ on)) n (rebased mid.units.minute draft)
+        drafts = λ t j i found. change-all (λ j. CanBeEntry j.draft) old.works (begun.drafts t) n (rebased mid.units.minute draft)
             (λ i on. subst CanBeEntry (sym same) (begun.drafts t n k (sym there))) j i
-            (sym (flat-is (slice_get (change_at n (rebased mid.units.minute draft) old.works) j)) ∙ ap (copy_at j) (sym (tells.works ∙ works ∙ set-change (rebased mid.units.minute draft) old.works n)) ∙ found);
+            (ap (copy_at j) (sym (tells.works ∙ works ∙ set-change (rebased mid.units.minute draft) old.works n)) ∙ found);
       };
       stepped = change-done a (tells.world ∙ world) (λ ws kept. tells.watches ws (watches ∙ kept)) (tells.works ∙ works);
       ended = save-ended a;
@@ -277,6 +284,7 @@ module _ {C : Type 0} {reads : List ℕ → Option Store} {place : C → ℕ} {s
             reply = w.1;
             steps = wholes.plain refl refl;
             threw = record { later = a.finished.later; rose = λ u x. absurd (both-ways (sym (apart-quiet h (command.Save n) u refl) ∙ x)) };
+            failed = λ u x. a.finished.unhidden u;
             answered = tt;
             moments = as-other reads h.world w.0.world (change_of b.is.of b.is.spot) (command.Save n) o.now p.now (λ u. refl)
                 (subst (λ (v : World). Always (Answering reads h.world (change_of b.is.of b.is.spot) v o.now) o.now p.now) (saved-world h n at draft b)
@@ -300,7 +308,7 @@ rest-changed {C} {reads} {place} {stands} {told} {old} {o} {n} {time} {graph} {a
     says : (h : plain.Whole) → Means reads old o h → IsRead h n at time graph → whole_answer h (command.Save n) ≡ (h, replies.Reply.changed time)
     says h m r =
         let i = r.at in
-        let same : i.of ≡ k = some-same i.of k (sym i.there ∙ sym (ap (copy_at n) m.copies ∙ flat-is (slice_get h.copies n)) ∙ sym there) in
+        let same : i.of ≡ k = some-same i.of k (sym i.there ∙ sym (ap (copy_at n) m.copies) ∙ sym there) in
         save-changed h n i.of i.there i.spot i.lives ((λ j. is_based (r.timed j) (r.shows j) (same j)) ∙ other)
         ∙ ap {A = ℕ} {B = plain.Whole × replies.Reply} (λ x. (h, replies.Reply.changed x)) r.timed
 
@@ -310,7 +318,7 @@ pub base-of : {C : Type 0} {reads : List ℕ → Option Store} {old : Whole C} {
     → draft ≡ k.draft → Means reads old o h → AllFormed h.world → DraftsFit old.works → IsBase h n at draft
 base-of {old = old} {h = h} {n} r k there same is m formed fit =
     let i = r.at in
-    let copies : i.of ≡ k = some-same i.of k (sym i.there ∙ sym (ap (copy_at n) m.copies ∙ flat-is (slice_get h.copies n)) ∙ sym there) in
+    let copies : i.of ≡ k = some-same i.of k (sym i.there ∙ sym (ap (copy_at n) m.copies) ∙ sym there) in
     record {
       formed = formed;
       is = i;

@@ -2,7 +2,7 @@
 use Rattle.std.proofs.Common.{◌≡◌, ap, sym, ◌∙◌, ℕ, zero, suc, List, Option, Some, None, replicate}
 use Rattle.newt_spec_graph.proofs.Lists.{none-some}
 use Rattle.newt_work.specs.Work.{Copy, copy_at}
-use Rattle.newt_engine_whole.specs.Standing.{DraftsFit}
+use Rattle.newt_laws_whole.specs.Runs.{DraftsFit}
 
 no-copy : (most n : ℕ) (k : Copy) → copy_at n (replicate most None) ≡ Some k → ⊥
 no-copy zero n k h = none-some k h

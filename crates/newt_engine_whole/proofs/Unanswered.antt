@@ -29,6 +29,7 @@ use Rattle.newt_laws_steps.specs.StandsFor.{Obeys}
 use Rattle.newt_laws_world.specs.Worlds.{is_plain}
 use Rattle.newt_laws_whole.proofs.Reading.{GetsOr, gets}
 use Rattle.newt_engine_cursors.specs.Unread.{steps_unread}
+use Rattle.newt_engine.specs.Bounds.{is_format}
 use Rattle.newt_engine.specs.Calls.{Applied as Inner}
 use Rattle.newt_engine.specs.Standing.{means}
 use Rattle.newt_engine.specs.declared.world.World.{World as Engine}
@@ -82,11 +83,11 @@ module _ {C : Type 0} {reads : List ℕ → Option Store} {place : C → ℕ} {s
 
   -- an entry is read first
   module _ {mid : Engine C} {p : Outside} (u uid : ℕ) (s : List ℕ) {inner : Result Reply AllocError} (a : Inner reads place stands told (command.Get u s uid) old.world mid o p inner) where
-    pub read-memory : {new : Whole C} (error : AllocError) → ((w : World) → steps_unread w c ≡ false) → whole_takes_memory c ≡ true → whole_uses_device c ≡ true
+    pub read-memory : {new : Whole C} (error : AllocError) → ((w : World) → steps_unread w c ≡ false) → is_format c ≡ false → whole_takes_memory c ≡ true → whole_uses_device c ≡ true
         → (IsTrue told → (rest : List Command) × (asked_in_turn (known_whole reads old o) c ≡ command.Get u s uid ∷ rest))
         → (IsTrue told → (h : plain.Whole) → Means reads old o h → Always (Answering reads h.world (command.Get u s uid) h.world o.now) o.now p.now)
-        → Applied reads place stands told c old new o p (Err error)
-    read-memory {new} error unread memory device turn moments = record {
+        → ((x : ℕ) → p.dev_faults x ≡ o.dev_faults x) → Applied reads place stands told c old new o p (Err error)
+    read-memory {new} error unread other memory device turn moments none = record {
       stands = tt;
       stepped = λ t h m.
           let w = whole_answer h c in record {
@@ -94,8 +95,9 @@ module _ {C : Type 0} {reads : List ℕ → Option Store} {place : C → ℕ} {s
             reply = w.1;
             steps = wholes.plain (ap (option_and_then (unsure_look h.world)) (apart-looks c apart)) refl;
             threw = record { later = a.finished.later; rose = λ x k. absurd (both-ways (sym (apart-quiet h c x apart) ∙ k)) };
+            failed = λ x k. none x;
             answered = tt;
             moments = Always-map (early reads h.world (command.Get u s uid) c w.0.world o.now o.now p.now (λ x. refl)) (moments t h m);
           };
-      ended = reading-ended u uid s unread memory device turn a.finished (λ t. tt);
+      ended = reading-ended u uid s unread other memory device turn a.finished (λ t. tt) tt tt none;
     }

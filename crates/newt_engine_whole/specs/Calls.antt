@@ -1,8 +1,9 @@
 -- What the whole promises of a command. All of it is this project's own.
-use Rattle.std.specs.Prelude.{◌≡◌, ◌≢◌, ℕ, Bool, true, false, IsTrue, List, Option, Result}
-use Rattle.std.specs.Prelude.{IfOk, IsOk, OnOk, drop}
+use Rattle.std.specs.Prelude.{◌≡◌, ◌≢◌, ℕ, ◌≤◌, Bool, true, false, IsTrue, List, Option, Result}
+use Rattle.std.specs.Prelude.{IfOk, IsOk, OnErr, OnOk, drop}
 use Rattle.std.specs.declared.alloc.AllocError.{AllocError}
 use Rattle.newt_host.specs.Outside.{Outside, OnDevices}
+use Rattle.newt_laws_steps.specs.Thrown.{Failed, Threw}
 use Rattle.newt_spec_store.specs.Store.{Store}
 use Rattle.newt_spec_whole.specs.Whole as plain
 use Rattle.newt_spec_whole.specs.Whole.{asked_in_turn}
@@ -13,15 +14,16 @@ use Rattle.newt_reply.specs.Said.{said}
 use Rattle.newt_reply.specs.declared.reply.Reply.{Reply}
 use Rattle.newt_reply.specs.declared.reply.Reply.TheVariants as reply
 use Rattle.newt_script_session.specs.Steps.{Stepped}
-use Rattle.newt_engine_card.specs.Bounds.{FetchesAtMost, FetchesWithin, IsOpenOrSame}
+use Rattle.newt_laws_whole.specs.Runs.{DraftsFit}
+use Rattle.newt_engine_card.specs.Bounds.{FetchesAtMost, FetchesWithin, FormatsOnce, IsOpenOrSame}
 use Rattle.newt_engine_cursors.specs.Unread.{steps_unread}
-use Rattle.newt_engine.specs.Bounds.{is_format, most_stepped}
+use Rattle.newt_engine.specs.Bounds.{is_format, most_formatted, most_stepped}
 use Rattle.newt_engine.specs.Calls.{IsNotThrown}
 use Rattle.newt_engine.specs.Standing.{stood_for}
 use Rattle.newt_engine_whole.specs.Bounds.{ProgramsInTurn, most_put, most_taken}
 use Rattle.newt_engine_whole.specs.Bounds.{whole_means_entries}
 use Rattle.newt_engine_whole.specs.Ends.{whole_takes_memory, whole_uses_device}
-use Rattle.newt_engine_whole.specs.Standing.{AreKept, DraftsFit, Means, Standing, known_whole}
+use Rattle.newt_engine_whole.specs.Standing.{AreKept, Means, Standing, known_whole}
 use Rattle.newt_engine_whole.specs.declared.whole.Whole.{Whole}
 
 -- what a command asks behind the first, in the known whole
@@ -32,16 +34,20 @@ rest_asked reads old before command = drop 1 (asked_in_turn (known_whole reads o
 module _ {C : Type 0} (reads : List ℕ → Option Store) where
   -- How a command ends that asks these commands of the world, one after another. What is attached,
   -- the input and the output are as they were. But for a format each unit that has room is
-  -- programmed by no more than what is asked may; where that is of entries, no more is fetched
-  -- there than by it; one that opens, shows, moves or counts a cursor fetches no more than it does
-  -- in the world. After a reply each bank is not closed or is as it was, but for a unit that was
-  -- thrown out. Only what may take memory ends in want of it, and only what uses a device throws a
-  -- unit out.
+  -- programmed by no more than what is asked may, and a format wears once; where what is asked is
+  -- of entries, no more is fetched there than by it; one that opens, shows, moves or counts a
+  -- cursor fetches no more than it does in the world. After a reply each bank is not closed or is
+  -- as it was, but for a unit that was thrown out. No fault was counted but of a unit that the
+  -- reply says was thrown out, and of that one a fault was, also where the devices do not tell
+  -- their bytes. Want of memory hides none, and only what may take memory ends in it; and only what
+  -- uses a device throws a unit out.
   pub record Ended (told : Bool) (command : Command) (asked : List Command) (old : Whole C)
       (before after : Outside) (result : Result Reply AllocError) : Type 0 where
     pub alone : OnDevices before after
     pub bound : IsTrue told → is_format command ≡ false →
         (u : ℕ) → ProgramsInTurn (stood_for reads old.world before) asked u before after
+    pub format : IsTrue told → is_format command ≡ true →
+        (u : ℕ) → FormatsOnce (most_formatted command) 10 u before after
     pub fetched : IsTrue told → whole_means_entries command ≡ true →
         let w = stood_for reads old.world before in
         FetchesWithin (most_put w asked) (most_taken w asked) before after
@@ -49,6 +55,10 @@ module _ {C : Type 0} (reads : List ℕ → Option Store) where
         steps_unread w command ≡ true → FetchesAtMost (most_stepped w command) before after
     pub open_after : IsTrue told → IfOk result
         (λ it. (u : ℕ) → it ≢ reply.Thrown u → IsOpenOrSame u before.now after.now)
+    pub threw : IfOk result (λ it. Threw (said it) before.dev_faults after.dev_faults)
+    pub failed : IfOk result (λ it. Failed (said it) before.dev_faults after.dev_faults)
+    pub unhidden : OnErr result ((u : ℕ) → after.dev_faults u ≡ before.dev_faults u)
+    pub later : (u : ℕ) → before.dev_faults u ≤ after.dev_faults u
     pub never_memory : whole_takes_memory command ≡ false → IsOk result
     pub never_thrown : whole_uses_device command ≡ false → IfOk result (λ it. IsNotThrown it)
 

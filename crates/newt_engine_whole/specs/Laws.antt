@@ -1,4 +1,5 @@
--- What stands between commands, and what no command takes away.
+-- What stands between commands, and what no command takes away. (Proofs stand here too, since the
+-- ghost laws of the interpreter cite them.)
 use Rattle.std.proofs.Common.{◌≡◌, ◌≤◌, ℕ, List, Bool, true, IsTrue, Option, Some, refl}
 use Rattle.newt_host.specs.Moments.{IsDurable, MayLeave, image}
 use Rattle.newt_host.specs.Outside.{Outside}

@@ -2,16 +2,11 @@
 use Rattle.std.specs.Prelude.{◌≡◌, ℕ, Bool, IsTrue, List, Option, Some}
 use Rattle.newt_host.specs.Outside.{Outside}
 use Rattle.newt_notify.specs.Watch.{Watching, Kept, kept_all}
-use Rattle.newt_work.specs.Work.{Copy, copy_at}
 use Rattle.newt_spec_store.specs.Store.{Store}
 use Rattle.newt_spec_whole.specs.Whole as plain
-use Rattle.newt_laws_whole.specs.Runs.{CanBeEntry}
+use Rattle.newt_laws_whole.specs.Runs.{DraftsFit}
 use Rattle.newt_engine.specs.Standing.{IsStanding, means, stood_for}
 use Rattle.newt_engine_whole.specs.declared.whole.Whole.{Whole}
-
--- each draft can be the graph of an entry
-abbrev pub DraftsFit : List (Option Copy) → Type 0
-DraftsFit copies = (n : ℕ) (k : Copy) → copy_at n copies ≡ Some k → CanBeEntry k.draft
 
 -- they keep what watches with these notes keep
 abbrev pub AreKept : List (Option Kept) → Type 0

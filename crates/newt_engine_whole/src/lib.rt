@@ -6,7 +6,8 @@
 //! promise of one command: world, watches, copies and devices stand for one whole, or for several;
 //! from each of them a command that is of its form makes a step to one that is stood for then, and
 //! at each moment a crash leaves each unit as in the one or in the other. Room for notes and for a
-//! copy's new base is there before a commit, so that behind it nothing wants memory.
+//! copy's new base is there before the world is asked, so that once it has answered, the whole
+//! answers too: `tell` and `rebase` have no error.
 #![tactic(auto)]
 
 mod due;

@@ -127,7 +127,7 @@ impl<C: Card> Whole<C> {
     }
 
     /// The same over this state of the entry. The copies for the new base are made before the
-    /// commit, so that nothing wants memory behind it.
+    /// commit, so that nothing wants memory once the world has answered.
     fn save_over<H: Host>(
         &mut self,
         host: &mut H,
@@ -151,7 +151,8 @@ impl<C: Card> Whole<C> {
         if !work.based(time, graph) {
             return Ok(Reply::Changed(time));
         }
-        // A graph that is read is known to be within the limits, as `change` requires.
+        // (used by the proof alone: what a type says of a value is known where the value is read;
+        // here that the draft is within the limits, as `change` requires)
         let _root = work.draft().root();
         let base = work.draft().copy()?;
         let draft = work.draft().copy()?;

@@ -4,6 +4,7 @@
 //! of stores. It carries this promise: a record is read from exactly the bytes that
 //! have one by the store's reading, and is written as the store's definition says. The bytes of
 //! large binaries are no part of a record: it has the graph without them, and names their objects.
+//! An entry whole (`FullEntry`) is what backups and fills hand on.
 #![tactic(auto)]
 
 mod fault;

@@ -1,9 +1,8 @@
 //! What an entry record has.
-ghost use Rattle.std.specs.Prelude.{◌≡◌, [], IfOk};
+ghost use Rattle.std.specs.Prelude.{◌≡◌};
 
 use newt_base::{Sig, Uid};
 use newt_graph::Graph;
-use std::alloc::{AllocError, Global};
 use std::marker::Model;
 
 /// A large binary in a record: the number of its node, from 0 in the order of the graph's nodes;
@@ -31,15 +30,6 @@ impl Model for Larges {
 }
 
 impl Larges {
-    /// No large binaries. It takes no memory.
-    pub fn none(alloc: Global) -> Self
-        ensures { result ≡ [] }
-    {
-        Larges {
-            items: Vec::new(alloc),
-        }
-    }
-
     /// These large binaries.
     pub fn of(items: Vec<LargeAt>) -> Self
         ensures { result ≡ items.items }
@@ -53,22 +43,6 @@ impl Larges {
     {
         self.items.as_slice()
     }
-
-    /// All of them, given away.
-    pub fn into_vec(self) -> Vec<LargeAt>
-        ensures { result.items ≡ self }
-    {
-        self.items
-    }
-
-    /// An equal list.
-    pub fn copy(&self) -> Result<Larges, AllocError>
-        ensures { IfOk result (λ copy. copy ≡ self.now) }
-    {
-        Ok(Larges {
-            items: self.items.clone()?,
-        })
-    }
 }
 
 /// An entry's record: the signature of its soup, at most 65,535; its id; the minute of its last
@@ -81,19 +55,4 @@ pub struct EntryRow {
     pub time: u32,
     pub skeleton: Graph,
     pub larges: Larges,
-}
-
-impl EntryRow {
-    /// An equal row.
-    pub fn copy(&self) -> Result<EntryRow, AllocError>
-        ensures { IfOk result (λ copy. copy ≡ self.now) }
-    {
-        Ok(EntryRow {
-            soup: self.soup,
-            uid: self.uid,
-            time: self.time,
-            skeleton: self.skeleton.copy()?,
-            larges: self.larges.copy()?,
-        })
-    }
 }

@@ -12,7 +12,7 @@ use newt_base::{Sig, Uid};
 use newt_graph::{Bytes, Graph, Node, Ref, Refs};
 use std::alloc::{AllocError, Global};
 
-/// Which entry of which soup of which store.
+/// What names an entry for as long as it is there.
 #[derive(Clone, Copy, PartialEq, Eq, Debug)]
 pub struct Alias {
     /// The signature of the store.

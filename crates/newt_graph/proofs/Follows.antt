@@ -7,14 +7,14 @@ use Rattle.newt_graph.specs.declared.fault.GraphFault.{GraphFault}
 use Rattle.newt_graph.specs.declared.fault.GraphFault.TheVariants.{Limit, Memory}
 use Rattle.std.proofs.lemmas.Bool.{lt-ltb, le-leb, cases_order}
 use Rattle.std.proofs.lemmas.List.{append-nil, length-append, length_push, length-map, take_more, take_all}
-use Rattle.std.proofs.lemmas.List.Elements.{All-nil, All-cons, All-head, All-tail, All-append}
+use Rattle.std.proofs.lemmas.List.Elements.{All-head, All-tail}
 use Rattle.std.proofs.lemmas.Option.{slice_get_within, get_or_from_slice_get}
 use Rattle.newt_graph.specs.declared.node.Node.{Node}
 use Rattle.newt_graph.specs.declared.node.Node.TheVariants.{Symbol, Str, Binary, Large, Array, Frame}
 use Rattle.newt_graph.specs.declared.node.Ref.{Ref}
 use Rattle.newt_graph.specs.declared.node.Ref.TheVariants as refs
 use Rattle.newt_graph.specs.Graph.{RawGraph, IsGraph, WalkLabel, WalkLabels, Walk, Walks, payload}
-use Rattle.newt_graph.specs.Raw.{renamed_ref, renamed, labels_of, values_of, IsSeenBy, IsNormalForm}
+use Rattle.newt_graph.specs.Raw.{renamed_ref, renamed, IsSeenBy, IsNormalForm, IsValue}
 use Rattle.newt_graph.specs.Slice.{At}
 use Rattle.newt_graph.specs.Meeting.{Seen, Step, place, is_new, added, meet_label, meet_labels, meet_class, meet_each, within, enter, meet_by, meet, Once, number, moved, limited, numbered, normal_form, Gives}
 use Rattle.newt_graph.proofs.Place.{place_get, place_some, place_none}
@@ -23,6 +23,7 @@ use Rattle.newt_graph.proofs.Elements.{get_seam, map_at, at_map, any_at}
 use Rattle.newt_graph.proofs.Grows.{node_at}
 use Rattle.newt_graph.proofs.Slices.{at_first, at_rest, at_inside, at_here, at_length}
 use Rattle.newt_graph.proofs.Form.{back, start, number_is}
+use Rattle.newt_graph.proofs.Below.{Within, value_in}
 
 -- ---- the first so many of the order
 
@@ -229,97 +230,24 @@ mutual
       each_more (λ seen value. meet nodes room seen value) _ _ _ _ one
       ∙ (rest ∙ some_met nodes order (met + length first + length others) (met + length (first ++ others)) (omega (arith, length-append first others)))
 
--- ---- all references of a normal form are in range
-
-abbrev RefBelow : ℕ → Ref → Type 0
-RefBelow n (refs.Imm w) = Unit {0}
-RefBelow n (refs.Node k) = k < n
-
-record NodeBelow (n : ℕ) (node : Node) : Type 0 where
-  pub labels : All (λ k. k < n) (labels_of node)
-  pub values : All (RefBelow n) (values_of node)
-
-record LabelsBelow (n : ℕ) (ks : List ℕ) (new : List Node) : Type 0 where
-  pub each : All (λ k. k < n) ks
-  pub nodes : All (NodeBelow n) new
-
-record ValuesBelow (n : ℕ) (values : List Ref) (new : List Node) : Type 0 where
-  pub each : All (RefBelow n) values
-  pub nodes : All (NodeBelow n) new
-
-leaf_below : (n : ℕ) (node : Node) → labels_of node ≡ [] → values_of node ≡ [] → NodeBelow n node
-leaf_below n node l v = record { labels = rw l (All-nil (λ k. k < n)); values = rw v (All-nil (RefBelow n)) }
-
-label_below : {met k : ℕ} {new : List Node} → WalkLabel met k new → (n : ℕ) → met + length new ≤ n → LabelsBelow n (k ∷ []) new
-label_below (WalkLabel.again {met} {k} lt) n le = record { each = All-cons (λ k. k < n) k [] (omega (arith, lt, le)) (All-nil (λ k. k < n)); nodes = All-nil (NodeBelow n) }
-label_below (WalkLabel.symbol {met} {name}) n le = record { each = All-cons (λ k. k < n) met [] (omega (arith, le)) (All-nil (λ k. k < n)); nodes = All-cons (NodeBelow n) (Symbol name) [] (leaf_below n (Symbol name) refl refl) (All-nil (NodeBelow n)) }
-
-labels_below : {met : ℕ} {ks : List ℕ} {new : List Node} → WalkLabels met ks new → (n : ℕ) → met + length new ≤ n → LabelsBelow n ks new
-labels_below (WalkLabels.none {met}) n le = record { each = All-nil (λ k. k < n); nodes = All-nil (NodeBelow n) }
-labels_below (WalkLabels.more {met} {k} {ks} {first} {others} w ws) n le =
-    let a = label_below w n (omega (arith, le, length-append first others)) in
-    let b = labels_below ws n (omega (arith, le, length-append first others)) in
-    record { each = All-cons (λ k. k < n) k ks (All-head (λ k. k < n) k [] a.each) b.each; nodes = All-append (NodeBelow n) first others a.nodes b.nodes }
-
-container_below : (n : ℕ) (node : Node) (a b : List Node) → LabelsBelow n (labels_of node) a → ValuesBelow n (values_of node) b → All (NodeBelow n) (node ∷ (a ++ b))
-container_below n node a b labels values = All-cons (NodeBelow n) node (a ++ b) (record { labels = labels.each; values = values.each }) (All-append (NodeBelow n) a b labels.nodes values.nodes)
-
-one_value : (n : ℕ) (value : Ref) (new : List Node) → RefBelow n value → All (NodeBelow n) new → ValuesBelow n (value ∷ []) new
-one_value n value new h nodes = record { each = All-cons (RefBelow n) value [] h (All-nil (RefBelow n)); nodes = nodes }
-
-no_values : (n : ℕ) → ValuesBelow n [] []
-no_values n = record { each = All-nil (RefBelow n); nodes = All-nil (NodeBelow n) }
-
-mutual
-  value_below : {room met : ℕ} {value : Ref} {new : List Node} → Walk room met value new → (n : ℕ) → met + length new ≤ n → ValuesBelow n (value ∷ []) new
-  value_below (Walk.word {w} is) n le = one_value n (refs.Imm w) [] tt (All-nil (NodeBelow n))
-  value_below (Walk.again {met} {k} lt) n le = one_value n (refs.Node k) [] (omega (arith, lt, le)) (All-nil (NodeBelow n))
-  value_below (Walk.symbol {met} {name}) n le = one_value n (refs.Node met) (Symbol name ∷ []) (omega (arith, le)) (All-cons (NodeBelow n) (Symbol name) [] (leaf_below n (Symbol name) refl refl) (All-nil (NodeBelow n)))
-  value_below (Walk.string {met} {units}) n le = one_value n (refs.Node met) (Str units ∷ []) (omega (arith, le)) (All-cons (NodeBelow n) (Str units) [] (leaf_below n (Str units) refl refl) (All-nil (NodeBelow n)))
-  value_below (Walk.binary {met} {class} {bytes} {new} label) n le =
-      let l = label_below label n (omega (arith, le)) in
-      one_value n (refs.Node met) (Binary class bytes ∷ new) (omega (arith, le)) (All-cons (NodeBelow n) (Binary class bytes) new (record { labels = l.each; values = All-nil (RefBelow n) }) l.nodes)
-  value_below (Walk.large {met} {class} {bytes} {new} label) n le =
-      let l = label_below label n (omega (arith, le)) in
-      one_value n (refs.Node met) (Large class bytes ∷ new) (omega (arith, le)) (All-cons (NodeBelow n) (Large class bytes) new (record { labels = l.each; values = All-nil (RefBelow n) }) l.nodes)
-  value_below (Walk.frame {met} {tags} {values} {tagged} {valued} labels ws) n le =
-      let size = length-append tagged valued in
-      one_value n (refs.Node met) (Frame tags values ∷ (tagged ++ valued)) (omega (arith, le))
-      (container_below n (Frame tags values) tagged valued (labels_below labels n (omega (arith, le, size))) (values_below ws n (omega (arith, le, size))))
-  value_below (Walk.plain_array {met} {values} {valued} ws) n le =
-      let others = values_below ws n (omega (arith, le)) in
-      one_value n (refs.Node met) (Array None values ∷ valued) (omega (arith, le)) (All-cons (NodeBelow n) (Array None values) valued (record { labels = All-nil (λ k. k < n); values = others.each }) others.nodes)
-  value_below (Walk.array {met} {class} {values} {first} {valued} label ws) n le =
-      let size = length-append first valued in
-      one_value n (refs.Node met) (Array (Some class) values ∷ (first ++ valued)) (omega (arith, le))
-      (container_below n (Array (Some class) values) first valued (label_below label n (omega (arith, le, size))) (values_below ws n (omega (arith, le, size))))
-
-  values_below : {room met : ℕ} {values : List Ref} {new : List Node} → Walks room met values new → (n : ℕ) → met + length new ≤ n → ValuesBelow n values new
-  values_below (Walks.none {met}) n le = no_values n
-  values_below (Walks.more {met} {value} {values} {first} {others} w ws) n le =
-      let size = length-append first others in
-      let a = value_below w n (omega (arith, le, size)) in
-      let b = values_below ws n (omega (arith, le, size)) in
-      record { each = All-cons (RefBelow n) value values (All-head (RefBelow n) value [] a.each) b.each; nodes = All-append (NodeBelow n) first others a.nodes b.nodes }
-
 -- ---- and forth
 
 number_forth : (order : List ℕ) → Distinct order → (k : ℕ) → k < length order → number order (back order k) ≡ k
 number_forth order distinct k lt = number_is order (back order k) k (once_from order distinct k (back order k) (any_at order k 0 lt))
 
-ref_forth : (order : List ℕ) → Distinct order → (value : Ref) → RefBelow (length order) value → renamed_ref (number order) (renamed_ref (back order) value) ≡ value
+ref_forth : (order : List ℕ) → Distinct order → (value : Ref) → IsValue (length order) value → renamed_ref (number order) (renamed_ref (back order) value) ≡ value
 ref_forth order distinct (refs.Imm w) h = refl
 ref_forth order distinct (refs.Node k) h = ap (λ (n : ℕ). refs.Node n) (number_forth order distinct k h)
 
-refs_forth : (order : List ℕ) → Distinct order → (values : List Ref) → All (RefBelow (length order)) values → map (renamed_ref (number order)) (map (renamed_ref (back order)) values) ≡ values
+refs_forth : (order : List ℕ) → Distinct order → (values : List Ref) → All (IsValue (length order)) values → map (renamed_ref (number order)) (map (renamed_ref (back order)) values) ≡ values
 refs_forth order distinct [] h = refl
-refs_forth order distinct (v ∷ vs) h = rw (ref_forth order distinct v (All-head (RefBelow (length order)) v vs h), refs_forth order distinct vs (All-tail (RefBelow (length order)) v vs h)) refl
+refs_forth order distinct (v ∷ vs) h = rw (ref_forth order distinct v (All-head (IsValue (length order)) v vs h), refs_forth order distinct vs (All-tail (IsValue (length order)) v vs h)) refl
 
 tags_forth : (order : List ℕ) → Distinct order → (ks : List ℕ) → All (λ k. k < length order) ks → map (number order) (map (back order) ks) ≡ ks
 tags_forth order distinct [] h = refl
 tags_forth order distinct (k ∷ ks) h = rw (number_forth order distinct k (All-head (λ k. k < length order) k ks h), tags_forth order distinct ks (All-tail (λ k. k < length order) k ks h)) refl
 
-node_forth : (order : List ℕ) → Distinct order → (node : Node) → NodeBelow (length order) node → renamed (number order) (renamed (back order) node) ≡ node
+node_forth : (order : List ℕ) → Distinct order → (node : Node) → Within (length order) node → renamed (number order) (renamed (back order) node) ≡ node
 node_forth order distinct (Symbol name) h = refl
 node_forth order distinct (Str units) h = refl
 node_forth order distinct (Binary class bytes) h = ap (λ (n : ℕ). Binary n bytes) (number_forth order distinct class (All-head (λ k. k < length order) class [] h.labels))
@@ -328,7 +256,7 @@ node_forth order distinct (Array None values) h = ap (λ (vs : List Ref). Array 
 node_forth order distinct (Array (Some class) values) h = rw (number_forth order distinct class (All-head (λ k. k < length order) class [] h.labels), refs_forth order distinct values h.values) refl
 node_forth order distinct (Frame tags values) h = rw (tags_forth order distinct tags h.labels, refs_forth order distinct values h.values) refl
 
-nodes_forth : (nodes : List Node) (order : List ℕ) → Distinct order → (hs : List Node) (ks : List ℕ) → All (NodeBelow (length order)) hs
+nodes_forth : (nodes : List Node) (order : List ℕ) → Distinct order → (hs : List Node) (ks : List ℕ) → All (Within (length order)) hs
     → map (λ node. Some (renamed (back order) node)) hs ≡ map (slice_get nodes) ks → map (λ k. renamed (number order) (node_at nodes k)) ks ≡ hs
 nodes_forth nodes order distinct [] [] below e = refl
 nodes_forth nodes order distinct [] (k ∷ ks) below e = absurd cc
@@ -337,7 +265,7 @@ nodes_forth nodes order distinct (h ∷ hs) (k ∷ ks) below e =
     let head : slice_get nodes k ≡ Some (renamed (back order) h) = cc in
     let tail : map (λ node. Some (renamed (back order) node)) hs ≡ map (slice_get nodes) ks = cc in
     let is : node_at nodes k ≡ renamed (back order) h = get_or_from_slice_get nodes k (renamed (back order) h) (Str []) head in
-    rw (is, node_forth order distinct h (All-head (NodeBelow (length order)) h hs below), nodes_forth nodes order distinct hs ks (All-tail (NodeBelow (length order)) h hs below) tail) refl
+    rw (is, node_forth order distinct h (All-head (Within (length order)) h hs below), nodes_forth nodes order distinct hs ks (All-tail (Within (length order)) h hs below) tail) refl
 
 -- ---- the normal form is found
 
@@ -369,10 +297,10 @@ met_form g h order seen walk =
     let found : meet g.nodes 200 (start g) g.root ≡ Some (record { order = order; count = length g.nodes }) =
     subst (λ (o : List ℕ). meet g.nodes 200 (start g) g.root ≡ Some (record { order = o; count = length g.nodes })) whole
     (subst (λ (r : Ref). meet g.nodes 200 (start g) r ≡ Some (met_at g.nodes order (0 + length h.nodes))) seen.root met) in
-    let below = value_below walk (length order) (omega (arith, shows.size)) in
+    let below = value_in walk (length order) (omega (arith, shows.size)) in
     let nodes : moved g.nodes order order ≡ h.nodes = nodes_forth g.nodes order distinct h.nodes order below.nodes seen.nodes in
     let root : renamed_ref (number order) g.root ≡ h.root =
-    ap (renamed_ref (number order)) (sym seen.root) ∙ ref_forth order distinct h.root (All-head (RefBelow (length order)) h.root [] below.each) in
+    ap (renamed_ref (number order)) (sym seen.root) ∙ ref_forth order distinct h.root (All-head (IsValue (length order)) h.root [] below.each) in
     let same : numbered g (record { order = order; count = length g.nodes }) ≡ h = rw (nodes, root) refl in
     rw found (ap limited same)
 
@@ -398,19 +326,19 @@ counted n = range_with_len 0 n
 back_same : (n k : ℕ) → k < n → back (counted n) k ≡ k
 back_same n k lt = get_or-range_with_len 0 n k 0 lt ∙ omega arith
 
-ref_same : (n : ℕ) (value : Ref) → RefBelow n value → renamed_ref (back (counted n)) value ≡ value
+ref_same : (n : ℕ) (value : Ref) → IsValue n value → renamed_ref (back (counted n)) value ≡ value
 ref_same n (refs.Imm w) h = refl
 ref_same n (refs.Node k) h = ap (λ (m : ℕ). refs.Node m) (back_same n k h)
 
-refs_same : (n : ℕ) (values : List Ref) → All (RefBelow n) values → map (renamed_ref (back (counted n))) values ≡ values
+refs_same : (n : ℕ) (values : List Ref) → All (IsValue n) values → map (renamed_ref (back (counted n))) values ≡ values
 refs_same n [] h = refl
-refs_same n (v ∷ vs) h = rw (ref_same n v (All-head (RefBelow n) v vs h), refs_same n vs (All-tail (RefBelow n) v vs h)) refl
+refs_same n (v ∷ vs) h = rw (ref_same n v (All-head (IsValue n) v vs h), refs_same n vs (All-tail (IsValue n) v vs h)) refl
 
 tags_same : (n : ℕ) (ks : List ℕ) → All (λ k. k < n) ks → map (back (counted n)) ks ≡ ks
 tags_same n [] h = refl
 tags_same n (k ∷ ks) h = rw (back_same n k (All-head (λ k. k < n) k ks h), tags_same n ks (All-tail (λ k. k < n) k ks h)) refl
 
-node_same : (n : ℕ) (node : Node) → NodeBelow n node → renamed (back (counted n)) node ≡ node
+node_same : (n : ℕ) (node : Node) → Within n node → renamed (back (counted n)) node ≡ node
 node_same n (Symbol name) h = refl
 node_same n (Str units) h = refl
 node_same n (Binary class bytes) h = ap (λ (m : ℕ). Binary m bytes) (back_same n class (All-head (λ k. k < n) class [] h.labels))
@@ -419,14 +347,14 @@ node_same n (Array None values) h = ap (λ (vs : List Ref). Array None vs) (refs
 node_same n (Array (Some class) values) h = rw (back_same n class (All-head (λ k. k < n) class [] h.labels), refs_same n values h.values) refl
 node_same n (Frame tags values) h = rw (tags_same n tags h.labels, refs_same n values h.values) refl
 
-nodes_same : (n : ℕ) (nodes pre post : List Node) → nodes ≡ pre ++ post → All (NodeBelow n) post → map (λ node. Some (renamed (back (counted n)) node)) post ≡ map (slice_get nodes) (range_with_len (length pre) (length post))
+nodes_same : (n : ℕ) (nodes pre post : List Node) → nodes ≡ pre ++ post → All (Within n) post → map (λ node. Some (renamed (back (counted n)) node)) post ≡ map (slice_get nodes) (range_with_len (length pre) (length post))
 nodes_same n nodes pre [] e below = refl
 nodes_same n nodes pre (node ∷ post) e below =
     let here : slice_get nodes (length pre) ≡ Some node = ap (λ (x : List Node). slice_get x (length pre)) e ∙ get_seam pre node post in
-    let tail = nodes_same n nodes (pre ++ node ∷ []) post (e ∙ sym (append_assoc pre (node ∷ []) post)) (All-tail (NodeBelow n) node post below) in
+    let tail = nodes_same n nodes (pre ++ node ∷ []) post (e ∙ sym (append_assoc pre (node ∷ []) post)) (All-tail (Within n) node post below) in
     let rest : map (λ node. Some (renamed (back (counted n)) node)) post ≡ map (slice_get nodes) (range_with_len (length pre + 1) (length post)) =
     tail ∙ ap (λ (m : ℕ). map (slice_get nodes) (range_with_len m (length post))) (length_push pre node) in
-    rw (node_same n node (All-head (NodeBelow n) node post below), here, rest) refl
+    rw (node_same n node (All-head (Within n) node post below), here, rest) refl
 
 counted_distinct : (n : ℕ) → Distinct (counted n)
 counted_distinct n i j d lt within e =
@@ -439,9 +367,9 @@ counted_distinct n i j d lt within e =
 own_seen : (h : RawGraph) → Walk 200 0 h.root h.nodes → IsSeenBy (counted (length h.nodes)) h h
 own_seen h walk =
     let n = length h.nodes in
-    let below = value_below walk n (omega arith) in
+    let below = value_in walk n (omega arith) in
     record {
-      root = ref_same n h.root (All-head (RefBelow n) h.root [] below.each);
+      root = ref_same n h.root (All-head (IsValue n) h.root [] below.each);
       nodes = nodes_same n h.nodes [] h.nodes refl below.nodes;
       once = counted_distinct n;
     }

@@ -1,5 +1,5 @@
 -- What a host means, each by its own name. Where a host tells no bytes, only what is said of counts, of names and of numbers of blocks counts.
-use Rattle.std.specs.Prelude.{◌≡◌, ℕ, Bool, List, length, Option, Some, is_some}
+use Rattle.std.specs.Prelude.{◌≡◌, ℕ, Bool, List, length, Option, Some, is_some, option_map}
 use Rattle.newt_host.specs.Moments.{output, image, MayLeave, IsDurable, attached_at, LeftSince}
 use Rattle.newt_host.specs.Outside.{Outside}
 
@@ -30,6 +30,10 @@ out_of outside = output outside.now
 -- the bytes of the whole blocks of a unit
 abbrev pub image_of : Outside → ℕ → List ℕ
 image_of outside unit = image unit outside.now
+
+-- the image of the device of a unit, none where it has none
+abbrev pub device_on : ℕ → Outside → Option (List ℕ)
+device_on unit outside = option_map (λ name. image unit outside.now) (outside.card unit)
 
 -- a crash now may leave this image on the unit
 abbrev pub leaves : Outside → ℕ → List ℕ → Type 0

@@ -65,7 +65,7 @@ module _ (blocks : ℕ) (image : List ℕ) (size : length image ≡ blocks * 409
     wide : 16 ≤ bank_size blocks
     wide = omega (arith, enough)
 
-    in_two : bank_bytes blocks (bank_number bank) image ≡ take 16 (drop start image) ++ between (start + 16) limit image
+    pub in_two : bank_bytes blocks (bank_number bank) image ≡ take 16 (drop start image) ++ between (start + 16) limit image
     in_two =
         let parts : bank_size blocks ≡ 16 + (limit - (start + 16)) = omega (arith, wide) in
         ap (λ (n : ℕ). take n (drop start image)) parts ∙ take-add 16 (limit - (start + 16)) (drop start image)
@@ -74,7 +74,8 @@ module _ (blocks : ℕ) (image : List ℕ) (size : length image ≡ blocks * 409
     body_of : versioned_body image ≡ versioned (bank_bytes blocks (bank_number bank) image)
     body_of = body_is ∙ ap (λ (o : Option ℕ). and_then o (λ bank. versioned (bank_bytes blocks bank image))) voted
 
-    other_header : (version : ℕ) → take 16 (drop start image) ≢ header version → behind_header version (bank_bytes blocks (bank_number bank) image) ≡ None
+    -- a bank that begins with no header of a version has no records of it
+    pub other_header : (version : ℕ) → take 16 (drop start image) ≢ header version → behind_header version (bank_bytes blocks (bank_number bank) image) ≡ None
     unfolding header
     other_header version differ =
         let long : length (take 16 (drop start image)) ≡ 16 = omega (arith, length-take 16 (drop start image), length-drop start image, size, bank-fits blocks bank enough, wide) in

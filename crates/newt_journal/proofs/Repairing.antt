@@ -80,9 +80,6 @@ bank-behind blocks bank bytes image left h r = record {
 }
 
 module _ (j : Journal) (old : Moment) (held : IsHeld j old) where
-  pub voted_for : chosen_bank (image j.unit old) ≡ Some (bank_number j.bank)
-  voted_for = held.bank.votes
-
   pub same_reading : (left : List ℕ) → Repairs (bank_number j.bank) (image j.unit old) left → reading left ≡ reading (image j.unit old)
   same_reading left r =
       holds-reading j.blocks j.bank j.enough j.not_too_many j.version j.known held.payloads held.behind left (bank-behind j.blocks j.bank (written j.version held.payloads ++ held.behind) (image j.unit old) left held.bank r) held.ends

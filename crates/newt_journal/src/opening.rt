@@ -12,7 +12,7 @@ use crate::{Bank, Journal, JournalFault};
 use newt_host::{BLOCK, Failed, Host, Unit};
 
 /// The bank that the votes of a unit choose.
-fn read_votes<H: Host>(host: &mut H, unit: Unit, blocks: u32) -> Result<Option<Bank>, Failed>
+pub fn read_votes<H: Host>(host: &mut H, unit: Unit, blocks: u32) -> Result<Option<Bank>, Failed>
     requires has { HasBlocks unit blocks (H.outside host.old) }
     requires enough { 13 ≤ blocks }
     ensures bank { IsTrue H.told → IfOk result

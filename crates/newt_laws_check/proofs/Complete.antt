@@ -19,12 +19,13 @@ use Rattle.newt_spec_store.specs.Valid.{well_formed, valid, fits}
 use Rattle.newt_laws_images.specs.Found.{HasGiven, IsFound, IsRecord, ids_named}
 use Rattle.newt_laws_images.proofs.Again.{found-test}
 use Rattle.newt_laws_images.proofs.Finite.{object-get, entry-get, get-entry}
+use Rattle.newt_laws_images.proofs.Known.{flat-once, flat-pairs}
 use Rattle.newt_laws_images.proofs.Made.{found-lies}
 use Rattle.newt_laws_images.proofs.Rows.{read-as, ids_of}
 use Rattle.newt_laws_images.proofs.Totals.{lies-total}
 use Rattle.newt_laws_images.proofs.Whole.{lies-read}
 use Rattle.newt_spec_check.specs.Damage.{if_missing, directory_in, no_directory, is_odd, is_given, is_again, entry_of, is_named_before, is_sound, is_bad_record, bad_entry, ids_in, all_named, count_of, is_stray, bad_large, pages_taken, if_above, too_costly, first_object}
-use Rattle.newt_laws_check.proofs.Counts.{count-apart, count-among, flat-pairs, flat-once}
+use Rattle.newt_laws_check.proofs.Counts.{count-apart, count-among}
 use Rattle.newt_laws_check.proofs.Finds.{find-none, map-none, missing-none, any-true, any-false, among-any}
 use Rattle.newt_laws_check.proofs.Sound.{both, again-some}
 

@@ -1,8 +1,8 @@
 -- How often a number stands among others: once for each exactly where no two are the same.
-use Rattle.std.proofs.Common.{arith, ◌≡◌, ◌≢◌, refl, ap, sym, ◌∙◌, subst, ℕ, suc, ◌+◌, ◌≤◌, ◌==◌, List, [], ◌∷◌, ◌++◌, true, false, Bool, ◌⊎◌, inl, inr, cond, length, filter, flat_map}
+use Rattle.std.proofs.Common.{arith, ◌≡◌, ◌≢◌, refl, ap, sym, ◌∙◌, subst, ℕ, suc, ◌≤◌, ◌==◌, List, [], ◌∷◌, true, false, Bool, ◌⊎◌, inl, inr, cond, length, filter}
 use Rattle.std.proofs.lemmas.Bool.{eq-eqb, eqb-true, cases_eq}
-use Rattle.newt_spec_graph.specs.Lists.{Each, Pairs, Among}
-use Rattle.newt_spec_graph.proofs.Lists.{each-at, each-from, among-left, among-right, flat_map-among, both-ways}
+use Rattle.newt_spec_graph.specs.Lists.{Pairs, Among}
+use Rattle.newt_spec_graph.proofs.Lists.{each-at, each-from}
 use Rattle.newt_spec_check.specs.Damage.{count_of}
 
 count-step : (n m : ℕ) (ns : List ℕ) (b : Bool) → (n == m) ≡ b → count_of n (m ∷ ns) ≡ length (cond b (m ∷ filter (λ m. n == m) ns) (filter (λ m. n == m) ns))
@@ -61,29 +61,3 @@ count-apart (x ∷ ns) h = (
         let one = h x (inl refl) in
         let some = count-some x ns (subst (Among ns) (sym e) m) in
         omega (arith, one, some, count-here x ns)
-
--- ---- numbers of lists that are joined
-
-pairs-parts : {X : Type 0} (R : X → X → Type 0) (xs ys : List X) → Pairs R (xs ++ ys) → Pairs R xs × Pairs R ys × ((a b : X) → Among xs a → Among ys b → R a b)
-pairs-parts R [] ys h = (tt, h, λ a b m n. absurd m)
-pairs-parts {X} R (x ∷ xs) ys h =
-    let r = pairs-parts R xs ys h.1 in
-    ((each-from (R x) xs (λ z m. each-at (R x) (xs ++ ys) z h.0 (among-left xs ys z m)), r.0), r.1, across r.2)
-  where
-    across : ((a b : X) → Among xs a → Among ys b → R a b) → (a b : X) → Among (x ∷ xs) a → Among ys b → R a b
-    across more a b (inl e) n = subst (λ v. R v b) e (each-at (R x) (xs ++ ys) b h.0 (among-right xs ys b n))
-    across more a b (inr m) n = more a b m n
-
-pub flat-pairs : {X Y : Type 0} (R : Y → Y → Type 0) (f : X → List Y) (xs : List X) (x : X) → Pairs R (flat_map f xs) → Among xs x → Pairs R (f x)
-flat-pairs R f [] x h m = absurd m
-flat-pairs R f (y ∷ xs) x h (inl e) = subst (λ v. Pairs R (f v)) e (pairs-parts R (f y) (flat_map f xs) h).0
-flat-pairs R f (y ∷ xs) x h (inr m) = flat-pairs R f xs x (pairs-parts R (f y) (flat_map f xs) h).1 m
-
-pub flat-once : {X Y : Type 0} (f : X → List Y) (xs : List X) (x y : X) (z : Y) → Pairs (λ a b. a ≢ b) (flat_map f xs) → Among xs x → Among xs y → Among (f x) z → Among (f y) z → x ≡ y
-flat-once f [] x y z h m n k l = absurd m
-flat-once f (v ∷ xs) x y z h (inl e) (inl g) k l = sym e ∙ g
-flat-once f (v ∷ xs) x y z h (inl e) (inr n) k l =
-    absurd ((pairs-parts (λ a b. a ≢ b) (f v) (flat_map f xs) h).2 z z (subst (λ u. Among (f u) z) (sym e) k) (flat_map-among f xs y z n l) refl)
-flat-once f (v ∷ xs) x y z h (inr m) (inl g) k l =
-    absurd ((pairs-parts (λ a b. a ≢ b) (f v) (flat_map f xs) h).2 z z (subst (λ u. Among (f u) z) (sym g) l) (flat_map-among f xs x z m k) refl)
-flat-once f (v ∷ xs) x y z h (inr m) (inr n) k l = flat-once f xs x y z (pairs-parts (λ a b. a ≢ b) (f v) (flat_map f xs) h).1 m n k l

@@ -54,5 +54,6 @@ pub row-none : (at : Layer) (o : Option ℕ) (rows : List (Layer × Option ℕ))
 row-none at None rows h = (refl, h)
 row-none at (Some place) rows h = absurd (none-some {X = Damage} (record { layer = at; place = place }) (sym h))
 
-pub none-row : (at : Layer) (o : Option ℕ) (rows : List (Layer × Option ℕ)) → o ≡ None → first_row rows ≡ None → first_row ((at, o) ∷ rows) ≡ None
-none-row at o rows e h = ap (λ p. first_row ((at, p) ∷ rows)) e ∙ h
+-- a row that does not hold is passed over
+pub skip : (at : Layer) (o : Option ℕ) (rows : List (Layer × Option ℕ)) → o ≡ None → first_row ((at, o) ∷ rows) ≡ first_row rows
+skip at o rows h = ap (λ o. first_row ((at, o) ∷ rows)) h

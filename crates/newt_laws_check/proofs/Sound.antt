@@ -73,9 +73,6 @@ module _ (graph_of : List ℕ → Option RawGraph) (version : ℕ) (objects : Ob
   sound-entries = ap (option_and_then (λ d. first_object (is_bad_record graph_of version (map.entries objects) d) (map.entries objects))) its-directory
       ∙ ap (option_map (λ (o : ℕ × List ℕ). o.0)) (none-find (is_bad_record graph_of version (map.entries objects) (bare s)) (map.entries objects) (each-from _ (map.entries objects) not-bad))
 
-  even-of : (n : ℕ) → (n % 2 == 1) ≡ false → n % 2 ≡ 0
-  even-of n e = grind (arith, e)
-
   not-stray : (o : ℕ × List ℕ) → Among (map.entries objects) o → is_stray (map.entries objects) o ≡ false
   not-stray o m = if-true (not (is_odd o) && nat_lt 0 o.0) (not (count_of o.0 (all_named (map.entries objects)) == 1)) (λ e.
       let p = and_parts (not (is_odd o)) (nat_lt 0 o.0) e in

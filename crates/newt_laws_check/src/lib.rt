@@ -13,7 +13,7 @@ ghost use Rattle.newt_spec_store.specs.ImageStore.{store_of_image};
 ghost use Rattle.newt_spec_store.specs.Lies.{ReadsGraphs};
 ghost use Rattle.newt_spec_store.specs.Store.{Store};
 
-/// An image of 13 to 4,099 blocks has no damage exactly where it is read as a store.
+/// An image of bytes, of 13 to 4,099 blocks, has no damage exactly where it is read as a store.
 pub fn damaged_images_are_no_stores()
     ensures sound { (graph_of : List ℕ → Option RawGraph) (image : List ℕ) (s : Store)
         → ReadsGraphs graph_of → AreBytes image → store_of_image graph_of image ≡ Some s

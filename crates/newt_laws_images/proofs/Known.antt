@@ -76,12 +76,12 @@ pairs-parts {X} R (x ∷ xs) ys h =
     across more a b (inl e) n = subst (λ v. R v b) e (each-at (R x) (xs ++ ys) b h.0 (among-right xs ys b n))
     across more a b (inr m) n = more a b m n
 
-flat-pairs : {X Y : Type 0} (R : Y → Y → Type 0) (f : X → List Y) (xs : List X) (x : X) → Pairs R (flat_map f xs) → Among xs x → Pairs R (f x)
+pub flat-pairs : {X Y : Type 0} (R : Y → Y → Type 0) (f : X → List Y) (xs : List X) (x : X) → Pairs R (flat_map f xs) → Among xs x → Pairs R (f x)
 flat-pairs R f [] x h m = absurd m
 flat-pairs R f (y ∷ xs) x h (inl e) = subst (λ v. Pairs R (f v)) e (pairs-parts R (f y) (flat_map f xs) h).0
 flat-pairs R f (y ∷ xs) x h (inr m) = flat-pairs R f xs x (pairs-parts R (f y) (flat_map f xs) h).1 m
 
-flat-once : {X Y : Type 0} (f : X → List Y) (xs : List X) (x y : X) (z : Y) → Pairs (λ a b. a ≢ b) (flat_map f xs) → Among xs x → Among xs y → Among (f x) z → Among (f y) z → x ≡ y
+pub flat-once : {X Y : Type 0} (f : X → List Y) (xs : List X) (x y : X) (z : Y) → Pairs (λ a b. a ≢ b) (flat_map f xs) → Among xs x → Among xs y → Among (f x) z → Among (f y) z → x ≡ y
 flat-once f [] x y z h m n k l = absurd m
 flat-once f (v ∷ xs) x y z h (inl e) (inl g) k l = sym e ∙ g
 flat-once f (v ∷ xs) x y z h (inl e) (inr n) k l =

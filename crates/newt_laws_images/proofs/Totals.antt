@@ -125,7 +125,7 @@ same-total R irr f (x ∷ xs) ys h k into from =
 
 -- ---- the entries of a store
 
-entries-apart : (s : Store) → well_formed s ≡ true → Pairs ApartIds (all_entries s)
+pub entries-apart : (s : Store) → well_formed s ≡ true → Pairs ApartIds (all_entries s)
 entries-apart s w = pairs-flat_map ApartIds (λ (p : Soup). map (λ (e : Entry). (p.sig, e)) p.entries) s.soups
     (each-from _ s.soups (λ p m. pairs-map-from ApartIds (λ (e : Entry). (p.sig, e)) p.entries (pairs-more (λ (a b : Entry). a.uid < b.uid) (λ (a b : Entry). ApartIds (p.sig, a) (p.sig, b)) p.entries
     (λ a b _ _ less _ same. absurd (omega (arith, less, same)))

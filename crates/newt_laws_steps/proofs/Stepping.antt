@@ -228,9 +228,6 @@ turns-later blocks (two a b) n (inl e) s k = subst (λ y. StoresLater (a ∷ b �
 turns-later blocks (two a b) n (inr e) s k = subst (λ y. StoresLater (a ∷ b ∷ []) (stores_of y)) (sym e) (record { each = λ t j. (t, inr j, store-not t); some = (b, inl refl) })
 turns-later blocks lost n h s k = absurd k
 
-holding : Media → Device → Device
-holding m d = record d { media = m }
-
 with-same : (w : World) (u : ℕ) (m : Media) (d : Device) → device w u ≡ Some d → device (with_media w u m) u ≡ Some (record d { media = m })
 with-same w u m d e = device-same w u (λ d. record d { media = m }) ∙ ap (option_map {T = Device} (λ d. record d { media = m })) e
 

@@ -118,10 +118,6 @@ module _ (reads : List ℕ → Option Store) where
   -- ---- whatever is meant is stood for
 
   module _ (marks : Marks) (outside : Outside) (kept : IsKept reads marks outside) where
-    -- what its image is read as, or nothing
-    media_known : (b : Bool) → ℕ → Media
-    media_known b u = if b then lost else media_of (reads (image u outside.now))
-
     known-sure : MountedSure (known reads marks outside)
     known-sure u d e mounted = go (at-number (known_device reads marks outside) u)
       where

@@ -1,5 +1,5 @@
 -- A working copy while commands go on.
-use Rattle.std.proofs.Common.{◌≡◌, refl, ap, sym, ◌∙◌, subst, ℕ, List, [], ◌∷◌, ◌++◌, true, false, Bool, cond, not, Option, Some, None, option_map, option_and_then, if◌then◌else◌}
+use Rattle.std.proofs.Common.{◌≡◌, refl, ap, sym, ◌∙◌, subst, ℕ, List, [], ◌∷◌, ◌++◌, true, false, Bool, cond, not, Option, Some, None, option_map, option_and_then}
 use Rattle.std.specs.Prelude.{slice_get, is_none, ◌==◌}
 use Rattle.std.specs.List.{position}
 use Rattle.std.proofs.lemmas.Bool.Decides.{Decides-eqb, Decides-and}
@@ -16,7 +16,7 @@ use Rattle.newt_spec_world.specs.Alias.{Spot}
 use Rattle.newt_spec_world.specs.declared.command.Command.{Command}
 use Rattle.newt_spec_world.specs.declared.command.Command.TheVariants as command
 use Rattle.newt_laws_world.proofs.Units.{at-same, at-other}
-use Rattle.newt_spec_whole.specs.Whole.{Whole, copy, free_copy, living, asks, save_of, change_of, get_of}
+use Rattle.newt_spec_whole.specs.Whole.{Whole, copy, free_copy, living, asks, change_of}
 use Rattle.newt_spec_whole.specs.Refused.{whole_checks, no_copy, entry_gone, entry_changed, no_room}
 use Rattle.newt_spec_whole.specs.Answer.{whole_answer, whole_answered, whole_later, copies_after, put_copy, put_at, opened_of, reverted, world_after}
 use Rattle.newt_laws_whole.specs.Since.{Edit, put_all, IsDone, edit_by, if_done, edits_since, ends_edits, GoesOn, Saves}
@@ -124,9 +124,8 @@ saves h n k done here = go (living h k) refl
           same_time = sym parts.0;
           same_graph = sym parts.1;
           after = ap (λ o. (whole_answered h (command.Save n) o).0.world) done
-              ∙ ap (λ o. world_after h.world (option_and_then (λ k. option_map (save_of k) (living h k)) o)) here
-              ∙ ap (λ o. world_after h.world (option_map (save_of k) o)) e
-              ∙ ap (λ b. world_after h.world (Some (if b then change_of k s else get_of s))) (not-not _ d);
+              ∙ ap (λ o. world_after h.world (option_and_then (λ k. option_map (change_of k) (living h k)) o)) here
+              ∙ ap (λ o. world_after h.world (option_map (change_of k) o)) e;
         }
 
 pub saved-since : (h : Whole) (cs : List Command) (n : ℕ) (k : Copy) → copy h n ≡ Some k → k.draft ≡ k.base → GoesOn n h cs → IsDone (whole_later h cs) (command.Save n)

@@ -17,7 +17,7 @@ use Rattle.newt_spec_store.specs.Valid.{valid_entry, valid_soup, well_formed}
 use Rattle.newt_base.specs.Names.{equal_text}
 use Rattle.newt_laws_images.proofs.Stores.{is-soup, is-store}
 use Rattle.newt_laws_changes.proofs.Soups.{found-good}
-use Rattle.newt_work.specs.Work.{Copy, opened, edited, rebased}
+use Rattle.newt_work.specs.Work.{Copy, opened, edited, rebased, draft_with, drafted}
 use Rattle.newt_spec_world.specs.World.{World, flat, change_at, mounted_store, soup_in, entry_in}
 use Rattle.newt_spec_world.specs.Changed.{graph_after_set}
 use Rattle.newt_spec_world.specs.Refused.{on_some}
@@ -134,21 +134,47 @@ edit-can g value path can some limit small = go (put g path value) refl some lim
     go (Some raw) p none l = made raw p (normal_form raw) refl l
 
 -- the tests of an edit that is done
-edited-can : (h : Whole) (m : ℕ) (path : Path) (g : RawGraph) (k : Copy) → IsDone h (command.Edit m path g) → copy h m ≡ Some k → CanBeEntry k.draft → CanBeEntry (graph_after_set path g k.draft)
+record Passed (path : Path) (value : RawGraph) (k : Copy) : Type 0 where
+  some : is_none (put k.draft path value) ≡ false
+  limit : on_some (put k.draft path value) (λ r. not (is_within (normal_form r))) ≡ false
+  small : nat_lt 64_000 (skeleton_length (graph_after_set path value k.draft)) ≡ false
+
+edit-passed : (h : Whole) (m : ℕ) (path : Path) (g : RawGraph) (k : Copy) → IsDone h (command.Edit m path g) → copy h m ≡ Some k → Passed path g k
 unfolding whole_checks
-edited-can h m path g k done here can =
+edit-passed h m path g k done here =
     let rest = first-none (no_copy h m).0 (no_copy h m).1 (no_path_in h m path g ∷ draft_past_limits h m path g ∷ draft_too_large h m path g ∷ []) done in
     let some = first-none (no_path_in h m path g).0 (no_path_in h m path g).1 (draft_past_limits h m path g ∷ draft_too_large h m path g ∷ []) rest.1 in
     let limit = first-none (draft_past_limits h m path g).0 (draft_past_limits h m path g).1 (draft_too_large h m path g ∷ []) some.1 in
     let small = first-none (draft_too_large h m path g).0 (draft_too_large h m path g).1 [] limit.1 in
-    edit-can k.draft g path can
-    (sym (ap (λ o. on_some o (λ (k : Copy). is_none (put k.draft path g))) here) ∙ some.0)
-    (sym (ap (λ o. on_some o (λ (k : Copy). on_some (put k.draft path g) (λ r. not (is_within (normal_form r))))) here) ∙ limit.0)
-    (sym (ap (λ o. on_some o (λ (k : Copy). nat_lt 64_000 (skeleton_length (graph_after_set path g k.draft)))) here) ∙ small.0)
+    record {
+      some = sym (ap (λ o. on_some o (λ (k : Copy). is_none (put k.draft path g))) here) ∙ some.0;
+      limit = sym (ap (λ o. on_some o (λ (k : Copy). on_some (put k.draft path g) (λ r. not (is_within (normal_form r))))) here) ∙ limit.0;
+      small = sym (ap (λ o. on_some o (λ (k : Copy). nat_lt 64_000 (skeleton_length (graph_after_set path g k.draft)))) here) ∙ small.0;
+    }
+
+edited-can : (h : Whole) (m : ℕ) (path : Path) (g : RawGraph) (k : Copy) → IsDone h (command.Edit m path g) → copy h m ≡ Some k → CanBeEntry k.draft → CanBeEntry (graph_after_set path g k.draft)
+edited-can h m path g k done here can = let p = edit-passed h m path g k done here in edit-can k.draft g path can p.some p.limit p.small
+
+-- the value is put, and the draft is a normal form
+pub edit-put : (h : Whole) (m : ℕ) (path : Path) (g : RawGraph) (k : Copy) → IsDone h (command.Edit m path g) → copy h m ≡ Some k
+    → (raw : RawGraph) × (draft_with path g k ≡ Some raw) × (normal_form raw ≡ Some (drafted path g k).draft)
+edit-put h m path g k done here = let p = edit-passed h m path g k done here in go (put k.draft path g) refl p.some p.limit
+  where
+    made : (raw : RawGraph) → put k.draft path g ≡ Some raw → (o : Option RawGraph) → normal_form raw ≡ o → not (is_within o) ≡ false
+        → (x : RawGraph) × (draft_with path g k ≡ Some x) × (normal_form x ≡ Some (drafted path g k).draft)
+    made raw p None f w = cc
+    made raw p (Some new) f w =
+        let after : graph_after_set path g k.draft ≡ new = ap (λ o. unwrap_or (option_and_then normal_form o) k.draft) p ∙ ap (λ o. unwrap_or o k.draft) f in
+        (raw, p, f ∙ ap (λ (x : RawGraph). Some x) (sym after))
+
+    go : (o : Option RawGraph) → put k.draft path g ≡ o → is_none o ≡ false → on_some o (λ r. not (is_within (normal_form r))) ≡ false
+        → (x : RawGraph) × (draft_with path g k ≡ Some x) × (normal_form x ≡ Some (drafted path g k).draft)
+    go None p none l = cc
+    go (Some raw) p none l = made raw p (normal_form raw) refl l
 
 -- ---- one command
 
-opened-can : (h : Whole) (t : Option Store) (p : Option Soup) (e : Option Entry) → DraftsFit h → ((x : Entry) → e ≡ Some x → CanBeEntry x.graph)
+opened-can : (h : Whole) (t : Option Store) (p : Option Soup) (e : Option Entry) → DraftsFit h.copies → ((x : Entry) → e ≡ Some x → CanBeEntry x.graph)
     → (n : ℕ) (k : Copy) → flat (slice_get (put_copy (free_copy h) (opened_of t p e) h.copies) n) ≡ Some k → CanBeEntry k.draft
 opened-can h None p e fits can n k i = fits n k i
 opened-can h (Some t) None e fits can n k i = fits n k i
@@ -166,7 +192,7 @@ reverted-can h k formed can = go (living h k) refl
     go None e = can
     go (Some s) e = living-can h k s formed e
 
-row-fits : (h : Whole) (c : Command) → AllFormed h.world → DraftsFit h → IsDone h c → (n : ℕ) (k : Copy) → flat (slice_get (copies_after h c) n) ≡ Some k → CanBeEntry k.draft
+row-fits : (h : Whole) (c : Command) → AllFormed h.world → DraftsFit h.copies → IsDone h c → (n : ℕ) (k : Copy) → flat (slice_get (copies_after h c) n) ≡ Some k → CanBeEntry k.draft
 unfolding copies_after
 row-fits h (command.Open u s uid) formed fits done =
     opened-can h (mounted_store h.world u) (soup_in h.world u s) (entry_in h.world u s uid) fits (λ e. entry-in-can h.world u s uid e formed)
@@ -177,10 +203,10 @@ row-fits h (command.Revert m) formed fits done = change-all (λ k. CanBeEntry k.
 row-fits h (command.Discard m) formed fits done = gone-all (λ k. CanBeEntry k.draft) h.copies fits m
 row-fits h _ formed fits done = fits
 
-pub drafts-fit : (h : Whole) (c : Command) → AllFormed h.world → DraftsFit h → DraftsFit (whole_answer h c).0
+pub drafts-fit : (h : Whole) (c : Command) → AllFormed h.world → DraftsFit h.copies → DraftsFit (whole_answer h c).0.copies
 unfolding whole_answer
 drafts-fit h c formed fits = go (first_of (whole_checks h c)) refl
   where
-    go : (o : Option Refusal) → first_of (whole_checks h c) ≡ o → DraftsFit (whole_answered h c o).0
+    go : (o : Option Refusal) → first_of (whole_checks h c) ≡ o → DraftsFit (whole_answered h c o).0.copies
     go (Some r) e = fits
     go None e = row-fits h c formed fits e

@@ -3,6 +3,7 @@ pub mod Drafts
 pub mod Plain
 pub mod Saving
 pub mod Watched
+pub mod Untold
 pub mod Fits
 pub mod Stepping
 pub mod Telling

@@ -28,19 +28,6 @@ plain-checks h (command.Revert _) p = cc
 plain-checks h (command.Discard _) p = cc
 plain-checks h _ p = refl
 
-pub plain-asks : (h : Whole) (c : Command) → is_plain c ≡ true → asks h c ≡ Some c
-unfolding is_plain asks
-plain-asks h (command.Watch _ _) p = cc
-plain-asks h (command.Notes _) p = cc
-plain-asks h (command.Unwatch _) p = cc
-plain-asks h (command.Open _ _ _) p = cc
-plain-asks h (command.Draft _) p = cc
-plain-asks h (command.Edit _ _ _) p = cc
-plain-asks h (command.Save _) p = cc
-plain-asks h (command.Revert _) p = cc
-plain-asks h (command.Discard _) p = cc
-plain-asks h _ p = refl
-
 pub plain-turn : (h : Whole) (c : Command) → is_plain c ≡ true → asked_in_turn h c ≡ c ∷ []
 unfolding is_plain asks
 plain-turn h (command.Watch _ _) p = cc

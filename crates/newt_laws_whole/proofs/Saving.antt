@@ -37,7 +37,7 @@ still-world h c none = go (first_of (whole_checks h c))
 -- ---- a save
 
 -- a row whose tests all fail
-row-none : (r : Refusal) (b : Bool) (rest : Checks) → b ≡ false → first_of rest ≡ None → first_of ((r, b) ∷ rest) ≡ None
+pub row-none : (r : Refusal) (b : Bool) (rest : Checks) → b ≡ false → first_of rest ≡ None → first_of ((r, b) ∷ rest) ≡ None
 row-none r b rest h k = ap (λ c. first_of ((r, c) ∷ rest)) h ∙ k
 
 -- the tests of a change of an entry that is there

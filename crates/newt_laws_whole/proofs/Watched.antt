@@ -15,7 +15,7 @@ use Rattle.newt_laws_world.proofs.Units.{at-same, at-other}
 use Rattle.newt_spec_whole.specs.Whole.{Whole, watch, asks}
 use Rattle.newt_spec_whole.specs.Events.{Event, events_of, note_all}
 use Rattle.newt_spec_whole.specs.Refused.{whole_checks}
-use Rattle.newt_spec_whole.specs.Answer.{whole_answer, whole_answered, whole_later, whole_fields, watches_after, put_at, told}
+use Rattle.newt_spec_whole.specs.Answer.{whole_answer, whole_answered, whole_later, whole_fields, watches_after, put_at, notes_reply}
 use Rattle.newt_laws_whole.specs.Since.{IsDone, if_done}
 use Rattle.newt_laws_whole.specs.Told.{told_to, events_since, ends_notes, Watches, with_notes}
 use Rattle.newt_laws_whole.proofs.Places.{set-other, free-other}
@@ -95,9 +95,9 @@ watch-told h (c ∷ cs) n w here on =
 -- ---- the notes are taken
 
 pub notes-taken : (h : Whole) (n : ℕ) (w : Watching) → IsDone h (command.Notes n) → watch h n ≡ Some w
-    → (watch (whole_answer h (command.Notes n)).0 n ≡ Some (emptied w)) × ((whole_answer h (command.Notes n)).1 ≡ told w)
+    → (watch (whole_answer h (command.Notes n)).0 n ≡ Some (emptied w)) × ((whole_answer h (command.Notes n)).1 ≡ notes_reply w)
 unfolding whole_answer watches_after whole_fields asks
 notes-taken h n w done here = (
   ap (λ o. watch (whole_answered h (command.Notes n) o).0 n) done ∙ at-same n emptied h.watches ∙ ap (option_map emptied) here,
-  ap (λ o. (whole_answered h (command.Notes n) o).1) done ∙ ap (or_nil told) here,
+  ap (λ o. (whole_answered h (command.Notes n) o).1) done ∙ ap (or_nil notes_reply) here,
 )

@@ -1,14 +1,13 @@
 -- What holds of worlds and of drafts while commands go on.
-use Rattle.std.specs.Prelude.{◌≡◌, ℕ, true, false, nat_lt, Some}
+use Rattle.std.specs.Prelude.{◌≡◌, ℕ, List, true, false, nat_lt, Option, Some}
 use Rattle.newt_graph.specs.Graph.{RawGraph}
 use Rattle.newt_spec_graph.specs.Graph.{is_frame, object}
 use Rattle.newt_spec_graph.specs.Limits.{within_limits}
 use Rattle.newt_spec_store.specs.Cost.{skeleton_length}
 use Rattle.newt_spec_store.specs.Store.{Store}
 use Rattle.newt_spec_store.specs.Valid.{well_formed}
-use Rattle.newt_work.specs.Work.{Copy}
+use Rattle.newt_work.specs.Work.{Copy, copy_at}
 use Rattle.newt_spec_world.specs.World.{World, mounted_store}
-use Rattle.newt_spec_whole.specs.Whole.{Whole, copy}
 
 -- The graph can be that of an entry: its root is a frame, it is within the limits, and its skeleton
 -- is not too large. (this project's own)
@@ -22,5 +21,5 @@ abbrev pub AllFormed : World → Type 0
 AllFormed w = (u : ℕ) (t : Store) → mounted_store w u ≡ Some t → well_formed t ≡ true
 
 -- each working copy's draft can be the graph of an entry (this project's own)
-abbrev pub DraftsFit : Whole → Type 0
-DraftsFit h = (n : ℕ) (k : Copy) → copy h n ≡ Some k → CanBeEntry k.draft
+abbrev pub DraftsFit : List (Option Copy) → Type 0
+DraftsFit copies = (n : ℕ) (k : Copy) → copy_at n copies ≡ Some k → CanBeEntry k.draft

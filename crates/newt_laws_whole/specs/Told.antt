@@ -1,10 +1,12 @@
 -- What a watch is told.
 use Rattle.std.specs.Prelude.{◌≡◌, ℕ, Bool, false, ◌==◌, List, [], ◌∷◌, ◌++◌, ⊤}
-use Rattle.std.specs.Prelude.{if◌then◌else◌}
+use Rattle.std.specs.Prelude.{Option, option_and_then, option_map, if◌then◌else◌}
 use Rattle.newt_base.specs.Names.{equal_text}
 use Rattle.newt_base.specs.Refusals.{first_of}
 use Rattle.newt_notify.specs.declared.note.Note.{Note}
 use Rattle.newt_notify.specs.Watch.{Watching}
+use Rattle.newt_spec_store.specs.Store.{Entry, soup_named}
+use Rattle.newt_spec_world.specs.World.{World, store_on_unit}
 use Rattle.newt_spec_world.specs.declared.command.Command.{Command}
 use Rattle.newt_spec_world.specs.declared.command.Command.TheVariants as command
 use Rattle.newt_spec_whole.specs.Whole.{Whole, asks}
@@ -38,3 +40,9 @@ Watches n h (c ∷ cs) = (IsDone h c → ends_notes n c ≡ false) × Watches n 
 -- the watch with further notes (a word of these definitions)
 abbrev pub with_notes : List Note → Watching → Watching
 with_notes more w = record w { notes = w.notes ++ more }
+
+-- the entries of the soup of this name on a unit, mounted or not; none where there is no such soup
+-- (a word of these definitions)
+abbrev pub entries_on : World → ℕ → List ℕ → Option (List Entry)
+entries_on w u name =
+    option_map (λ p. p.entries) (option_and_then (soup_named name) (store_on_unit w u))

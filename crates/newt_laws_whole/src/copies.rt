@@ -1,6 +1,9 @@
 //! Laws of working copies.
 ghost use Rattle.std.specs.Prelude.{ℕ, ◌≡◌, List, Some};
+ghost use Rattle.newt_graph.specs.Graph.{RawGraph};
+ghost use Rattle.newt_graph.specs.Meeting.{normal_form};
 ghost use Rattle.newt_laws_whole.specs.Since.{put_all, edits_since, GoesOn, IsDone, Saves};
+ghost use Rattle.newt_spec_store.specs.Keys.{Path};
 ghost use Rattle.newt_spec_store.specs.Store.{Entry, Soup, Store};
 ghost use Rattle.newt_spec_whole.specs.Answer.{whole_answer, whole_later};
 ghost use Rattle.newt_spec_whole.specs.Whole.{Whole, copy, free_copy, living};
@@ -8,12 +11,12 @@ ghost use Rattle.newt_spec_world.specs.Alias.{Spot};
 ghost use Rattle.newt_spec_world.specs.World.{mounted_store, soup_in, entry_in};
 ghost use Rattle.newt_spec_world.specs.declared.command.Command.{Command as IsCommand};
 ghost use Rattle.newt_spec_world.specs.declared.command.Command.TheVariants as command;
-ghost use Rattle.newt_work.specs.Work.{Copy, edited, opened, rebased};
+ghost use Rattle.newt_work.specs.Work.{Copy, draft_with, drafted, edited, opened, rebased};
 
 /// An open that is done makes a copy at the least free number of the entry as it is; a save that is
 /// done makes its draft the base, at the present minute, which is what the entry then is; a revert
 /// that is done begins anew from the entry as it is.
-pub fn begun()
+pub fn copies_begin_from_the_entry()
     ensures opened { (h : Whole) (u : ℕ) (name : List ℕ) (uid n : ℕ) (t : Store) (p : Soup)
         (e : Entry) → IsDone h (command.Open u name uid) → free_copy h ≡ Some n
         → mounted_store h.world u ≡ Some t → soup_in h.world u name ≡ Some p
@@ -29,9 +32,16 @@ pub fn begun()
         ≡ Some (rebased s.entry.time s.entry.graph k) }
 {}
 
+/// An edit that is done has put its value: the draft is the normal form of the draft with it.
+pub fn edits_are_put()
+    ensures { (h : Whole) (n : ℕ) (path : Path) (g : RawGraph) (k : Copy)
+        → IsDone h (command.Edit n path g) → copy h n ≡ Some k → (raw : RawGraph)
+        × (draft_with path g k ≡ Some raw) × (normal_form raw ≡ Some (drafted path g k).draft) }
+{}
+
 /// While commands go on, a copy keeps its entry and its base, and its draft is the one before with
 /// the edits since put into it one after another.
-pub fn kept()
+pub fn copies_keep_their_edits()
     ensures { (h : Whole) (cs : List IsCommand) (n : ℕ) (k : Copy) → copy h n ≡ Some k
         → GoesOn n h cs
         → copy (whole_later h cs) n ≡ Some (edited (put_all k.draft (edits_since n h cs)) k) }
@@ -40,7 +50,7 @@ pub fn kept()
 /// A save that is done replaces exactly the state of the entry at which the copy was opened, saved
 /// or reverted last, and the new graph is that state's with the edits since put into it one after
 /// another.
-pub fn saved()
+pub fn saves_replace_what_was_read()
     ensures { (h : Whole) (cs : List IsCommand) (n : ℕ) (k : Copy) → copy h n ≡ Some k
         → k.draft ≡ k.base → GoesOn n h cs → IsDone (whole_later h cs) (command.Save n)
         → Saves (whole_later h cs) (whole_answer (whole_later h cs) (command.Save n)).0 k

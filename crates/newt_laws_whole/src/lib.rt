@@ -10,7 +10,10 @@ mod runs;
 mod steps;
 mod watches;
 
-pub use copies::{begun, kept, saved};
+pub use copies::{
+    copies_begin_from_the_entry, copies_keep_their_edits, edits_are_put,
+    saves_replace_what_was_read,
+};
 pub use runs::{drafts_stay_fit, other_commands, plain_commands, saves_are_changes};
 pub use steps::{quiet_whole_steps_are_plain, steps_of_the_world_tell_their_notes};
-pub use watches::{taken, told};
+pub use watches::{notes_are_taken_once, watches_get_their_notes, what_changes_is_told};

@@ -35,6 +35,6 @@ pub fn saves_are_changes()
 
 /// Each copy's draft stays one that can be the graph of an entry.
 pub fn drafts_stay_fit()
-    ensures { (h : Whole) (c : IsCommand) → AllFormed h.world → DraftsFit h
-        → DraftsFit (whole_answer h c).0 }
+    ensures { (h : Whole) (c : IsCommand) → AllFormed h.world → DraftsFit h.copies
+        → DraftsFit (whole_answer h c).0.copies }
 {}

@@ -1,15 +1,19 @@
 //! Laws of watches.
-ghost use Rattle.std.specs.Prelude.{ℕ, ◌≡◌, List, Some};
+ghost use Rattle.std.specs.Prelude.{ℕ, ◌≡◌, List, [], Some};
 ghost use Rattle.newt_laws_whole.specs.Since.{IsDone};
-ghost use Rattle.newt_laws_whole.specs.Told.{told_to, events_since, Watches, with_notes};
+ghost use Rattle.newt_laws_whole.specs.Steps.{notes_of};
+ghost use Rattle.newt_laws_whole.specs.Told.{told_to, events_since, entries_on, Watches};
+ghost use Rattle.newt_laws_whole.specs.Told.{with_notes};
 ghost use Rattle.newt_notify.specs.Watch.{Watching, emptied};
-ghost use Rattle.newt_spec_whole.specs.Answer.{whole_answer, whole_later, told};
+ghost use Rattle.newt_spec_whole.specs.Answer.{notes_reply, whole_answer, whole_later};
 ghost use Rattle.newt_spec_whole.specs.Whole.{Whole, watch};
+ghost use Rattle.newt_spec_world.specs.Answer.{answer};
+ghost use Rattle.newt_spec_world.specs.World.{World};
 ghost use Rattle.newt_spec_world.specs.declared.command.Command.{Command as IsCommand};
 ghost use Rattle.newt_spec_world.specs.declared.command.Command.TheVariants as command;
 
 /// While commands go on, a watch gets the notes of the changes of soups of its name, in their order.
-pub fn told()
+pub fn watches_get_their_notes()
     ensures { (h : Whole) (cs : List IsCommand) (n : ℕ) (w : Watching) → watch h n ≡ Some w
         → Watches n h cs → watch (whole_later h cs) n
         ≡ Some (with_notes (told_to w.name (events_since h cs)) w) }
@@ -17,8 +21,15 @@ pub fn told()
 
 /// Its notes are told as the last of them and the number of those that are lost, and it has none
 /// afterwards.
-pub fn taken()
+pub fn notes_are_taken_once()
     ensures { (h : Whole) (n : ℕ) (w : Watching) → IsDone h (command.Notes n) → watch h n ≡ Some w
         → (watch (whole_answer h (command.Notes n)).0 n ≡ Some (emptied w))
-        × ((whole_answer h (command.Notes n)).1 ≡ told w) }
+        × ((whole_answer h (command.Notes n)).1 ≡ notes_reply w) }
+{}
+
+/// A soup of whose name a command gives no note has the entries that it had, on each unit, and is
+/// there exactly where it was.
+pub fn what_changes_is_told()
+    ensures { (w : World) (c : IsCommand) (u : ℕ) (name : List ℕ)
+        → told_to name (notes_of w c) ≡ [] → entries_on (answer w c).0 u name ≡ entries_on w u name }
 {}

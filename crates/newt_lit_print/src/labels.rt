@@ -29,6 +29,7 @@ impl Meetings {
     }
 }
 
+/// Whether a node is a symbol.
 pub fn is_symbol(node: &Node) -> bool
     ensures { result ≡ printed.is_symbol node.now }
 {

@@ -31,6 +31,7 @@ impl Page {
         Page { text, met: 0 }
     }
 
+    /// The text alone.
     pub fn into_text(self) -> Vec<u8>
         ensures { result.items ≡ self.0 }
     {
@@ -51,6 +52,7 @@ impl Page {
         self.met = n as usize + 1;
     }
 
+    /// Appends a text as it is.
     pub fn put(&mut self, text: &[u8]) -> Result<(), AllocError>
         ensures { OnOk result (self.new ≡ spelled self.old (plain text.now)) }
     {
@@ -58,18 +60,21 @@ impl Page {
         Ok(())
     }
 
+    /// Appends an immediate, as a literal writes it.
     pub fn word(&mut self, word: i32) -> Result<(), AllocError>
         ensures { OnOk result (self.new ≡ spelled self.old (plain (printed.word_text word))) }
     {
         tokens::word(&mut self.text, word)
     }
 
+    /// Appends a name, in bars where it has to be.
     pub fn name(&mut self, name: &[u8]) -> Result<(), AllocError>
         ensures { OnOk result (self.new ≡ spelled self.old (plain (printed.name_text name.now))) }
     {
         tokens::name(&mut self.text, name)
     }
 
+    /// Appends a string, in quotes.
     pub fn string(&mut self, units: &[u16]) -> Result<(), AllocError>
         ensures { OnOk result (self.new ≡ spelled self.old (plain
             (printed.string_text units.now))) }
@@ -77,6 +82,7 @@ impl Page {
         tokens::string(&mut self.text, units)
     }
 
+    /// Appends bytes, two hexadecimal digits each.
     pub fn hex(&mut self, bytes: &[u8]) -> Result<(), AllocError>
         ensures { OnOk result (self.new ≡ spelled self.old (plain (hex_text bytes.now))) }
     {

@@ -1,6 +1,7 @@
 -- A watch, the notes that it was given, and what it keeps of them.
 use Rattle.std.specs.Prelude.{ℕ, ◌-◌, List, [], ◌∷◌, ◌++◌, length, min, map, Option}
-use Rattle.std.specs.Prelude.{option_map, option_and_then, slice_get, if◌then◌else◌}
+use Rattle.std.specs.Prelude.{option_map, slice_get, if◌then◌else◌}
+use Rattle.std.specs.Option.{option_flatten}
 use Rattle.newt_base.specs.Names.{equal_text}
 use Rattle.circular_buffer.specs.Buffer.{keep_last}
 use Rattle.newt_notify.specs.declared.note.Note.{Note}
@@ -63,4 +64,4 @@ noted name note ws = map (option_map (taking name note)) ws
 
 -- the watch of this number, if there is one (a word of these definitions)
 abbrev pub watch_at : {X : Type 0} → ℕ → List (Option X) → Option X
-watch_at n ws = option_and_then (λ place. place) (slice_get ws n)
+watch_at n ws = option_flatten (slice_get ws n)

@@ -46,12 +46,14 @@ impl Model for NoteList {
 }
 
 impl NoteList {
+    /// The list of these items, in order. It takes no memory.
     pub fn of(items: Vec<Note>) -> Self
         ensures { result ≡ items.items }
     {
         NoteList { items }
     }
 
+    /// The items, in order.
     pub fn list(&self) -> &[Note]
         ensures { result.now ≡ self.now }
     {

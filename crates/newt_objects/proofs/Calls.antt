@@ -23,17 +23,20 @@ rose_since unit mid old between new same touches rose =
     rose_later (old.dev_faults unit) (between.dev_faults unit) (new.dev_faults unit) touches.faults_later
     (subst (λ (u : ℕ). Rose (between.dev_faults u) (new.dev_faults u)) same rose)
 
--- why a later call stops
-pub stop_since : (unit mid : ℕ) (old between new : Outside) (stop : Stop) → mid ≡ unit → Touches unit old between →
+-- why a later call stops, where no fault was counted before
+pub stop_since : (unit mid : ℕ) (old between new : Outside) (stop : Stop) → mid ≡ unit → NoFault old between →
     StopsAt mid between new stop → StopsAt unit old new stop
-stop_since unit mid old between new Memory same touches cause = tt
-stop_since unit mid old between new (Device at) same touches cause =
-    (cause.0 ∙ same, rose_since unit mid old between new same touches cause.1)
+stop_since unit mid old between new Memory same none cause = NoFault-append none cause
+stop_since unit mid old between new (Device at) same none cause = (
+  cause.0 ∙ same,
+  rose_later (old.dev_faults unit) (between.dev_faults unit) (new.dev_faults unit) (omega (arith, none.dev_faults unit))
+      (subst (λ (u : ℕ). Rose (between.dev_faults u) (new.dev_faults u)) same cause.1),
+)
 
-pub stops_since : {T : Type 0} (r : Result T Stop) (unit mid : ℕ) (old between new : Outside) → mid ≡ unit → Touches unit old between →
+pub stops_since : {T : Type 0} (r : Result T Stop) (unit mid : ℕ) (old between new : Outside) → mid ≡ unit → NoFault old between →
     IfErr r (StopsAt mid between new) → IfErr r (StopsAt unit old new)
-stops_since (Ok x) unit mid old between new same touches cause = tt
-stops_since (Err stop) unit mid old between new same touches cause = stop_since unit mid old between new stop same touches cause
+stops_since (Ok x) unit mid old between new same none cause = tt
+stops_since (Err stop) unit mid old between new same none cause = stop_since unit mid old between new stop same none cause
 
 -- the same fault is handed on
 pub stops_as : {T : Type 0} (r : Result T Stop) (stop : Stop) (P : Stop → Type 0) → IsErrAnd r (λ f. f ≡ stop) → P stop → IfErr r P
@@ -105,7 +108,7 @@ module _ {B : Type 0} (place : B → ℕ) (numbers : B → Numbers) (spare : B �
       → Reads place numbers spare standing told mid new between after r → Reads place numbers spare standing told old new before after r
   Reads-since {r = r} {old = old} {mid = mid} {before = before} {between = between} {after = after} a none b = record {
     book = Looks-append a b.book;
-    cause = stops_since r (place old) (place mid) before between after a.same_place a.looks.alone b.cause;
+    cause = stops_since r (place old) (place mid) before between after a.same_place none b.cause;
     no_fault = none_since r before between after none b.no_fault;
   }
 

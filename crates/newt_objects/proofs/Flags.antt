@@ -1,7 +1,7 @@
 -- Flags of page numbers that are set one after another.
-use Rattle.std.proofs.Common.{◌≡◌, ℕ, suc, zero, ◌<◌, Bool, true, false, ◌||◌, List, [], ◌∷◌, ◌++◌, length, slice_get, take, drop, replicate, Some, refl, sym, ◌∙◌, ap, arith}
+use Rattle.std.proofs.Common.{◌≡◌, ℕ, suc, zero, ◌<◌, Bool, true, false, ◌||◌, List, [], ◌∷◌, ◌++◌, slice_get, replicate, Some, refl, sym, ◌∙◌, ap, arith}
 use Rattle.std.specs.List.{list_any}
-use Rattle.std.proofs.lemmas.List.{length-replicate, take_at}
+use Rattle.std.proofs.lemmas.List.{length-replicate}
 use Rattle.std.proofs.lemmas.List.Folds.{list_any-append}
 use Rattle.newt_objects.specs.Extents.{AreFlags, MarksAlso}
 
@@ -35,7 +35,3 @@ flags-marked bound test flags marks = record {
   size = marks.size ∙ length-replicate bound false;
   each = λ q low. marks.each q false (all_false bound q low);
 }
-
--- what a call leaves behind a whole slice that was lent
-pub lent_whole : {X : Type 0} (old new : List X) (len : ℕ) → length new ≡ length old → len ≡ length old → take len (new ++ drop (length new) old) ≡ new
-lent_whole old new len same size = take_at new (drop (length new) old) len (same ∙ sym size)

@@ -26,9 +26,6 @@ at_place [] i low = absurd (omega arith)
 at_place (x ∷ xs) zero low = (x, refl)
 at_place (x ∷ xs) (suc i) low = at_place xs i (omega arith)
 
-none_has : (number : ℕ) → has_number number None ≡ false
-none_has number = refl
-
 both : (a b : Bool) → (a && b) ≡ true → (a ≡ true) × (b ≡ true)
 both true true e = (refl, refl)
 both true false e = absurd (cc)
@@ -119,19 +116,6 @@ module _ (table more : Table) (id : ℕ) (object : Option Extent) (flags flags' 
 -- numbers that are free one by one
 pub free-each : (flags : List Bool) (x : Extent) → ((k number : ℕ) → slice_get x.numbers k ≡ Some number → slice_get flags number ≡ Some false) → (number : ℕ) → has_number number (Some x) ≡ true → slice_get flags number ≡ Some false
 free-each flags x each number t = let w = slice_get-among x.numbers number t in each w.0 number w.1
-
--- an object without numbers changes nothing
-pub marks-none : (flags : List Bool) → MarksAlso (λ q. has_number q None) flags flags
-marks-none flags = record { size = refl; each = λ q flag e. e ∙ ap Some (or_false flag) } where
-  or_false : (b : Bool) → b ≡ (b || false)
-  or_false true = refl
-  or_false false = refl
-
-pub clears-none : (flags : List Bool) → ClearsAlso (λ q. has_number q None) flags flags
-clears-none flags = record { size = refl; each = λ q flag e. e ∙ ap Some (and_true flag) } where
-  and_true : (b : Bool) → b ≡ (b && true)
-  and_true true = refl
-  and_true false = refl
 
 -- more of them are cleared
 pub clears-more : (first second every : ℕ → Bool) (a b c : List Bool) → ((q : ℕ) → every q ≡ (first q || second q)) → ClearsAlso first a b → ClearsAlso second b c → ClearsAlso every a c

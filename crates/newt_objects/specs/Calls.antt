@@ -9,12 +9,12 @@ use Rattle.newt_objects.specs.Held.{AreOf}
 use Rattle.newt_objects.specs.declared.objects.ScanFault.{ScanFault}
 use Rattle.newt_objects.specs.declared.objects.ScanFault.TheVariants as scan
 
--- the objects were found, or the pages are none: the answer is no end of the run
-abbrev pub IsScan : {T : Type 0} → Result T ScanFault → Type 0
-IsScan (Ok objects) = Unit {0}
-IsScan (Err scan.Bad) = Unit {0}
-IsScan (Err scan.Memory) = ⊥
-IsScan (Err scan.Device) = ⊥
+-- no device is blamed: the objects were found, or the pages are none, or memory is wanting
+abbrev pub BlamesNone : {T : Type 0} → Result T ScanFault → Type 0
+BlamesNone (Ok objects) = Unit {0}
+BlamesNone (Err scan.Bad) = Unit {0}
+BlamesNone (Err scan.Memory) = Unit {0}
+BlamesNone (Err scan.Device) = ⊥
 
 module _ {B : Type 0} (place : B → ℕ) (numbers : B → Numbers) (spare : B → ℕ)
     (standing : Bool → B → Outside → Type 0) where
@@ -31,17 +31,17 @@ module _ {B : Type 0} (place : B → ℕ) (numbers : B → Numbers) (spare : B �
     pub looks : OnlyReads (place old) before after
 
   -- A reading: the book is only looked at. A fault of the device is one of its unit and was
-  -- counted, and with an answer none was.
+  -- counted; with an answer, or where memory is wanting, none was.
   pub record Reads {T : Type 0} (told : Bool) (old new : B) (before after : Outside)
       (result : Result T Stop) : Type 0 where
     pub book : Looks told old new before after
     pub cause : IfErr result (StopsAt (place old) before after)
     pub no_fault : OnOk result (NoFault before after)
 
-  -- A search for the objects: the same, where the run does not end.
+  -- A search for the objects: the same.
   pub record Scans {T : Type 0} (told : Bool) (old new : B) (before after : Outside)
       (result : Result T ScanFault) : Type 0 where
     pub book : Looks told old new before after
     pub cause : IsErrOf result scan.Device →
         Rose (before.dev_faults (place old)) (after.dev_faults (place old))
-    pub no_fault : IsScan result → NoFault before after
+    pub no_fault : BlamesNone result → NoFault before after

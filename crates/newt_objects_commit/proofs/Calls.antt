@@ -77,6 +77,7 @@ module _ {B : Type 0} (place : B → ℕ) (numbers : B → Numbers) (standing : 
     };
     same_place = c.same_place;
     nothing_done = c.nothing_done;
+    unchanged = c.unchanged;
     bound = c.bound;
     wears = c.wears;
     open_after = c.open_after;

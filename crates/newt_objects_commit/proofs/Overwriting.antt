@@ -47,6 +47,7 @@ module _ {B : Type 0} (place : B → ℕ) (numbers : B → Numbers) (spare : B �
     kept = λ goes. kept-looked place numbers spare standing objects look kept;
     same_place = look.same_place;
     nothing_done = λ refused. look.looks.moment;
+    unchanged = λ is. look.looks.moment;
     bound = λ tells ready. reads-only (place old) fetches bytes before between costs;
     wears = λ tells ready. Wears-widen 0 0 0 2 (omega arith) (omega arith) look.looks.wears;
     open_after = λ tells. ok-map _ _ r (λ no. absurd no) never;
@@ -80,11 +81,12 @@ module _ {B : Type 0} (place : B → ℕ) (numbers : B → Numbers) (spare : B �
           };
           same_place = c.same_place;
           nothing_done = λ refused. c.nothing_done refused ∙ look.looks.moment;
+          unchanged = λ is. c.unchanged is ∙ look.looks.moment;
           bound = λ tells ready. spends-both unit fetches (batch_bytes batch) bytes before between after low costs (c.bound tells (ready-for ready));
           wears = λ tells ready. Wears-append 0 0 0 2 look.looks.wears (c.wears tells (ready-for ready));
           open_after = c.open_after;
           alone = Touches-append look.looks.alone c.alone;
-          cause = faults-since r unit unit before between after refl look.looks.alone c.cause;
+          cause = faults-since r unit unit before between after refl none c.cause;
           no_fault = λ goes. NoFault-append none (c.no_fault goes);
         }
 

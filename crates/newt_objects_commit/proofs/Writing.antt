@@ -72,11 +72,12 @@ module _ {B : Type 0} (place : B → ℕ) (numbers : B → Numbers) (shown : B �
     only = by-fault r (Stop Memory) (RefusesOnly IsFull) fails tt;
     idle = λ more. (refl, spends-nothing unit 0 0 outside, Wears-refl unit outside);
     nothing_done = λ refused. refl;
+    unchanged = λ is. refl;
     bound = λ tells ready. spends-nothing unit (batch_bytes batch) 0 outside;
     wears = λ tells ready. Wears-widen 0 0 0 2 (omega arith) (omega arith) (Wears-refl unit outside);
     open_after = λ tells. no-value r (Stop Memory) (λ x. IsOpenFor 0 (image unit outside.now)) fails;
     alone = Touches-refl unit outside;
-    cause = by-fault r (Stop Memory) (FaultsAt unit outside outside) fails tt;
+    cause = by-fault r (Stop Memory) (FaultsAt unit outside outside) fails (NoFault-refl outside);
     no_fault = λ goes. NoFault-refl outside;
   }
 
@@ -97,6 +98,7 @@ module _ {B : Type 0} (place : B → ℕ) (numbers : B → Numbers) (shown : B �
       only = tt;
       idle = λ more. let no = c.fits more in absurd (cc);
       nothing_done = λ refused. absurd refused;
+      unchanged = λ is. absurd (cc);
       bound = c.bound;
       wears = c.wears;
       open_after = c.open_after;
@@ -123,6 +125,7 @@ module _ {B : Type 0} (place : B → ℕ) (numbers : B → Numbers) (shown : B �
           only = refl;
           idle = λ more. (kept.moment, kept.costs, kept.wears);
           nothing_done = λ refused. kept.moment;
+          unchanged = λ is. kept.moment;
           bound = c.bound;
           wears = c.wears;
           open_after = λ tells. tt;
@@ -147,6 +150,7 @@ module _ {B : Type 0} (place : B → ℕ) (numbers : B → Numbers) (shown : B �
       only = tt;
       idle = λ more. let no = c.fits more in absurd (cc);
       nothing_done = λ refused. absurd refused;
+      unchanged = λ is. absurd (cc);
       bound = c.bound;
       wears = c.wears;
       open_after = λ tells. tt;

@@ -7,10 +7,11 @@ use Rattle.newt_host.specs.Outside.{Outside, NoFault, Spends, Touches, Wears}
 use Rattle.newt_spec_image.specs.Pages.{Change, cap}
 use Rattle.newt_pagebook.specs.Batch.{IsBatch}
 use Rattle.newt_pagebook.specs.Book.{Numbers, IsBeforeOrAfter, IsOpenFor, ReadsChanged, batch_bytes, changed_numbers}
+use Rattle.newt_pagebook.specs.declared.book.Stop.TheVariants.{Memory}
 use Rattle.newt_objects.specs.Held.{Held}
 use Rattle.newt_store_change.specs.Faults.{FaultsAt, GoesOn, IsRefused}
 use Rattle.newt_store_change.specs.declared.fault.StoreFault.{StoreFault}
-use Rattle.newt_store_change.specs.declared.fault.StoreFault.TheVariants.{Refused}
+use Rattle.newt_store_change.specs.declared.fault.StoreFault.TheVariants.{Refused, Stop}
 use Rattle.newt_objects_commit.specs.Commit.{AreKept}
 use Rattle.newt_objects_commit.specs.Faults.{RefusesOnly}
 
@@ -25,13 +26,16 @@ live_after batch numbers = set.len (changed_numbers batch numbers)
 module _ {B : Type 0} (place : B → ℕ) (numbers : B → Numbers)
     (standing : Bool → B → Outside → Type 0) where
   -- What every commit promises beside its own effect: where the run goes on, the book stands and
-  -- these objects are those of its unit; where it is refused, nothing has happened.
+  -- these objects are those of its unit; where it is refused, and where memory is wanting, nothing
+  -- has happened.
   pub record CommitsObjects (told : Bool) (objects : Held) (bytes fetches : ℕ) (old new : B)
       (before after : Outside) (result : Result (Unit {0}) StoreFault) : Type 0 where
     pub stands : GoesOn result → standing told new after
     pub kept : GoesOn result → AreKept told objects (numbers new) (place old) after
     pub same_place : place new ≡ place old
     pub nothing_done : IsRefused result → after.now ≡ before.now
+    -- all memory is taken before anything is written
+    pub unchanged : IsErrOf result (Stop Memory) → after.now ≡ before.now
     -- what it programs and fetches, whatever the answer, where the bank has room for that
     pub bound : IsTrue told → IsOpenFor bytes (image (place old) before.now) →
         Spends (place old) bytes fetches before after
@@ -63,6 +67,8 @@ module _ {B : Type 0} (place : B → ℕ) (numbers : B → Numbers)
     pub idle : cap (before.blocks unit) < live_after batch was →
         (after.now ≡ before.now) × Spends unit 0 0 before after × Wears unit 0 0 before after
     pub nothing_done : IsRefused result → after.now ≡ before.now
+    -- all memory is taken before anything is written
+    pub unchanged : IsErrOf result (Stop Memory) → after.now ≡ before.now
     pub bound : IsTrue told → IsOpenFor (batch_bytes batch) (image unit before.now) →
         Spends unit (batch_bytes batch) 0 before after
     pub wears : IsTrue told → IsOpenFor (batch_bytes batch) (image unit before.now) →

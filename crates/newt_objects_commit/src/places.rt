@@ -73,7 +73,7 @@ fn count_rows(rows: &BTreeMap<(u32, u32), u32>, sig: u32) -> usize
 /// The object of each entry's record, by soup signature and entry id.
 #[derive(Drop)]
 pub struct PlaceTable {
-    pub rows: BTreeMap<(u32, u32), u32>,
+    rows: BTreeMap<(u32, u32), u32>,
 }
 
 impl PlaceTable {

@@ -7,7 +7,8 @@ use newt_pagebook::{Batch, CommitFault, PageBook, Stop};
 use newt_store_change::StoreFault;
 
 /// Commits the pages of a batch. Full where more pages would be live than the unit takes, and then
-/// nothing is done; after any other fault the book is spent.
+/// nothing is done; after any other fault the book is spent. All memory is taken before anything is
+/// written.
 pub(crate) fn commit_batch<P: PageBook, H: Host>(
     host: &mut H,
     book: &mut P,

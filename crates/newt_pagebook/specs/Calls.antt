@@ -1,12 +1,12 @@
 -- What calls on a book of pages promise. All of it is this project's own.
-use Rattle.std.specs.Prelude.{◌≡◌, ℕ, ◌+◌, ◌*◌, ◌<◌, max, Bool, IsTrue, List, None, Result, OnOk, IfOk, IfErr, IsErrOf}
+use Rattle.std.specs.Prelude.{◌≡◌, ℕ, ◌+◌, ◌*◌, ◌<◌, max, Bool, IsTrue, List, length, None, Result, OnOk, IfOk, IfErr, IsErrOf}
 use Rattle.std.specs.FinSet as set
 use Rattle.newt_host.specs.Moments.{image, IsDurable, Leaves}
 use Rattle.newt_host.specs.Outside.{Outside, Counted, NoFault, OnlyReads, Rose, Spends, Touches, Wears}
 use Rattle.newt_spec_image.specs.Pages.{Change, cap as cap_of, pages}
 use Rattle.newt_spec_image.specs.Records.{bank_blocks, bank_start}
-use Rattle.newt_pagebook.specs.Book.{Numbers, Shown, HasPage, IsBeforeOrAfter, IsFormatted, IsLeftFrom, IsOpenFor, ReadsChanged, batch_bytes, changed_numbers, switch_bytes}
-use Rattle.newt_pagebook.specs.Stops.{IsOpening, StopsAt}
+use Rattle.newt_pagebook.specs.Book.{Numbers, Shown, HasPage, IsBeforeOrAfter, IsFormatted, IsLeftFrom, IsOpenFor, ReadsChanged, batch_bytes, changed_numbers, format_bytes, switch_bytes}
+use Rattle.newt_pagebook.specs.Stops.{BlamesNone, StopsAt}
 use Rattle.newt_pagebook.specs.declared.book.BookFault.{BookFault}
 use Rattle.newt_pagebook.specs.declared.book.BookFault.TheVariants.{NotStore, Device as BookDevice}
 use Rattle.newt_pagebook.specs.declared.book.CommitFault.{CommitFault}
@@ -21,6 +21,8 @@ pub record Formats (told : Bool) (unit : ℕ) (batch : Change) (before after : O
   pub unchanged : IsErrOf result Memory → after.now ≡ before.now
   pub any_moment : IsTrue told → Leaves unit
       (IsLeftFrom unit (bank_start (before.blocks unit) 1) before.now) before.now after.now
+  -- each page is written once, and nothing is read
+  pub costs : Spends unit (format_bytes (length batch.puts)) 0 before after
   -- each block of that bank and each vote once
   pub wears : Wears unit (bank_blocks (before.blocks unit) + 3) 9 before after
   pub alone : Touches unit before after
@@ -35,7 +37,7 @@ module _ {B : Type 0} (place : B → ℕ) (standing : Bool → B → Outside →
     pub not_store : IsErrOf result NotStore → IsTrue told → pages (image unit before.now) ≡ None
     pub reads : OnlyReads unit before after
     pub cause : IsErrOf result BookDevice → Rose (before.dev_faults unit) (after.dev_faults unit)
-    pub no_fault : IsOpening result → NoFault before after
+    pub no_fault : BlamesNone result → NoFault before after
 
 module _ {B : Type 0} (place : B → ℕ) (numbers : B → Numbers) (shown : B → Shown) (spare : B → ℕ) (standing : Bool → B → Outside → Type 0) where
   -- A page is brought to hand; of the book nothing else is other than it was.

@@ -1,5 +1,5 @@
 -- A record is begun, written and finished.
-use Rattle.std.proofs.Common.{IsTrue, ◌≡◌, inl, inr, ℕ, ◌+◌, Bool, true, false, List, [], ◌++◌, length, replicate, Option, Result, Ok, Err, IsErr, OnOk, refl, sym, ◌∙◌, ap, subst, arith, ⊎_elim}
+use Rattle.std.proofs.Common.{IsTrue, ◌≡◌, inl, inr, ℕ, ◌+◌, Bool, false, List, [], ◌++◌, length, replicate, Option, Result, Ok, Err, IsErr, OnOk, refl, sym, ◌∙◌, ap, subst, arith, ⊎_elim}
 use Rattle.std.proofs.lemmas.List.{length-replicate}
 use Rattle.std.proofs.lemmas.Result.{IfOk-weaker}
 use Rattle.newt_host.specs.Moments.{Moment, image, Leaves}
@@ -32,10 +32,6 @@ pub record Written (told : Bool) (unit : ℕ) (work : Work) (kind : Bool) (paylo
 pub append-place : (d : Draft) → is_switch d ≡ false → (place_of d ≡ (journal_of d).end + 5) × (front_of d ≡ first_place (journal_of d))
 append-place (Append a) is = (refl, refl)
 append-place (Switch s) is = absurd (cc)
-
-pub switch-place : (d : Draft) → is_switch d ≡ true → place_of d ≡ front_of d + 5
-switch-place (Append a) is = absurd (cc)
-switch-place (Switch s) is = omega arith
 
 nothing_more : (a b : List ℕ) → a ≡ [] → a ++ b ≡ b
 nothing_more a b e = ap (λ (l : List ℕ). l ++ b) e

@@ -1,5 +1,5 @@
 -- What a commit has done to the unit of a book.
-use Rattle.std.proofs.Common.{IsTrue, ◌≡◌, ℕ, ◌+◌, ◌*◌, max, Bool, List, Result, Ok, Err, IsErr, IsErrAnd, ◌≤◌, refl, sym, subst, arith}
+use Rattle.std.proofs.Common.{IsTrue, ◌≡◌, ℕ, ◌+◌, ◌*◌, max, Bool, List, Result, Ok, Err, IsErr, ◌≤◌, refl, sym, subst, arith}
 use Rattle.newt_host.specs.Moments.{image, Leaves}
 use Rattle.newt_host.specs.Outside.{Outside, Counted, OnlyReads, Spends, Touches, Wears}
 use Rattle.newt_host.proofs.Outside.{OnlyReads-append, Spends-widen}
@@ -7,8 +7,6 @@ use Rattle.newt_spec_image.specs.Pages.{Change}
 use Rattle.newt_spec_image.specs.Records.{bank_blocks}
 use Rattle.newt_journal.specs.Calls.{Programs, Reads}
 use Rattle.newt_pagebook.specs.Book.{IsBeforeOrAfter, IsOpenFor, batch_bytes, switch_bytes}
-use Rattle.newt_pagebook.specs.Stops.{IsOpening}
-use Rattle.newt_pagebook.specs.declared.book.BookFault.{BookFault}
 use Rattle.newt_pagelog.specs.Commits.{AppendsWhereOpen, commit_work}
 use Rattle.newt_pagelog.proofs.Placing.{looks-read}
 use Rattle.newt_pagelog.proofs.Stepping.{counted-failed}
@@ -29,12 +27,7 @@ looks-two {b = b} {c = c} on first second =
 pub counted-nothing : {T E : Type 0} (x : T) (n : ℕ) → Counted {E = E} (Ok x) n n
 counted-nothing x n = record { later = omega arith; cause = tt; no_fault = refl }
 
--- an error that was handed on
-pub opened-as : {T : Type 0} (T' : Type 0) (r : Result T BookFault) (e : BookFault) → IsErrAnd r (λ x. x ≡ e)
-    → IsOpening r → IsOpening {T = T'} (Err e)
-opened-as T' (Ok x) e is opened = absurd is
-opened-as T' (Err x) e is opened = subst (λ (f : BookFault). IsOpening {T = T'} (Err f)) is opened
-
+-- a count under two names of a unit
 pub opened-same : {u v : ℕ} (a b : Outside) → v ≡ u → b.dev_faults v ≡ a.dev_faults v
     → b.dev_faults u ≡ a.dev_faults u
 opened-same a b on same = subst (λ (w : ℕ). b.dev_faults w ≡ a.dev_faults w) on same

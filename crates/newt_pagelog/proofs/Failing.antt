@@ -1,10 +1,12 @@
 -- What an answer that is an error says.
-use Rattle.std.proofs.Common.{◌≡◌, ℕ, ◌+◌, ◌<◌, ◌≤◌, Result, Ok, Err, IfOk, OnOk, OnErr, IsErr, IsErrAnd, IsErrOf, refl, subst, arith}
+use Rattle.std.proofs.Common.{◌≡◌, ℕ, ◌+◌, ◌<◌, ◌≤◌, Result, Ok, Err, IfErr, IfOk, OnOk, OnErr, IsErr, IsErrAnd, IsErrOf, subst, sym, arith}
 use Rattle.std.proofs.lemmas.Bool.{false≢true}
 use Rattle.newt_pagebook.specs.declared.book.BookFault.{BookFault}
 use Rattle.newt_pagebook.specs.declared.book.BookFault.TheVariants.{Device, Memory, NotStore}
-use Rattle.newt_pagebook.specs.Stops.{IsOpening}
-use Rattle.newt_host.specs.Outside.{Outside, Rose, Touches}
+use Rattle.newt_pagebook.specs.declared.book.Stop.{Stop}
+use Rattle.newt_pagebook.specs.declared.book.Stop.TheVariants as stops
+use Rattle.newt_pagebook.specs.Stops.{BlamesNone, StopsAt}
+use Rattle.newt_host.specs.Outside.{NoFault, Outside, Rose, Touches}
 
 -- an error is no value
 pub no-value : {T E : Type 0} (r : Result T E) (P : T → Type 0) → IsErr r → IfOk r P
@@ -46,17 +48,20 @@ rose-before old mid new low rose = omega (arith, low, rose)
 pub rose-over : (u v : ℕ) (a b c : Outside) → u ≡ v → Touches v a b → Rose (b.dev_faults u) (c.dev_faults u) → Rose (a.dev_faults v) (c.dev_faults v)
 rose-over u v a b c on touched rose = rose-before (a.dev_faults v) (b.dev_faults v) (c.dev_faults v) touched.faults_later (subst (λ (w : ℕ). Rose (b.dev_faults w) (c.dev_faults w)) on rose)
 
--- of an answer that is no error, once a count was what it is
-pub ok-over : {T E : Type 0} (r : Result T E) (a b c : ℕ) → b ≡ a → OnOk r (c ≡ b) → OnOk r (c ≡ a)
-ok-over r a b c is same = subst (λ (n : ℕ). OnOk r (c ≡ n)) is same
+-- an error that was handed on
+pub blames-as : {T : Type 0} (T' : Type 0) (r : Result T BookFault) (e : BookFault)
+    → IsErrAnd r (λ x. x ≡ e) → BlamesNone r → BlamesNone {T = T'} (Err e)
+blames-as T' (Ok x) e is none = absurd is
+blames-as T' (Err Memory) e is none = subst (λ (f : BookFault). BlamesNone {T = T'} (Err f)) is tt
+blames-as T' (Err NotStore) e is none = subst (λ (f : BookFault). BlamesNone {T = T'} (Err f)) is tt
+blames-as T' (Err Device) e is none = absurd none
 
--- a call that failed, and not because the unit is no store, has opened no book
-pub no-opening : {T : Type 0} {A : Type 0} (r : Result T BookFault) → IsErr r
-    → (IsErrOf r NotStore → ⊥) → IsOpening r → A
-no-opening (Ok x) err other opened = absurd (false≢true err)
-no-opening (Err NotStore) err other opened = absurd (other refl)
-no-opening (Err Memory) err other opened = absurd opened
-no-opening (Err Device) err other opened = absurd opened
+-- want of memory, where no fault was counted
+pub memory-stops : {T : Type 0} (r : Result T Stop) (unit : ℕ) {a b : Outside}
+    → IsErrAnd r (λ x. x ≡ stops.Memory) → NoFault a b → IfErr r (StopsAt unit a b)
+memory-stops (Ok x) unit is none = tt
+memory-stops (Err x) unit {a = a} {b = b} is none =
+    subst (λ (stop : Stop). StopsAt unit a b stop) (sym is) none
 
 -- two numbers are as their names are
 pub more-named : (live most l m : ℕ) → live ≡ l → most ≡ m → most < live → m < l

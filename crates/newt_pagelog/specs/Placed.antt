@@ -1,5 +1,5 @@
 -- Where the pages of a book stand in its journal.
-use Rattle.std.specs.Prelude.{◌≡◌, ℕ, ◌+◌, ◌*◌, ◌<◌, ◌≤◌, Bool, true, false, List, [], length, map as map_list, take, drop, nat_eq, Some, Result, OnOk, IsErrOf}
+use Rattle.std.specs.Prelude.{◌≡◌, ℕ, ◌+◌, ◌*◌, ◌<◌, ◌≤◌, Bool, true, false, List, [], length, map as map_list, take, drop, nat_eq, Some, Result, IsErrOf}
 use Rattle.std.specs.Map.{lookup, keys_of}
 use Rattle.std.specs.List.{IsDistinct}
 use Rattle.std.specs.FinMap as map
@@ -16,7 +16,7 @@ use Rattle.newt_journal.specs.Places.{first_place, recorded}
 use Rattle.newt_journal.specs.declared.journal.Journal.{Journal}
 use Rattle.newt_journal.specs.declared.reading.Found.{Found}
 use Rattle.newt_pagebook.specs.Batch.{IsBatch}
-use Rattle.newt_pagebook.specs.Stops.{IsOpening}
+use Rattle.newt_pagebook.specs.Stops.{BlamesNone}
 use Rattle.newt_pagebook.specs.declared.book.BookFault.{BookFault}
 use Rattle.newt_pagebook.specs.declared.book.BookFault.TheVariants.{NotStore, Device}
 use Rattle.newt_pagelog.specs.Kept.{Entries, page_in, map_of, is_kept}
@@ -98,13 +98,12 @@ pub record HoldsAt (j : Journal) (image : List ℕ) (places : Places) : Type 0 w
   pub holds : pages image ≡ Some (map_of (lifted (page_of j payloads) places))
 
 -- A call that reads a journal for a book: nothing has happened but reads of this unit. Where it
--- names the device, a fault of it was counted, and where a book is opened or the unit holds none,
--- no fault was (this project's own).
+-- names the device, a fault of it was counted, and else none was (this project's own).
 pub record ReadsBook {T : Type 0} (unit : ℕ) (result : Result T BookFault) (old new : Outside)
     : Type 0 where
   pub looks : OnlyReads unit old new
   pub cause : IsErrOf result Device → Rose (old.dev_faults unit) (new.dev_faults unit)
-  pub no_fault : IsOpening result → new.dev_faults unit ≡ old.dev_faults unit
+  pub no_fault : BlamesNone result → new.dev_faults unit ≡ old.dev_faults unit
 
 -- A call that reads a part of it, and may want memory: the same, and it never answers that the
 -- unit is no store (this project's own).
@@ -113,7 +112,7 @@ pub record ReadsUnit {T : Type 0} (unit : ℕ) (result : Result T BookFault) (ol
   pub looks : OnlyReads unit old new
   pub no_other : IsErrOf result NotStore → ⊥
   pub cause : IsErrOf result Device → Rose (old.dev_faults unit) (new.dev_faults unit)
-  pub no_fault : OnOk result (new.dev_faults unit ≡ old.dev_faults unit)
+  pub no_fault : BlamesNone result → new.dev_faults unit ≡ old.dev_faults unit
 
 -- the places after a change are those of the pages after it, and these numbers were seen
 pub record Replayed (image : List ℕ) (change : Change) (old new : Places) (seen : ℕ → Bool) : Type 0 where

@@ -16,7 +16,7 @@ use Rattle.newt_spec_graph.specs.Slots.{goes_to, new_nodes}
 use Rattle.newt_graph.proofs.Options.{some_is}
 use Rattle.newt_graph.proofs.Elements.{any_at}
 use Rattle.newt_graph.proofs.Drafts.{symbol_append}
-use Rattle.newt_path.proofs.Below.{nodes_within}
+use Rattle.newt_graph.proofs.Below.{nodes_within}
 use Rattle.newt_path.proofs.Numbers.{joined, symbol_lands, lands_within}
 
 no_pairs : {X : Type 0} (R : X → X → Type 0) → AllPairs R []

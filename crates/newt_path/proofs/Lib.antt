@@ -1,4 +1,3 @@
-mod Below
 mod Numbers
 mod Named
 mod Reached

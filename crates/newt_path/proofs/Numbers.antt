@@ -22,7 +22,7 @@ use Rattle.newt_spec_graph.specs.Slots.{is_named, symbol_number, new_nodes, goes
 use Rattle.newt_graph.proofs.Options.{some_is}
 use Rattle.newt_graph.proofs.Elements.{at_map, any_at}
 use Rattle.newt_graph.proofs.Drafts.{bytes_eq-sym, alike_append, alike_found}
-use Rattle.newt_path.proofs.Below.{Within, nodes_within, root_within}
+use Rattle.newt_graph.proofs.Below.{Within, nodes_within, root_within}
 
 -- ---- the same symbols are found
 

@@ -25,7 +25,7 @@ use Rattle.newt_graph.proofs.Options.{bind_some, some_is}
 use Rattle.newt_graph.proofs.Elements.{get_append, at_map}
 use Rattle.newt_graph.proofs.Follows.{form_is_found}
 use Rattle.newt_path.specs.Put.{IsFormOf, PassesALimit}
-use Rattle.newt_path.proofs.Below.{root_within}
+use Rattle.newt_graph.proofs.Below.{root_within}
 use Rattle.newt_path.proofs.Numbers.{joined}
 use Rattle.newt_path.proofs.Named.{named, IsNamedBy}
 use Rattle.newt_path.proofs.Joins.{value_more, symbol_joined, graph_joined, append_joined, behind_joined, value_lands, set_other, set_here, symbol_stays, frame_joined}

@@ -12,7 +12,7 @@ mod set;
 mod value;
 
 pub use fault::{PathFault, SetFault};
-pub use large::{bytes_of_large, large_at};
+pub use large::large_at;
 pub use path::Path;
 pub use paths::Paths;
 pub use set::set_at;

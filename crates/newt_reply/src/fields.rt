@@ -8,8 +8,8 @@ ghost use Rattle.newt_spec_nsof.specs.Written.{nsof};
 ghost use Rattle.newt_spec_world.specs.Reply.{name_field};
 ghost use Rattle.newt_reply.specs.Fields.{quoted, alias_item};
 
-use crate::reply::Alias;
 use newt_base::{Name, hex_text, needs_quotes};
+use newt_entries_alias::Alias;
 use newt_graph::Graph;
 use newt_nsof_write::encode;
 use std::alloc::{AllocError, Global};

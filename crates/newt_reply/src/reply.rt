@@ -2,25 +2,18 @@
 
 use crate::rows::{SoupRows, SpecRows, StoreRows, TagRow};
 use newt_base::{Name, Refusal, Sig, Uid};
+use newt_entries_alias::Alias;
 use newt_graph::{Bytes, Graph};
 use newt_host::Unit;
 use newt_notify::Notes;
-
-/// What names an entry for as long as it is there: the signatures of its store and soup, and its
-/// id.
-#[derive(Clone, Copy, PartialEq, Eq, Debug)]
-pub struct Alias {
-    pub store: Sig,
-    pub soup: Sig,
-    pub uid: Uid,
-}
 
 /// What is answered to a command.
 #[derive(Drop)]
 pub enum Reply {
     /// It was done, and there is nothing to show.
     Done,
-    /// The id of an entry that was added, or the signature of a soup that was made.
+    /// The id of an entry that was added, the signature of a soup that was made, how many hits
+    /// there are, or the number of a cursor, a watch or a working copy.
     Number(u32),
     /// The unit and the id of an entry that was added to the default store.
     Added(Unit, Uid),

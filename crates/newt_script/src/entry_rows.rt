@@ -56,7 +56,7 @@ pub fn change(alloc: Global, words: &mut Words) -> Result<Command, LineFault>
     Ok(Command::Change(unit, name, uid, last_literal(alloc, words)?))
 }
 
-/// `get U S UID`, `getx U S UID`, `remove U S UID` and `alias U S UID`
+/// `get U S UID`, `getx U S UID`, `remove U S UID`, `alias U S UID` and `open U S UID`
 #[tactic(auto, using(crate::proofs::RowTable::row_entry))]
 pub fn of_entry(alloc: Global, words: &mut Words, verb: EntryVerb) -> Result<Command, LineFault>
     ensures { result ≢ Err LineFault.Memory → result ≡ row_reading (entry_word verb) words.old }

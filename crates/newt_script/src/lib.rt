@@ -24,5 +24,4 @@ pub use fault::LineFault;
 pub use graphs::literal;
 pub use laws::{commands_have_their_forms, scripts_are_read_as_defined};
 pub use lines::line;
-pub use newt_script_words::LONGEST;
 pub use newt_spec_world::Command;

@@ -156,7 +156,7 @@ module _ (names : List (List ℕ)) (old mid new : Outside) (a : AreAttached true
         let G : List ℕ → Type 0 = λ i. (given : Given step w (script_items i)) × OnOk result ((given.rest ≡ []) × (out_of new ≡ out_of mid ++ output_of given.rows))
         × OnOk result (IsReadThrough limit i new.input) × IfErr result (λ halt. Halted limit halt given.first given.rows i new.input (out_of mid) (out_of new))
         × ReadsInTime step w given.rows mid.now new.now × Always (CrashAt reads mid.now w given.first given.rows (out_of mid)) mid.now new.now
-        × RowsThrew given.rows mid.dev_faults new.dev_faults × OnOk result (RowsFailed given.rows mid.dev_faults new.dev_faults) in
+        × RowsThrew given.rows mid.dev_faults new.dev_faults × RowsFailed given.rows mid.dev_faults new.dev_faults in
         let t = subst G a.input (s.played.given, s.played.out, s.played.read, s.played.halted, s.played.in_time, s.crash, s.played.threw, s.played.failed) in
         let R : List ℕ → Type 0 = λ o. IfErr result (λ halt. Halted limit halt t.0.first t.0.rows old.input new.input o (out_of new)) in
         record {
@@ -176,7 +176,7 @@ module _ (names : List (List ℕ)) (old mid new : Outside) (a : AreAttached true
               no_quit = answered.no_quit;
             }) t.4);
             threw = threw_from t.0.rows old.dev_faults mid.dev_faults new.dev_faults a.counts.dev_faults t.6;
-            failed = on_ok_weaker result (λ f. failed_from t.0.rows old.dev_faults mid.dev_faults new.dev_faults a.counts.dev_faults f) t.7;
+            failed = failed_from t.0.rows old.dev_faults mid.dev_faults new.dev_faults a.counts.dev_faults t.7;
           };
           crash = λ unit at left shown since_is might.
               has_left reads w t.0.first t.0.rows unit left shown (seen_named (CrashAt reads mid.now w t.0.first t.0.rows (printed mid.now)) t.5 cards fresh unknown history unit at left shown since_is might);
@@ -192,7 +192,7 @@ module _ (names : List (List ℕ)) (old mid new : Outside) (a : AreAttached true
           out = on_ok_weaker result (λ put. (put.0, put.1 ∙ ap (λ o. o ++ summary_of s.given.rows) (a.quiet refl))) s.out;
           halted = subst R (a.quiet refl) s.halted;
           threw = threw_from s.given.rows old.dev_faults mid.dev_faults new.dev_faults a.counts.dev_faults s.threw;
-          failed = on_ok_weaker result (λ f. failed_from s.given.rows old.dev_faults mid.dev_faults new.dev_faults a.counts.dev_faults f) s.failed;
+          failed = failed_from s.given.rows old.dev_faults mid.dev_faults new.dev_faults a.counts.dev_faults s.failed;
           crash = λ unit at left shown since_is might.
               has_left_counted reads w (script_items script) s.given.rows unit left shown
               (seen_named (CountedAt reads mid.now w (script_items script) s.given.rows (printed mid.now)) s.crash cards fresh unknown history unit at left shown since_is might);

@@ -43,22 +43,22 @@ never_then s t = record {
 -- ---- causes, from before calls that counted no fault
 
 pub sink_from : (halt : Halt) (a b c : Outside) → NoStreamFault a b → HasSinkCause halt b c → HasSinkCause halt a c
-sink_from Memory a b c none cause = tt
+sink_from Memory a b c none cause = none-append none cause
 sink_from Sink a b c none cause = omega (arith, cause, none.out_faults)
 sink_from Source a b c none cause = cause
 sink_from TooLong a b c none cause = cause
 
 pub run_from : (halt : Halt) (a b c : Outside) → NoStreamFault a b → HasCause halt b c → HasCause halt a c
-run_from Memory a b c none cause = tt
+run_from Memory a b c none cause = none-append none cause
 run_from Sink a b c none cause = omega (arith, cause, none.out_faults)
 run_from Source a b c none cause = omega (arith, cause, none.in_faults)
-run_from TooLong a b c none cause = tt
+run_from TooLong a b c none cause = none-append none cause
 
 sink_run : (halt : Halt) (a b : Outside) → HasSinkCause halt a b → HasCause halt a b
-sink_run Memory a b cause = tt
+sink_run Memory a b cause = cause
 sink_run Sink a b cause = cause
 sink_run Source a b cause = absurd cause
-sink_run TooLong a b cause = tt
+sink_run TooLong a b cause = absurd cause
 
 read_run : (halt : Halt) (a b : Outside) → HasReadCause halt a b → HasCause halt a b
 read_run halt a b cause = subst (λ (h : Halt). HasCause h a b) (sym cause.0) cause.1
@@ -115,7 +115,7 @@ write_ok {T = T} {x = x} {Cause = Cause} {a = a} {b = b} s = record { unread = s
 
 -- nothing was done, when out of memory
 pub write_memory : {told : Bool} {T : Type 0} (a : Outside) → WriteCall {T = T} told HasSinkCause (Err Memory) a a
-write_memory {told} a = record { unread = unread-refl a; devices = same-refl told a; faults = faults_end HasSinkCause Memory a a (none-refl a) tt }
+write_memory {told} a = record { unread = unread-refl a; devices = same-refl told a; faults = faults_end HasSinkCause Memory a a (none-refl a) (none-refl a) }
 
 pub write_failed : {told : Bool} {T U E F : Type 0} (result : Result T E) (error : F) (failed : E) {a b c : Outside} → result ≡ Err failed → Still told a b
     → WriteCall {T = U} told (OutputFailed {E = F}) (Err error) b c → WriteCall told (OutputFailed {E = E}) result a c
@@ -124,13 +124,6 @@ write_failed {T = T} {U = U} {E = E} {F = F} result error failed {a} {b} {c} is 
   devices = same-trans s.devices w.devices;
   faults = faults_err (OutputFailed {E = F}) (OutputFailed {E = E}) a b c s.no_fault {T = T} {U = U} result error failed is (λ rose. omega (arith, rose, s.no_fault.out_faults)) w.faults;
 }
-
--- the output failed
-pub write_sink : {told : Bool} {T U F : Type 0} {error : F} {a b : Outside} → WriteCall {T = U} told (OutputFailed {E = F}) (Err error) a b → WriteCall {T = T} told HasSinkCause (Err Sink) a b
-write_sink {error = error} {a = a} {b = b} w = record { unread = w.unread; devices = w.devices; faults = record { later = w.faults.later; cause = w.faults.cause; no_fault = tt } }
-
-pub write_sunk : {told : Bool} {T U F : Type 0} {x : T} {y : U} {a b : Outside} → WriteCall {T = U} told (OutputFailed {E = F}) (Ok y) a b → WriteCall {T = T} told HasSinkCause (Ok x) a b
-write_sunk w = record { unread = w.unread; devices = w.devices; faults = record { later = w.faults.later; cause = tt; no_fault = w.faults.no_fault } }
 
 -- what a host promises of a write
 pub write_call : {told : Bool} {T E : Type 0} (result : Result T E) (bytes : List ℕ) (a b : Outside) → (IsTrue told → PrintsSome bytes a.now b.now) → OutputCall result a b → WriteCall told OutputFailed result a b
@@ -164,19 +157,11 @@ pub answer_ok : {told : Bool} {T : Type 0} {x : T} {a b : Outside} → Quiet tol
 answer_ok {x = x} {a = a} {b = b} q = record { unread = q.unread; cards = q.cards; faults = faults_none HasSinkCause x a b q.no_fault }
 
 pub answer_memory : {told : Bool} {T : Type 0} {a b : Outside} → Quiet told a b → AnswerCall {T = T} told (Err Memory) a b
-answer_memory {a = a} {b = b} q = record { unread = q.unread; cards = q.cards; faults = faults_end HasSinkCause Memory a b q.no_fault tt }
+answer_memory {a = a} {b = b} q = record { unread = q.unread; cards = q.cards; faults = faults_end HasSinkCause Memory a b q.no_fault q.no_fault }
 
 -- memory was refused in it
 pub answer_stopped : {told : Bool} {T : Type 0} {a b : Outside} → Unread told a b → OnDevices a b → AnswerCall {T = T} told (Err Memory) a b
-answer_stopped {told} {T} {a} {b} unread on = record {
-  unread = unread;
-  cards = on.cards;
-  faults = record {
-    later = record { in_faults = omega (arith, on.in_faults); out_faults = omega (arith, on.out_faults); dev_faults = on.dev_faults };
-    cause = tt;
-    no_fault = tt;
-  };
-}
+answer_stopped unread on = answer_memory (quiet_apply unread on)
 
 -- calls behind calls that counted no fault
 pub answer_then : {told : Bool} {T : Type 0} {result : Result T Halt} {a b c : Outside} → Quiet told a b → AnswerCall told result b c → AnswerCall told result a c
@@ -252,10 +237,10 @@ pub run_ok : {T : Type 0} {x : T} {a b : Outside} → Running a b → RunCall (O
 run_ok {T} {x} {a} {b} r = record { cards = r.cards; faults = faults_none HasCause x a b r.no_fault }
 
 pub run_memory : {T : Type 0} {a b : Outside} → Running a b → RunCall {T = T} (Err Memory) a b
-run_memory {T} {a} {b} r = record { cards = r.cards; faults = faults_end HasCause Memory a b r.no_fault tt }
+run_memory {T} {a} {b} r = record { cards = r.cards; faults = faults_end HasCause Memory a b r.no_fault r.no_fault }
 
 pub run_long : {T : Type 0} {a b : Outside} → Running a b → RunCall {T = T} (Err TooLong) a b
-run_long {T} {a} {b} r = record { cards = r.cards; faults = faults_end HasCause TooLong a b r.no_fault tt }
+run_long {T} {a} {b} r = record { cards = r.cards; faults = faults_end HasCause TooLong a b r.no_fault r.no_fault }
 
 pub run_unread : {told : Bool} {T U : Type 0} (result : Result T Halt) (halt : Halt) {a b c : Outside} → result ≡ Err halt → Running a b → ReadCall {T = U} told (Err halt) b c → RunCall result a c
 run_unread {T = T} {U = U} result halt {a} {b} {c} is r w = record {

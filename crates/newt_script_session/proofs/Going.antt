@@ -18,7 +18,7 @@ use Rattle.newt_spec_script.specs.Rows.{IsRun, output_of, Row, Stepping, world_b
 use Rattle.newt_script_session.specs.Run.{AnsweredTaken, Halted, HaltedIn, IsReadThrough, IsTooLong}
 use Rattle.newt_script_session.specs.Script.{has_quit, commands_of, ended_items, quits, script_items}
 use Rattle.newt_script_session.specs.Session.{Session}
-use Rattle.newt_laws_steps.specs.Thrown.{RowsThrew}
+use Rattle.newt_laws_steps.specs.Thrown.{RowsFailed, RowsThrew}
 use Rattle.newt_script_session.specs.declared.halt.Halt.{Halt}
 use Rattle.newt_script_session.specs.declared.halt.Halt.TheVariants.{Memory, Source, Sink, TooLong}
 use Rattle.newt_script_session.proofs.Crashing.{AtRest, crash_always, safe_here}
@@ -89,8 +89,9 @@ pub record Going (step : Stepping Whole) (reads : List ℕ → Option Store) (wo
   pub go : quits taken ≡ false
   pub rows : List (Row Whole)
   pub run : IsRun step world (ended_items taken) rows
-  pub answered : Answered true world Later rows had has old now was is
+  pub answered : Answered true world Later rows had has old now
   pub threw : RowsThrew rows was is
+  pub failed : RowsFailed rows was is
   pub in_time : ReadsInTime step world rows old now
   pub moments : (start : Moment) (before : List Whole) → Untouched start before world old → Always (SafeAt true reads start before world (ended_items taken) rows (printed old)) old now
 
@@ -104,8 +105,9 @@ module _ (step : Stepping Whole) (reads : List ℕ → Option Store) where
     go = quit_none;
     rows = [];
     run = subst (λ (is : List Item). IsRun step world is []) (sym commands_none) tt;
-    answered = answered_none true world Now has now was means;
+    answered = answered_none true world Now has now means;
     threw = threw_none was was (λ unit. refl);
+    failed = λ unit none. refl;
     in_time = takes_start;
     moments = λ start before u. subst (λ (i : List Item). Always (SafeAt true reads start before world i [] (printed now)) now now) (sym commands_none) (here (safe_here true reads start before world now (its start before u)));
   }
@@ -122,8 +124,9 @@ module _ (step : Stepping Whole) (reads : List ℕ → Option Store) where
         go = g.go;
         rows = g.rows;
         run = g.run;
-        answered = record { stands_for = f (world_behind world g.rows) a.stands_for; put = a.put; took = a.took; untouched = a.untouched; failed = failed_same g.rows was mid is counts a.failed };
+        answered = record { stands_for = f (world_behind world g.rows) a.stands_for; put = a.put; took = a.took; untouched = a.untouched };
         threw = threw_same g.rows was mid is counts g.threw;
+        failed = failed_same g.rows was mid is counts g.failed;
         in_time = g.in_time;
         moments = g.moments;
       })
@@ -144,8 +147,9 @@ module _ (step : Stepping Whole) (reads : List ℕ → Option Store) where
         go = g.go;
         rows = g.rows;
         run = g.run;
-        answered = record { stands_for = f (world_behind world g.rows) a.stands_for; put = a.put; took = a.took; untouched = a.untouched; failed = failed_same g.rows was mid is counts a.failed };
+        answered = record { stands_for = f (world_behind world g.rows) a.stands_for; put = a.put; took = a.took; untouched = a.untouched };
         threw = threw_same g.rows was mid is counts g.threw;
+        failed = failed_same g.rows was mid is counts g.failed;
         in_time = takes_more bytes g.in_time (record {
           bytes = taken;
           since = since;
@@ -175,7 +179,7 @@ module _ (step : Stepping Whole) (reads : List ℕ → Option Store) where
 
     -- which are still to be answered
     abbrev pub going_progress : Progress step true reads world (script_items script) Later (commands_of (lines_from line left)) had has old then was mid
-    going_progress = record { done = ended_items taken; split = items_left; rows = g.rows; run = g.run; answered = g.answered; threw = g.threw; moments = g.moments }
+    going_progress = record { done = ended_items taken; split = items_left; rows = g.rows; run = g.run; answered = g.answered; threw = g.threw; failed = g.failed; moments = g.moments }
 
     -- so far no more has been given
     abbrev pub going_given : Given step world (script_items script)
@@ -188,7 +192,7 @@ module _ (step : Stepping Whole) (reads : List ℕ → Option Store) where
     unfolding progress_more
     going_more piece rest Next begun more now is unread split go begun_is r =
         let p : Progress step true reads world (ended_items taken ++ commands_of (ended_lines line piece)) Later (commands_of (ended_lines line piece)) had has old then was mid =
-        record { done = ended_items taken; split = refl; rows = g.rows; run = g.run; answered = g.answered; threw = g.threw; moments = g.moments } in
+        record { done = ended_items taken; split = refl; rows = g.rows; run = g.run; answered = g.answered; threw = g.threw; failed = g.failed; moments = g.moments } in
         let q = progress_more step true reads world (ended_items taken ++ commands_of (ended_lines line piece)) Later (commands_of (ended_lines line piece)) had has old then was mid p
         (commands_of (ended_lines line piece)) [] (sym (append-nil (commands_of (ended_lines line piece)))) Next more now is r in
         let items_are : q.done ≡ ended_items (taken ++ piece) =
@@ -201,6 +205,7 @@ module _ (step : Stepping Whole) (reads : List ℕ → Option Store) where
           run = subst (λ (i : List Item). IsRun step world i q.rows) items_are q.run;
           answered = q.answered;
           threw = q.threw;
+          failed = q.failed;
           in_time = takes_append (in_time_more step world g.rows r.given.rows old then g.in_time) (takes_none unread);
           moments = λ start before u. subst (λ (i : List Item). Always (SafeAt true reads start before world i q.rows (printed old)) old now) items_are (q.moments start before u);
         }
@@ -267,7 +272,7 @@ module _ {T : Type 0} (step : Stepping Whole) (reads : List ℕ → Option Store
       halted = lines result (r.halted refl);
       in_time = in_time;
       threw = r.threw;
-      failed = on_ok_weaker result (λ d. d.1.failed) r.done;
+      failed = r.failed;
     };
     crash = crash_always reads old.now world r.given.first r.given.rows old.now new.now (r.moments old.now [] (λ unit left f blank may. may));
   }
@@ -289,7 +294,7 @@ module _ {T : Type 0} (step : Stepping Whole) (reads : List ℕ → Option Store
           halted = some;
           in_time = g.in_time;
           threw = g.threw;
-          failed = tt;
+          failed = g.failed;
         };
         crash = crash_always reads old.now world (ended_items taken) g.rows old.now new.now (g.moments old.now [] (λ unit left f blank may. may));
       })

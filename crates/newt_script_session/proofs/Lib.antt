@@ -18,3 +18,4 @@ pub mod Texts
 pub mod Summing
 pub mod Beginning
 pub mod Plain
+mod Begun

@@ -22,7 +22,7 @@ use Rattle.newt_script_session.proofs.Throwing.{failed_one, threw_one}
 use Rattle.newt_script_session.proofs.Writing.{wrote_nothing}
 
 module _ (step : Stepping Whole) (shows : Bool) (reads : List ℕ → Option Store) (world : Whole) (item : Item) (row : Row Whole) (goes : Goes step world item row) (old then : Moment) (was is : ℕ → ℕ)
-    (answering : Always (AnsweringItem reads world item row.0 old) old then) (threw : Threw row.1 was is) where
+    (answering : Always (AnsweringItem reads world item row.0 old) old then) (threw : Threw row.1 was is) (failed : Failed row.1 was is) where
   abbrev text : List ℕ
   text = reply_text row.1
 
@@ -48,9 +48,9 @@ module _ (step : Stepping Whole) (shows : Bool) (reads : List ℕ → Option Sto
       (its start (world ∷ before) (item_next start before u)) some) puts.moments)
 
   pub ran_item : {T U E : Type 0} (x : T) (y : U) (After : Whole → Type 0) (had has : List (List ℕ) → Type 0) (now : Moment) → AtRest reads row.0 then
-      → Puts {T = U} {E = E} (Ok y) (put_out shows text) then now → After row.0 → ((unit : ℕ) → changes unit now ≡ changes unit then) → Failed row.1 was is
+      → Puts {T = U} {E = E} (Ok y) (put_out shows text) then now → After row.0 → ((unit : ℕ) → changes unit now ≡ changes unit then)
       → ((before : List (List ℕ)) → had before → has (before ++ text ∷ [])) → Ran step shows reads {T = T} (Ok x) world After (item ∷ []) had has old now was is
-  ran_item {T} {U} {E} x y After had has now its puts means same failed took = record {
+  ran_item {T} {U} {E} x y After had has now its puts means same took = record {
     given = one_given;
     done = (
       refl,
@@ -59,11 +59,11 @@ module _ (step : Stepping Whole) (shows : Bool) (reads : List ℕ → Option Sto
         put = puts.whole ∙ (ap (λ o. o ++ put_out shows text) quiet ∙ ap (λ t. printed old ++ put_out shows t) (sym (output_one row)));
         took = took;
         untouched = λ start before u. untouched_same start (world ∷ before) row.0 then now same (item_next start before u);
-        failed = failed_one row was is failed;
       },
     );
     halted = λ yes. tt;
     threw = threw_one row was is threw;
+    failed = failed_one row was is failed;
     moments = item_moments {T = U} {E = E} (Ok y) now its puts;
   }
 
@@ -83,6 +83,7 @@ module _ (step : Stepping Whole) (shows : Bool) (reads : List ℕ → Option Sto
         halted = λ yes. halted_item halt o n (printed now) cause
             (subst (λ (before : List ℕ). WroteSome text before (printed now)) quiet (subst (λ (b : Bool). WroteSome (put_out b text) (printed then) (printed now)) yes puts.failed));
         threw = threw_one row was is threw;
+        failed = failed_one row was is failed;
         moments = item_moments {T = U} {E = Halt} (Err halt) now its puts;
       })
 
@@ -93,5 +94,6 @@ module _ (step : Stepping Whole) (shows : Bool) (reads : List ℕ → Option Sto
     done = tt;
     halted = λ yes. subst (λ (o : List ℕ). WroteSome (output_of (row ∷ [])) (printed old) o) (sym quiet) (wrote_nothing (output_of (row ∷ [])) (printed old));
     threw = threw_one row was is threw;
+    failed = failed_one row was is failed;
     moments = item_answering;
   }

@@ -10,7 +10,7 @@ use Rattle.newt_script_session.specs.Moments.{SafeAt, Untouched, worlds_behind}
 use Rattle.newt_spec_script.specs.Rows.{IsRun, output_of, reply_texts, Row, Stepping, world_behind}
 use Rattle.newt_script_session.specs.Run.{HaltedIn}
 use Rattle.newt_script_session.specs.Stream.{WroteSome, put_out}
-use Rattle.newt_laws_steps.specs.Thrown.{RowsThrew}
+use Rattle.newt_laws_steps.specs.Thrown.{RowsFailed, RowsThrew}
 use Rattle.newt_script_session.specs.declared.halt.Halt.{Halt}
 use Rattle.newt_script_session.specs.declared.halt.Halt.TheVariants.{Memory, Source, Sink, TooLong}
 use Rattle.newt_script_session.proofs.Crashing.{AtRest, none_put, both_put, safe_here, safe_more, safe_laters}
@@ -20,19 +20,18 @@ use Rattle.newt_script_session.proofs.Writing.{wrote_some}
 
 module _ (shows : Bool) where
   -- no item was
-  pub answered_none : (world : Whole) (Now : Whole → Type 0) (has : List (List ℕ) → Type 0) (now : Moment) (was : ℕ → ℕ) → Now world → Answered shows world Now [] has has now now was was
-  answered_none world Now has now was means = record {
+  pub answered_none : (world : Whole) (Now : Whole → Type 0) (has : List (List ℕ) → Type 0) (now : Moment) → Now world → Answered shows world Now [] has has now now
+  answered_none world Now has now means = record {
     stands_for = means;
     put = sym (ap (λ t. printed now ++ put_out shows t) output_none ∙ none_put shows (printed now));
     took = λ before h. subst has (sym (append-nil before)) h;
     untouched = λ start before u. u;
-    failed = λ unit none. refl;
   }
 
   -- one part behind another
-  pub answered_both : (world : Whole) (Then Now : Whole → Type 0) (a b : List (Row Whole)) (had half has : List (List ℕ) → Type 0) (old then now : Moment) (was mid is : ℕ → ℕ)
-      → Answered shows world Then a had half old then was mid → Answered shows (world_behind world a) Now b half has then now mid is → Answered shows world Now (a ++ b) had has old now was is
-  answered_both world Then Now a b had half has old then now was mid is x y = record {
+  pub answered_both : (world : Whole) (Then Now : Whole → Type 0) (a b : List (Row Whole)) (had half has : List (List ℕ) → Type 0) (old then now : Moment)
+      → Answered shows world Then a had half old then → Answered shows (world_behind world a) Now b half has then now → Answered shows world Now (a ++ b) had has old now
+  answered_both world Then Now a b had half has old then now x y = record {
     stands_for = subst Now (sym (behind_append world a b)) y.stands_for;
     put = y.put
         ∙ (ap (λ o. o ++ put_out shows (output_of b)) x.put
@@ -44,7 +43,6 @@ module _ (shows : Bool) where
         subst (λ (vs : List Whole). Untouched start vs (world_behind world (a ++ b)) now) (sym (worlds_append before world a b))
         (subst (λ (v : Whole). Untouched start (worlds_behind (worlds_behind before world a) (world_behind world a) b) v now) (sym (behind_append world a b))
         (y.untouched start (worlds_behind before world a) (x.untouched start before u)));
-    failed = failed_both a b was mid is x.failed y.failed;
   }
 
 module _ (step : Stepping Whole) (shows : Bool) (reads : List ℕ → Option Store) where
@@ -54,8 +52,9 @@ module _ (step : Stepping Whole) (shows : Bool) (reads : List ℕ → Option Sto
     pub split : all ≡ done ++ rest
     pub rows : List (Row Whole)
     pub run : IsRun step world done rows
-    pub answered : Answered shows world Later rows had has old now was is
+    pub answered : Answered shows world Later rows had has old now
     pub threw : RowsThrew rows was is
+    pub failed : RowsFailed rows was is
     pub moments : (start : Moment) (before : List Whole) → Untouched start before world old → Always (SafeAt shows reads start before world done rows (printed old)) old now
 
   unfoldable pub progress_start : (world : Whole) (Now : Whole → Type 0) (all : List Item) (has : List (List ℕ) → Type 0) (now : Moment) (was : ℕ → ℕ) → Now world → AtRest reads world now → Progress world all Now all has has now now was was
@@ -64,8 +63,9 @@ module _ (step : Stepping Whole) (shows : Bool) (reads : List ℕ → Option Sto
     split = refl;
     rows = [];
     run = tt;
-    answered = answered_none shows world Now has now was means;
+    answered = answered_none shows world Now has now means;
     threw = threw_none was was (λ unit. refl);
+    failed = λ unit none. refl;
     moments = λ start before u. here (safe_here shows reads start before world now (its start before u));
   }
 
@@ -110,8 +110,9 @@ module _ (step : Stepping Whole) (shows : Bool) (reads : List ℕ → Option Sto
           split = g.split ∙ ap (λ (i : List Item). g.first ++ (i ++ more)) r.done.0;
           rows = g.rows;
           run = g.run;
-          answered = answered_both shows world Later Next p.rows r.given.rows had has has_more old then now was mid is p.answered r.done.1;
+          answered = answered_both shows world Later Next p.rows r.given.rows had has has_more old then now p.answered r.done.1;
           threw = threw_both p.rows r.given.rows was mid is p.threw r.threw;
+          failed = failed_both p.rows r.given.rows was mid is p.failed r.failed;
           moments = progress_part r.given.first r.given.rows now r.moments;
         }
 
@@ -138,6 +139,7 @@ module _ (step : Stepping Whole) (shows : Bool) (reads : List ℕ → Option Sto
       done = tt;
       halted = λ yes. halted_later yes r.given.rows (printed now) halt (r.halted yes);
       threw = threw_both p.rows r.given.rows was mid is p.threw r.threw;
+      failed = failed_both p.rows r.given.rows was mid is p.failed r.failed;
       moments = progress_part r.given.first r.given.rows now r.moments;
     }
 
@@ -154,7 +156,7 @@ module _ (step : Stepping Whole) (shows : Bool) (reads : List ℕ → Option Sto
 
     -- memory was refused before more was
     pub ran_memory : {T : Type 0} (Last : Whole → Type 0) (has_more : List (List ℕ) → Type 0) → Ran step shows reads {T = T} (Err Memory) world Last all had has_more old now was is
-    ran_memory Last has_more = record { given = given_done; done = tt; halted = λ told. all_put told; threw = p.threw; moments = p.moments }
+    ran_memory Last has_more = record { given = given_done; done = tt; halted = λ told. all_put told; threw = p.threw; failed = p.failed; moments = p.moments }
       where
         all_put : IsTrue shows → WroteSome (output_of p.rows) (printed old) (printed now)
         all_put told = (
@@ -168,7 +170,7 @@ module _ (step : Stepping Whole) (shows : Bool) (reads : List ℕ → Option Sto
 
     -- all of them were
     unfoldable pub ran_all : {T : Type 0} (x : T) → rest ≡ [] → Ran step shows reads {T = T} (Ok x) world Later all had has old now was is
-    ran_all x none = record { given = given_done; done = (none, p.answered); halted = λ yes. tt; threw = p.threw; moments = p.moments }
+    ran_all x none = record { given = given_done; done = (none, p.answered); halted = λ yes. tt; threw = p.threw; failed = p.failed; moments = p.moments }
 
   -- no item was given
   pub ran_none : {T : Type 0} (x : T) (world : Whole) (Now : Whole → Type 0) (items : List Item) (has : List (List ℕ) → Type 0) (now : Moment) (was : ℕ → ℕ) → Now world → AtRest reads world now → items ≡ []
@@ -193,10 +195,10 @@ module _ (step : Stepping Whole) (shows : Bool) (reads : List ℕ → Option Sto
   pub ran_as : {T U : Type 0} (x : T) (y : U) (world : Whole) (Next : Whole → Type 0) (items same : List Item) (had has : List (List ℕ) → Type 0) (old now : Moment) (was is : ℕ → ℕ) → same ≡ items
       → Ran step shows reads {T = U} (Ok y) world Next items had has old now was is → Ran step shows reads {T = T} (Ok x) world Next same had has old now was is
   ran_as {T} x y world Next items same had has old now was is e r =
-      subst (λ (i : List Item). Ran step shows reads {T = T} (Ok x) world Next i had has old now was is) (sym e) (record { given = r.given; done = r.done; halted = λ yes. tt; threw = r.threw; moments = r.moments })
+      subst (λ (i : List Item). Ran step shows reads {T = T} (Ok x) world Next i had has old now was is) (sym e) (record { given = r.given; done = r.done; halted = λ yes. tt; threw = r.threw; failed = r.failed; moments = r.moments })
 
   pub ran_failed : {T U : Type 0} (result : Result T Halt) (halt : Halt) (world : Whole) (Next : Whole → Type 0) (items same : List Item) (had has : List (List ℕ) → Type 0) (old now : Moment) (was is : ℕ → ℕ) → result ≡ Err halt
       → same ≡ items → Ran step shows reads {T = U} (Err halt) world Next items had has old now was is → Ran step shows reads result world Next same had has old now was is
   ran_failed {T} result halt world Next items same had has old now was is ends e r =
       subst (λ (v : Result T Halt). Ran step shows reads v world Next same had has old now was is) (sym ends)
-      (subst (λ (i : List Item). Ran step shows reads {T = T} (Err halt) world Next i had has old now was is) (sym e) (record { given = r.given; done = tt; halted = r.halted; threw = r.threw; moments = r.moments }))
+      (subst (λ (i : List Item). Ran step shows reads {T = T} (Err halt) world Next i had has old now was is) (sym e) (record { given = r.given; done = tt; halted = r.halted; threw = r.threw; failed = r.failed; moments = r.moments }))

@@ -110,7 +110,7 @@ module _ (step : Stepping Whole) (reads : List ℕ → Option Store) (script : L
         out = tt;
         halted = halted_quiet halt old mid r.given.rest (summary_of r.given.rows) (out_of old) (out_of mid) cause (quiet {T = U} (Err halt) Last had has r);
         threw = r.threw;
-        failed = tt;
+        failed = r.failed;
         crash = counting {T = U} (Err halt) Last had has r;
       })
 
@@ -159,7 +159,7 @@ module _ (step : Stepping Whole) (reads : List ℕ → Option Store) (script : L
           given = r.given;
           out = on_ok_weaker result (λ e. (r.done.0, e ∙ ap (λ o. o ++ summary_of rows) same)) put.whole;
           threw = threw_same rows old.dev_faults mid.dev_faults new.dev_faults counts_same r.threw;
-          failed = on_ok_weaker result (λ e. failed_same rows old.dev_faults mid.dev_faults new.dev_faults counts_same r.done.1.failed) put.whole;
+          failed = failed_same rows old.dev_faults mid.dev_faults new.dev_faults counts_same r.failed;
           halted = halted_writing result mid new r.given.rest (summary_of rows) (out_of old) (out_of new) r.done.0 cause
               (subst (λ (o : List ℕ). OnErr result (WroteSome (summary_of rows) o (out_of new))) same put.failed);
           crash = Always-append (counting {T = T} (Ok x) Last (Tallies first) has r) (Always-map (λ m some. counted_last (summary_of rows) m some) put.moments);

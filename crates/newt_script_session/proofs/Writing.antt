@@ -31,18 +31,6 @@ wrote_some text rest old mid now w some = (
   },
 )
 
--- nothing is left to write
-pub wrote_all : (text rest old now : List ℕ) → Wrote text rest old now → rest ≡ [] → now ≡ old ++ text
-wrote_all text rest old now w e = w.out ∙ ap (λ t. old ++ t) (sym (w.split ∙ (ap (λ r. w.done ++ r) e ∙ append-nil w.done)))
-
--- a part of the rest was written whole
-pub wrote_part : (text rest part later old mid now : List ℕ) → Wrote text rest old mid → rest ≡ part ++ later → now ≡ mid ++ part → Wrote text later old now
-wrote_part text rest part later old mid now w e o = record {
-  done = w.done ++ part;
-  split = w.split ∙ (ap (λ r. w.done ++ r) e ∙ sym (append_assoc w.done part later));
-  out = o ∙ (ap (λ p. p ++ part) w.out ∙ append_assoc old w.done part);
-}
-
 -- nothing was written
 pub wrote_nothing : (text out : List ℕ) → WroteSome text out out
 wrote_nothing text out = (text, nothing_wrote text out)

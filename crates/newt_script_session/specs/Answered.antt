@@ -27,13 +27,12 @@ module _ (shows : Bool) where
   -- The rows were answered, and the world behind them is one of those that are stood for then. Each
   -- reply was taken: the sink had some replies before and has these behind them.
   pub record Answered (world : Whole) (StoodFor : Whole → Type 0) (rows : List (Row Whole))
-      (had has : List (List ℕ) → Type 0) (old now : Moment) (was is : ℕ → ℕ) : Type 0 where
+      (had has : List (List ℕ) → Type 0) (old now : Moment) : Type 0 where
     pub stands_for : StoodFor (world_behind world rows)
     pub put : printed now ≡ printed old ++ put_out shows (output_of rows)
     pub took : (before : List (List ℕ)) → had before → has (before ++ reply_texts rows)
     pub untouched : (start : Moment) (before : List Whole) → Untouched start before world old
         → Untouched start (worlds_behind before world rows) (world_behind world rows) now
-    pub failed : RowsFailed rows was is
 
 module _ (step : Stepping Whole) where
   -- The first of the items have been given, and these rows are a run over them.
@@ -46,16 +45,18 @@ module _ (step : Stepping Whole) where
 
   module _ (shows : Bool) (store_of_image : List ℕ → Option Store) where
     -- The answering of items came to a result: all were given and answered, or it was halted in the
-    -- first ones, and a crash at each moment leaves what it may.
+    -- first ones; whatever it is, their replies tell the faults of devices, and a crash at each
+    -- moment leaves what it may.
     pub record Ran {T : Type 0} (result : Result T Halt) (world : Whole)
         (StoodFor : Whole → Type 0) (items : List Item) (had has : List (List ℕ) → Type 0)
         (old now : Moment) (was is : ℕ → ℕ) : Type 0 where
       pub given : Given world items
       pub done : OnOk result
-          ((given.rest ≡ []) × Answered shows world StoodFor given.rows had has old now was is)
+          ((given.rest ≡ []) × Answered shows world StoodFor given.rows had has old now)
       pub halted : IsTrue shows
           → IfErr result (λ halt. HaltedIn halt given.rows (printed old) (printed now))
       pub threw : RowsThrew given.rows was is
+      pub failed : RowsFailed given.rows was is
       pub moments : (start : Moment) (before : List Whole) → Untouched start before world old
           → Always (SafeAt shows store_of_image start before world given.first given.rows
           (printed old)) old now

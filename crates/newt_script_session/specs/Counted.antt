@@ -53,6 +53,6 @@ pub record Counted {T : Type 0} (step : Stepping Whole) (store_of_image : List â
   pub halted : IfErr result
       (Î» halt. SummaryHalted halt given.rest (summary_of given.rows) (out_of old) (out_of new))
   pub threw : RowsThrew given.rows old.dev_faults new.dev_faults
-  pub failed : OnOk result (RowsFailed given.rows old.dev_faults new.dev_faults)
+  pub failed : RowsFailed given.rows old.dev_faults new.dev_faults
   pub crash : Always (CountedAt store_of_image old.now world (script_items script) given.rows
       (out_of old)) old.now new.now

@@ -52,7 +52,7 @@ pub record CountedNamed {T : Type 0} (step : Stepping Whole)
   pub halted : IfErr result
       (λ halt. SummaryHalted halt given.rest (summary_of given.rows) (out_of old) (out_of new))
   pub threw : RowsThrew given.rows old.dev_faults new.dev_faults
-  pub failed : OnOk result (RowsFailed given.rows old.dev_faults new.dev_faults)
+  pub failed : RowsFailed given.rows old.dev_faults new.dev_faults
   pub crash : AtEachMoment new (λ unit left shown.
       HasLeftCounted store_of_image (first_world store_of_image names old) (script_items script)
       given.rows (held_by names old unit) (out_of old) shown unit left)

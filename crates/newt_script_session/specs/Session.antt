@@ -16,8 +16,9 @@ use Rattle.newt_script_session.specs.declared.halt.Halt.{Halt}
 
 -- The script of the input was answered from this world on, by a run over its first items, and with
 -- an answer over all: what was written, what was read, how far the run came where it was halted,
--- and, whatever the result is, that nothing was read ahead of a reply that was due, and that the
--- replies that tell a fault of a device are at most as many as its faults that were counted.
+-- and, whatever the result is, that nothing was read ahead of a reply that was due, that the
+-- replies that tell a fault of a device are at most as many as its faults that were counted, and that
+-- where none tells one none was counted.
 pub record Played {T : Type 0} (step : Stepping Whole) (limit : ℕ) (result : Result T Halt)
     (world : Whole) (old new : Outside) : Type 0 where
   pub given : Given step world (script_items old.input)
@@ -27,7 +28,7 @@ pub record Played {T : Type 0} (step : Stepping Whole) (limit : ℕ) (result : R
       (out_of old) (out_of new))
   pub in_time : ReadsInTime step world given.rows old.now new.now
   pub threw : RowsThrew given.rows old.dev_faults new.dev_faults
-  pub failed : OnOk result (RowsFailed given.rows old.dev_faults new.dev_faults)
+  pub failed : RowsFailed given.rows old.dev_faults new.dev_faults
 
 -- The same, and at each moment a crash leaves each unit as it is behind some first rows, every row
 -- among them whose reply has begun.

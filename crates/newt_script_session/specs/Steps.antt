@@ -13,8 +13,8 @@ use Rattle.newt_laws_steps.specs.Thrown.{Failed, Threw}
 
 -- A command was given in a world: there is a step, whatever became of the call, and at each moment
 -- a crash leaves each unit as in the one world or in the other. The faults of devices are those that
--- the reply tells. Where it was answered, the reply is that of the step, and the next world is one
--- of those that are stood for then.
+-- the reply tells, also where memory was refused: then there are none. Where it was answered, the
+-- reply is that of the step, and the next world is one of those that are stood for then.
 pub record Stepped {E : Type 0} (step : Stepping Whole) (store_of_image : List ℕ → Option Store)
     (command : Command) (result : Result given.Reply E) (world : Whole) (StoodFor : Whole → Type 0)
     (old now : Moment) (was is : ℕ → ℕ) : Type 0 where
@@ -22,5 +22,6 @@ pub record Stepped {E : Type 0} (step : Stepping Whole) (store_of_image : List �
   pub reply : Reply
   pub steps : step world command next reply
   pub threw : Threw reply was is
-  pub answered : IfOk result (λ it. (said it ≡ reply) × StoodFor next × Failed reply was is)
+  pub failed : Failed reply was is
+  pub answered : IfOk result (λ it. (said it ≡ reply) × StoodFor next)
   pub moments : Always (Answering store_of_image world.world command next.world old) old now

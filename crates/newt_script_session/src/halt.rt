@@ -1,4 +1,5 @@
 //! How the answering of lines goes on, and why it ends early.
+
 /// Whether the script goes on after some lines.
 #[derive(Clone, Copy, Debug, PartialEq, Eq)]
 pub enum Flow {

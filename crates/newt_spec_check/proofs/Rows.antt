@@ -8,7 +8,9 @@ use Rattle.newt_spec_store.specs.Cost.{directory_bytes}
 use Rattle.newt_spec_store.specs.Store.{new_store}
 use Rattle.newt_spec_check.specs.declared.Layer.{Layer}
 use Rattle.newt_spec_check.specs.declared.Layer.TheVariants as layer
-use Rattle.newt_spec_check.specs.Damage.{Damage, damage, no_directory, bad_entry, bad_large, too_costly}
+use Rattle.newt_spec_check.specs.Damage.{Damage, damage, gates_behind, first_gate, leaves_bank}
+use Rattle.newt_spec_check.specs.Damage.{is_unformed, least, no_directory, bad_entry, bad_large}
+use Rattle.newt_spec_check.specs.Damage.{too_costly}
 
 -- no text is a graph's
 reads_none : List ℕ → Option RawGraph
@@ -66,7 +68,22 @@ two_puts : damage reads_none (image_of 0 0 0 (bank_of 2 2 8 2 0 0 16)) ≡ damag
 unfolding header length_at
 two_puts = refl
 
+-- two gates, neither of which has a payload of its form, and the second one's leaves the bank
+abbrev two_gates : List ℕ
+two_gates = 0 ∷ 0 ∷ 0 ∷ 0 ∷ 1 ∷ 9 ∷ 0 ∷ 0 ∷ 0 ∷ 0 ∷ 2 ∷ 8 ∷ []
+
+the_second_leaves : first_gate leaves_bank (gates_behind 12288 two_gates) ≡ Some 12310
+unfolding length_at
+the_second_leaves = refl
+
+the_first_is_unformed : first_gate is_unformed (gates_behind 12288 two_gates) ≡ Some 12304
+unfolding length_at
+the_first_is_unformed = refl
+
 -- ---- rows of objects
+
+the_least : least (5 ∷ 2 ∷ 7 ∷ []) ≡ Some 2
+the_least = refl
 
 abbrev internal : List ℕ
 internal = directory_bytes (new_store (codes "Internal") 7)

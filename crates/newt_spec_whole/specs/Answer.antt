@@ -74,14 +74,14 @@ whole_after h c = record {
 -- ---- what is replied
 
 -- the last notes of a watch, and the number of those that are lost (this project's own)
-abbrev pub told : Watching → Reply
-told w = let kept = kept_of w in Reply.notes kept.lost kept.last
+abbrev pub notes_reply : Watching → Reply
+notes_reply w = let kept = kept_of w in Reply.notes kept.lost kept.last
 
 -- the table: the reply of each command that is not refused, from the whole before it and the whole
 -- after it (this project's own)
 unfoldable pub whole_fields : Whole → Whole → Command → Reply
 whole_fields h v (command.Watch s most) = or_nil Reply.number (free_watch h)
-whole_fields h v (command.Notes n) = or_nil told (watch h n)
+whole_fields h v (command.Notes n) = or_nil notes_reply (watch h n)
 whole_fields h v (command.Unwatch n) = Reply.done
 whole_fields h v (command.Open u s uid) = or_nil Reply.number (free_copy h)
 whole_fields h v (command.Draft n) = or_nil (λ k. Reply.literal_of k.draft) (copy h n)

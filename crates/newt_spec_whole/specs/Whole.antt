@@ -2,14 +2,14 @@
 -- working copies. Notifications of changes are Newton's (Newton Programmer's Guide 2.0, soup change
 -- notification); that a watch is asked for its notes, and working copies, are this project's own.
 use Rattle.std.specs.Prelude.{ℕ, Bool, List, [], ◌∷◌, Option, Some, None, option_map}
-use Rattle.std.specs.Prelude.{option_and_then, unwrap_or, replicate, slice_get, is_none}
+use Rattle.std.specs.Prelude.{option_and_then, unwrap_or, replicate, is_none}
 use Rattle.std.specs.Prelude.{if◌then◌else◌}
 use Rattle.std.specs.List.{position}
-use Rattle.newt_notify.specs.Watch.{Watching}
-use Rattle.newt_work.specs.Work.{Copy, is_based}
+use Rattle.newt_notify.specs.Watch.{Watching, watch_at}
+use Rattle.newt_work.specs.Work.{Copy, copy_at, is_based}
 use Rattle.newt_spec_store.specs.Store.{Store}
 use Rattle.newt_spec_world.specs.World as worlds
-use Rattle.newt_spec_world.specs.World.{World, flat}
+use Rattle.newt_spec_world.specs.World.{World}
 use Rattle.newt_spec_world.specs.Alias.{Alias, Spot, resolved}
 use Rattle.newt_spec_world.specs.declared.command.Command.{Command}
 use Rattle.newt_spec_world.specs.declared.command.Command.TheVariants as command
@@ -40,7 +40,7 @@ IsBlankOn h u = worlds.IsBlankOn h.world u
 
 -- the watch of this number, if there is one (a word of these definitions)
 abbrev pub watch : Whole → ℕ → Option Watching
-watch h n = flat (slice_get h.watches n)
+watch h n = watch_at n h.watches
 
 -- the least number that no watch has (this project's own)
 abbrev pub free_watch : Whole → Option ℕ
@@ -48,7 +48,7 @@ free_watch h = position is_none h.watches
 
 -- the working copy of this number, if there is one (a word of these definitions)
 abbrev pub copy : Whole → ℕ → Option Copy
-copy h n = flat (slice_get h.copies n)
+copy h n = copy_at n h.copies
 
 -- the least number that no working copy has (this project's own)
 abbrev pub free_copy : Whole → Option ℕ
@@ -73,18 +73,14 @@ get_of s = command.Get s.unit s.soup.name s.entry.uid
 abbrev pub change_of : Copy → Spot → Command
 change_of k s = command.Change s.unit s.soup.name s.entry.uid k.draft
 
--- A save reads the entry, and changes it to the draft where it still is as the copy's base.
--- (this project's own)
-abbrev pub save_of : Copy → Spot → Command
-save_of k s = if is_based s.entry.time s.entry.graph k then change_of k s else get_of s
-
 -- what is asked of the entry that a copy is of; nothing where there is no such copy, or its entry is
 -- not there (a word of these definitions)
 abbrev pub of_living : Whole → ℕ → (Copy → Spot → Command) → Option Command
 of_living h n ask = option_and_then (λ k. option_map (ask k) (living h k)) (copy h n)
 
--- The command that a command asks of the world: one of watches and copies alone asks none, and all
--- others ask themselves. (this project's own)
+-- The command that a command asks of the world, where it is done: one of watches and copies alone
+-- asks none; `open` and `revert` ask to read the entry, `save` to change it to the draft; all others
+-- ask themselves. (this project's own)
 unfoldable pub asks : Whole → Command → Option Command
 asks h (command.Watch _ _) = None
 asks h (command.Notes _) = None
@@ -92,7 +88,7 @@ asks h (command.Unwatch _) = None
 asks h (command.Open u s uid) = Some (command.Get u s uid)
 asks h (command.Draft _) = None
 asks h (command.Edit _ _ _) = None
-asks h (command.Save n) = of_living h n save_of
+asks h (command.Save n) = of_living h n change_of
 asks h (command.Revert n) = of_living h n (λ k s. get_of s)
 asks h (command.Discard _) = None
 asks h c = Some c

@@ -6,9 +6,8 @@ use Rattle.newt_base.specs.Refusals.{Checks, first_of}
 use Rattle.newt_base.specs.declared.Refusal.{Refusal}
 use Rattle.newt_base.specs.declared.Refusal.TheVariants.{Full}
 use Rattle.newt_host.specs.Moments.{Moment, image, IsDurable, Leaves}
-use Rattle.newt_host.specs.Outside.{Outside, Rose, Touches, Spends, Wears}
+use Rattle.newt_host.specs.Outside.{Outside, Spends, Wears}
 use Rattle.newt_host.proofs.Outside.{Spends-append, Spends-widen}
-use Rattle.newt_pagebook.specs.declared.book.Stop.TheVariants.{Memory, Device}
 use Rattle.newt_host.proofs.Moments.{Leaves-start, Leaves-weaken}
 use Rattle.newt_spec_image.specs.Pages.{cap}
 use Rattle.newt_pagebook.specs.Book.{Numbers, IsOpenFor}
@@ -20,7 +19,6 @@ use Rattle.newt_laws_changes.proofs.Costs.{dropped_cost, removed_cost}
 use Rattle.newt_store_change.specs.declared.fault.StoreFault.{StoreFault}
 use Rattle.newt_store_change.specs.declared.fault.StoreFault.TheVariants.{Refused, Stop}
 use Rattle.newt_objects_commit.specs.Faults.{RefusesOnly}
-use Rattle.newt_store_change.specs.Faults.{FaultsAt}
 use Rattle.newt_objects_commit.specs.Batch.{new_pages}
 use Rattle.newt_objects_commit.specs.Names.{names_of}
 use Rattle.newt_objects_commit.specs.Places.{place_of}
@@ -174,17 +172,6 @@ leaves-changed change now s unit img old new first leaves = Leaves-weaken (λ le
 pub leaves-before : (catalog : Catalog) (change : Change) (now blocks : ℕ) (s : Store) (unit : ℕ) (old new : Moment) → new ≡ old → StandsFor catalog s (image unit old) → IsDurable unit old → Leaves unit (IsBeforeOrChanged change blocks now s) old new
 leaves-before catalog change now blocks s unit old new same stands durable = subst (λ (m : Moment). Leaves unit (IsBeforeOrChanged change blocks now s) old m) (sym same) (Leaves-start (λ left may.
     inl (ap readable (durable left may) ∙ read-back catalog.directory (place_of catalog.places) (names_of catalog.names) stands.texts s (image unit old) stands.holds stands.describes stands.fits stands.keeps)))
-
--- ---- one call after another
-
-pub rose-before : (old mid new : ℕ) → old ≤ mid → Rose mid new → Rose old new
-rose-before old mid new low rose = omega (arith, low, rose)
-
-pub faults-over : (fault : StoreFault) (unit unit' : ℕ) (old mid new : Outside) → unit' ≡ unit → Touches unit old mid → FaultsAt unit' mid new fault → FaultsAt unit old new fault
-faults-over (Refused refusal) unit unit' old mid new place touches faults = tt
-faults-over (Stop Memory) unit unit' old mid new place touches faults = tt
-faults-over (Stop (Device at)) unit unit' old mid new place touches faults =
-    (faults.0 ∙ place, rose-before (old.dev_faults unit) (mid.dev_faults unit) (new.dev_faults unit) touches.faults_later (subst (λ (u : ℕ). Rose (mid.dev_faults u) (new.dev_faults u)) place faults.1))
 
 -- ---- how many bytes
 

@@ -26,10 +26,10 @@ ends-fails {T = T} {U = U} {unit = unit} {before = before} {after = after} (Err 
   no_fault = λ goes. e.no_fault (subst (λ (x : StoreFault). GoesOn {T = T} (Err x)) fails (goes-as T U f goes));
 }
 
--- out of memory
-pub ends-memory : {T : Type 0} {unit : ℕ} {before after : Outside} (r : Result T StoreFault) (fault : StoreFault) → IsErrAnd r (λ f. f ≡ fault) → fault ≡ Stop Memory → CallEnds unit before after r
-ends-memory {unit = unit} {before = before} {after = after} r fault fails is =
-    ends-fails {T = Unit {0}} r fault fails (subst (λ (f : StoreFault). CallEnds {T = Unit {0}} unit before after (Err f)) (sym is) (record { cause = tt; no_fault = λ goes. absurd goes }))
+-- out of memory, where no fault was counted
+pub ends-memory : {T : Type 0} {unit : ℕ} {before after : Outside} (r : Result T StoreFault) (fault : StoreFault) → NoFault before after → IsErrAnd r (λ f. f ≡ fault) → fault ≡ Stop Memory → CallEnds unit before after r
+ends-memory {unit = unit} {before = before} {after = after} r fault none fails is =
+    ends-fails {T = Unit {0}} r fault fails (subst (λ (f : StoreFault). CallEnds {T = Unit {0}} unit before after (Err f)) (sym is) (record { cause = none; no_fault = λ goes. absurd goes }))
 
 -- a reading that stopped
 pub ends-stop : {T U : Type 0} {unit : ℕ} {before after : Outside} (r : Result U StoreFault) (stop : StopOf) → IsErrAnd r (λ f. f ≡ Stop stop) → ReadEnds {T = T} unit before after (Err stop) → CallEnds unit before after r
@@ -37,7 +37,7 @@ ends-stop {T = T} {unit = unit} {before = before} {after = after} r stop fails e
 
 -- nothing was done of which a device could fail
 pub ends-none : {T : Type 0} {unit : ℕ} {before after : Outside} (r : Result T StoreFault) → IfErr r IsNoDevice → NoFault before after → CallEnds unit before after r
-ends-none {unit = unit} {before = before} {after = after} r none same = record { cause = no-device r unit before after none; no_fault = λ goes. same }
+ends-none {unit = unit} {before = before} {after = after} r none same = record { cause = no-device r unit before after same none; no_fault = λ goes. same }
 
 -- a refusal
 pub ends-refused : {T : Type 0} {unit : ℕ} {before after : Outside} {r : Result T StoreFault} → IfErr r (FaultsAt unit before after) → NoFault before after → CallEnds unit before after r
@@ -47,7 +47,7 @@ ends-refused cause same = record { cause = cause; no_fault = λ goes. same }
 pub ends-after : {T : Type 0} {unit unit' : ℕ} {before mid after : Outside} (r : Result T StoreFault) → unit' ≡ unit → OnlyReads unit before mid → NoFault before mid → CallEnds unit' mid after r → CallEnds unit before after r
 ends-after (Ok x) same looks none e = record { cause = tt; no_fault = λ goes. NoFault-append none (e.no_fault goes) }
 ends-after (Err (Refused refusal)) same looks none e = record { cause = tt; no_fault = λ goes. NoFault-append none (e.no_fault goes) }
-ends-after {after = after} (Err (Stop stop)) same looks none e = record { cause = stops-on stop after same looks e.cause; no_fault = λ goes. absurd goes }
+ends-after {after = after} (Err (Stop stop)) same looks none e = record { cause = stops-on stop after same looks none e.cause; no_fault = λ goes. absurd goes }
 
 -- an answer that is this refusal is one
 pub range-refused : {T : Type 0} {r : Result T StoreFault} {refusal : Refusal} → IsErrOf r (Refused refusal) → IsRefused r

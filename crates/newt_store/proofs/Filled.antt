@@ -12,20 +12,21 @@ use Rattle.newt_spec_image.specs.Pages.{Change}
 use Rattle.newt_spec_image.specs.Objects.{Objects, pages_for}
 use Rattle.newt_spec_image.specs.Records.{version}
 use Rattle.newt_spec_graph.specs.Lists.{Among, Each, Pairs}
-use Rattle.newt_spec_graph.proofs.Lists.{among-append, among-left, among-right, each-at, each-from, each-list_all, none-some, some-same, pairs-append, pairs-flat_map, pairs-map, pairs-more, rises-above, rises-pairs}
+use Rattle.newt_spec_graph.proofs.Lists.{among-append, among-left, among-right, each-at, each-from, none-some, some-same, pairs-append, pairs-map, pairs-more, rises-above}
 use Rattle.newt_spec_store.specs.Cost.{cost, directory_bytes, directory_pages, entry_pages, soup_pages}
 use Rattle.newt_spec_store.specs.Image.{all_entries, entry_bytes}
 use Rattle.newt_spec_store.specs.Laid.{ApartIds}
 use Rattle.newt_spec_store.specs.Lies.{AreLarges, IsIn, LiesIn, Places}
 use Rattle.newt_spec_store.specs.Store.{Entry, Soup, Store}
-use Rattle.newt_spec_store.specs.Valid.{fits, valid, valid_soup, well_formed}
+use Rattle.newt_spec_store.specs.Valid.{fits, valid, well_formed}
 use Rattle.newt_laws_images.proofs.Assembled.{among-map, map-among}
 use Rattle.newt_laws_images.proofs.Chosen.{find-one, find-passes}
 use Rattle.newt_laws_images.proofs.Gathering.{image-by-objects}
 use Rattle.newt_laws_images.proofs.Known.{bare-good}
-use Rattle.newt_laws_images.proofs.Placed.{all-in, in-all, pairs-map-from, soups-rise}
+use Rattle.newt_laws_images.proofs.Placed.{all-in, in-all, pairs-map-from}
 use Rattle.newt_laws_images.proofs.Skeletons.{skeleton-graph}
-use Rattle.newt_laws_images.proofs.Stores.{is-soup, is-store}
+use Rattle.newt_laws_images.proofs.Stores.{is-store}
+use Rattle.newt_laws_images.proofs.Totals.{entries-apart}
 use Rattle.newt_laws_images.proofs.Whole.{lies-read}
 use Rattle.newt_laws_changes.proofs.Lying.{among-or-not}
 use Rattle.newt_laws_changes.proofs.Members.{same-or-not}
@@ -57,17 +58,6 @@ among-one x z (inl e) = e
 among-one x z (inr m) = absurd m
 
 -- ---- ids
-
-pub next-ids-none : (first : ℕ) → first % 2 ≡ 0 → AreNextIds first first []
-next-ids-none first even = record {
-  last_even = even;
-  no_less = omega arith;
-  even = λ id m. absurd m;
-  fit = λ id m. absurd m;
-  behind = λ id m. absurd m;
-  most = λ id m. absurd m;
-  once = tt;
-}
 
 pub next-ids-more : (first last next : ℕ) (ids : List ℕ) → AreNextIds first last ids → next ≡ last + 2 → next < 4294967296 → AreNextIds first next (ids ++ next ∷ [])
 next-ids-more first last next ids so is below = record {
@@ -226,21 +216,6 @@ plans-more es e id last next start mid now first batch after so one = record {
   pages = adds-as _ _ _ _ _ _ (sym (sum_by-append pages-full es (e ∷ []) ∙ ap (λ n. sum_by pages-full es + n) (sum-one pages-full e))) refl (adds-also _ _ _ _ _ _ _ so.pages one.pages);
   free = one.free;
 }
-
--- ---- the entries of a store
-
-entries-apart : (s : Store) → well_formed s ≡ true → Pairs ApartIds (all_entries s)
-entries-apart s w = pairs-flat_map ApartIds (λ (p : Soup). map_list (λ (e : Entry). (p.sig, e)) p.entries) s.soups
-    (each-from _ s.soups (λ p m. pairs-map-from ApartIds (λ (e : Entry). (p.sig, e)) p.entries (pairs-more (λ (a b : Entry). a.uid < b.uid) (λ (a b : Entry). ApartIds (p.sig, a) (p.sig, b)) p.entries
-    (λ a b _ _ less _ same. absurd (omega (arith, less, same)))
-    (pairs-map (λ m n. m < n) (λ (e : Entry). e.uid) p.entries (rises-pairs 0 p.next_uid (map_list (λ (e : Entry). e.uid) p.entries)
-    (is-soup p (each-at (λ (p : Soup). valid_soup p ≡ true) s.soups p (each-list_all valid_soup s.soups (is-store s w).soups_fit) m)).uids)))))
-    (pairs-more (λ (a b : Soup). a.sig < b.sig) (λ (p q : Soup). (x y : ℕ × Entry) → Among (map_list (λ (e : Entry). (p.sig, e)) p.entries) x → Among (map_list (λ (e : Entry). (q.sig, e)) q.entries) y → ApartIds x y) s.soups
-    (λ p q _ _ less x y m n same _. let v = among-map (λ (e : Entry). (p.sig, e)) p.entries x m in let u = among-map (λ (e : Entry). (q.sig, e)) q.entries y n in
-    let a : p.sig ≡ x.0 = ap {A = ℕ × Entry} {B = ℕ} (λ z. z.0) v.2 in
-    let b : q.sig ≡ y.0 = ap {A = ℕ × Entry} {B = ℕ} (λ z. z.0) u.2 in
-    absurd (omega (arith, less, same, a, b)))
-    (soups-rise s w))
 
 -- ---- lists of new entries
 

@@ -63,6 +63,17 @@ fresh-cost name sig blocks short many =
     let one : pages_for (length (directory_bytes (new_store name sig))) ≡ 1 = ap pages_for (fresh-bytes name sig) ∙ one-page (length name) short in
     omega (arith, one, enough-cap blocks many)
 
+-- a batch that puts its directory puts as many pages as it costs
+pub fresh-pages : (name : List ℕ) (sig : ℕ) (bytes : List ℕ) (first last : Change) → bytes ≡ directory_bytes (new_store name sig) → first ≡ no_change
+    → length last.puts ≡ length first.puts + pages_for (length bytes) → length last.puts ≡ cost (new_store name sig)
+fresh-pages name sig bytes first last is none count =
+    let empty : length first.puts ≡ 0 = ap (λ (c : Change). length c.puts) none in
+    let pages : pages_for (length bytes) ≡ pages_for (length (directory_bytes (new_store name sig))) = ap (λ (b : List ℕ). pages_for (length b)) is in
+    whole (length last.puts) (length first.puts) (pages_for (length bytes)) (pages_for (length (directory_bytes (new_store name sig)))) count empty pages
+  where
+    whole : (a b p q : ℕ) → a ≡ b + p → b ≡ 0 → p ≡ q → a ≡ q + 0
+    whole a b p q count empty pages = omega (arith, count, empty, pages)
+
 -- a fresh store lies in its directory alone
 pub fresh-lies : (name : List ℕ) (sig : ℕ) (bytes : List ℕ) → bytes ≡ directory_bytes (new_store name sig) → (lies : LiesIn (map.insert map.empty 0 bytes) (λ t u. None) (new_store name sig)) × ((r : ℕ) → lies.named r ≡ [])
 fresh-lies name sig bytes is = fresh_lies (map.insert map.empty 0 bytes) (new_store name sig) refl (record {

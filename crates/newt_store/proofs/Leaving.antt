@@ -3,7 +3,7 @@ use Rattle.std.proofs.Common.{◌≡◌, ℕ, ◌<◌, Bool, List, IsTrue, Resul
 use Rattle.newt_base.specs.declared.Refusal.TheVariants.{Full}
 use Rattle.newt_host.specs.Moments.{image, IsDurable, Leaves}
 use Rattle.newt_host.specs.Outside.{Outside, Spends}
-use Rattle.newt_host.proofs.Outside.{Touches-refl, Wears-refl}
+use Rattle.newt_host.proofs.Outside.{NoFault-refl, Touches-refl, Wears-refl}
 use Rattle.newt_spec_graph.specs.Lists.{Among}
 use Rattle.newt_spec_image.specs.Pages.{cap}
 use Rattle.newt_spec_store.specs.OfImage.{blocks_of}
@@ -37,9 +37,10 @@ leaves-memory place numbers standing told catalog book outside r memory = record
   sound = λ goes. absurd (memory-stops r memory goes);
   same_place = refl;
   nothing_done = λ is. refl;
+  unchanged = λ is. refl;
   open_after = λ tells. memory-on r _ memory;
   alone = Touches-refl (place book) outside;
-  ends = ends-memory r _ memory refl;
+  ends = ends-memory r _ (NoFault-refl outside) memory refl;
 }
 
 pub makes-memory : (told : Bool) (unit : ℕ) (next : Next) (catalog made : Catalog) (outside : Outside) (r : Result ℕ StoreFault) → IsMemory r → MakesNext told unit next catalog made outside outside r

@@ -1,5 +1,6 @@
 pub mod Writing
 pub mod Reading
+pub mod Readings
 pub mod Carrying
 pub mod Ids
 pub mod Fresh

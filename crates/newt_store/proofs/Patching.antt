@@ -22,7 +22,7 @@ use Rattle.newt_host.proofs.Moments.{Leaves-weaken}
 use Rattle.newt_host.proofs.Outside.{Spends-append, Spends-widen}
 use Rattle.newt_host.proofs.Ranges.{length-overwritten}
 use Rattle.newt_spec_image.specs.Pages.{cap}
-use Rattle.newt_spec_image.specs.Objects.{Objects, Extent, pages_for}
+use Rattle.newt_spec_image.specs.Objects.{Objects, pages_for}
 use Rattle.newt_spec_nsof.specs.Lengths.{skeleton}
 use Rattle.newt_spec_nsof.specs.Flat.{flat}
 use Rattle.newt_pagebook.specs.Book.{Numbers, IsOpenFor}
@@ -262,10 +262,6 @@ module _ (catalog : Catalog) (s : Store) (now : List ℕ) (stands : StandsFor ca
 
     pub no-path : find is-it row.larges ≡ None → is_some (large_in_entry node (entry_at sig uid s)) ≡ false
     no-path none = ap is_some (no-bytes none)
-
-pub object-there : (o : Option Extent) → is_some (option_map (λ x. x.length) o) ≡ true → IsSome o
-object-there None some = some
-object-there (Some x) some = refl
 
 -- ---- the first refusals
 

@@ -1,11 +1,11 @@
 -- An answer out of memory, of which most clauses say nothing.
-use Rattle.std.proofs.Common.{◌≡◌, ℕ, Result, Ok, Err, IfOk, IfErr, OnOk, IsErr, IsErrAnd, IsErrOf, sym, subst}
+use Rattle.std.proofs.Common.{◌≡◌, ℕ, Result, Ok, Err, IfOk, IfErr, OnOk, IsErr, IsErrAnd, IsErrOf, sym, ap, subst}
 use Rattle.newt_base.specs.declared.Refusal.TheVariants.{Full}
 use Rattle.newt_pagebook.specs.declared.book.Stop.TheVariants.{Memory, Device}
 use Rattle.newt_store_change.specs.declared.fault.StoreFault.{StoreFault}
 use Rattle.newt_store_change.specs.declared.fault.StoreFault.TheVariants.{Refused, Stop}
 use Rattle.newt_store_change.specs.Faults.{FaultsAt}
-use Rattle.newt_host.specs.Outside.{Outside}
+use Rattle.newt_host.specs.Outside.{NoFault, Outside}
 use Rattle.newt_store.specs.Next.{IsNoDevice}
 use Rattle.newt_store_change.specs.Faults.{GoesOn, IsRefused}
 
@@ -46,9 +46,21 @@ memory-refuses r is = by-memory r (λ x. IsRefused x → ⊥) is (λ refused. re
 pub memory-fits : {T : Type 0} (r : Result T StoreFault) → IsMemory r → IsErrOf r (Refused Full) → ⊥
 memory-fits r is = by-memory r (λ x. IsErrOf x (Refused Full) → ⊥) is (λ full. absurd (cc))
 
--- a fault that no device has needs no device that failed
-pub no-device : {T : Type 0} (r : Result T StoreFault) (unit : ℕ) (old new : Outside) → IfErr r IsNoDevice → IfErr r (FaultsAt unit old new)
-no-device (Ok x) unit old new none = tt
-no-device (Err (Refused refusal)) unit old new none = tt
-no-device (Err (Stop Memory)) unit old new none = tt
-no-device (Err (Stop (Device at))) unit old new none = absurd none
+-- an error that is want of memory
+memory-is : {T : Type 0} {fault : StoreFault} → IsErrOf {T = T} (Err fault) (Stop Memory) → fault ≡ Stop Memory
+memory-is same = cc
+
+-- it is one under any type of values
+pub memory-as : {T U : Type 0} (fault : StoreFault) → IsErrOf {T = T} (Err fault) (Stop Memory) → IsErrOf {T = U} (Err fault) (Stop Memory)
+memory-as {U = U} fault is = ap (λ (f : StoreFault). let r : Result U StoreFault = Err f in r) (memory-is is)
+
+-- a value is none
+pub memory-none : {T : Type 0} {x : T} → IsErrOf {T = T} (Ok x) (Stop Memory) → ⊥
+memory-none same = cc
+
+-- a fault that no device has needs no device that failed, where none did
+pub no-device : {T : Type 0} (r : Result T StoreFault) (unit : ℕ) (old new : Outside) → NoFault old new → IfErr r IsNoDevice → IfErr r (FaultsAt unit old new)
+no-device (Ok x) unit old new same none = tt
+no-device (Err (Refused refusal)) unit old new same none = tt
+no-device (Err (Stop Memory)) unit old new same none = same
+no-device (Err (Stop (Device at))) unit old new same none = absurd none

@@ -8,7 +8,7 @@ use Rattle.newt_base.specs.declared.Refusal.{Refusal}
 use Rattle.newt_base.specs.declared.Refusal.TheVariants.{Full}
 use Rattle.newt_host.specs.Moments.{Moment, image, IsDurable, Leaves}
 use Rattle.newt_host.specs.Outside.{Outside, Spends}
-use Rattle.newt_host.proofs.Outside.{Spends-refl, Spends-widen, Touches-refl, Wears-refl}
+use Rattle.newt_host.proofs.Outside.{NoFault-refl, Spends-refl, Spends-widen, Touches-refl, Wears-refl}
 use Rattle.newt_spec_store.specs.Cost.{directory_bytes, pages_bytes}
 use Rattle.newt_soupdir.specs.Bare.{bare_store}
 use Rattle.newt_host.proofs.Moments.{Leaves-start, Leaves-weaken}
@@ -45,10 +45,6 @@ use Rattle.newt_store.proofs.Unanswered.{IsMemory, memory-on, memory-err, memory
 
 abbrev pub failed : StoreFault → Result (Unit {0}) StoreFault
 failed fault = Err fault
-
-pub full-goes-on : (fault : StoreFault) → RefusesOnly Full fault → GoesOn (failed fault) → fault ≡ Refused Full
-full-goes-on (Refused refusal) only goes = ap (λ (r : Refusal). Refused r) only
-full-goes-on (Stop stop) only goes = absurd goes
 
 pub full-refused : (fault : StoreFault) → RefusesOnly Full fault → IsRefused (failed fault) → fault ≡ Refused Full
 full-refused (Refused refusal) only goes = ap (λ (r : Refusal). Refused r) only
@@ -226,11 +222,12 @@ commits-memory place numbers standing told objects bytes fetches book outside r 
   kept = λ goes. absurd (memory-stops r memory goes);
   same_place = refl;
   nothing_done = λ is. refl;
+  unchanged = λ is. refl;
   bound = λ tells room. spends-nothing (place book) bytes fetches outside;
   wears = λ tells room. wears-nothing (place book) outside;
   open_after = λ tells. memory-on r _ memory;
   alone = Touches-refl (place book) outside;
-  cause = memory-err r (FaultsAt (place book) outside outside) memory tt;
+  cause = memory-err r (FaultsAt (place book) outside outside) memory (NoFault-refl outside);
   no_fault = λ goes. absurd (memory-stops r memory goes);
 }
 

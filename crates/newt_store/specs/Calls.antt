@@ -3,10 +3,11 @@ use Rattle.std.specs.Prelude.{◌≡◌, ℕ, ◌+◌, ◌*◌, Bool, IsTrue, Li
 use Rattle.newt_nsof_flat.specs.Stream.{stream_graph}
 use Rattle.newt_host.specs.Moments.{Anything, IsDurable, image, Leaves}
 use Rattle.newt_host.specs.Outside.{Outside, NoFault, OnlyReads, Spends, Touches, Wears}
-use Rattle.newt_pagebook.specs.Book.{Numbers, IsOpenFor}
+use Rattle.newt_pagebook.specs.Book.{Numbers, IsOpenFor, format_bytes}
 use Rattle.newt_pagebook.specs.declared.book.BookFault.{BookFault}
 use Rattle.newt_pagebook.specs.declared.book.Stop.{Stop}
 use Rattle.newt_pagebook.specs.declared.book.Stop.TheVariants.{Memory}
+use Rattle.newt_spec_store.specs.Cost.{cost}
 use Rattle.newt_spec_store.specs.ImageStore.{store_of_image}
 use Rattle.newt_store_catalog.specs.Gathering.{Graphs}
 use Rattle.newt_store_catalog.specs.Readable.{readable}
@@ -28,6 +29,7 @@ use Rattle.newt_store_change.specs.Change.{changed_by, answer_of, first_checks, 
 use Rattle.newt_store_change.specs.Faults.{FaultsAt, GoesOn, IsRefused, RefusesWith}
 use Rattle.newt_store_change.specs.declared.change.Change.{Change}
 use Rattle.newt_store_change.specs.declared.fault.StoreFault.{StoreFault}
+use Rattle.newt_store_change.specs.declared.fault.StoreFault.TheVariants.{Stop as Ends}
 use Rattle.newt_store_catalog.specs.Stands.{Describes, IsSound, StandsFor}
 use Rattle.newt_store_catalog.specs.declared.catalog.Catalog.{Catalog}
 use Rattle.newt_store.specs.Next.{IsNextOf, IsPlanOf}
@@ -63,6 +65,8 @@ pub record FormatsUnit (told : Bool) (unit : ℕ) (fresh : PlainStore) (before a
   pub open_after : IsTrue told → OnOk result (IsOpenFor 0 (image unit after.now))
   pub unchanged : IsErrOf result Memory → after.now ≡ before.now
   pub any_moment : IsTrue told → Leaves unit Anything before.now after.now
+  -- each page of the store is written once, and nothing is read
+  pub costs : Spends unit (format_bytes (cost fresh)) 0 before after
   -- each block of a bank and each vote once
   pub wears : Wears unit (bank_blocks (before.blocks unit) + 3) 9 before after
   pub alone : Touches unit before after
@@ -151,14 +155,15 @@ module _ {B : Type 0} (place : B → ℕ) (numbers : B → Numbers) (stands : Bo
     pub ends : CallEnds (place old) before after result
 
   -- How a call that changes a store leaves book, catalog and unit: where the run goes on, the book
-  -- stands and what is kept in memory is sound; where it is refused, nothing has happened; and after
-  -- a change the bank is not closed.
+  -- stands and what is kept in memory is sound; where it is refused, and where memory is wanting,
+  -- nothing has happened; and after a change the bank is not closed.
   pub record LeavesStore (told : Bool) (catalog : Catalog) (old new : B) (before after : Outside)
       (result : Result ℕ StoreFault) : Type 0 where
     pub book : GoesOn result → stands told new after
     pub sound : GoesOn result → IsSound told catalog (numbers new) (place new) after
     pub same_place : place new ≡ place old
     pub nothing_done : IsRefused result → after.now ≡ before.now
+    pub unchanged : IsErrOf result (Ends Memory) → after.now ≡ before.now
     pub open_after : IsTrue told → OnOk result (IsOpenFor 0 (image (place old) after.now))
     pub alone : Touches (place old) before after
     pub ends : CallEnds (place old) before after result

@@ -21,8 +21,9 @@ use Rattle.newt_objects_commit.specs.Batch.{AddsPages, AreApart, AreOnce, HasEnt
 use Rattle.newt_objects_commit.specs.declared.batch.NewEntry.{NewEntry}
 use Rattle.newt_store.specs.Next.{IsEntryOf}
 
--- A directory and entries are those of this store, all of them in its order, and it may stand on a unit of so many blocks: it is valid there, its graphs are in
--- normal form, and its minutes fit in four bytes.
+-- A directory and entries are those of this store, all of them in its order, and it may stand on a
+-- unit of so many blocks: it is valid there, its graphs are in normal form, and its minutes fit in
+-- four bytes.
 pub record AreStore (blocks : ℕ) (s : Store) (d : Directory) (es : List FullEntry) : Type 0 where
   pub is_valid : valid blocks s ≡ true
   pub directory : bare s ≡ bare_store d
@@ -53,7 +54,8 @@ entry_name x = (x.0, x.1.uid)
 abbrev pub IsNewOf : FullEntry → NewEntry → Type 0
 IsNewOf e n = IsEntryOf e.soup e.uid e.time e.graph n
 
--- What is written for an entry: its record's object has this id, and those of its large binaries are behind the last one so far, up to another.
+-- What is written for an entry: its record's object has this id, and those of its large binaries
+-- are behind the last one so far, up to another.
 pub record IsNumbered (e : FullEntry) (id last next : ℕ) (n : NewEntry) : Type 0 where
   pub of_entry : IsNewOf e n
   pub id_is : n.id ≡ id
@@ -62,8 +64,8 @@ pub record IsNumbered (e : FullEntry) (id last next : ℕ) (n : NewEntry) : Type
   pub next_even : next % 2 ≡ 0
   pub no_less : last ≤ next
 
--- What is written for entries: for each one, in their order, with objects that no other has, of which records are below one id and large binaries are up to
--- another.
+-- What is written for entries: for each one, in their order, with objects that no other has, of
+-- which records are below one id and large binaries are up to another.
 pub record AreNew (es : List FullEntry) (id last : ℕ) (ns : List NewEntry) : Type 0 where
   pub names : map_list new_name ns ≡ map_list entry_name (map_list told es)
   pub of_entries : (n : NewEntry) → Among ns n → (e : FullEntry) × Among es e × IsNewOf e n
@@ -79,8 +81,8 @@ pub record AreNew (es : List FullEntry) (id last : ℕ) (ns : List NewEntry) : T
 abbrev pub AreFreeFrom : (id last : ℕ) → Held → Type 0
 AreFreeFrom id last objects = ((o : ℕ) → o % 2 ≡ 1 → id ≤ o → IsUnplanned objects o) × ((o : ℕ) → o % 2 ≡ 0 → last < o → IsUnplanned objects o)
 
--- One more entry can be planned: its record gets an odd id, the last large binary has an even one, no
--- object is held, no plan has one of the ids behind, and what is planned is on the way.
+-- One more entry can be planned: its record gets an odd id, the last large binary has an even one,
+-- no object is held, no plan has one of the ids behind, and what is planned is on the way.
 pub record HasRoomFrom (id last : ℕ) (objects : Held) (batch : Change) : Type 0 where
   pub odd : id % 2 ≡ 1
   pub even : last % 2 ≡ 0
@@ -104,7 +106,8 @@ pub record PlansEntries (es : List FullEntry) (id last : ℕ) (old : Held) (befo
   pub pages : AddsPages (sum_by (λ e. entry_pages (as_entry e)) es) 0 before after
   pub free : AreFreeFrom id last new
 
--- The batch makes of nothing objects that a store lies in, with as many puts as the store costs pages, for each store that a directory and entries are.
+-- The batch makes of nothing objects that a store lies in, with as many puts as the store costs
+-- pages, for each store that a directory and entries are.
 pub record WritesStore (d : Directory) (es : List FullEntry) (batch : Change) : Type 0 where
   pub objects : Held
   pub texts : Objects

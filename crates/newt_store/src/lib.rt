@@ -3,8 +3,9 @@
 //! on the codecs of directory and entry records. The directory is object 0, each entry's record and
 //! each large binary is an object of its own, and a change is one batch. The promise that it
 //! carries upwards: a store stands for one plain store, which is what its unit's image is read as;
-//! a change is the plain store's change or its first refusal, and whenever the power fails the
-//! image is read as the store before it or after it.
+//! a unit is made that of a fresh store or of a whole one, each page of which is written once; a
+//! change is the plain store's change or its first refusal, and whenever the power fails the image
+//! is read as the store before it or after it.
 #![tactic(auto)]
 
 mod carry;

@@ -1,11 +1,12 @@
 // Bytes of an entry's large binary are overwritten.
-ghost use Rattle.std.specs.Prelude.{IsTrue, ◌≡◌, ◌==◌, ◌*◌, ℕ, List, IsSome, IfOk};
+ghost use Rattle.std.specs.Prelude.{IsTrue, ◌≡◌, ◌==◌, ◌*◌, ℕ, List, IsSome, IfOk, IsErrOf};
 ghost use Rattle.std.specs.List.{find};
 ghost use Rattle.std.specs.Option.{option_map};
 ghost use Rattle.newt_base.specs.Refusals.{first_of};
 ghost use Rattle.newt_host.specs.Moments.{image};
 ghost use Rattle.newt_host.specs.Outside.{Spends};
 ghost use Rattle.newt_pagebook.specs.Book.{IsOpenFor};
+ghost use Rattle.newt_pagebook.specs.declared.book.Stop.TheVariants.{Memory};
 ghost use Rattle.newt_objects.specs.Held.{held};
 ghost use Rattle.newt_spec_store.specs.Store.{Store as PlainStore, entry_at};
 ghost use Rattle.newt_spec_store.specs.OfImage.{blocks_of};
@@ -68,7 +69,7 @@ fn find_large<P: PageBook, H: Host>(
 
 /// Puts these bytes in place of those of an entry's large binary from a place on: only the pages
 /// that they touch are written. After a refusal all is as it was; after a stop book and memory are
-/// spent.
+/// spent, but after want of memory nothing has happened to the unit.
 pub(crate) fn patch_entry<P: PageBook, H: Host>(
     alloc: Global,
     host: &mut H,
@@ -85,6 +86,8 @@ pub(crate) fn patch_entry<P: PageBook, H: Host>(
     ensures changes { (now : ℕ) → MakesChange P.place P.numbers P.stands H.told
         (Change.Patch sig uid node at bytes.now) now book.old catalog.old book.new catalog.new
         (H.outside host.old) (H.outside host.new) result }
+    ensures unchanged { IsErrOf result (StoreFault.Stop Memory) →
+        (H.outside host.new).now ≡ (H.outside host.old).now }
     // what it programs and fetches, whatever the answer, while the bank is not closed and has room
     // for that
     ensures costs { let image = image (P.place book.old) (H.outside host.old).now in

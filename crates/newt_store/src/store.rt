@@ -1,5 +1,5 @@
 // A store on one unit.
-ghost use Rattle.std.specs.Prelude.{IsTrue, ◌≡◌, ◌≤◌, ◌*◌, ℕ, Some, IfOk, is_some, List};
+ghost use Rattle.std.specs.Prelude.{IsTrue, ◌≡◌, ◌≤◌, ◌*◌, ℕ, Some, IfOk, IsErrOf, is_some, List};
 ghost use Rattle.std.specs.Option.{option_map};
 ghost use Rattle.newt_host.specs.Moments.{image, IsDurable};
 ghost use Rattle.newt_host.specs.Outside.{Spends};
@@ -123,7 +123,8 @@ impl<P: PageBook> Store<P> {
     }
 
     /// Makes a change at a minute, and answers the new id or soup signature, else 0. After a
-    /// refusal the store is as it was; after a stop it is spent.
+    /// refusal the store is as it was; after a stop it is spent, but after want of memory nothing
+    /// has happened to the unit: all of it is taken before anything is written.
     pub fn apply<H: Host>(
         &mut self,
         host: &mut H,
@@ -133,6 +134,8 @@ impl<P: PageBook> Store<P> {
         requires { IsOpen P.place P.numbers P.stands H.told self.old (H.outside host.old) }
         ensures changes { Changes P.place P.numbers P.stands H.told change now self.old self.new
             (H.outside host.old) (H.outside host.new) result }
+        ensures unchanged { IsErrOf result (StoreFault.Stop Stop.Memory) →
+            (H.outside host.new).now ≡ (H.outside host.old).now }
         // what it programs and fetches, whatever the answer, while the bank is not closed and has
         // room for that
         ensures costs { let image = image (unit_of P.place self.old) (H.outside host.old).now in

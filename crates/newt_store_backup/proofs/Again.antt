@@ -9,8 +9,8 @@ use Rattle.newt_nsof_read.proofs.Decoded.{written_is_read_again}
 use Rattle.newt_spec_store.specs.Store.{Store}
 use Rattle.newt_backup.specs.Backup.{IsKept, backup}
 use Rattle.newt_backup.proofs.Kept.{backup-graph}
-use Rattle.newt_store_backup.specs.Remade.{IsAsked, IsRemade, remade}
-use Rattle.newt_store_backup.proofs.Remade.{one-outcome}
+use Rattle.newt_store_backup.specs.Restored.{IsAsked, IsRestored, restored}
+use Rattle.newt_store_backup.proofs.Outcomes.{one-outcome}
 
 -- the text of a store's backup asks for it
 pub asks-again : (s : Store) → IsKept s → IsAsked (decoded (nsof (backup s))) (Ok s)
@@ -18,9 +18,9 @@ asks-again s kept =
     subst (λ (read : Result RawGraph NsofFault). IsAsked read (Ok s)) (sym (written_is_read_again (backup s) (backup-graph s kept))) (kept, refl)
 
 -- so it is restored, or refused for its device
-pub is-again : (s : Store) → IsKept s → (device : Option (List ℕ)) → IsRemade (nsof (backup s)) device (remade (Ok s) device)
+pub is-again : (s : Store) → IsKept s → (device : Option (List ℕ)) → IsRestored (nsof (backup s)) device (restored (Ok s) device)
 is-again s kept device = record { asked = Ok s; is_asked = asks-again s kept; is = refl }
 
 -- and nothing else
-pub one-again : (s : Store) → IsKept s → (device : Option (List ℕ)) (outcome : Result Store Refusal) → IsRemade (nsof (backup s)) device outcome → outcome ≡ remade (Ok s) device
-one-again s kept device outcome is = one-outcome (nsof (backup s)) device (remade (Ok s) device) outcome (is-again s kept device) is
+pub one-again : (s : Store) → IsKept s → (device : Option (List ℕ)) (outcome : Result Store Refusal) → IsRestored (nsof (backup s)) device outcome → outcome ≡ restored (Ok s) device
+one-again s kept device outcome is = one-outcome (nsof (backup s)) device (restored (Ok s) device) outcome (is-again s kept device) is

@@ -7,8 +7,6 @@ use Rattle.newt_host.specs.Outside.{Outside, OnlyReads}
 use Rattle.newt_pagebook.specs.declared.book.BookFault.{BookFault}
 use Rattle.newt_spec_image.specs.Pages.{cap}
 use Rattle.newt_objects_commit.proofs.Committing.{blocks-are}
-use Rattle.newt_objects_commit.specs.Names.{names_of}
-use Rattle.newt_objects_commit.specs.Places.{place_of}
 use Rattle.newt_soupdir.specs.declared.rows.Directory.{Directory}
 use Rattle.newt_soupdir.specs.declared.rows.SoupRow.{SoupRow}
 use Rattle.newt_soupdir.specs.Bare.{bare_soup, bare_store}
@@ -22,7 +20,7 @@ use Rattle.newt_store_catalog.specs.Reading.{SearchEnds}
 use Rattle.newt_store_catalog.specs.Stands.{StandsFor}
 use Rattle.newt_store_catalog.specs.declared.catalog.Catalog.{Catalog}
 use Rattle.newt_store_catalog.proofs.Exits.{Fails, no-value, search-fails}
-use Rattle.newt_store.proofs.Reading.{is-valid, read-back}
+use Rattle.newt_store.proofs.Reading.{is-valid}
 use Rattle.newt_entries.specs.declared.full.FullEntry.{FullEntry}
 use Rattle.newt_backup.specs.Backup.{IsKept, backup}
 use Rattle.newt_backup.specs.Contents.{store_in}
@@ -38,11 +36,6 @@ use Rattle.newt_store_backup.proofs.Listed.{all-listed}
 pub store-valid : (catalog : Catalog) (s : Store) (now : List ℕ) (blocks : ℕ) → StandsFor catalog s now → length now ≡ blocks * 4096 → blocks ≤ 4099 → valid 4099 s ≡ true
 store-valid catalog s now blocks at size few =
     valid-most blocks s few (is-valid blocks s at.describes.formed (subst (λ n. cost s ≤ cap n) (blocks-are now blocks size) at.fits))
-
--- and its image is read as it
-pub store-read : (catalog : Catalog) (s : Store) (now : List ℕ) → StandsFor catalog s now → readable now ≡ Some s
-store-read catalog s now at =
-    read-back catalog.directory (place_of catalog.places) (names_of catalog.names) at.texts s now at.holds at.describes at.fits at.keeps
 
 -- the signatures of its soups are those of its directory
 sigs-same : (ps : List Soup) → map (λ (p : Soup). p.sig) (map (λ (p : Soup). record p { entries = [] }) ps) ≡ map (λ (p : Soup). p.sig) ps

@@ -3,4 +3,5 @@ pub mod Steps
 pub mod Again
 pub mod Kept
 pub mod Restored
-pub mod Remade
+pub mod Outcomes
+pub mod Rows

@@ -1,4 +1,4 @@
 pub mod Listed
 pub mod Backed
 pub mod Written
-pub mod Remade
+pub mod Restored

@@ -1,18 +1,12 @@
 -- What is written of a unit's backup. All of it is this project's own.
-use Rattle.std.specs.Prelude.{ℕ, ◌||◌, nat_lt, List, Option, Some, None, option_map, if◌then◌else◌}
+use Rattle.std.specs.Prelude.{ℕ, ◌||◌, nat_lt, List, Option, Some, None, if◌then◌else◌}
 use Rattle.newt_base.specs.declared.Refusal.TheVariants.{Unit as NoUnit, Blocks, Nostore}
-use Rattle.newt_host.specs.Moments.{image}
-use Rattle.newt_host.specs.Outside.{Outside}
 use Rattle.newt_spec_nsof.specs.Written.{nsof}
 use Rattle.newt_spec_store.specs.OfImage.{blocks_of}
 use Rattle.newt_spec_store.specs.Store.{Store}
 use Rattle.newt_spec_world.specs.Reply as replies
 use Rattle.newt_backup.specs.Backup.{backup}
 use Rattle.newt_store_catalog.specs.Readable.{readable}
-
--- the image of the device of a unit, none where it has none
-abbrev pub device_on : ℕ → Outside → Option (List ℕ)
-device_on unit outside = option_map (λ name. image unit outside.now) (outside.card unit)
 
 -- the streamed text of a store's backup, or the line that there is none
 abbrev pub store_text : Option Store → List ℕ

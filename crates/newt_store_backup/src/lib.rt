@@ -12,14 +12,12 @@
 mod backup;
 mod gather;
 mod laws;
-mod remake;
 mod restore;
+mod restoring;
 mod text;
 
-pub use backup::backup_of;
 pub use laws::backups_are_restored;
-pub use remake::restore_text;
-pub use restore::{fits_on, restore_store};
+pub use restoring::restore_text;
 pub use text::backup_text;
 
 #[cfg(test)]

@@ -3,7 +3,8 @@ ghost use Rattle.std.specs.Prelude.{IfOk};
 ghost use Rattle.newt_host.specs.Moments.{IsDurable};
 ghost use Rattle.newt_memhost.specs.Outside.{outside_of};
 
-use crate::{backup_of, fits_on, restore_store};
+use crate::backup::backup_of;
+use crate::restore::{fits_on, restore_store};
 use newt_backup::read_backup;
 use newt_host::{Host, Unit};
 use newt_memhost::MemHost;

@@ -1,10 +1,11 @@
 //! What is written of a unit's backup.
 ghost use Rattle.std.specs.Prelude.{◌≡◌, ◌≤◌, IsTrue, IfOk, is_some};
+ghost use Rattle.newt_host.specs.Meanings.{device_on};
 ghost use Rattle.newt_host.specs.Moments.{IsDurable, image};
 ghost use Rattle.newt_host.specs.Outside.{OnlyReads};
 ghost use Rattle.newt_store_catalog.specs.Readable.{readable};
 ghost use Rattle.newt_store_catalog.specs.Reading.{ReadEnds};
-ghost use Rattle.newt_store_backup.specs.Written.{backed_up, device_on, store_text};
+ghost use Rattle.newt_store_backup.specs.Written.{backed_up, store_text};
 
 use crate::backup::backup_of;
 use newt_base::Refusal;

@@ -4,7 +4,7 @@ use Rattle.newt_host.specs.Moments.{image}
 use Rattle.newt_host.specs.Outside.{Outside, NoFault, OnlyReads, Rose}
 use Rattle.newt_host.proofs.Outside.{NoFault-append, OnlyReads-append, OnlyReads-refl}
 use Rattle.newt_pagebook.specs.Book.{Numbers}
-use Rattle.newt_pagebook.specs.Stops.{IsOpening, StopsAt}
+use Rattle.newt_pagebook.specs.Stops.{BlamesNone, StopsAt}
 use Rattle.newt_pagebook.specs.declared.book.BookFault.{BookFault}
 use Rattle.newt_pagebook.specs.declared.book.BookFault.TheVariants.{NotStore, Memory, Device}
 use Rattle.newt_pagebook.specs.declared.book.Stop.{Stop}
@@ -63,9 +63,9 @@ rose-on {unit = unit} {old = old} {mid = mid} new same one rose = go (subst (λ 
   go : Rose (mid.dev_faults unit) (new.dev_faults unit) → Rose (old.dev_faults unit) (new.dev_faults unit)
   go since = omega (arith, since, one.alone.faults_later)
 
-pub stops-on : (stop : Stop) {unit unit' : ℕ} {old mid : Outside} (new : Outside) → unit' ≡ unit → OnlyReads unit old mid → StopsAt unit' mid new stop → StopsAt unit old new stop
-stops-on stops.Memory new same one at = tt
-stops-on (stops.Device unit) new same one at = (at.0 ∙ same, rose-on new same one at.1)
+pub stops-on : (stop : Stop) {unit unit' : ℕ} {old mid : Outside} (new : Outside) → unit' ≡ unit → OnlyReads unit old mid → NoFault old mid → StopsAt unit' mid new stop → StopsAt unit old new stop
+stops-on stops.Memory new same one none at = NoFault-append none at
+stops-on (stops.Device unit) new same one none at = (at.0 ∙ same, rose-on new same one at.1)
 
 pub book-on : {B : Type 0} {place : B → ℕ} {numbers : B → Numbers} {stands : Bool → B → Outside → Type 0} {told : Bool} {a b c : B} {before between after : Outside}
     → BookReads place numbers stands told a b before between → BookReads place numbers stands told b c between after → BookReads place numbers stands told a c before after
@@ -133,14 +133,14 @@ pub of-reading : {B : Type 0} {place : B → ℕ} {numbers : B → Numbers} {spa
     → AreKept told objects (numbers a) (place a) before → ObjectReads place numbers spare stands told a b before after r → Reads place numbers stands told objects a b before after r
 of-reading kept x = record { book = with-kept kept x.book; ends = record { cause = x.cause; no_fault = x.no_fault } }
 
--- out of memory
-pub read-memory : {T : Type 0} {unit : ℕ} {before after : Outside} (r : Result T Stop) → IsErrAnd r (λ s. s ≡ stops.Memory) → ReadEnds unit before after r
-read-memory r fails = read-fails {T = Unit {0}} r stops.Memory fails (record { cause = tt; no_fault = tt })
+-- out of memory, where no fault was counted
+pub read-memory : {T : Type 0} {unit : ℕ} {before after : Outside} (r : Result T Stop) → NoFault before after → IsErrAnd r (λ s. s ≡ stops.Memory) → ReadEnds unit before after r
+read-memory r none fails = read-fails {T = Unit {0}} r stops.Memory fails (record { cause = none; no_fault = tt })
 
 -- after calls that only read
 pub read-after : {T : Type 0} {unit unit' : ℕ} {before mid after : Outside} (r : Result T Stop) → unit' ≡ unit → OnlyReads unit before mid → NoFault before mid → ReadEnds unit' mid after r → ReadEnds unit before after r
 read-after (Ok x) same looks none e = record { cause = tt; no_fault = NoFault-append none e.no_fault }
-read-after {after = after} (Err stop) same looks none e = record { cause = stops-on stop after same looks e.cause; no_fault = tt }
+read-after {after = after} (Err stop) same looks none e = record { cause = stops-on stop after same looks none e.cause; no_fault = tt }
 
 -- ---- why a search ends
 
@@ -150,11 +150,11 @@ search-value none = record { not_store = λ is. absurd (no-fault is); cause = λ
 pub search-none : {T : Type 0} {told : Bool} {unit : ℕ} {before after : Outside} → (IsTrue told → readable (image unit before.now) ≡ None) → NoFault before after → SearchEnds {T = T} told unit before after (Err NotStore)
 search-none reads none = record { not_store = λ is. reads; cause = λ is. absurd (no-device is); no_fault = λ opening. none }
 
-pub search-memory : {T : Type 0} {told : Bool} {unit : ℕ} {before after : Outside} → SearchEnds {T = T} told unit before after (Err Memory)
-search-memory {T = T} = record {
+pub search-memory : {T : Type 0} {told : Bool} {unit : ℕ} {before after : Outside} → NoFault before after → SearchEnds {T = T} told unit before after (Err Memory)
+search-memory {T = T} none = record {
   not_store = λ is. absurd (memory-store (fault-is {T = T} (Err Memory) Memory NotStore (λ i. Memory) is));
   cause = λ is. absurd (memory-device (fault-is {T = T} (Err Memory) Memory Device (λ i. Memory) is));
-  no_fault = λ opening. absurd opening;
+  no_fault = λ opening. none;
 }
 
 pub search-device : {T : Type 0} {told : Bool} {unit : ℕ} {before after : Outside} → Rose (before.dev_faults unit) (after.dev_faults unit) → SearchEnds {T = T} told unit before after (Err Device)
@@ -164,21 +164,21 @@ search-device {T = T} rose = record {
   no_fault = λ opening. absurd opening;
 }
 
-pub opening-is : (T U : Type 0) (f : BookFault) → IsOpening {T = U} (Err f) → IsOpening {T = T} (Err f)
-opening-is T U NotStore opening = tt
-opening-is T U Memory opening = absurd opening
-opening-is T U Device opening = absurd opening
+pub blames-is : (T U : Type 0) (f : BookFault) → BlamesNone {T = U} (Err f) → BlamesNone {T = T} (Err f)
+blames-is T U NotStore opening = tt
+blames-is T U Memory opening = tt
+blames-is T U Device opening = absurd opening
 
-opening-of : (T : Type 0) {U : Type 0} (r : Result U BookFault) (f : BookFault) → Fails r f → IsOpening r → IsOpening {T = T} (Err f)
-opening-of T (Ok x) f fails opening = absurd fails
-opening-of T {U = U} (Err e) f fails opening = subst (λ (x : BookFault). IsOpening {T = T} (Err x)) fails (opening-is T U e opening)
+blames-of : (T : Type 0) {U : Type 0} (r : Result U BookFault) (f : BookFault) → Fails r f → BlamesNone r → BlamesNone {T = T} (Err f)
+blames-of T (Ok x) f fails opening = absurd fails
+blames-of T {U = U} (Err e) f fails opening = subst (λ (x : BookFault). BlamesNone {T = T} (Err x)) fails (blames-is T U e opening)
 
 -- a fault that is handed on
 pub search-fails : {T U : Type 0} {told : Bool} {unit : ℕ} {before after : Outside} (r : Result U BookFault) (f : BookFault) → Fails r f → SearchEnds {T = T} told unit before after (Err f) → SearchEnds told unit before after r
 search-fails {T = T} r f fails e = record {
   not_store = λ is. e.not_store (ap Err (fault-is r f NotStore fails is));
   cause = λ is. e.cause (ap Err (fault-is r f Device fails is));
-  no_fault = λ opening. e.no_fault (opening-of T r f fails opening);
+  no_fault = λ opening. e.no_fault (blames-of T r f fails opening);
 }
 
 -- after calls that only read

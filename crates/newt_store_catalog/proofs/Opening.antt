@@ -8,15 +8,15 @@ use Rattle.std.specs.Option.{option_map}
 use Rattle.std.proofs.lemmas.Bool.{and_parts, and_from, eqb-true, eq-eqb, lt-ltb, ltb-true, leb-true, cases_lt}
 use Rattle.std.proofs.lemmas.List.{get_or_default}
 use Rattle.newt_spec_nsof.specs.Text.{AreBytes}
-use Rattle.newt_host.specs.Moments.{Moment, image, changes}
+use Rattle.newt_host.specs.Moments.{Moment, image}
 use Rattle.newt_host.specs.Outside.{Outside}
 use Rattle.newt_spec_image.specs.Pages.{Pages, pages}
 use Rattle.newt_spec_image.specs.Objects.{Extent, Table, Objects, IsTableOf, joined}
 use Rattle.newt_pagebook.specs.Book.{Numbers}
 use Rattle.newt_pagebook.specs.declared.book.BookFault.{BookFault}
-use Rattle.newt_objects.specs.Held.{Held, held, AreOf}
+use Rattle.newt_objects.specs.Held.{Held, held}
 use Rattle.newt_objects.specs.Changing.{HoldsObjects}
-use Rattle.newt_objects.proofs.Changing.{are_still, told_table, told_holds}
+use Rattle.newt_objects.proofs.Changing.{told_table, told_holds}
 use Rattle.newt_objects.proofs.Counting.{joined_size}
 use Rattle.newt_objects.proofs.Same.{texts_by}
 use Rattle.newt_objects.proofs.Whole.{image_whole}
@@ -55,15 +55,6 @@ not_true b t f = cc
 -- an answer is a fault
 pub the-fault : {X E : Type 0} {r : Result X E} {fault other : E} → r ≡ Err fault → fault ≡ other → r ≡ Err other
 the-fault {X} {E} is same = is ∙ ap (λ (f : E). let r : Result X E = Err f in r) same
-
--- ---- calls that change nothing
-
-pub still-kept : (told : Bool) (objects : Held) (numbers numbers' : Numbers) (unit unit' : ℕ) (old new : Outside) → AreKept told objects numbers unit old → unit' ≡ unit → numbers' ≡ numbers → new.now ≡ old.now → AreKept told objects numbers' unit' new
-still-kept told objects numbers numbers' unit unit' old new kept place same now = record {
-  none = kept.none;
-  are = subst (λ (u : ℕ). AreOf told (held objects) numbers' u new) (sym place)
-      (are_still told (held objects) (held objects) numbers numbers' unit old new (λ id. refl) same (ap (λ (m : Moment). changes unit m) now) kept.are);
-}
 
 -- ---- what is not read
 
@@ -202,11 +193,11 @@ even-by bytes (Ok row) h = even-rows bytes row h
 even-by bytes (Err e) h = tt
 
 -- the bytes of the rows' objects, none where one is missing
-abbrev bytes_of : Objects → EntryRow → Option (List (List ℕ))
+abbrev pub bytes_of : Objects → EntryRow → Option (List (List ℕ))
 bytes_of texts row = every (map_list (large_object (map.entries texts)) (map_list row_at row.larges))
 
 -- a record is read among objects as its entry, or not at all
-read-among : (texts : Objects) (bytes : List ℕ) (row : EntryRow) → record_read stream_graph bytes ≡ Some (said row)
+pub read-among : (texts : Objects) (bytes : List ℕ) (row : EntryRow) → record_read stream_graph bytes ≡ Some (said row)
     → (entry_read stream_graph texts bytes ≡ None) ⊎ ((e : Entry) × (entry_read stream_graph texts bytes ≡ Some (row.soup, e)) × (e.uid ≡ row.uid))
 read-among texts bytes row h = go (bytes_of texts row) refl
   where

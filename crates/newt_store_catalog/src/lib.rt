@@ -15,5 +15,5 @@ mod read;
 
 pub use catalog::Catalog;
 pub use gather::{Gatherer, Nothing};
-pub use open::open_catalog;
-pub use read::{read_row, read_whole};
+pub use open::{are_there, has_given, open_catalog};
+pub use read::{lies, read_row, read_whole};

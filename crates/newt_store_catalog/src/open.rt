@@ -160,7 +160,7 @@ fn read_record<P: PageBook, H: Host>(
 }
 
 /// Whether a soup of the directory has given this id.
-fn has_given(directory: &Directory, row: &EntryRow) -> bool
+pub fn has_given(directory: &Directory, row: &EntryRow) -> bool
     requires { IsTrue (well_formed (bare_store directory.now)) }
     ensures given { result ≡ true → HasGiven (bare_store directory.now) row.now.soup row.now.uid }
     ensures not_given { result ≡ false → HasGiven (bare_store directory.now) row.now.soup
@@ -183,7 +183,7 @@ fn is_there(objects: &Objects, row: &LargeAt) -> bool
 }
 
 /// Whether each object that rows name is there, with the row's length.
-pub(crate) fn are_there(objects: &Objects, rows: &[LargeAt]) -> bool
+pub fn are_there(objects: &Objects, rows: &[LargeAt]) -> bool
     ensures { result ≡ list_all (λ row. has_length (held objects.now) row) rows.now }
 {
     rows.iter().all(|row| is_there(objects, row))

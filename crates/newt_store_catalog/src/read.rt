@@ -17,9 +17,9 @@ use newt_pagebook::{PageBook, Stop};
 use newt_store_change::Entry;
 use std::alloc::Global;
 
-/// The device gave other bytes than were written. Over a host that tells its bytes this is never
-/// called; over another the run ends out of memory, since no fault was counted.
-fn lies<H: Host>() -> Stop
+/// Why a reading ends where the device gave other bytes than were written. Over a host that tells its
+/// bytes this is never called; over another it is want of memory, since no fault was counted.
+pub fn lies<H: Host>() -> Stop
     requires { IsTrue H.told → ⊥ }
     ensures { result ≡ Stop.Memory }
 {

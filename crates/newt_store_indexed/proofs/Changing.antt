@@ -27,7 +27,7 @@ use Rattle.newt_store.proofs.Reading.{read-back}
 use Rattle.newt_store.specs.declared.store.Store.{Store}
 use Rattle.newt_store.specs.Calls.{CallEnds, Shows, Reads, Changes}
 use Rattle.newt_store.proofs.Ends.{ends-after, wears-after, wears-none}
-use Rattle.newt_store_indexed.proofs.Reading.{shows-on}
+use Rattle.newt_store.proofs.Readings.{shows-on}
 
 -- nothing has happened yet
 leaves-before : (catalog : Catalog) (change : Change) (now blocks : ℕ) (s : PlainStore) (unit : ℕ) (old new : Moment) → new ≡ old → StandsFor catalog s (image unit old) → IsDurable unit old

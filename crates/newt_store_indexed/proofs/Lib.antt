@@ -4,7 +4,6 @@ pub mod Told
 pub mod Filled
 pub mod Listed
 pub mod Ends
-pub mod Reading
 pub mod Changing
 pub mod Turns
 pub mod Carded

@@ -2,19 +2,9 @@
 use Rattle.std.proofs.Common.{◌≡◌, ap, Ok, Err}
 use Rattle.std.specs.Prelude.{Result, IsErrOf}
 use Rattle.newt_pagebook.specs.declared.book.BookFault.{BookFault}
-use Rattle.newt_pagebook.specs.declared.book.BookFault.TheVariants.{NotStore, Memory, Device}
 
 pub never-ok : {T E P : Type 0} (x : T) (e : E) → IsErrOf (Ok x) e → P
 never-ok {T} {E} x e h = absurd (let k : ◌≡◌ {A = Result T E} (Ok x) (Err e) = h in cc)
-
-pub never-err : {T P : Type 0} (f g : BookFault) → (f ≡ g → ⊥) → IsErrOf {T = T} (Err f) g → P
-never-err {T} f g apart h = absurd (apart (let k : ◌≡◌ {A = Result T BookFault} (Err f) (Err g) = h in cc))
-
-pub memory-apart : (Memory ≡ NotStore → ⊥) × (Memory ≡ Device → ⊥)
-memory-apart = (λ h. cc, λ h. cc)
-
-pub device-apart : Device ≡ NotStore → ⊥
-device-apart h = cc
 
 -- a fault that is handed on is the one of the call
 pub same-fault : {S T : Type 0} (f g : BookFault) → IsErrOf {T = T} (Err f) g → IsErrOf {T = S} (Err f) g

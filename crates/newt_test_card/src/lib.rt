@@ -4,10 +4,10 @@
 //! failure. No test stands here, and no contract says more than that a store goes on.
 //!
 //! A line is a change: `make NAME`, `drop SOUP`, `add SOUP TEXT`, `remove SOUP UID`, `move SOUP UID
-//! SOUP`, `replace SOUP UID TEXT`, `index SOUP DECLARED`, `unindex SOUP DECLARED` and `tags SOUP
-//! DECLARED`, with ` @MINUTE` behind it where the minute is not 0. Its reply is its answer or the
-//! word of its refusal. Bytes are spelt in digits, `00*3` for `000000`. A change that is refused
-//! changes nothing.
+//! SOUP`, `replace SOUP UID TEXT`, `index SOUP DECLARED`, `unindex SOUP DECLARED`, `tags SOUP
+//! DECLARED` and `info SOUP TEXT`, or `info SOUP` for none, with ` @MINUTE` behind it where the
+//! minute is not 0. Its reply is its answer or the word of its refusal. Bytes are spelt in digits,
+//! `00*3` for `000000`. A change that is refused changes nothing.
 //!
 //! A change behind `cut` changes something, and a crash within each of its calls leaves the store
 //! before it or after it; behind `resume` that store also takes an entry. Behind `record` the reply

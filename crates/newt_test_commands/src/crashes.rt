@@ -2,7 +2,7 @@
 
 use newt_host::Unit;
 use newt_memhost::Pick;
-use newt_test_scripts::{expect_all_safe, expect_halts, image, run_table};
+use newt_test_scripts::{expect_all_safe, expect_halts, expect_thrown, image, run_table};
 use std::test::Fail;
 
 /// What a next run is asked, and told to go on with.
@@ -19,6 +19,14 @@ unmount 0
 mount 0
 get 0 S 0
 soups 0
+";
+
+/// What a next run reads, without a change.
+const READ: &[u8] = b"mount 0
+soups 0
+getx 0 S 0
+getx 0 S 1
+vread 0 S 0 v 0 2
 ";
 
 const PICKS: &[Pick] = &[Pick::Old, Pick::New, Pick::Half, Pick::Fill(0xFF)];
@@ -69,6 +77,14 @@ notes 0 => ok 3 change 0 0 0, change 0 0 0
 #[test]
 fn leaves_a_store_before_or_after_each_save(rt: HostRuntime) -> Result<(), Fail> {
     expect_all_safe(rt.alloc(), SAVES, LOOK, &[Unit(0)], PICKS)
+}
+
+#[test]
+fn goes_on_behind_each_call_of_a_save_that_fails(rt: HostRuntime) -> Result<(), Fail> {
+    if expect_thrown(rt.alloc(), SAVES, READ)? == 0 {
+        return Err(Fail::new("no call of a device"));
+    }
+    Ok(())
 }
 
 /// Patches that fill the first bank, so that one of them goes on in the other bank.

@@ -1,12 +1,15 @@
 -- Worlds with watches and working copies.
-use Rattle.std.specs.Prelude.{ℕ, List, [], ◌∷◌, ◌++◌, map, codes}
+use Rattle.std.specs.Prelude.{ℕ, ◌+◌, zero, suc, List, [], ◌∷◌, ◌++◌, map, codes, replicate, None}
 use Rattle.newt_graph.specs.Graph.{RawGraph, integer}
+use Rattle.newt_graph.specs.declared.node.Node.{Node}
+use Rattle.newt_graph.specs.declared.node.Node.TheVariants.{Array}
+use Rattle.newt_graph.specs.declared.node.Ref.TheVariants.{Node as At}
 use Rattle.newt_spec_world.specs.declared.command.Command.{Command}
 use Rattle.newt_spec_world.specs.declared.command.Command.TheVariants as command
 use Rattle.newt_spec_world.specs.Reply.{reply_line}
 use Rattle.newt_spec_whole.specs.Whole.{bare_whole}
 use Rattle.newt_spec_whole.specs.Answer.{whole_replies, whole_later}
-use Rattle.newt_test_definitions.specs.Worlds.{blank_units, with_value, fresh, S}
+use Rattle.newt_test_definitions.specs.Worlds.{blank_units, with_value, fresh, string, S}
 
 -- an integer alone
 abbrev pub a_number : ℕ → RawGraph
@@ -15,6 +18,22 @@ a_number n = record { nodes = []; root = integer n }
 -- {a: n}
 abbrev pub with_a : ℕ → RawGraph
 with_a n = with_value (codes "a") (integer n)
+
+-- {c: 1}
+abbrev pub with_c : RawGraph
+with_c = with_value (codes "c") (integer 1)
+
+-- a string that takes a second page
+abbrev pub long_string : RawGraph
+long_string = string (replicate 300 120)
+
+-- so many arrays around an empty one, the first of them at this place
+abbrev pub arrays_from : ℕ → ℕ → List Node
+arrays_from at zero = Array None [] ∷ []
+arrays_from at (suc n) = Array None (At (at + 1) ∷ []) ∷ arrays_from (at + 1) n
+
+abbrev pub arrays_around : ℕ → RawGraph
+arrays_around n = record { nodes = arrays_from 0 n; root = At 0 }
 
 -- what is said after the first commands, on one card or on two
 abbrev pub said_beside : ℕ → List Command → List Command → List (List ℕ)

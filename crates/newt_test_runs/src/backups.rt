@@ -58,7 +58,14 @@ fn says_why_there_is_none(rt: HostRuntime) -> Result<(), Fail> {
         let mut host = over(alloc, b"", &small, &blank)?;
         expect_end(alloc, text, &mut host, Status::Ok, output)?;
     }
-    Ok(())
+    let mut large = over(alloc, b"", &blocks(alloc, 4100)?, &[])?;
+    expect_end(
+        alloc,
+        "backup a",
+        &mut large,
+        Status::Ok,
+        b"error 27 blocks\n",
+    )
 }
 
 #[test]

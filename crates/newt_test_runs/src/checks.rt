@@ -103,8 +103,9 @@ add 0 S {b: 2} => ok 1
 /// leaves the bank by a byte, one that nothing stands behind; payloads that do not end where they
 /// say; a part that is too high, one that is missing, one that stands twice; a directory that is
 /// missing, cut short, without a name; a record of another soup, of an id that is not given, of one
-/// that is named before, of another version, with a large binary of another length; a large binary
-/// that is not named, and one that is named twice.
+/// that is named before, of another version, with a large binary of another length; one of 65,535
+/// large binaries, so that those of it are not named either; a large binary that is not named, and
+/// one that is named twice.
 const LARGE_DAMAGES: &[(usize, &[u8], &[u8])] = &[
     (12288, b"M", b"ok damaged header 12288\n"),
     (12294, b"\x01", b"ok damaged header 12288\n"),
@@ -126,6 +127,7 @@ const LARGE_DAMAGES: &[(usize, &[u8], &[u8])] = &[
     (15980, b"\0\0\0\0", b"ok damaged entry 3\n"),
     (15988, b"\x03", b"ok damaged entry 3\n"),
     (13981, b"\0\0\0\x03", b"ok damaged entry 1\n"),
+    (13901, b"\xFF\xFF", b"ok damaged entry 1\n"),
     (15964, b"\0\0\0\x08", b"ok damaged large 8\n"),
     (13977, b"\0\0\0\x02", b"ok damaged large 2\n"),
     (13965, b"\0\0\0\x04", b"ok damaged large 2\n"),
@@ -137,6 +139,26 @@ fn names_the_first_damage_among_entries(rt: HostRuntime) -> Result<(), Fail> {
     let card = card_of(alloc, LARGES)?;
     expect_said(alloc, &card, b"ok clean 1 2 5\n")?;
     expect_damages(alloc, &card, LARGE_DAMAGES)
+}
+
+/// A new store whose record puts 39 pages in place of one, and 13 blocks take 38: those behind the
+/// directory are large binaries without bytes, which no entry names.
+fn crowded(alloc: Global) -> Result<Vec<u8>, Fail> {
+    let mut bytes = card_of(alloc, FORMAT)?;
+    patch(&mut bytes, 12305, b"\0\0\x4E\xA0\0\x27")?;
+    for page in 1..39u8 {
+        let mut put = [0u8; 516];
+        put[3] = page;
+        put[7] = page * 2;
+        patch(&mut bytes, 12313 + 516 * page as usize, &put)?;
+    }
+    Ok(bytes)
+}
+
+#[test]
+fn names_a_large_binary_before_the_cost(rt: HostRuntime) -> Result<(), Fail> {
+    let alloc = rt.alloc();
+    expect_said(alloc, &crowded(alloc)?, b"ok damaged large 2\n")
 }
 
 #[test]
@@ -151,7 +173,14 @@ fn says_why_nothing_is_looked_through(rt: HostRuntime) -> Result<(), Fail> {
         let mut host = over(alloc, b"", &small, &[])?;
         expect_end(alloc, text, &mut host, Status::Ok, output)?;
     }
-    Ok(())
+    let mut large = over(alloc, b"", &blocks(alloc, 4100)?, &[])?;
+    expect_end(
+        alloc,
+        "check a",
+        &mut large,
+        Status::Ok,
+        b"error 27 blocks\n",
+    )
 }
 
 #[test]

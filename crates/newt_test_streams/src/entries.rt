@@ -12,11 +12,10 @@ use std::test::*;
 /// The soup, the id and the minute of an entry, and whether its row is written as the same record;
 /// or that there is none.
 pub(crate) fn entry(alloc: Global, bytes: &[u8]) -> Result<String, Fail> {
-    let read = match read_entry(alloc, bytes) {
-        Ok(read) => read,
+    let row = match read_entry(alloc, bytes) {
+        Ok(row) => row,
         Err(fault) => return Ok(format!(in alloc; "{fault:?}")?),
     };
-    let row = read.copy()?;
     if row.soup.0 > 65_535 || row.larges.list().len() > 65_535 {
         return Err("a larger row".into());
     }

@@ -3,7 +3,7 @@ use Rattle.std.proofs.Common.{◌≡◌, ◌≢◌, inl, ℕ, ◌<◌, List, [],
 use Rattle.newt_host.specs.Meanings.{since}
 use Rattle.newt_host.specs.Outside.{Outside, Rose}
 use Rattle.newt_script_session.specs.Calls.{Faults}
-use Rattle.newt_script_session.specs.Causes.{HasCause, HasSinkCause, NeverLess}
+use Rattle.newt_script_session.specs.Causes.{HasCause, HasSinkCause, NeverLess, NoStreamFault}
 use Rattle.newt_script_session.specs.Named.{CountedNamed}
 use Rattle.newt_script_session.specs.Script.{script_items}
 use Rattle.newt_script_session.proofs.Throwing.{threw_none}
@@ -12,16 +12,16 @@ use Rattle.newt_script_session.specs.declared.halt.Halt.TheVariants.{Memory, Sou
 use Rattle.newt_spec_whole.specs.Step.{WholeStep}
 use Rattle.newt_store_catalog.specs.Readable.{readable}
 use Rattle.newt_top.specs.Calls.{RunEnds}
-use Rattle.newt_top.specs.Status.{HasRunThrough, HasStatusCause, IsFaultFree, IsFaultless, ReadsDevice, StatusFaults, status_of}
+use Rattle.newt_top.specs.Status.{HasRunThrough, HasStatusCause, IsFaultFree, IsFaultless, NeedsDevice, StatusFaults, status_of}
 use Rattle.newt_top.specs.declared.status.Mode.{Mode}
 use Rattle.newt_top.specs.declared.status.Status.{Status}
 use Rattle.newt_top.specs.declared.status.Status.TheVariants as statuses
-use Rattle.newt_top.specs.Whole.{converted, HaltedWhole, HasReadCause}
+use Rattle.newt_top.specs.Converting.{converted, HaltedConverting, HasReadCause}
 use Rattle.newt_top.specs.declared.status.Conversion.{Conversion}
 
 -- nothing was written
 pub halted_reading : (conversion : Conversion) (limit : ℕ) (halt : Halt) (before after : Outside) (input old now : List ℕ)
-    → HasReadCause halt before after → (halt ≡ TooLong → limit < length input) → now ≡ old → HaltedWhole conversion limit halt input old now
+    → HasReadCause halt before after → (halt ≡ TooLong → limit < length input) → now ≡ old → HaltedConverting conversion limit halt input old now
 halted_reading conversion limit Memory before after input old now cause long same = (converted conversion input, record { done = []; split = refl; out = same ∙ sym (append-nil old) })
 halted_reading conversion limit TooLong before after input old now cause long same = (long refl, same)
 halted_reading conversion limit Source before after input old now cause long same = same
@@ -31,7 +31,7 @@ halted_reading conversion limit Sink before after input old now cause long same 
 
 module _ (mode : Option Mode) (old new : Outside) where
   complete_of : (status : Status) → HasStatusCause mode status old new → ¬ Rose old.in_faults new.in_faults → ¬ Rose old.out_faults new.out_faults
-      → (ReadsDevice mode → ¬ Rose (old.dev_faults 0) (new.dev_faults 0)) → IsFaultless status
+      → (NeedsDevice mode → ¬ Rose (old.dev_faults 0) (new.dev_faults 0)) → IsFaultless status
   complete_of statuses.Ok cause source sink device = tt
   complete_of statuses.Usage cause source sink device = tt
   complete_of statuses.Memory cause source sink device = tt
@@ -51,17 +51,17 @@ module _ (mode : Mode) (old new : Outside) where
   pub ends_ok : HasRunThrough (Some mode) old new → NeverLess old new → RunEnds mode statuses.Ok old new
   ends_ok through later = ends_quiet statuses.Ok tt through (λ same. absurd (cc)) later
 
-  pub ends_halted : {T : Type 0} (halt : Halt) → Faults {T = T} HasCause (Err halt) old new → RunEnds mode (status_of halt) old new
-  ends_halted Memory f = ends_quiet statuses.Memory tt tt (λ same. absurd (cc)) f.later
-  ends_halted Source f = ends_quiet statuses.Source f.cause tt (λ same. absurd (cc)) f.later
-  ends_halted Sink f = ends_quiet statuses.Sink f.cause tt (λ same. absurd (cc)) f.later
-  ends_halted TooLong f = ends_quiet statuses.TooLong tt tt (λ same. absurd (cc)) f.later
+  pub ends_halted : {T : Type 0} (halt : Halt) → (NoStreamFault old new → HasRunThrough (Some mode) old new) → Faults {T = T} HasCause (Err halt) old new → RunEnds mode (status_of halt) old new
+  ends_halted Memory through f = ends_quiet statuses.Memory (through f.cause) tt (λ same. absurd (cc)) f.later
+  ends_halted Source through f = ends_quiet statuses.Source f.cause tt (λ same. absurd (cc)) f.later
+  ends_halted Sink through f = ends_quiet statuses.Sink f.cause tt (λ same. absurd (cc)) f.later
+  ends_halted TooLong through f = ends_quiet statuses.TooLong (through f.cause) tt (λ same. absurd (cc)) f.later
 
-  pub ends_counting : {T : Type 0} (halt : Halt) → Faults {T = T} HasSinkCause (Err halt) old new → RunEnds mode (status_of halt) old new
-  ends_counting Memory f = ends_quiet statuses.Memory tt tt (λ same. absurd (cc)) f.later
-  ends_counting Source f = absurd f.cause
-  ends_counting Sink f = ends_quiet statuses.Sink f.cause tt (λ same. absurd (cc)) f.later
-  ends_counting TooLong f = absurd f.cause
+  pub ends_counting : {T : Type 0} (halt : Halt) → (NoStreamFault old new → HasRunThrough (Some mode) old new) → Faults {T = T} HasSinkCause (Err halt) old new → RunEnds mode (status_of halt) old new
+  ends_counting Memory through f = ends_quiet statuses.Memory (through f.cause) tt (λ same. absurd (cc)) f.later
+  ends_counting Source through f = absurd f.cause
+  ends_counting Sink through f = ends_quiet statuses.Sink f.cause tt (λ same. absurd (cc)) f.later
+  ends_counting TooLong through f = absurd f.cause
 
 -- memory was refused before a device was attached
 pub counted_nothing : (script : List ℕ) (names : List (List ℕ)) (old : Outside) → ((unit : ℕ) → since old unit ≡ None) → CountedNamed {T = Unit {0}} WholeStep readable script (Err Memory) names old old
@@ -70,6 +70,6 @@ counted_nothing script names old never = record {
   out = tt;
   halted = inl refl;
   threw = threw_none old.dev_faults old.dev_faults (λ unit. refl);
-  failed = tt;
+  failed = λ unit none. refl;
   crash = λ unit t left out at some. let apart : None ≡ Some t = sym (never unit) ∙ at in absurd (cc);
 }

@@ -2,7 +2,7 @@
 use Rattle.std.proofs.Common.{◌≡◌, inl, inr, ℕ, zero, suc, ◌*◌, ◌≤◌, Bool, true, false, List, [], ◌∷◌, ◌++◌, length, Option, Some, None, IsSome, Result, Ok as Good, Err as Bad, is_err, refl, sym, ◌∙◌, ap, subst, arith}
 use Rattle.std.specs.Prelude.{slice_get, option_map, option_and_then}
 use Rattle.std.proofs.lemmas.Bool.{cases_lt}
-use Rattle.newt_host.specs.Meanings.{out_of, since}
+use Rattle.newt_host.specs.Meanings.{device_on, out_of, since}
 use Rattle.newt_host.specs.Moments.{Attached, Change, IsDurable, IsHistory, LeftBy, Moment, Always, here, bytes_after, changes, image, moment_at, output}
 use Rattle.newt_host.specs.Outside.{Outside, NoFault, OnlyReads, PrintsSome, Rose, SameWork, Wears}
 use Rattle.newt_host.proofs.Extending.{extends-always}
@@ -20,7 +20,6 @@ use Rattle.newt_script_session.specs.Named.{AtEachMoment, held_by}
 use Rattle.newt_script_session.specs.Stream.{Puts, WroteSome}
 use Rattle.newt_script_session.specs.declared.halt.Halt.TheVariants.{Sink as NoSink}
 use Rattle.newt_script_session.proofs.Counting.{faults_err, never_of, none-append}
-use Rattle.newt_store_backup.specs.Written.{device_on}
 use Rattle.newt_top.specs.Calls.{RunEnds}
 use Rattle.newt_top.specs.Reading.{IsSaid, RanReading, WroteSaid}
 use Rattle.newt_top.specs.declared.status.Mode.TheVariants.{Read}
@@ -160,9 +159,9 @@ free-read old mid looked free looks = record { in_faults = looks.alone.in_faults
 pub none-attached : (told : Bool) (names : List (List ℕ)) (old mid : Outside) → AreAttached told names old mid → NoFault old mid
 none-attached told names old mid a = record { in_faults = a.in_faults; out_faults = a.out_faults; dev_faults = a.counts.dev_faults }
 
--- out of memory
-pub ends-memory : (reading : Reading) (old looked : Outside) → NoStreamFault old looked → RunEnds (Read reading) Memory old looked
-ends-memory reading old looked free = ends_quiet (Read reading) old looked Memory tt tt (λ same. absurd (cc)) (never_of free)
+-- out of memory, where no fault was counted
+pub ends-memory : (reading : Reading) (old looked : Outside) → NoStreamFault old looked → NoFault old looked → RunEnds (Read reading) Memory old looked
+ends-memory reading old looked free none = ends_quiet (Read reading) old looked Memory none tt (λ same. absurd (cc)) (never_of free)
 
 -- the device failed
 pub ends-device : (reading : Reading) (old mid looked : Outside) → NoStreamFault old looked → mid.dev_faults 0 ≡ old.dev_faults 0 → Rose (mid.dev_faults 0) (looked.dev_faults 0) → RunEnds (Read reading) (Device 0) old looked
@@ -179,6 +178,7 @@ ends-put {T} {E} reading told (Good x) old looked new free none call =
     )
 ends-put {T} {E} reading told (Bad e) old looked new free none call = (
   λ fails. ends_halted (Read reading) old new {T = T} NoSink
+      (λ same. record { in_faults = same.in_faults; out_faults = same.out_faults; dev_faults = λ unit. call.devices.counts.dev_faults unit ∙ none.dev_faults unit })
       (faults_err (OutputFailed {E = E}) HasCause old looked new free {T = T} {U = T} (Bad NoSink) e NoSink refl (λ rose. omega (arith, rose, free.out_faults)) call.faults),
   λ works. absurd (cc),
 )

@@ -1,5 +1,5 @@
 -- A store is restored: what the reading of the input before leaves.
-use Rattle.std.proofs.Common.{◌≡◌, refl, sym, ◌∙◌, ap, subst, ℕ, ◌<◌, ◌≤◌, true, List, [], ◌++◌, length, Option, Some, None, Result, Ok as Made, Err as Refused, arith}
+use Rattle.std.proofs.Common.{◌≡◌, refl, sym, ◌∙◌, ap, subst, ℕ, ◌+◌, ◌<◌, ◌≤◌, true, List, [], ◌++◌, length, Option, Some, None, Result, Ok as Made, Err as Refused, arith}
 use Rattle.std.specs.Prelude.{option_and_then, slice_get}
 use Rattle.newt_base.specs.declared.Refusal.{Refusal}
 use Rattle.newt_host.specs.Meanings.{out_of, since}
@@ -11,12 +11,14 @@ use Rattle.newt_script_session.specs.Named.{AtEachMoment, held_by}
 use Rattle.newt_script_session.specs.Stream.{WroteSome}
 use Rattle.newt_script_session.specs.declared.halt.Halt.{Halt}
 use Rattle.newt_script_session.specs.declared.halt.Halt.TheVariants as halts
+use Rattle.newt_pagebook.specs.Book.{format_bytes}
+use Rattle.newt_spec_store.specs.Cost.{cost}
 use Rattle.newt_spec_store.specs.Store.{Store}
-use Rattle.newt_store_backup.specs.Remade.{IsRemade}
+use Rattle.newt_store_backup.specs.Restored.{IsRestored}
 use Rattle.newt_top.specs.Reading.{OnlyReadsDevices}
 use Rattle.newt_top.specs.Restoring.{CrashLeaves, RanRestored, RanRestoring, Replied, WroteRestored}
 use Rattle.newt_top.specs.Status.{status_of}
-use Rattle.newt_top.specs.Whole.{HasReadCause}
+use Rattle.newt_top.specs.Converting.{HasReadCause}
 use Rattle.newt_top.specs.declared.status.Status.{Status}
 use Rattle.newt_top.specs.declared.status.Status.TheVariants.{Ok, Usage, Memory, Device, Source, Sink, TooLong}
 
@@ -30,6 +32,10 @@ same-read old new same = λ unit.
     let work = same.counts.work unit in
     (omega (arith, work.programmed), record { erased = omega (arith, work.erased); synced = omega (arith, work.synced) })
 
+-- what was not programmed is within any bound
+no-more : (a b n : ℕ) → b ≡ a → b ≤ a + n
+no-more a b n same = omega (arith, same)
+
 -- the reading of the input was halted
 pub halted-restoring : (names : List (List ℕ)) (limit : ℕ) (halt : Halt) (old new : Outside) → HasReadCause halt old new → (halt ≡ halts.TooLong → limit < length old.input)
     → out_of new ≡ out_of old → SameDevices true old new → ((unit : ℕ) → changes unit old.now ≡ []) → RanRestoring names limit (status_of halt) old new
@@ -37,6 +43,7 @@ halted-restoring names limit halts.Memory old new cause long quiet same fresh = 
   wrote = quiet;
   crash = λ outcome is. go outcome;
   no_memory = λ status. no-moment new _ none;
+  once = λ s asked. no-more (old.programmed 0) (new.programmed 0) (format_bytes (cost s)) (same.counts.work 0).programmed;
 }
   where
     none : (unit : ℕ) → changes unit new.now ≡ []
@@ -60,11 +67,11 @@ module _ (names : List (List ℕ)) (old mid new : Outside) (quiet : out_of mid �
       go None = refl
       go (Some name) = same.cards.devices name
 
-  is-over : (input : List ℕ) (outcome : Result Store Refusal) → IsRemade input (held_by names mid 0) outcome → IsRemade input (held_by names old 0) outcome
-  is-over input outcome is = subst (λ (d : Option (List ℕ)). IsRemade input d outcome) (held-same 0) is
+  is-over : (input : List ℕ) (outcome : Result Store Refusal) → IsRestored input (held_by names mid 0) outcome → IsRestored input (held_by names old 0) outcome
+  is-over input outcome is = subst (λ (d : Option (List ℕ)). IsRestored input d outcome) (held-same 0) is
 
-  is-under : (input : List ℕ) (outcome : Result Store Refusal) → IsRemade input (held_by names old 0) outcome → IsRemade input (held_by names mid 0) outcome
-  is-under input outcome is = subst (λ (d : Option (List ℕ)). IsRemade input d outcome) (sym (held-same 0)) is
+  is-under : (input : List ℕ) (outcome : Result Store Refusal) → IsRestored input (held_by names old 0) outcome → IsRestored input (held_by names mid 0) outcome
+  is-under input outcome is = subst (λ (d : Option (List ℕ)). IsRestored input d outcome) (sym (held-same 0)) is
 
   crash-over : (outcome : Result Store Refusal) → CrashLeaves outcome names mid new → CrashLeaves outcome names old new
   crash-over (Made s) crash = λ unit t left shown at was first out. crash unit t left shown at was first (subst (λ (o : List ℕ). length o < length shown) (sym quiet) out)
@@ -99,6 +106,7 @@ module _ (names : List (List ℕ)) (old mid new : Outside) (quiet : out_of mid �
     wrote = wrote-over status input r.wrote;
     crash = λ outcome is. crash-over outcome (r.crash outcome (is-under input outcome is));
     no_memory = λ memory unit t left shown at was. sym (held-same unit) ∙ r.no_memory memory unit t left shown at was;
+    once = λ s asked. subst (λ (n : ℕ). new.programmed 0 ≤ n + format_bytes (cost s)) (same.counts.work 0).programmed (r.once s asked);
   }
 
   -- a store was restored of the input that was read

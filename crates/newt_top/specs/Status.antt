@@ -32,35 +32,18 @@ ended_as (Answered x) = Ok
 ended_as (Ended halt) = status_of halt
 
 -- a device is read in this mode, or a store is made on it, and where it fails the run ends
-abbrev pub ReadsDevice : Option Mode → Type 0
-ReadsDevice None = ⊥
-ReadsDevice (Some Run) = ⊥
-ReadsDevice (Some (Convert conversion)) = ⊥
-ReadsDevice (Some (Generate seed count)) = ⊥
-ReadsDevice (Some (Read reading)) = Unit {0}
-ReadsDevice (Some Restore) = Unit {0}
+abbrev pub NeedsDevice : Option Mode → Type 0
+NeedsDevice None = ⊥
+NeedsDevice (Some Run) = ⊥
+NeedsDevice (Some (Convert conversion)) = ⊥
+NeedsDevice (Some (Generate seed count)) = ⊥
+NeedsDevice (Some (Read reading)) = Unit {0}
+NeedsDevice (Some Restore) = Unit {0}
 
 -- the device of unit 0 failed where it was read; in the other modes a device that fails ends no run
 abbrev pub HasDeviceCause : Option Mode → ℕ → (old new : Outside) → Type 0
 HasDeviceCause mode unit old new =
-    ReadsDevice mode × (unit ≡ 0) × Rose (old.dev_faults 0) (new.dev_faults 0)
-
--- a fault was counted where one is told
-abbrev pub HasStatusCause : Option Mode → Status → (old new : Outside) → Type 0
-HasStatusCause mode Ok old new = Unit {0}
-HasStatusCause mode Usage old new = Unit {0}
-HasStatusCause mode Memory old new = Unit {0}
-HasStatusCause mode TooLong old new = Unit {0}
-HasStatusCause mode (Device unit) old new = HasDeviceCause mode unit old new
-HasStatusCause mode Source old new = Rose old.in_faults new.in_faults
-HasStatusCause mode Sink old new = Rose old.out_faults new.out_faults
-
--- a status that tells of no fault
-abbrev pub IsFaultless : Status → Type 0
-IsFaultless (Device unit) = ⊥
-IsFaultless Source = ⊥
-IsFaultless Sink = ⊥
-IsFaultless status = Unit {0}
+    NeedsDevice mode × (unit ≡ 0) × Rose (old.dev_faults 0) (new.dev_faults 0)
 
 -- no fault was counted that would have ended a run: where a device is read none, in the other modes
 -- none of the input or of the output
@@ -72,6 +55,24 @@ HasRunThrough (Some (Generate seed count)) old new = NoStreamFault old new
 HasRunThrough (Some (Read reading)) old new = NoFault old new
 HasRunThrough (Some Restore) old new = NoFault old new
 
+-- a fault was counted where one is told, and none that would have ended the run where memory was
+-- refused or the input is too long
+abbrev pub HasStatusCause : Option Mode → Status → (old new : Outside) → Type 0
+HasStatusCause mode Ok old new = Unit {0}
+HasStatusCause mode Usage old new = Unit {0}
+HasStatusCause mode Memory old new = HasRunThrough mode old new
+HasStatusCause mode TooLong old new = HasRunThrough mode old new
+HasStatusCause mode (Device unit) old new = HasDeviceCause mode unit old new
+HasStatusCause mode Source old new = Rose old.in_faults new.in_faults
+HasStatusCause mode Sink old new = Rose old.out_faults new.out_faults
+
+-- a status that tells of no fault
+abbrev pub IsFaultless : Status → Type 0
+IsFaultless (Device unit) = ⊥
+IsFaultless Source = ⊥
+IsFaultless Sink = ⊥
+IsFaultless status = Unit {0}
+
 -- with Usage no fault was counted, and with Ok none that would have ended the run
 abbrev pub IsFaultFree : Option Mode → Status → (old new : Outside) → Type 0
 IsFaultFree mode Ok old new = HasRunThrough mode old new
@@ -79,12 +80,12 @@ IsFaultFree mode Usage old new = NoFault old new
 IsFaultFree mode status old new = Unit {0}
 
 -- What a run promises of faults. No count has fallen. A fault is told only where it was counted;
--- with Ok none of a stream was counted, nor where a device is read one of a device, and with Usage
--- none at all; and where none of a stream was counted, nor one of the device that is read, none is
--- told.
+-- with Ok, Memory and TooLong none was that would have ended the run, of a stream, or where a device
+-- is read of a device, and with Usage none at all; and where none of a stream was counted, nor one of
+-- the device that is read, none is told.
 pub record StatusFaults (mode : Option Mode) (status : Status) (old new : Outside) : Type 0 where
   pub later : NeverLess old new
   pub cause : HasStatusCause mode status old new
   pub no_fault : IsFaultFree mode status old new
   pub complete : ¬ Rose old.in_faults new.in_faults → ¬ Rose old.out_faults new.out_faults
-      → (ReadsDevice mode → ¬ Rose (old.dev_faults 0) (new.dev_faults 0)) → IsFaultless status
+      → (NeedsDevice mode → ¬ Rose (old.dev_faults 0) (new.dev_faults 0)) → IsFaultless status

@@ -1,8 +1,8 @@
 //! What is said of a device that is read.
 ghost use Rattle.std.specs.Prelude.{◌≡◌, IsTrue, IfOk, is_some, map, string_bytes};
+ghost use Rattle.newt_host.specs.Meanings.{device_on};
 ghost use Rattle.newt_host.specs.Moments.{IsDurable};
 ghost use Rattle.newt_host.specs.Outside.{OnlyReads};
-ghost use Rattle.newt_store_backup.specs.Written.{device_on};
 ghost use Rattle.newt_store_catalog.specs.Reading.{ReadEnds};
 ghost use Rattle.newt_top.specs.Calls.{MayRun, RunEnds};
 ghost use Rattle.newt_top.specs.Reading.{IsSaid, OnlyReadsDevices, RanReading};

@@ -1,10 +1,10 @@
 //! A store made on a device, from the stream of its backup.
 ghost use Rattle.std.specs.Prelude.{◌≡◌, IsTrue, map, string_bytes};
 ghost use Rattle.newt_top.specs.Calls.{MayRun, RunEnds};
-ghost use Rattle.newt_top.specs.Restoring.{LeavesOthers, RanRestored, RanRestoring};
+ghost use Rattle.newt_top.specs.Restoring.{RanRestored, RanRestoring, WritesOneDevice};
 
+use crate::converting::whole_input;
 use crate::status::{Mode, Status, halted};
-use crate::whole::whole_input;
 use newt_host::{Host, Unit};
 use newt_host_attach::attach_names;
 use newt_pagebook::Stop;
@@ -20,7 +20,7 @@ fn restore_input<H: Host>(alloc: Global, names: &[String], host: &mut H, input: 
     ensures ran { IsTrue H.told → RanRestored (map string_bytes names.now) input.items result
         (H.outside host.old) (H.outside host.new) }
     ensures left { (H.outside host.new).input ≡ (H.outside host.old).input }
-    ensures others { LeavesOthers (H.outside host.old) (H.outside host.new) }
+    ensures one { WritesOneDevice (H.outside host.old) (H.outside host.new) }
     ensures ends { RunEnds Mode.Restore result (H.outside host.old) (H.outside host.new) }
 {
     let attached = attach_names(host, names);
@@ -42,7 +42,7 @@ pub fn run_restore<H: Host>(alloc: Global, names: &[String], host: &mut H, limit
     requires may { MayRun (map string_bytes names.now) (H.outside host.old) }
     ensures ran { IsTrue H.told → RanRestoring (map string_bytes names.now) limit result
         (H.outside host.old) (H.outside host.new) }
-    ensures others { LeavesOthers (H.outside host.old) (H.outside host.new) }
+    ensures one { WritesOneDevice (H.outside host.old) (H.outside host.new) }
     ensures ends { RunEnds Mode.Restore result (H.outside host.old) (H.outside host.new) }
 {
     match whole_input(alloc, host, limit) {

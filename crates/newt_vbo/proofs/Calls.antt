@@ -1,24 +1,28 @@
 -- What the exits of a call on a range hand on.
-use Rattle.std.proofs.Common.{◌≡◌, ℕ, ◌+◌, ◌*◌, ◌<◌, ◌≤◌, Bool, Option, IfSome, Result, Ok, Err, IsErrOf, refl, sym, ◌∙◌, ap}
+use Rattle.std.proofs.Common.{◌≡◌, ℕ, ◌+◌, ◌*◌, ◌<◌, ◌≤◌, Bool, Option, IfSome, Result, Ok, Err, IsErrOf, sym, ◌∙◌, ap, subst}
 use Rattle.newt_host.specs.Outside.{Outside, NoFault, Spends}
-use Rattle.newt_host.proofs.Outside.{NoFault-refl, Touches-no_fault}
+use Rattle.newt_host.proofs.Outside.{NoFault-append, NoFault-refl, Touches-no_fault}
 use Rattle.newt_spec_image.specs.Objects.{Extent}
 use Rattle.newt_pagebook.specs.Book.{Numbers, Shown}
 use Rattle.newt_pagebook.specs.Calls.{Loads}
 use Rattle.newt_objects.specs.Calls.{Looks}
 use Rattle.newt_objects.proofs.Calls.{Looks-refl, Looks-append, looks-loaded, rose_since}
 use Rattle.newt_vbo.specs.Ranges.{parts_met}
-use Rattle.newt_vbo.specs.Calls.{GoesOn, ReadsPart, ReadsRange}
+use Rattle.newt_vbo.specs.Calls.{BlamesNone, ReadsPart, ReadsRange}
 use Rattle.newt_vbo.specs.declared.fault.RangeFault.{RangeFault}
 use Rattle.newt_vbo.specs.declared.fault.RangeFault.TheVariants.{Range, Memory, Device}
-use Rattle.newt_vbo.proofs.Exits.{Fails, no_done, no_fault, the_fault, is_fault, range_device, device_range, memory_range, memory_device, past_end, not_past, spends_none}
+use Rattle.newt_vbo.proofs.Exits.{Fails, no_fault, the_fault, is_fault, range_device, device_range, memory_range, memory_device, past_end, not_past, spends_none}
 
--- a fault with which the run goes on is Range
-pub range_goes_on : {T : Type 0} (r : Result T RangeFault) (f : RangeFault) → Fails r f → GoesOn r → IsErrOf r Range
-range_goes_on (Ok x) f fails goes = absurd fails
-range_goes_on (Err Range) f fails goes = refl
-range_goes_on (Err Memory) f fails goes = absurd goes
-range_goes_on (Err Device) f fails goes = absurd goes
+-- a fault that is handed on blames no device where the first answer does not
+pub blames_as : (S : Type 0) {T : Type 0} (r : Result T RangeFault) (f : RangeFault) → Fails r f → BlamesNone r → BlamesNone {T = S} (Err f)
+blames_as S (Ok x) f fails none = absurd fails
+blames_as S (Err Range) f fails none = subst (λ (e : RangeFault). BlamesNone {T = S} (Err e)) fails tt
+blames_as S (Err Memory) f fails none = subst (λ (e : RangeFault). BlamesNone {T = S} (Err e)) fails tt
+blames_as S (Err Device) f fails none = absurd none
+
+-- a device's fault is no other
+pub blames_device : {T : Type 0} {A : Type 0} (r : Result T RangeFault) → Fails r Device → BlamesNone r → A
+blames_device {T = T} r fails none = absurd (blames_as T r Device fails none)
 
 module _ {B : Type 0} (place : B → ℕ) (numbers : B → Numbers) (spare : B → ℕ) (standing : Bool → B → Outside → Type 0) (told : Bool) where
   module _ {E : Type 0} (shown : B → Shown) {number : ℕ} {old new : B} {before after : Outside} where
@@ -30,18 +34,18 @@ module _ {B : Type 0} (place : B → ℕ) (numbers : B → Numbers) (spare : B �
       costs = loads.costs;
       no_range = λ same. no_fault same;
       cause = λ same. absurd (no_fault same);
-      no_fault = Touches-no_fault loads.reads.alone loads.faults.no_fault;
+      no_fault = λ none. Touches-no_fault loads.reads.alone loads.faults.no_fault;
     }
 
     -- the page was loaded, and then memory was wanting
-    pub part_memory : {T : Type 0} {q : Result (Unit {0}) E} (r : Result T RangeFault) → Fails r Memory → Loads place numbers shown spare standing told number old new before after q
+    pub part_memory : {T : Type 0} (r : Result T RangeFault) → Fails r Memory → Loads place numbers shown spare standing told number old new before after (let q : Result (Unit {0}) E = Ok tt in q)
         → ReadsPart place numbers spare standing told old new before after r
     part_memory r fails loads = record {
       book = looks-loaded place numbers spare standing told shown loads;
       costs = loads.costs;
       no_range = λ same. memory_range (the_fault r Memory Range fails same);
       cause = λ same. absurd (memory_device (the_fault r Memory Device fails same));
-      no_fault = no_done r Memory (NoFault before after) fails;
+      no_fault = λ none. Touches-no_fault loads.reads.alone loads.faults.no_fault;
     }
 
     -- the page was not loaded
@@ -52,7 +56,7 @@ module _ {B : Type 0} (place : B → ℕ) (numbers : B → Numbers) (spare : B �
       costs = loads.costs;
       no_range = λ same. device_range (the_fault r Device Range fails same);
       cause = λ same. loads.faults.cause;
-      no_fault = no_done r Device (NoFault before after) fails;
+      no_fault = λ none. blames_device r fails none;
     }
 
   module _ (object : Option Extent) (at count : ℕ) where
@@ -70,15 +74,15 @@ module _ {B : Type 0} (place : B → ℕ) (numbers : B → Numbers) (spare : B �
 
     -- a later page was not read
     pub range_failed : {T S : Type 0} (r : Result T RangeFault) (f : RangeFault) {q : Result S RangeFault} {old mid new : B} {before between after : Outside} → Fails r f → q ≡ Err f
-        → IfSome object (λ x. at + count ≤ x.length) → Looks place numbers spare standing told old mid before between → ReadsPart place numbers spare standing told mid new between after q
+        → IfSome object (λ x. at + count ≤ x.length) → Looks place numbers spare standing told old mid before between → NoFault before between → ReadsPart place numbers spare standing told mid new between after q
         → Spends (place old) 0 (512 * parts_met at count) before after → ReadsRange place numbers spare standing told object at count old new before after r
-    range_failed r f {old = old} {mid = mid} {before = before} {between = between} {after = after} fails is within first part costs = record {
+    range_failed {S = S} r f {old = old} {mid = mid} {before = before} {between = between} {after = after} fails is within first none part costs = record {
       book = Looks-append place numbers spare standing told first part.book;
       range = λ same. absurd (never same);
       past = not_past object (at + count) (IsErrOf r Range) within;
       costs = costs;
       cause = λ same. rose_since (place old) (place mid) before between after first.same_place first.looks.alone (part.cause (is ∙ ap Err (the_fault r f Device fails same)));
-      no_fault = λ goes. absurd (never (range_goes_on r f fails goes));
+      no_fault = λ free. NoFault-append none (part.no_fault (subst (λ (x : Result S RangeFault). BlamesNone x) (sym is) (blames_as S r f fails free)));
     } where
       never : IsErrOf r Range → ⊥
       never same = part.no_range (is ∙ ap Err (the_fault r f Range fails same))

@@ -1,6 +1,7 @@
 -- A working copy.
 use Rattle.std.specs.Prelude.{◌≡◌, ℕ, Bool, ◌==◌, ◌&&◌, List, Option, option_and_then}
 use Rattle.std.specs.Prelude.{unwrap_or, slice_get}
+use Rattle.std.specs.Option.{option_flatten}
 use Rattle.newt_graph.specs.Graph.{RawGraph}
 use Rattle.newt_graph.specs.Meeting.{normal_form}
 use Rattle.newt_spec_graph.specs.Slots.{put}
@@ -57,4 +58,4 @@ drafted path value k =
 
 -- the copy of this number, if there is one (a word of these definitions)
 abbrev pub copy_at : ℕ → List (Option Copy) → Option Copy
-copy_at n ks = option_and_then (λ place. place) (slice_get ks n)
+copy_at n ks = option_flatten (slice_get ks n)

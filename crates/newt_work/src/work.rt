@@ -84,7 +84,9 @@ impl Work {
         self.time == time && same_graph(&self.base, graph)
     }
 
-    /// Puts a value at a path of the draft, as `set_at` does. After a refusal it is as before.
+    /// Puts a value at a path of the draft, as `set_at` does. After a refusal it is as before. An
+    /// engine that has to look at the new draft first makes it by `set_at`, and gives it by
+    /// `redraft`.
     #[tactic(auto, using(crate::proofs::Forms::formed))]
     pub fn edit(&mut self, path: &Path, value: &Graph) -> Result<(), SetFault>
         ensures form { IfOk result (λ _. IsFormOf (draft_with path.now value.now self.old)

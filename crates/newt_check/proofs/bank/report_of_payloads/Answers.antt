@@ -1,5 +1,9 @@
-use Rattle.std.proofs.Common.{refl, sym, subst}
+use Rattle.std.proofs.Common.{Result, refl, sym, subst}
 use Rattle.newt_host.specs.Moments.{image}
+use Rattle.newt_host.proofs.Outside.{Touches-no_fault}
+use Rattle.newt_journal.specs.Calls.{IsOpening}
+use Rattle.newt_journal.specs.declared.fault.JournalFault.{JournalFault}
+use Rattle.newt_journal.specs.declared.journal.Journal.{Journal}
 use Rattle.newt_pagelog.proofs.Placing.{opened-looks}
 use Rattle.newt_pagebook.specs.Stops.{StopsAt}
 use Rattle.newt_store_catalog.proofs.Opening.{the-fault}
@@ -16,7 +20,7 @@ pub returns-in-Err-NotStore-clause-looks : goal.returns-in-Err-NotStore-clause-l
 returns-in-Err-NotStore-clause-looks g c = opened-looks c.open.ensures.looks
 
 pub returns-in-Err-NotStore-clause-ends : goal.returns-in-Err-NotStore-clause-ends
-returns-in-Err-NotStore-clause-ends g c = record { cause = subst (StopsAt c.args.unit (g.H.Host.outside c.args.host.now) (g.H.Host.outside c.open.new.host)) (sym c.lies.ensures) tt; no_fault = tt }
+returns-in-Err-NotStore-clause-ends g c = record { cause = subst (StopsAt c.args.unit (g.H.Host.outside c.args.host.now) (g.H.Host.outside c.open.new.host)) (sym c.lies.ensures) (Touches-no_fault c.open.ensures.looks.alone (c.open.ensures.looks.no_fault (subst (λ (r : Result Journal JournalFault). IsOpening r) (sym (the-fault c.in-Err-NotStore.is c.in-Err-NotStore.field-0-is)) tt))); no_fault = tt }
 
 pub returns-in-Err-Device-clause-looks : goal.returns-in-Err-Device-clause-looks
 returns-in-Err-Device-clause-looks g c = opened-looks c.open.ensures.looks

@@ -1,4 +1,4 @@
-use Rattle.std.proofs.Common.{◌≡◌, ℕ, nat_eq, true, false, List, [], take, drop, Some, None, Err, refl, sym, ◌∙◌, ap, subst, arith, rules}
+use Rattle.std.proofs.Common.{Bool, ◌≡◌, ℕ, nat_eq, true, false, List, [], take, drop, Some, None, Err, refl, sym, ◌∙◌, ap, subst, arith, rules}
 use Rattle.std.specs.Map.{lookup}
 use Rattle.newt_host.specs.Moments.{Moment, image}
 use Rattle.newt_host.proofs.Outside.{OnlyReads-append, OnlyReads-refl}
@@ -7,7 +7,7 @@ use Rattle.newt_spec_image.specs.Pages.{is_change}
 use Rattle.newt_journal.specs.Bank.{limit_of}
 use Rattle.newt_journal.specs.Places.{payloads_from, IsPlace}
 use Rattle.newt_pagebook.specs.declared.book.BookFault.TheVariants.{Device, NotStore}
-use Rattle.newt_pagelog.proofs.Failing.{not-err, rose-over, same-err}
+use Rattle.newt_pagelog.proofs.Failing.{blames-as, not-err, rose-over, same-err}
 use Rattle.newt_pagelog.proofs.Placing.{looks-stands, looks-image, looks-read}
 use Rattle.newt_pagelog.proofs.Replaying.{at_some, at_none, if_some}
 use Rattle.newt_check.proofs.Gates.{ended}
@@ -83,7 +83,7 @@ loop-places-preserved g c =
       low = omega (arith, inv.low, inside.0, inside.1);
       high = inside.2;
       looks = OnlyReads-append (OnlyReads-append inv.looks (looks-read c.walk.ensures.reads)) c.replay_record.ensures.reads.looks;
-      no_fault = e.reads.no_fault ∙ c.in_ok-found.ensures.reads.faults.no_fault ∙ inv.no_fault;
+      no_fault = e.reads.no_fault tt ∙ c.in_ok-found.ensures.reads.faults.no_fault ∙ inv.no_fault;
       place = λ tells. subst (λ (l : List ℕ). IsPlace j f.next l) low (if_some _ c.in_ok-found.field-0 f c.in-Some.is (c.in_ok-found.ensures.finds.next tells));
       table = e.fills.table;
       some = λ tells.
@@ -153,7 +153,8 @@ returns-in_err-replay_record-clause-reads g c =
       no_other = λ bad. reads.no_other (ap Err (same-err r e NotStore is.1 bad));
       cause = λ bad. rose-over u u (o c.args.host.now) (o c.walk.new.host) (o c.replay_record.new.host)
           refl before.alone (reads.cause (ap Err (same-err r e Device is.1 bad)));
-      no_fault = search rules;
+      no_fault = λ none. reads.no_fault (blames-as Bool r e is.1 none)
+          ∙ c.in_ok-found.ensures.reads.faults.no_fault ∙ c.loop-places.invariant.no_fault;
     }
 
 pub returns-then-not-branch-clause-reads : goal.returns-then-not-branch-clause-reads
@@ -164,7 +165,7 @@ returns-then-not-branch-clause-reads g c =
           c.replay_record.ensures.reads.looks;
       no_other = λ bad. absurd (not-err bad);
       cause = λ bad. absurd (not-err bad);
-      no_fault = c.in_ok-replay_record.ensures.reads.no_fault
+      no_fault = λ none. c.in_ok-replay_record.ensures.reads.no_fault tt
           ∙ c.in_ok-found.ensures.reads.faults.no_fault ∙ inv.no_fault;
     }
 
@@ -173,5 +174,5 @@ returns-clause-reads g c = record {
   looks = OnlyReads-append c.loop-places.invariant.looks (looks-read c.walk.ensures.reads);
   no_other = λ bad. absurd (not-err bad);
   cause = λ bad. absurd (not-err bad);
-  no_fault = c.in_ok-found.ensures.reads.faults.no_fault ∙ c.loop-places.invariant.no_fault;
+  no_fault = λ none. c.in_ok-found.ensures.reads.faults.no_fault ∙ c.loop-places.invariant.no_fault;
 }

@@ -43,7 +43,7 @@ returns-in_err-directory_of g c =
     let r : Result (Option Directory) Stop = c.from_residual-in_err-directory_of.result in
     record {
       root = no-value r Memory _ c.from_residual-in_err-directory_of.ensures.1;
-      reads = record { book = with-kept c.requires.can.kept c.read.ensures.reads.book; ends = read-memory r c.from_residual-in_err-directory_of.ensures.1 };
+      reads = record { book = with-kept c.requires.can.kept c.read.ensures.reads.book; ends = read-memory r c.in_ok-bytes.ensures.reads.no_fault c.from_residual-in_err-directory_of.ensures.1 };
     }
 
 pub returns : goal.returns

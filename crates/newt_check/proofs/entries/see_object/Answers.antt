@@ -48,7 +48,7 @@ returns-in_err-row g c =
     record {
       seen = no-value r Memory _ c.from_residual-in_err-row.ensures.1;
       bad = no-value r Memory _ c.from_residual-in_err-row.ensures.1;
-      reads = record { book = with-kept c.requires.can.kept c.read.ensures.reads.book; ends = read-memory r c.from_residual-in_err-row.ensures.1 };
+      reads = record { book = with-kept c.requires.can.kept c.read.ensures.reads.book; ends = read-memory r c.in_ok-bytes.ensures.reads.no_fault c.from_residual-in_err-row.ensures.1 };
     }
 
 pub returns-in_err-keep_row-in-Some : goal.returns-in_err-keep_row-in-Some
@@ -57,7 +57,7 @@ returns-in_err-keep_row-in-Some g c =
     record {
       seen = no-value r Memory _ c.from_residual-in_err-keep_row-in-Some.ensures.1;
       bad = no-value r Memory _ c.from_residual-in_err-keep_row-in-Some.ensures.1;
-      reads = record { book = with-kept c.requires.can.kept c.read.ensures.reads.book; ends = read-memory r c.from_residual-in_err-keep_row-in-Some.ensures.1 };
+      reads = record { book = with-kept c.requires.can.kept c.read.ensures.reads.book; ends = read-memory r c.in_ok-bytes.ensures.reads.no_fault c.from_residual-in_err-keep_row-in-Some.ensures.1 };
     }
 
 pub returns-in-Some : goal.returns-in-Some

@@ -60,7 +60,7 @@ returns-in_err-ids g c =
     let r : Result Report Stop = c.from_residual-in_err-ids.result in
     record {
       report = λ tells. no-value r Memory _ c.from_residual-in_err-ids.ensures.1;
-      reads = record { book = c.find_root.ensures.reads.book; ends = read-memory r c.from_residual-in_err-ids.ensures.1 };
+      reads = record { book = c.find_root.ensures.reads.book; ends = read-memory r c.in_ok-directory.ensures.reads.ends.no_fault c.from_residual-in_err-ids.ensures.1 };
     }
 
 pub bad_record-requires-clause-can : goal.bad_record-requires-clause-can

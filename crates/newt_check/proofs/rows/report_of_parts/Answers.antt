@@ -26,7 +26,7 @@ returns-in_err-id g c =
     record {
       report = λ tells. no-value r Memory _ c.from_residual-in_err-id.ensures.1;
       looks = c.read_headers.ensures.reads.book.looks;
-      ends = read-memory r c.from_residual-in_err-id.ensures.1;
+      ends = read-memory r c.in_ok-headers.ensures.reads.no_fault c.from_residual-in_err-id.ensures.1;
     }
 
 pub returns-in-Some : goal.returns-in-Some
@@ -53,5 +53,5 @@ pub returns : goal.returns
 returns g c = record {
   report = λ tells. tt;
   looks = c.read_headers.ensures.reads.book.looks;
-  ends = record { cause = subst (StopsAt (g.P.PageBook.place c.args.book.now) (g.H.Host.outside c.args.host.now) (g.H.Host.outside c.read_headers.new.host)) (sym c.lies.ensures) tt; no_fault = tt };
+  ends = record { cause = subst (StopsAt (g.P.PageBook.place c.args.book.now) (g.H.Host.outside c.args.host.now) (g.H.Host.outside c.read_headers.new.host)) (sym c.lies.ensures) c.in_ok-headers.ensures.reads.no_fault; no_fault = tt };
 }

@@ -101,7 +101,7 @@ returns g c =
           let there = subst (λ y. OnUnit y c.args.to k.blocks k.store) (sym same) k.on in
           copy-costs h c.args.uid x found _ same (record { alone = read.looks.untouched; moment = read.looks.moment; reads = read.fetches t h.blocks h.store h.on }) k (said-costs e t there (add-said k.blocks c.read_entry.new.self.minute c.in_ok-soup.into k.store k.soup k.by_sig c.in_ok-graph.field-0.graph));
       alone = OnDevices-append read.looks.alone e.alone;
-      cause = cause-after _ _ read.looks.alone e.cause;
+      cause = cause-after _ _ (read.ends.no_fault tt) e.cause;
       broke = behind-breaks (command.Copy c.args.unit c.args.name.now c.args.uid c.args.to c.args.target.now) read.looks (read.ends.no_fault tt) e (λ t.
           let h = has-soup at t c.args.unit c.args.name.now c.in_ok-soup.soup c.in_ok-soup.ensures.0 in
           let k = has-soup at t c.args.to c.args.target.now c.in_ok-soup.into c.in_ok-soup.ensures.1 in

@@ -113,7 +113,7 @@ returns g c =
           set-costs h c.args.uid x found _ same (record { alone = read.looks.untouched; moment = read.looks.moment; reads = read.fetches t h.blocks h.store h.on }) c.args.path.now c.args.value.now c.in_ok-made.made c.in_ok-made.ensures.form
           (done-costs c.change.result is (said-costs e t (subst (λ y. OnUnit y c.args.unit h.blocks h.store) (sym same) h.on) (replace-said h.blocks c.read_entry.new.self.minute c.in_ok-soup.soup h.store h.soup h.by_sig c.args.uid x found c.in_ok-made.made)));
       alone = OnDevices-append read.looks.alone e.alone;
-      cause = cause-after _ _ read.looks.alone (done-cause c.change.result is _ e.cause);
+      cause = cause-after _ _ (read.ends.no_fault tt) (done-cause c.change.result is _ e.cause);
       broke = done-cause c.change.result is _ (behind-breaks (command.Set c.args.unit c.args.name.now c.args.uid c.args.path.now c.args.value.now) read.looks (read.ends.no_fault tt) e (λ t.
           let h = has-soup at t c.args.unit c.args.name.now c.in_ok-soup.soup c.in_ok-soup.ensures in
           let x : Entry = record { uid = c.in_ok-graph.field-0.uid; time = c.in_ok-graph.field-0.time; graph = c.in_ok-graph.field-0.graph } in

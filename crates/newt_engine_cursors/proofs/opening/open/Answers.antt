@@ -65,4 +65,4 @@ returns-in-Err-Limit-clause-turns g c =
 pub returns-in-Err-Memory-clause-turns : goal.returns-in-Err-Memory-clause-turns
 returns-in-Err-Memory-clause-turns g c =
     let read = c.in_ok-first.ensures.reading in
-    record { read = read.read; desk = subst DeskFits (sym c.in-Err-Memory.ensures.err) c.requires.desk; turned = λ t apart. tt; cause = tt; failed = tt; kept = tt; no_fault = λ goes. absurd goes }
+    record { read = read.read; desk = subst DeskFits (sym c.in-Err-Memory.ensures.err) c.requires.desk; turned = λ t apart. tt; cause = read.no_fault; failed = tt; kept = tt; no_fault = λ goes. absurd goes }

@@ -47,7 +47,7 @@ returns-in_err-give_keys-clause-settles g c =
     let r = c.from_residual-in_err-give_keys.result in
     settles-end {S = Unit {0}} {asks = true} (λ (r : Result (Unit {0}) Stop) (w v : World). OnOk r (v ≡ settle_reached (on_entry c.args.store c.args.soup c.args.uid) w)) {stop = Memory}
     c.in_ok-entry.ensures.reading.read c.in_ok-entry.ensures.reading.no_fault
-    (record { read = not-read c.in_ok-entry.ensures.reading.read.stand; cause = tt; failed = tt; no_fault = tt; unread = asked-read refl }) c.in_err-give_keys.ensures.desk tt
+    (record { read = not-read c.in_ok-entry.ensures.reading.read.stand; cause = NoFault-refl _; failed = tt; no_fault = tt; unread = asked-read refl }) c.in_err-give_keys.ensures.desk tt
     r (err_from_is_err_and r c.from_residual-in_err-give_keys.ensures.1) (λ w v. tt)
 
 pub returns-clause-settles : goal.returns-clause-settles

@@ -2,6 +2,7 @@
 use Rattle.std.proofs.Common.{arith, ◌∙◌, ◌*◌, ap, sym, subst, ℕ, true}
 use Rattle.std.specs.Prelude.{Result, is_none}
 use Rattle.std.proofs.lemmas.Result.{err_from_is_err_and}
+use Rattle.newt_host.proofs.Outside.{NoFault-refl}
 use Rattle.newt_pagebook.specs.declared.book.Stop.TheVariants.{Memory}
 use Rattle.newt_spec_world.specs.Changed.{stepped}
 use Rattle.newt_spec_world.specs.World.{World}
@@ -30,7 +31,7 @@ pub returns-in_err-key : goal.returns-in_err-key
 returns-in_err-key g c =
     let r = c.from_residual.result in
     walks-of (turns-end {S = Unit {0}} {asks = true} (λ (r : Result Shown StoreFault) (w v : World). Answers w v (command.Gotokey c.args.cursor c.args.graph.now) shown_reply r) {stop = Memory}
-    (record { read = not-read c.requires.stands; cause = tt; failed = tt; no_fault = tt; unread = asked-read Rattle.std.proofs.Common.refl }) c.requires.desk tt r (err_from_is_err_and r c.from_residual.ensures.1) (λ w v. tt))
+    (record { read = not-read c.requires.stands; cause = NoFault-refl _; failed = tt; no_fault = tt; unread = asked-read Rattle.std.proofs.Common.refl }) c.requires.desk tt r (err_from_is_err_and r c.from_residual.ensures.1) (λ w v. tt))
     (λ t apart settled d. d) (λ t apart settled un. (λ u. omega arith))
 
 pub returns-in_default-2 : goal.returns-in_default-2

@@ -40,7 +40,7 @@ returns-in_err-entry-clause-reading g c =
 pub returns-in_err-is_kept-in-Some-clause-reading : goal.returns-in_err-is_kept-in-Some-clause-reading
 returns-in_err-is_kept-in-Some-clause-reading g c =
     let r = c.from_residual-in_err-is_kept-in-Some.result in
-    end-memory c.in_ok-entry.ensures.looks (asked-read refl) r (err_from_is_err_and r c.from_residual-in_err-is_kept-in-Some.ensures.1)
+    end-memory c.in_ok-entry.ensures.looks c.in_ok-entry.ensures.no_fault (asked-read refl) r (err_from_is_err_and r c.from_residual-in_err-is_kept-in-Some.ensures.1)
 
 pub returns-in_ok-is_kept-in-Some-clause-reading : goal.returns-in_ok-is_kept-in-Some-clause-reading
 returns-in_ok-is_kept-in-Some-clause-reading g c = is-read c.in_ok-entry.ensures.looks c.in_ok-entry.ensures.no_fault (asked-read refl)

@@ -14,7 +14,7 @@ use Rattle.newt_engine_hits.proofs.present.find_hit.Goals as goal
 pub returns-in_err-hit-clause-reading : goal.returns-in_err-hit-clause-reading
 returns-in_err-hit-clause-reading g c =
     let r = c.from_residual-in_err-hit.result in
-    end-memory c.in_ok-entry.ensures.reading.read c.in_ok-entry.ensures.reading.unread r (err_from_is_err_and r c.from_residual-in_err-hit.ensures.1)
+    end-memory c.in_ok-entry.ensures.reading.read c.in_ok-entry.ensures.reading.no_fault c.in_ok-entry.ensures.reading.unread r (err_from_is_err_and r c.from_residual-in_err-hit.ensures.1)
 
 pub returns-in-Some-clause-reading : goal.returns-in-Some-clause-reading
 returns-in-Some-clause-reading g c = is-read c.in_ok-entry.ensures.reading.read c.in_ok-entry.ensures.reading.no_fault c.in_ok-entry.ensures.reading.unread

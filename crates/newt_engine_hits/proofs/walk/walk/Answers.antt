@@ -83,7 +83,7 @@ beyond-requires-clause-key g c = subst (λ (o : Option Spot). IfSome o (λ spot.
 pub returns-in_err-found-clause-reading : goal.returns-in_err-found-clause-reading
 returns-in_err-found-clause-reading g c =
     let r = c.from_residual-in_err-found.result in
-    end-memory (read-then c.steps.invariant.read c.keeps.ensures.reading.read) (then-unread c.steps.invariant.read c.keeps.ensures.reading.read c.steps.invariant.unread c.keeps.ensures.reading.unread) r (err_from_is_err_and r c.from_residual-in_err-found.ensures.1)
+    end-memory (read-then c.steps.invariant.read c.keeps.ensures.reading.read) (NoFault-append c.steps.invariant.no_fault c.in_ok-keeps.ensures.reading.no_fault) (then-unread c.steps.invariant.read c.keeps.ensures.reading.read c.steps.invariant.unread c.keeps.ensures.reading.unread) r (err_from_is_err_and r c.from_residual-in_err-found.ensures.1)
 
 pub steps-preserved : goal.steps-preserved
 steps-preserved g c = record {

@@ -59,7 +59,7 @@ returns-in_err-append_part-clause-reads g c =
     Reads-ended p.place p.numbers p.spare p.stands g.H.Host.told c.from_residual.result c.in_err-append_part.field-0.0 c.from_residual.ensures.1
     (Looks-append p.place p.numbers p.spare p.stands g.H.Host.told i.book e.reads.book)
     (stop_since (p.place c.args.book.now) (p.place c.loop-number.book) (outside c.args.host.now) (outside c.loop-number.host) (outside c.append_part.new.host) c.in_err-append_part.field-0.0
-    i.book.same_place i.book.looks.alone e.reads.cause)
+    i.book.same_place i.no_fault e.reads.cause)
 
 pub returns-clause-bytes : goal.returns-clause-bytes
 returns-clause-bytes g c = λ told live is.

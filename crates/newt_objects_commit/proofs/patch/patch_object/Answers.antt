@@ -8,7 +8,7 @@ use Rattle.newt_pagebook.specs.Batch.{no_change}
 use Rattle.newt_pagebook.specs.Book.{batch_bytes, changed_numbers}
 use Rattle.newt_pagebook.specs.declared.book.Stop.TheVariants as stops
 use Rattle.newt_objects.specs.Held.{held}
-use Rattle.newt_vbo.specs.Calls.{GoesOn}
+use Rattle.newt_vbo.specs.Calls.{BlamesNone}
 use Rattle.newt_vbo.specs.Patches.{WouldPatch}
 use Rattle.newt_vbo.specs.Ranges.{parts_met}
 use Rattle.newt_vbo.specs.declared.fault.RangeFault.{RangeFault}
@@ -83,7 +83,7 @@ returns-in-Err-Range g c =
     let nothing : Spends (p.place book) 0 0 before between = subst (λ (h : g.row.H.Denot). Spends (p.place book) 0 0 before (g.H.Host.outside h)) (sym (c.plan_patch.ensures.unchanged is).1) (Spends-refl (p.place book) before) in
     record {
       commits = commits-looked p.place p.numbers p.spare p.stands told objects book mid before between c.requires.kept reads.book (patch_bytes (length bytes)) (512 * parts_met c.args.at (length bytes)) (Err (Refused RangeRefusal)) tt reads.costs
-          (λ goes. reads.no_fault (subst (λ (r : Result (Unit {0}) RangeFault). GoesOn r) (sym is) tt)) tt;
+          (λ goes. reads.no_fault (subst (λ (r : Result (Unit {0}) RangeFault). BlamesNone r) (sym is) tt)) tt;
       overwrites = overwrites-not p.place p.numbers p.spare p.stands told objects book mid before between c.requires.kept reads.book c.args.id c.args.at bytes c.requires.there
           (λ tells. (g.met.P.PageBook.tells told book before c.requires.stands tells).1) (reads.range is) nothing;
     }
@@ -102,7 +102,7 @@ returns-in-Err-Memory g c =
     let is : c.plan_patch.result ≡ Err Memory = the-fault Memory c.in-Err-Memory.is c.in-Err-Memory.field-0-is in
     record {
       commits = commits-looked p.place p.numbers p.spare p.stands told objects book mid before between c.requires.kept reads.book (patch_bytes (length bytes)) (512 * parts_met c.args.at (length bytes)) (Err (Stop stops.Memory)) tt reads.costs
-          (λ goes. absurd goes) tt;
+          (λ goes. absurd goes) (reads.no_fault (subst (λ (r : Result (Unit {0}) RangeFault). BlamesNone r) (sym is) tt));
       overwrites = overwrites-ended p.place p.numbers p.spare p.stands told objects book mid before between c.requires.kept reads.book c.args.id c.args.at bytes c.requires.there
           (inside _ (held objects c.args.id) (c.args.at + length bytes) reads.past (λ range. no-memory is range)) (λ tells. (g.met.P.PageBook.tells told book before c.requires.stands tells).1) stops.Memory;
     }

@@ -1,13 +1,15 @@
-use Rattle.std.proofs.Common.{◌≡◌, ℕ, ◌-◌, ◌<◌, List, length, replicate, Some, drop, refl, sym, ◌∙◌, ap, subst, arith, rules, ◌+◌}
+use Rattle.std.proofs.Common.{◌≡◌, ℕ, ◌*◌, ◌-◌, ◌<◌, ◌≤◌, List, [], length, replicate, Some, drop, refl, sym, ◌∙◌, ap, subst, arith, ◌+◌}
 use Rattle.newt_host.proofs.Moments.{Leaves-start, Leaves-weaken}
-use Rattle.newt_host.proofs.Outside.{Touches-no_fault, Touches-refl, Wears-refl, Wears-widen}
+use Rattle.newt_host.proofs.Outside.{NoFault-refl, Spends-refl, Spends-widen, Touches-no_fault, Touches-refl, Wears-refl, Wears-widen}
 use Rattle.newt_spec_image.specs.Records.{bank_blocks, bank_size, bank_start}
-use Rattle.newt_spec_image.specs.Pages.{change_in, written_change}
+use Rattle.newt_spec_image.specs.Pages.{Change, cap, change_in, written_change}
 use Rattle.newt_host.specs.Moments.{Moment}
+use Rattle.newt_host.specs.Outside.{Outside, Spends}
 use Rattle.newt_journal.specs.Pieces.{IsTornIn}
-use Rattle.newt_pagebook.specs.Book.{IsLeftFrom}
+use Rattle.newt_pagebook.specs.Batch.{IsBatch}
+use Rattle.newt_pagebook.specs.Book.{IsLeftFrom, format_bytes}
 use Rattle.newt_pagelog.proofs.Committing.{open-for}
-use Rattle.newt_pagelog.proofs.Failing.{no-ok, not-err}
+use Rattle.newt_pagelog.proofs.Failing.{memory-stops, no-ok, not-err}
 use Rattle.newt_pagelog.proofs.Spelling.{written-says, written-length}
 use Rattle.newt_pagelog.proofs.Changing.{cap-few, cap-fits}
 use Rattle.newt_pagelog.proofs.make.format.Goals as goal
@@ -22,9 +24,10 @@ returns-in_err-payload g c =
       formatted = λ tells. no-ok r _ failed;
       unchanged = λ bad. refl;
       any_moment = λ tells. Leaves-start (λ left may. (left, may, refl));
+      costs = Spends-widen 0 0 (format_bytes (length c.args.batch.now.puts)) 0 (omega arith) (omega arith) (Spends-refl u a);
       wears = Wears-widen 0 0 (bank_blocks (a.blocks u) + 3) 9 (omega arith) (omega arith) (Wears-refl u a);
       alone = Touches-refl u a;
-      cause = search rules;
+      cause = memory-stops r u c.from_residual.ensures.1 (NoFault-refl a);
       no_fault = no-ok r _ failed;
     }
 
@@ -42,6 +45,15 @@ format-requires-clause-fits g c =
       none,
       cap-fits blocks (length batch.puts) c.requires.enough c.requires.few,
     )
+
+-- a payload that says the batch is programmed within the bound of a format
+spent : (unit blocks : ℕ) (batch : Change) (payload : List ℕ) (a b : Outside) → IsBatch batch → blocks ≤ 4099 → length batch.puts ≤ cap blocks → batch.deletes ≡ [] → payload ≡ written_change batch
+    → Spends unit (24 + length payload) 0 a b → Spends unit (format_bytes (length batch.puts)) 0 a b
+spent unit blocks batch payload a b sound many fits no_deletes is costs =
+    let few : length batch.puts < 65536 = cap-few blocks (length batch.puts) many fits in
+    let none : length batch.deletes ≡ 0 = ap (λ (l : List ℕ). length l) no_deletes in
+    let size : length payload ≡ 4 + 516 * length batch.puts + 4 * length batch.deletes = ap (λ (l : List ℕ). length l) is ∙ written-length batch sound few (omega (arith, none)) in
+    Spends-widen (24 + length payload) 0 (format_bytes (length batch.puts)) 0 (omega (arith, size, none)) (omega arith) costs
 
 -- what stands behind the first bank is what a crash might have left
 behind : (u n : ℕ) (now : Moment) (left : List ℕ) → IsTornIn u 0 n now left → IsLeftFrom u n now left
@@ -71,6 +83,8 @@ returns-in-Ok g c =
           );
       unchanged = λ bad. absurd (not-err bad);
       any_moment = λ tells. Leaves-weaken (behind c.args.unit (bank_start ((g.H.Host.outside c.args.host.now).blocks c.args.unit) 1) (g.H.Host.outside c.args.host.now).now) (writes.any_moment tells);
+      costs = spent c.args.unit blocks batch c.deref.result.now (o c.args.host.now) (o c.format.new.host) c.written.ensures.sound c.requires.not_too_many c.requires.few c.requires.no_deletes
+          (c.deref.ensures.value ∙ c.in_ok-payload.ensures.says) writes.costs;
       wears = writes.wears;
       alone = writes.alone;
       cause = tt;
@@ -79,11 +93,14 @@ returns-in-Ok g c =
 
 pub returns : goal.returns
 returns g c =
+    let o = g.H.Host.outside in
     let writes = c.in-Err.ensures.writes in
     record {
       formatted = λ tells. tt;
       unchanged = λ bad. absurd (cc);
       any_moment = λ tells. Leaves-weaken (behind c.args.unit (bank_start ((g.H.Host.outside c.args.host.now).blocks c.args.unit) 1) (g.H.Host.outside c.args.host.now).now) (writes.any_moment tells);
+      costs = spent c.args.unit ((o c.args.host.now).blocks c.args.unit) c.args.batch.now c.deref.result.now (o c.args.host.now) (o c.format.new.host) c.written.ensures.sound c.requires.not_too_many c.requires.few
+          c.requires.no_deletes (c.deref.ensures.value ∙ c.in_ok-payload.ensures.says) writes.costs;
       wears = writes.wears;
       alone = writes.alone;
       cause = (refl, writes.faults.cause);

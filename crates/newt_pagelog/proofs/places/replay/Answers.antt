@@ -1,4 +1,4 @@
-use Rattle.std.proofs.Common.{◌≡◌, ℕ, nat_eq, List, [], take, drop, Option, Some, None, Err, refl, sym, ◌∙◌, ap, subst, arith, rules}
+use Rattle.std.proofs.Common.{◌≡◌, ℕ, Bool, nat_eq, List, [], take, drop, Option, Some, None, Err, refl, sym, ◌∙◌, ap, subst, arith, rules}
 use Rattle.std.specs.FinMap as map
 use Rattle.std.specs.Map.{lookup}
 use Rattle.newt_host.specs.Moments.{Moment, image}
@@ -6,10 +6,10 @@ use Rattle.newt_host.proofs.Outside.{OnlyReads-append, OnlyReads-refl}
 use Rattle.newt_spec_image.specs.Records.{and_then, with_first}
 use Rattle.newt_spec_image.specs.Pages.{Pages, pages, pages_after, change_in}
 use Rattle.newt_journal.specs.Places.{payloads_from, IsPlace}
-use Rattle.newt_pagebook.specs.declared.book.BookFault.TheVariants.{Device, NotStore}
+use Rattle.newt_pagebook.specs.declared.book.BookFault.TheVariants.{Device}
 use Rattle.newt_pagelog.specs.Kept.{map_of}
 use Rattle.newt_pagelog.specs.Placed.{ReplaysRecord, lifted, page_from}
-use Rattle.newt_pagelog.proofs.Failing.{no-opening, not-err, rose-over, same-err}
+use Rattle.newt_pagelog.proofs.Failing.{blames-as, not-err, rose-over, same-err}
 use Rattle.newt_pagelog.proofs.Placing.{looks-stands, looks-image, looks-read, holds-from, numbered-placed, replay-step, replay-bad}
 use Rattle.newt_pagelog.proofs.Near.{end-near}
 use Rattle.newt_pagelog.proofs.Replaying.{at_some, at_none, if_some}
@@ -99,7 +99,7 @@ loop-places-preserved g c =
       low = omega (arith, inv.low, inside.0, inside.1);
       high = inside.2;
       looks = OnlyReads-append (OnlyReads-append inv.looks (looks-read c.walk.ensures.reads)) c.replay_record.ensures.reads.looks;
-      no_fault = e.reads.no_fault ∙ c.in_ok-found.ensures.reads.faults.no_fault ∙ inv.no_fault;
+      no_fault = e.reads.no_fault tt ∙ c.in_ok-found.ensures.reads.faults.no_fault ∙ inv.no_fault;
       place = λ tells. subst (λ (l : List ℕ). IsPlace j f.next l) low (if_some _ c.in_ok-found.field-0 f c.in-Some.is (c.in_ok-found.ensures.finds.next tells));
       unique = e.fills.table.unique;
       placed = e.fills.table.placed;
@@ -159,7 +159,8 @@ returns-in_err-replay_record-clause-reads g c =
       looks = OnlyReads-append before c.replay_record.ensures.reads.looks;
       cause = λ bad. rose-over u u (o c.args.host.now) (o c.walk.new.host) (o c.replay_record.new.host)
           refl before.alone (reads.cause (ap Err (same-err r e Device is.1 bad)));
-      no_fault = no-opening r is.0 (λ bad. reads.no_other (ap Err (same-err r e NotStore is.1 bad)));
+      no_fault = λ none. reads.no_fault (blames-as Bool r e is.1 none)
+          ∙ c.in_ok-found.ensures.reads.faults.no_fault ∙ c.loop-places.invariant.no_fault;
     }
 
 pub returns-then-not-branch-clause-reads : goal.returns-then-not-branch-clause-reads
@@ -169,7 +170,7 @@ returns-then-not-branch-clause-reads g c =
       looks = OnlyReads-append (OnlyReads-append inv.looks (looks-read c.walk.ensures.reads))
           c.replay_record.ensures.reads.looks;
       cause = λ bad. absurd (cc);
-      no_fault = λ opened. c.in_ok-replay_record.ensures.reads.no_fault
+      no_fault = λ opened. c.in_ok-replay_record.ensures.reads.no_fault tt
           ∙ c.in_ok-found.ensures.reads.faults.no_fault ∙ inv.no_fault;
     }
 

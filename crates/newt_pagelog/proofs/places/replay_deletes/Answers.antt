@@ -1,4 +1,4 @@
-use Rattle.std.proofs.Common.{◌≡◌, ℕ, ◌+◌, ◌*◌, nat_eq, List, length, take, drop, Err, refl, sym, ◌∙◌, ap, subst, arith, rules}
+use Rattle.std.proofs.Common.{◌≡◌, ℕ, ◌+◌, ◌*◌, nat_eq, List, length, take, drop, Option, Err, refl, sym, ◌∙◌, ap, subst, arith, rules}
 use Rattle.std.specs.HashSet.{contains}
 use Rattle.std.specs.Option.{is_some}
 use Rattle.newt_host.specs.Moments.{image}
@@ -8,7 +8,7 @@ use Rattle.newt_pagebook.specs.Batch.{deletes_one}
 use Rattle.newt_pagebook.specs.declared.book.BookFault.TheVariants.{Device}
 use Rattle.newt_pagelog.specs.Placed.{Replayed}
 use Rattle.newt_pagelog.specs.Replay.{IsRefused}
-use Rattle.newt_pagelog.proofs.Failing.{rose-over, same-err}
+use Rattle.newt_pagelog.proofs.Failing.{blames-as, rose-over, same-err}
 use Rattle.newt_pagelog.proofs.Payloads.{delete_refused, delete_at}
 use Rattle.newt_pagelog.proofs.Placing.{shrunk, looks-stands, looks-image, placed-remove, replayed-delete, delete-there, word-piece}
 use Rattle.newt_pagelog.proofs.Replaying.{at_some, at_none, if_some}
@@ -36,7 +36,9 @@ returns-in_err-number-clause-reads g c = record {
       let u = c.args.journal.now.unit in
       rose-over u u (o c.args.host.now) (o c.loop-i.host) (o c.next_number.new.host) refl c.loop-i.invariant.looks.alone
       (c.in_err-number.ensures.reads.cause (ap Err (same-err c.from_residual.result c.in_err-number.field-0.0 Device c.from_residual.ensures.1 bad)));
-  no_fault = search rules;
+  no_fault = λ none. c.in_err-number.ensures.reads.no_fault
+      (blames-as (Option ℕ) c.from_residual.result c.in_err-number.field-0.0 c.from_residual.ensures.1 none)
+      ∙ c.loop-i.invariant.no_fault;
 }
 
 pub returns-in-None-clause-replays : goal.returns-in-None-clause-replays
@@ -68,7 +70,7 @@ returns-in-None-clause-reads g c = record {
   looks = let o = g.H.Host.outside in OnlyReads-append c.loop-i.invariant.looks c.next_number.ensures.reads.looks;
   no_other = search rules;
   cause = search rules;
-  no_fault = c.in_ok-number.ensures.reads.no_fault ∙ c.loop-i.invariant.no_fault;
+  no_fault = λ none. c.in_ok-number.ensures.reads.no_fault tt ∙ c.loop-i.invariant.no_fault;
 }
 
 pub loop-i-preserved : goal.loop-i-preserved
@@ -85,7 +87,7 @@ loop-i-preserved g c =
     let taken = if_some _ c.in_ok-number.field-0 n c.in-Some.is c.in_ok-number.ensures.taken in
     record {
       looks = OnlyReads-append inv.looks c.next_number.ensures.reads.looks;
-      no_fault = c.in_ok-number.ensures.reads.no_fault ∙ inv.no_fault;
+      no_fault = c.in_ok-number.ensures.reads.no_fault tt ∙ inv.no_fault;
       unique = c.remove.ensures.unique;
       placed = placed-remove j c.loop-i.places.entries c.remove.new.self.entries n inv.placed updates;
       len = omega (arith, inv.len, shrunk (is_some c.remove.result) (length c.remove.new.self.entries) (length c.loop-i.places.entries) c.remove.ensures.len);
@@ -120,7 +122,7 @@ returns-clause-reads g c = record {
   looks = c.loop-i.invariant.looks;
   no_other = search rules;
   cause = search rules;
-  no_fault = c.loop-i.invariant.no_fault;
+  no_fault = λ none. c.loop-i.invariant.no_fault;
 }
 
 pub returns-in-None-clause-fills : goal.returns-in-None-clause-fills

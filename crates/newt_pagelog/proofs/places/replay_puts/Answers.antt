@@ -1,4 +1,4 @@
-use Rattle.std.proofs.Common.{◌≡◌, ℕ, ◌+◌, ◌*◌, ◌≤◌, nat_eq, List, [], length, take, drop, Err, refl, sym, ◌∙◌, ap, subst, arith, rules}
+use Rattle.std.proofs.Common.{◌≡◌, ℕ, ◌+◌, ◌*◌, ◌≤◌, nat_eq, List, [], length, take, drop, Option, Err, refl, sym, ◌∙◌, ap, subst, arith, rules}
 use Rattle.std.specs.HashSet.{contains}
 use Rattle.std.specs.Option.{is_some}
 use Rattle.newt_pagebook.specs.declared.book.BookFault.TheVariants.{Device}
@@ -8,7 +8,7 @@ use Rattle.newt_spec_image.specs.Pages.{Change, word_at, puts_from}
 use Rattle.newt_pagebook.specs.Batch.{puts_one}
 use Rattle.newt_pagelog.specs.Placed.{Replayed, page_from}
 use Rattle.newt_pagelog.specs.Replay.{IsRefused}
-use Rattle.newt_pagelog.proofs.Failing.{rose-over, same-err}
+use Rattle.newt_pagelog.proofs.Failing.{blames-as, rose-over, same-err}
 use Rattle.newt_pagelog.proofs.Payloads.{put_refused, put_at}
 use Rattle.newt_pagelog.proofs.Placing.{replayed-none, grown-one, looks-stands, looks-image, held-inside, placed-put, replayed-put, put-there, word-piece}
 use Rattle.newt_pagelog.proofs.Replaying.{at_some, at_none, if_some}
@@ -36,7 +36,9 @@ returns-in_err-number-clause-reads g c = record {
       let u = c.args.journal.now.unit in
       rose-over u u (o c.args.host.now) (o c.loop-i.host) (o c.next_number.new.host) refl c.loop-i.invariant.looks.alone
       (c.in_err-number.ensures.reads.cause (ap Err (same-err c.from_residual.result c.in_err-number.field-0.0 Device c.from_residual.ensures.1 bad)));
-  no_fault = search rules;
+  no_fault = λ none. c.in_err-number.ensures.reads.no_fault
+      (blames-as (Option ℕ) c.from_residual.result c.in_err-number.field-0.0 c.from_residual.ensures.1 none)
+      ∙ c.loop-i.invariant.no_fault;
 }
 
 pub returns-in_err-insert-in-Some-clause-reads : goal.returns-in_err-insert-in-Some-clause-reads
@@ -44,7 +46,7 @@ returns-in_err-insert-in-Some-clause-reads g c = record {
   looks = let o = g.H.Host.outside in OnlyReads-append c.loop-i.invariant.looks c.next_number.ensures.reads.looks;
   no_other = search rules;
   cause = search rules;
-  no_fault = search rules;
+  no_fault = λ none. c.in_ok-number.ensures.reads.no_fault tt ∙ c.loop-i.invariant.no_fault;
 }
 
 pub returns-in-None-clause-replays : goal.returns-in-None-clause-replays
@@ -72,7 +74,7 @@ returns-in-None-clause-reads g c = record {
   looks = let o = g.H.Host.outside in OnlyReads-append c.loop-i.invariant.looks c.next_number.ensures.reads.looks;
   no_other = search rules;
   cause = search rules;
-  no_fault = c.in_ok-number.ensures.reads.no_fault ∙ c.loop-i.invariant.no_fault;
+  no_fault = λ none. c.in_ok-number.ensures.reads.no_fault tt ∙ c.loop-i.invariant.no_fault;
 }
 
 pub loop-i-preserved : goal.loop-i-preserved
@@ -88,7 +90,7 @@ loop-i-preserved g c =
     let taken = if_some _ c.in_ok-number.field-0 n c.in-Some.is c.in_ok-number.ensures.taken in
     record {
       looks = OnlyReads-append inv.looks c.next_number.ensures.reads.looks;
-      no_fault = c.in_ok-number.ensures.reads.no_fault ∙ inv.no_fault;
+      no_fault = c.in_ok-number.ensures.reads.no_fault tt ∙ inv.no_fault;
       unique = c.insert.ensures.unique;
       placed = placed-put j c.loop-i.places.entries c.insert.new.self.entries n (at + 4) inv.placed
           (record { small = taken.small; low = omega (arith, c.requires.replaying.within.low); high = omega (arith, c.requires.replaying.within.inside, c.requires.replaying.within.high, c.loop-i-test.true) }) updates;
@@ -120,7 +122,7 @@ returns-clause-reads g c = record {
   looks = c.loop-i.invariant.looks;
   no_other = search rules;
   cause = search rules;
-  no_fault = c.loop-i.invariant.no_fault;
+  no_fault = λ none. c.loop-i.invariant.no_fault;
 }
 
 pub returns-in-None-clause-fills : goal.returns-in-None-clause-fills

@@ -1,11 +1,12 @@
-use Rattle.std.proofs.Common.{◌≡◌, ℕ, ◌+◌, ◌*◌, nat_eq, false, List, [], length, take, drop, sym, ◌∙◌, ap, subst, arith, refl}
+use Rattle.std.proofs.Common.{◌≡◌, ℕ, ◌+◌, ◌*◌, Bool, nat_eq, false, List, [], length, take, drop, Err, sym, ◌∙◌, ap, subst, arith, refl}
 use Rattle.std.specs.HashSet.{contains}
 use Rattle.std.proofs.lemmas.Result.{IfOk-weaker}
 use Rattle.newt_host.specs.Moments.{image}
 use Rattle.newt_host.proofs.Outside.{OnlyReads-append}
 use Rattle.newt_spec_image.specs.Pages.{Change, short_at, puts_from, said_by, is_change}
 use Rattle.newt_pagelog.specs.Placed.{Replayed}
-use Rattle.newt_pagelog.proofs.Failing.{ok-over, rose-over}
+use Rattle.newt_pagebook.specs.declared.book.BookFault.TheVariants.{Device, NotStore}
+use Rattle.newt_pagelog.proofs.Failing.{blames-as, rose-over, same-err}
 use Rattle.newt_pagelog.proofs.Placing.{looks-stands, looks-image, held-inside, length-piece, length-short, counts-there, bad-length, no_change_in, replayed-says, looks-read}
 use Rattle.newt_pagelog.proofs.places.replay_record.Goals as goal
 
@@ -155,6 +156,24 @@ returns-clause-reads g c =
       looks = OnlyReads-append before e.looks;
       no_other = e.no_other;
       cause = λ bad. rose-over u u a last (o c.replay_deletes.new.host) refl before.alone (e.cause bad);
-      no_fault = ok-over c.replay_deletes.result _ _ _ (c.in_ok-replay_puts.ensures.reads.no_fault
-          ∙ c.in_ok-read_short-2.ensures.reads.faults.no_fault ∙ c.in_ok-read_short.ensures.reads.faults.no_fault) e.no_fault;
+      no_fault = λ none. e.no_fault none ∙ c.in_ok-replay_puts.ensures.reads.no_fault tt
+          ∙ c.in_ok-read_short-2.ensures.reads.faults.no_fault ∙ c.in_ok-read_short.ensures.reads.faults.no_fault;
+    }
+
+pub returns-in_err-replay_puts-clause-reads : goal.returns-in_err-replay_puts-clause-reads
+returns-in_err-replay_puts-clause-reads g c =
+    let o = g.H.Host.outside in
+    let u = c.args.journal.now.unit in
+    let counts = OnlyReads-append (looks-read c.read_short.ensures.reads) (looks-read c.read_short-2.ensures.reads) in
+    let r = c.from_residual-in_err-replay_puts.result in
+    let fault = c.in_err-replay_puts.field-0.0 in
+    let is = c.from_residual-in_err-replay_puts.ensures in
+    let e = c.in_err-replay_puts.ensures.reads in
+    record {
+      looks = OnlyReads-append counts c.replay_puts.ensures.reads.looks;
+      no_other = λ bad. e.no_other (ap Err (same-err r fault NotStore is.1 bad));
+      cause = λ bad. rose-over u u (o c.args.host.now) (o c.read_short-2.new.host) (o c.replay_puts.new.host) refl counts.alone
+          (e.cause (ap Err (same-err r fault Device is.1 bad)));
+      no_fault = λ none. e.no_fault (blames-as Bool r fault is.1 none)
+          ∙ c.in_ok-read_short-2.ensures.reads.faults.no_fault ∙ c.in_ok-read_short.ensures.reads.faults.no_fault;
     }

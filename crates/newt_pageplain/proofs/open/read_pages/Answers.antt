@@ -14,8 +14,8 @@ use Rattle.newt_pagebook.proofs.Tests.{true_or_false, is_same, equal_false, none
 use Rattle.newt_pagelog.specs.Kept.{Entries, page_in, numbers_in, is_kept, kept_number}
 use Rattle.newt_pagelog.specs.Placed.{Places, AreNumbered, lifted, page_from}
 use Rattle.newt_pagelog.proofs.Counts.{live-is}
-use Rattle.newt_pagebook.specs.declared.book.BookFault.TheVariants.{Device, NotStore}
-use Rattle.newt_pagelog.proofs.Failing.{no-opening, rose-over, same-err}
+use Rattle.newt_pagebook.specs.declared.book.BookFault.TheVariants.{Device}
+use Rattle.newt_pagelog.proofs.Failing.{blames-as, rose-over, same-err}
 use Rattle.newt_pagelog.proofs.Maps.{same_entries}
 use Rattle.newt_pagelog.proofs.Placing.{looks-image, lookup-lifted, pages-from}
 use Rattle.newt_pageplain.proofs.open.read_pages.Goals as goal
@@ -40,7 +40,7 @@ loop-number-preserved g c =
     let e = c.in_ok-read_number.ensures in
     record {
       looks = OnlyReads-append inv.looks c.read_number.ensures.reads.looks;
-      no_fault = e.reads.no_fault ∙ inv.no_fault;
+      no_fault = e.reads.no_fault tt ∙ inv.no_fault;
       unique = e.took.unique;
       above = λ q low. e.took.others q (equal_false n q (λ is. omega (arith, is, low))) ∙ inv.above q (omega (arith, low));
       kept = λ q low. ⊎_elim
@@ -119,5 +119,5 @@ returns-in_err-read_number-clause-reads g c =
       looks = OnlyReads-append inv.looks c.read_number.ensures.reads.looks;
       cause = λ bad. rose-over u u (o c.args.host.now) (o c.loop-number.host) (o c.read_number.new.host)
           refl inv.looks.alone (reads.cause (ap Err (same-err r e Device is.1 bad)));
-      no_fault = no-opening r is.0 (λ bad. reads.no_other (ap Err (same-err r e NotStore is.1 bad)));
+      no_fault = λ none. reads.no_fault (blames-as (Unit {0}) r e is.1 none) ∙ inv.no_fault;
     }

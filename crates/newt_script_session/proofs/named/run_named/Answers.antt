@@ -36,7 +36,7 @@ returns-in_default-clause-ran g c = λ told.
     (ran_nothing it.step true it.store_of_image (unmounted it.store_of_image mid) (λ w. Unit {0}) (script_items mid.input) _ mid.now mid.dev_faults tt its) tt start))
 
 pub returns-in_default-clause-faults : goal.returns-in_default-clause-faults
-returns-in_default-clause-faults g c = faults_end HasCause Memory _ _ (attached_faultless _ _ _ _ c.new.ensures.attached) tt
+returns-in_default-clause-faults g c = let none = attached_faultless _ _ _ _ c.new.ensures.attached in faults_end HasCause Memory _ _ none none
 
 -- ---- the script
 

@@ -9,7 +9,7 @@ use Rattle.newt_script_session.specs.declared.halt.Halt.{Halt}
 use Rattle.newt_script_session.specs.declared.halt.Halt.TheVariants.{Memory}
 use Rattle.newt_laws_steps.proofs.Beginning.{attached-at-rest}
 use Rattle.newt_script_session.proofs.Beginning.{first_is, attached_faultless, named_counted, rests_first}
-use Rattle.newt_script_session.proofs.Counting.{faults_end, faults_same, sink_from}
+use Rattle.newt_script_session.proofs.Counting.{faults_end, faults_same, none-refl, sink_from}
 use Rattle.newt_script_session.proofs.Progress.{ran_nothing}
 use Rattle.newt_script_session.proofs.Summing.{counted_halted}
 use Rattle.newt_script_session.proofs.named.tally_named.Goals as goal
@@ -32,14 +32,14 @@ returns-in_default-clause-counted g c = λ told.
     (λ unit none. g.met.H.Host.untouched c.new.new.host unit told none) (λ unit some. g.met.H.Host.history c.new.new.host unit told some)
     c.args.script.now result
     (subst S found (counted_halted it.step it.store_of_image c.args.script.now (unmounted it.store_of_image mid) mid mid {T = Unit {0}} {U = Unit {0}} result Memory (λ w. Unit {0})
-    (λ texts. Unit {0}) (λ texts. Unit {0}) refl tt
+    (λ texts. Unit {0}) (λ texts. Unit {0}) refl (none-refl mid)
     (ran_nothing it.step false it.store_of_image (unmounted it.store_of_image mid) (λ w. Unit {0}) (script_items c.args.script.now) _ mid.now mid.dev_faults tt its)))
 
 pub returns-in_default-clause-left : goal.returns-in_default-clause-left
 returns-in_default-clause-left g c = c.new.ensures.attached.input
 
 pub returns-in_default-clause-faults : goal.returns-in_default-clause-faults
-returns-in_default-clause-faults g c = faults_end HasSinkCause Memory _ _ (attached_faultless _ _ _ _ c.new.ensures.attached) tt
+returns-in_default-clause-faults g c = let none = attached_faultless _ _ _ _ c.new.ensures.attached in faults_end HasSinkCause Memory _ _ none none
 
 -- ---- the script
 

@@ -25,6 +25,7 @@ returns-in_err-put_reply-clause-ran g c = λ told w means.
     ran_untaken it.step shows it.store_of_image w (Ok c.args.command) (s.next, s.reply) s.steps before.now mid.now before.dev_faults new.dev_faults
     (answering_command it.store_of_image w c.args.command s.next before.now mid.now s.moments)
     (threw_after s.reply before.dev_faults mid.dev_faults new.dev_faults c.put_reply.ensures.call.devices.counts.dev_faults s.threw)
+    (failed_after s.reply before.dev_faults mid.dev_faults new.dev_faults c.put_reply.ensures.call.devices.counts.dev_faults s.failed)
     _ _ _ _ _ new.now mid new (p.1 ∙ ap Err p.2) its c.in_err-put_reply.ensures.call.faults.cause
     (rw c.in_err-put_reply.was at (subst R s.answered.0 (c.put_reply.ensures.puts told)))
 
@@ -54,8 +55,9 @@ returns-clause-ran g c = λ told w means.
     ran_item it.step shows it.store_of_image w (Ok c.args.command) (s.next, s.reply) s.steps before.now mid.now before.dev_faults new.dev_faults
     (answering_command it.store_of_image w c.args.command s.next before.now mid.now s.moments)
     (threw_after s.reply before.dev_faults mid.dev_faults new.dev_faults counts s.threw)
+    (failed_after s.reply before.dev_faults mid.dev_faults new.dev_faults counts s.failed)
     _ _ _ _ _ new.now its (rw c.in_ok-put_reply.was at (subst R s.answered.0 (c.put_reply.ensures.puts told)))
-    same (c.put_reply.ensures.call.devices.changes told) (failed_after s.reply before.dev_faults mid.dev_faults new.dev_faults counts s.answered.2)
+    same (c.put_reply.ensures.call.devices.changes told)
     (subst T s.answered.0 c.in_ok-put_reply.ensures.took)
 
 pub returns-clause-call : goal.returns-clause-call
@@ -72,7 +74,7 @@ returns-in_default-clause-ran g c = λ told w means.
     let mid = g.H.Host.outside c.apply.new.host in
     let s = c.in_default.ensures.stepped told w means in
     ran_stopped it.step g.S.Sink.shows it.store_of_image w (Ok c.args.command) (s.next, s.reply) s.steps before.now mid.now before.dev_faults mid.dev_faults
-    (answering_command it.store_of_image w c.args.command s.next before.now mid.now s.moments) s.threw _ _ _
+    (answering_command it.store_of_image w c.args.command s.next before.now mid.now s.moments) s.threw s.failed _ _ _
 
 pub returns-in_default-clause-call : goal.returns-in_default-clause-call
 returns-in_default-clause-call g c =

@@ -18,7 +18,7 @@ returns-in_err-put_reply-clause-ran g c = λ told w means.
     let leaves = g.met.I.Interpreter.leaves c.args.interpreter.now before w stands means in
     let counts = c.put_reply.ensures.call.devices.counts.dev_faults in
     ran_untaken it.step g.S.Sink.shows it.store_of_image w (Err c.args.refusal) (w, Reply.refused c.args.refusal) (refl, refl) before.now before.now before.dev_faults new.dev_faults
-    (answering_refusal it.store_of_image w c.args.refusal before.now leaves) (threw_refused (Reply.refused c.args.refusal) before.dev_faults new.dev_faults (λ unit. refl) counts)
+    (answering_refusal it.store_of_image w c.args.refusal before.now leaves) (threw_refused (Reply.refused c.args.refusal) before.dev_faults new.dev_faults (λ unit. refl) counts) (λ unit none. counts unit)
     _ _ _ _ _ new.now before new (p.1 ∙ ap Err p.2) (at_rest it.store_of_image w before.now leaves) c.in_err-put_reply.ensures.call.faults.cause (c.in_err-put_reply.ensures.puts told)
 
 pub returns-in_err-put_reply-clause-call : goal.returns-in_err-put_reply-clause-call
@@ -36,8 +36,8 @@ returns-clause-ran g c = λ told w means.
     let counts = c.put_reply.ensures.call.devices.counts.dev_faults in
     let same = g.met.I.Interpreter.same_worlds c.args.interpreter.now before new w (subst (λ (t : Bool). SameDevices t before new) told c.put_reply.ensures.call.devices) means in
     ran_item it.step g.S.Sink.shows it.store_of_image w (Err c.args.refusal) (w, Reply.refused c.args.refusal) (refl, refl) before.now before.now before.dev_faults new.dev_faults
-    (answering_refusal it.store_of_image w c.args.refusal before.now leaves) (threw_refused (Reply.refused c.args.refusal) before.dev_faults new.dev_faults (λ unit. refl) counts)
-    _ _ _ _ _ new.now (at_rest it.store_of_image w before.now leaves) (c.in_ok-put_reply.ensures.puts told) same (c.put_reply.ensures.call.devices.changes told) (λ unit none. counts unit) c.in_ok-put_reply.ensures.took
+    (answering_refusal it.store_of_image w c.args.refusal before.now leaves) (threw_refused (Reply.refused c.args.refusal) before.dev_faults new.dev_faults (λ unit. refl) counts) (λ unit none. counts unit)
+    _ _ _ _ _ new.now (at_rest it.store_of_image w before.now leaves) (c.in_ok-put_reply.ensures.puts told) same (c.put_reply.ensures.call.devices.changes told) c.in_ok-put_reply.ensures.took
 
 pub returns-clause-stands : goal.returns-clause-stands
 returns-clause-stands g c = g.met.I.Interpreter.kept g.H.Host.told c.args.interpreter.now (g.H.Host.outside c.args.host.now) (g.H.Host.outside c.put_reply.new.host) c.put_reply.ensures.call.devices c.requires.stands

@@ -17,7 +17,7 @@ use Rattle.newt_objects_commit.specs.Places.{place_of}
 use Rattle.newt_store_catalog.specs.Stands.{Describes}
 use Rattle.newt_store_change.specs.declared.fault.StoreFault.{StoreFault}
 use Rattle.newt_store.specs.Next.{WritesNext, all_gone}
-use Rattle.newt_store.proofs.Unanswered.{IsMemory}
+use Rattle.newt_store.proofs.Unanswered.{IsMemory, memory-as, memory-none}
 use Rattle.newt_store.proofs.Writing.{full-refused, goes-refused, the-fault}
 use Rattle.newt_store.proofs.Reading.{same-cap, keeps-all}
 use Rattle.newt_store.proofs.Carrying.{AreGone, table-next, sound-next, sound-fewer, new-stays, place-goes, names-next, names-sound-next, names-same, fewer-back, same-back, described-by, cost-after}
@@ -119,6 +119,7 @@ returns-in-Ok g c =
         };
         same_place = k.same_place;
         nothing_done = λ refused. absurd refused;
+        unchanged = λ wanting. absurd (memory-none wanting);
         open_after = k.open_after;
         alone = k.alone;
         ends = record { cause = tt; no_fault = λ goes. k.no_fault tt };
@@ -186,6 +187,7 @@ returns-in-Err g c =
             };
         same_place = k.same_place;
         nothing_done = λ refused. k.nothing_done refused;
+        unchanged = λ wanting. k.unchanged (memory-as c.in-Err.fault wanting);
         open_after = λ tells. tt;
         alone = k.alone;
         ends = record { cause = k.cause; no_fault = λ goes. k.no_fault goes };

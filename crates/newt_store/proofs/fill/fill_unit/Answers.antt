@@ -1,8 +1,11 @@
-use Rattle.std.proofs.Common.{◌≡◌, ℕ, List, refl, ◌∙◌, arith}
+use Rattle.std.proofs.Common.{◌≡◌, ℕ, List, refl, ◌∙◌, subst, arith}
 use Rattle.newt_host.specs.Moments.{image, Anything}
 use Rattle.newt_host.proofs.Moments.{Leaves-start, Leaves-weaken}
-use Rattle.newt_host.proofs.Outside.{Touches-refl}
+use Rattle.newt_host.specs.Outside.{Spends}
+use Rattle.newt_host.proofs.Outside.{NoFault-refl, Spends-widen, Spends-refl, Touches-refl}
+use Rattle.newt_pagebook.specs.Book.{format_bytes}
 use Rattle.newt_objects.specs.Changing.{HoldsObjects}
+use Rattle.newt_spec_store.specs.Cost.{cost}
 use Rattle.newt_spec_store.specs.OfImage.{blocks_of}
 use Rattle.newt_objects_commit.proofs.Committing.{blocks-are}
 use Rattle.newt_store.proofs.Filled.{filled-read}
@@ -20,9 +23,10 @@ returns-in_err-batch g c = λ s is.
       open_after = λ tells. no-value c.from_residual.result _ c.from_residual.ensures.0;
       unchanged = λ is. refl;
       any_moment = λ tells. Leaves-start {P = Anything} (λ left may. tt);
+      costs = Spends-widen 0 0 (format_bytes (cost s)) 0 (omega arith) (omega arith) (Spends-refl c.args.unit o);
       wears = record { erased = omega arith; synced = omega arith };
       alone = Touches-refl c.args.unit o;
-      ends = read-memory c.from_residual.result c.from_residual.ensures.1;
+      ends = read-memory c.from_residual.result (NoFault-refl o) c.from_residual.ensures.1;
     }
 
 pub returns-in-Ok : goal.returns-in-Ok
@@ -39,6 +43,10 @@ returns-in-Ok g c = λ s is. record {
   open_after = λ tells. (c.in-Ok.ensures.formatted tells).0.blank;
   unchanged = λ is. absurd (cc);
   any_moment = λ tells. Leaves-weaken (λ left is. tt) (c.format.ensures.any_moment tells);
+  costs =
+      let o = g.H.Host.outside in
+      let puts = c.in_ok-batch.ensures.costs ((o c.args.host.now).blocks c.args.unit) s is in
+      subst (λ (n : ℕ). Spends c.args.unit (format_bytes n) 0 (o c.args.host.now) (o c.format.new.host)) puts c.format.ensures.costs;
   wears = c.format.ensures.wears;
   alone = c.format.ensures.alone;
   ends = record { cause = tt; no_fault = c.in-Ok.ensures.no_fault };
@@ -51,6 +59,10 @@ returns g c = λ s is. record {
   open_after = λ tells. tt;
   unchanged = c.in-Err.ensures.unchanged;
   any_moment = λ tells. Leaves-weaken (λ left is. tt) (c.format.ensures.any_moment tells);
+  costs =
+      let o = g.H.Host.outside in
+      let puts = c.in_ok-batch.ensures.costs ((o c.args.host.now).blocks c.args.unit) s is in
+      subst (λ (n : ℕ). Spends c.args.unit (format_bytes n) 0 (o c.args.host.now) (o c.format.new.host)) puts c.format.ensures.costs;
   wears = c.format.ensures.wears;
   alone = c.format.ensures.alone;
   ends = record { cause = c.in-Err.ensures.cause; no_fault = tt };

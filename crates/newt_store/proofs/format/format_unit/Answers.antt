@@ -3,13 +3,15 @@ use Rattle.std.specs.FinMap as map
 use Rattle.newt_host.specs.Moments.{image, Anything}
 use Rattle.newt_spec_image.specs.Pages.{Change}
 use Rattle.newt_host.proofs.Moments.{Leaves-start, Leaves-weaken}
-use Rattle.newt_host.proofs.Outside.{Touches-refl}
+use Rattle.newt_host.specs.Outside.{Spends}
+use Rattle.newt_host.proofs.Outside.{NoFault-refl, Spends-refl, Spends-widen, Touches-refl}
+use Rattle.newt_pagebook.specs.Book.{format_bytes}
 use Rattle.newt_objects.specs.Changing.{IsUnderWay, HoldsObjects}
-use Rattle.newt_spec_store.specs.Cost.{directory_bytes}
+use Rattle.newt_spec_store.specs.Cost.{cost, directory_bytes}
 use Rattle.newt_spec_store.specs.OfImage.{blocks_of}
 use Rattle.newt_spec_store.specs.Store.{new_store}
 use Rattle.newt_objects_commit.proofs.Committing.{blocks-are}
-use Rattle.newt_store.proofs.Fresh.{start-empty, formatted-holds, fresh-read, short-name}
+use Rattle.newt_store.proofs.Fresh.{start-empty, formatted-holds, fresh-pages, fresh-read, short-name}
 use Rattle.newt_store.proofs.Unanswered.{no-value}
 use Rattle.newt_store_catalog.proofs.Exits.{read-memory}
 use Rattle.newt_store.proofs.format.format_unit.Goals as goal
@@ -23,9 +25,10 @@ returns-in_err-bytes g c =
       open_after = λ tells. no-value c.from_residual.result _ c.from_residual.ensures.0;
       unchanged = λ is. refl;
       any_moment = λ tells. Leaves-start {P = Anything} (λ left may. tt);
+      costs = Spends-widen 0 0 (format_bytes (cost (new_store c.args.name.now c.args.sig))) 0 (omega arith) (omega arith) (Spends-refl c.args.unit o);
       wears = record { erased = omega arith; synced = omega arith };
       alone = Touches-refl c.args.unit o;
-      ends = read-memory c.from_residual.result c.from_residual.ensures.1;
+      ends = read-memory c.from_residual.result (NoFault-refl o) c.from_residual.ensures.1;
     }
 
 pub returns-in_err-plan_put : goal.returns-in_err-plan_put
@@ -37,9 +40,10 @@ returns-in_err-plan_put g c =
       open_after = λ tells. no-value c.from_residual-in_err-plan_put.result _ c.from_residual-in_err-plan_put.ensures.0;
       unchanged = λ is. refl;
       any_moment = λ tells. Leaves-start {P = Anything} (λ left may. tt);
+      costs = Spends-widen 0 0 (format_bytes (cost (new_store c.args.name.now c.args.sig))) 0 (omega arith) (omega arith) (Spends-refl c.args.unit o);
       wears = record { erased = omega arith; synced = omega arith };
       alone = Touches-refl c.args.unit o;
-      ends = read-memory c.from_residual-in_err-plan_put.result c.from_residual-in_err-plan_put.ensures.1;
+      ends = read-memory c.from_residual-in_err-plan_put.result (NoFault-refl o) c.from_residual-in_err-plan_put.ensures.1;
     }
 
 pub returns-in-Ok : goal.returns-in-Ok
@@ -57,6 +61,11 @@ returns-in-Ok g c = record {
   open_after = λ tells. (c.in-Ok.ensures.formatted tells).0.blank;
   unchanged = λ is. absurd (cc);
   any_moment = λ tells. Leaves-weaken (λ left is. tt) (c.format.ensures.any_moment tells);
+  costs =
+      let o = g.H.Host.outside in
+      let bytes : c.deref.result.now ≡ directory_bytes (new_store c.args.name.now c.args.sig) = c.deref.ensures.value ∙ c.in_ok-bytes.ensures.made in
+      let puts = fresh-pages c.args.name.now c.args.sig c.deref.result.now c.new-batch.result c.plan_put.new.batch bytes c.new-batch.ensures c.in_ok-plan_put.ensures.puts.count in
+      subst (λ (n : ℕ). Spends c.args.unit (format_bytes n) 0 (o c.args.host.now) (o c.format.new.host)) puts c.format.ensures.costs;
   wears = c.format.ensures.wears;
   alone = c.format.ensures.alone;
   ends = record { cause = tt; no_fault = c.in-Ok.ensures.no_fault };
@@ -69,6 +78,11 @@ returns g c = record {
   open_after = λ tells. tt;
   unchanged = c.in-Err.ensures.unchanged;
   any_moment = λ tells. Leaves-weaken (λ left is. tt) (c.format.ensures.any_moment tells);
+  costs =
+      let o = g.H.Host.outside in
+      let bytes : c.deref.result.now ≡ directory_bytes (new_store c.args.name.now c.args.sig) = c.deref.ensures.value ∙ c.in_ok-bytes.ensures.made in
+      let puts = fresh-pages c.args.name.now c.args.sig c.deref.result.now c.new-batch.result c.plan_put.new.batch bytes c.new-batch.ensures c.in_ok-plan_put.ensures.puts.count in
+      subst (λ (n : ℕ). Spends c.args.unit (format_bytes n) 0 (o c.args.host.now) (o c.format.new.host)) puts c.format.ensures.costs;
   wears = c.format.ensures.wears;
   alone = c.format.ensures.alone;
   ends = record { cause = c.in-Err.ensures.cause; no_fault = tt };

@@ -2,7 +2,7 @@ use Rattle.std.proofs.Common.{◌*◌, ◌+◌, ◌∙◌, ℕ, length, refl, sy
 use Rattle.newt_host.specs.Outside.{Spends}
 use Rattle.newt_spec_image.specs.Objects.{pages_for}
 use Rattle.newt_objects.specs.Held.{held}
-use Rattle.newt_vbo.specs.Calls.{GoesOn}
+use Rattle.newt_vbo.specs.Calls.{BlamesNone}
 use Rattle.newt_vbo.specs.declared.fault.RangeFault.TheVariants.{Range}
 use Rattle.newt_store_catalog.proofs.Exits.{with-kept}
 use Rattle.newt_store_catalog.proofs.Opening.{the-fault}
@@ -45,7 +45,7 @@ returns-in-Err-Range g c =
       costs = range-spent c.args.at c.args.len u (o c.args.host.now) (o c.read_range.new.host) e.reads.costs;
       few = λ tells texts text holds is. subst (λ h. Spends u 0 (512 * pages_for (length text)) (o c.args.host.now) (o h)) (sym (e.unchanged is-range).1)
           (reads-nothing u (512 * pages_for (length text)) (o c.args.host.now));
-      reads = record { book = with-kept c.requires.can.kept e.reads.book; ends = ends-refused tt (e.reads.no_fault (subst (λ r. GoesOn r) (sym is-range) tt)) };
+      reads = record { book = with-kept c.requires.can.kept e.reads.book; ends = ends-refused tt (e.reads.no_fault (subst (λ r. BlamesNone r) (sym is-range) tt)) };
     }
 
 pub returns-in-Err-Memory : goal.returns-in-Err-Memory
@@ -57,7 +57,7 @@ returns-in-Err-Memory g c =
       few = λ tells texts text holds is. range-few c.args.at c.args.len (length text) (g.P.PageBook.place c.args.book.now) (o c.args.host.now) (o c.read_range.new.host) c.read_range.ensures.reads.costs
           (part-inside g.H.Host.told c.args.objects.now (g.P.PageBook.numbers c.args.book.now) (g.P.PageBook.place c.args.book.now) (o c.args.host.now) c.requires.can.kept tells texts holds c.args.id text is (c.args.at + c.args.len)
           (other (the-fault c.in-Err-Memory.is c.in-Err-Memory.field-0-is) (λ k. cc) (held c.args.objects.now c.args.id) (c.args.at + c.args.len) c.read_range.ensures.reads.past));
-      reads = record { book = with-kept c.requires.can.kept c.read_range.ensures.reads.book; ends = record { cause = tt; no_fault = λ goes. absurd goes } };
+      reads = record { book = with-kept c.requires.can.kept c.read_range.ensures.reads.book; ends = record { cause = c.read_range.ensures.reads.no_fault (subst (λ r. BlamesNone r) (sym (the-fault c.in-Err-Memory.is c.in-Err-Memory.field-0-is)) tt); no_fault = λ goes. absurd goes } };
     }
 
 pub returns-in-Err-Device : goal.returns-in-Err-Device

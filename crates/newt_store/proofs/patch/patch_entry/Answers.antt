@@ -29,7 +29,7 @@ use Rattle.newt_store.specs.Stands.{IsBeforeOrChanged}
 use Rattle.newt_store_catalog.proofs.Opening.{same-image}
 use Rattle.newt_store.proofs.Applying.{from-err, leaves-before}
 use Rattle.newt_store_catalog.proofs.Kept.{kept-over}
-use Rattle.newt_store.proofs.Unanswered.{no-value}
+use Rattle.newt_store.proofs.Unanswered.{memory-as, memory-none, no-value}
 use Rattle.newt_store.proofs.Writing.{failed}
 use Rattle.newt_store.proofs.Patching.{text-there, past-due, none-due, stands-after, spends-record, not-full, patch-idle, patch-leaves, patch-spends, patch-wears, patch-refuses, goes-error, less-over}
 use Rattle.newt_store.proofs.Opened.{open-over, refused-on, shows-made, shows-still}
@@ -287,3 +287,12 @@ returns-in-Err-clause-costs g c = λ tells minute s stands.
     (c.patch_object.ensures.commits.bound tells (subst (λ (i : List ℕ). IsOpenFor (patch_bytes (length b)) i) (sym e) room)))
     (λ past. with-unit (λ (v : ℕ). Spends v 0 0 (o c.find_large.new.host) (o c.patch_object.new.host)) u' u c.find_large.ensures.reads.book.same_place
     (c.patch_object.ensures.overwrites.untouched (c.patch_object.ensures.overwrites.past tells stands.texts l.bytes holds there past))))
+
+pub returns-in_err-object-clause-unchanged : goal.returns-in_err-object-clause-unchanged
+returns-in_err-object-clause-unchanged g c = λ wanting. c.find_large.ensures.reads.book.looks.moment
+
+pub returns-in-Ok-clause-unchanged : goal.returns-in-Ok-clause-unchanged
+returns-in-Ok-clause-unchanged g c = λ wanting. absurd (memory-none wanting)
+
+pub returns-in-Err-clause-unchanged : goal.returns-in-Err-clause-unchanged
+returns-in-Err-clause-unchanged g c = λ wanting. c.in-Err.ensures.commits.unchanged (memory-as c.in-Err.fault wanting) ∙ c.find_large.ensures.reads.book.looks.moment

@@ -106,7 +106,7 @@ pub returns-in_err-entry-clause-ends : goal.returns-in_err-entry-clause-ends
 returns-in_err-entry-clause-ends g c = ends-stop c.from_residual.result c.in_err-entry.field-0.0 c.from_residual.ensures.1 c.in_err-entry.ensures.reads.ends
 
 pub returns-in_err-next-clause-ends : goal.returns-in_err-next-clause-ends
-returns-in_err-next-clause-ends g c = ends-memory c.from_residual-in_err-next.result c.in_err-next.field-0.0 c.from_residual-in_err-next.ensures.1 c.in_err-next.ensures.only
+returns-in_err-next-clause-ends g c = ends-memory c.from_residual-in_err-next.result c.in_err-next.field-0.0 c.in_ok-entry.ensures.reads.ends.no_fault c.from_residual-in_err-next.ensures.1 c.in_err-next.ensures.only
 
 pub returns-clause-ends : goal.returns-clause-ends
 returns-clause-ends g c = ends-refused tt c.in_ok-entry.ensures.reads.ends.no_fault

@@ -1,6 +1,7 @@
 use Rattle.std.proofs.Common.{rules, ◌≡◌, ℕ, List, Result, true, false, sym, ◌∙◌, ap, subst, map}
 use Rattle.newt_graph.specs.Graph.{RawGraph}
 use Rattle.newt_host.specs.Moments.{image}
+use Rattle.newt_host.proofs.Outside.{NoFault-append}
 use Rattle.newt_pagebook.specs.declared.book.BookFault.{BookFault}
 use Rattle.newt_pagebook.specs.declared.book.BookFault.TheVariants.{Memory}
 use Rattle.newt_soupdir.specs.declared.rows.Directory.{Directory}
@@ -49,7 +50,7 @@ lies-requires g c = λ tells.
 pub returns-in-Err-Memory : goal.returns-in-Err-Memory
 returns-in-Err-Memory g c =
     let opened = c.in_ok-store.ensures in
-    record { backup_is = λ tells. tt; looks = looks-on opened.place_is opened.looks c.entries_of.ensures.reads.looks; ends = search-memory }
+    record { backup_is = λ tells. tt; looks = looks-on opened.place_is opened.looks c.entries_of.ensures.reads.looks; ends = search-memory (NoFault-append (opened.ends.no_fault tt) (rw c.in-Err-Memory.field-0-is at c.in-Err-Memory.ensures.ends.cause)) }
 
 pub returns-in-Err-Device : goal.returns-in-Err-Device
 returns-in-Err-Device g c =
@@ -68,13 +69,13 @@ returns-in_err-is_store g c =
     let opened = c.in_ok-store.ensures in
     let r : Result RawGraph BookFault = c.from_residual-in_err-is_store.result in
     no-backup g.H.Host.told c.args.unit (o c.args.host.now) (o c.entries_of.new.host) {T = RawGraph} r Memory c.from_residual-in_err-is_store.ensures.1
-    (looks-on opened.place_is opened.looks c.in-Ok.ensures.reads.looks) search-memory
+    (looks-on opened.place_is opened.looks c.in-Ok.ensures.reads.looks) (search-memory (NoFault-append (opened.ends.no_fault tt) c.in-Ok.ensures.ends.no_fault))
 
 pub returns-then-not-branch : goal.returns-then-not-branch
 returns-then-not-branch g c =
     let o = g.H.Host.outside in
     let opened = c.in_ok-store.ensures in
-    rw c.lies.ensures (record { backup_is = λ tells. tt; looks = looks-on opened.place_is opened.looks c.in-Ok.ensures.reads.looks; ends = search-memory })
+    rw c.lies.ensures (record { backup_is = λ tells. tt; looks = looks-on opened.place_is opened.looks c.in-Ok.ensures.reads.looks; ends = search-memory (NoFault-append (opened.ends.no_fault tt) c.in-Ok.ensures.ends.no_fault) })
 
 pub returns-in_err-pack_backup : goal.returns-in_err-pack_backup
 returns-in_err-pack_backup g c =
@@ -82,7 +83,7 @@ returns-in_err-pack_backup g c =
     let opened = c.in_ok-store.ensures in
     let r : Result RawGraph BookFault = c.from_residual-in_err-pack_backup.result in
     no-backup g.H.Host.told c.args.unit (o c.args.host.now) (o c.entries_of.new.host) {T = RawGraph} r Memory c.from_residual-in_err-pack_backup.ensures.1
-    (looks-on opened.place_is opened.looks c.in-Ok.ensures.reads.looks) search-memory
+    (looks-on opened.place_is opened.looks c.in-Ok.ensures.reads.looks) (search-memory (NoFault-append (opened.ends.no_fault tt) c.in-Ok.ensures.ends.no_fault))
 
 pub returns : goal.returns
 returns g c =

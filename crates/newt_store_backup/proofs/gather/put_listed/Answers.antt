@@ -3,7 +3,7 @@ use Rattle.newt_host.proofs.Outside.{NoFault-append}
 use Rattle.newt_spec_store.specs.Store.{entry_at}
 use Rattle.newt_entries.specs.Full.{told}
 use Rattle.newt_store_catalog.proofs.Exits.{read-after, read-fails}
-use Rattle.newt_store_indexed.proofs.Reading.{shows-on, reads-more}
+use Rattle.newt_store.proofs.Readings.{shows-on, reads-more}
 use Rattle.newt_store_backup.specs.Listed.{entry_row, entries_listed}
 use Rattle.newt_store_backup.proofs.Steps.{put-all, put-first}
 use Rattle.newt_store_backup.proofs.gather.put_listed.Goals as goal

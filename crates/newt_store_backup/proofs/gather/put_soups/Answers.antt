@@ -4,7 +4,7 @@ use Rattle.newt_spec_store.specs.Store.{soup_of}
 use Rattle.newt_store_change.specs.Change.{uids_in}
 use Rattle.newt_entries.specs.Full.{told}
 use Rattle.newt_store_catalog.proofs.Exits.{read-after, read-fails}
-use Rattle.newt_store_indexed.proofs.Reading.{shows-on, reads-more}
+use Rattle.newt_store.proofs.Readings.{shows-on, reads-more}
 use Rattle.newt_store_backup.specs.Listed.{entries_listed, soups_listed}
 use Rattle.newt_store_backup.proofs.Steps.{put-all, put-first}
 use Rattle.newt_store_backup.proofs.gather.put_soups.Goals as goal

@@ -168,5 +168,6 @@ returns-in_err-gatherer g c =
       found = λ tells. no-value r Memory (λ found. (s : Store) × (readable (image u first.now) ≡ Some s) × StandsFor found.0 s (image u first.now)) fails;
       gathered = no-value r Memory _ fails;
       reads = book-on c.in_ok-objects.ensures.reads (of-book c.read_root.ensures.searches.book);
-      ends = search-fails {T = Unit {0}} r Memory fails search-memory;
+      ends = search-fails {T = Unit {0}} r Memory fails
+          (search-memory (NoFault-append (c.in_ok-objects.ensures.ends.no_fault tt) (c.in_ok-directory.ensures.searches.ends.no_fault tt)));
     }

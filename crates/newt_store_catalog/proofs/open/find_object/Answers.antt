@@ -100,7 +100,7 @@ returns-in_err-gather g c =
     record {
       found = no-value r Memory _ fails;
       gathered = no-value r Memory _ fails;
-      searches = record { book = c.read_record.ensures.searches.book; ends = search-fails {T = Unit {0}} r Memory fails search-memory };
+      searches = record { book = c.read_record.ensures.searches.book; ends = search-fails {T = Unit {0}} r Memory fails (search-memory (c.in_ok-row.ensures.searches.ends.no_fault tt)) };
     }
 
 pub returns : goal.returns

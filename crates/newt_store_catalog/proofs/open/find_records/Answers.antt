@@ -130,6 +130,6 @@ returns-in_err-ids g c =
       gathered = no-value r Memory _ fails;
       searches = record {
         book = reads-none g.P.PageBook.place g.P.PageBook.numbers g.P.PageBook.stands g.H.Host.told c.args.objects.now c.args.book.now (g.H.Host.outside c.args.host.now) c.requires.can;
-        ends = search-fails {T = Unit {0}} r Memory fails search-memory;
+        ends = search-fails {T = Unit {0}} r Memory fails (search-memory (NoFault-refl (g.H.Host.outside c.args.host.now)));
       };
     }

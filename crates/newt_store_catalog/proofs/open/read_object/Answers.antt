@@ -10,7 +10,7 @@ pub returns-in-Ok-clause-searches : goal.returns-in-Ok-clause-searches
 returns-in-Ok-clause-searches g c = record { book = with-kept c.requires.can.kept c.read.ensures.reads.book; ends = search-value c.in-Ok.ensures.reads.no_fault }
 
 pub returns-in-Err-Memory-clause-searches : goal.returns-in-Err-Memory-clause-searches
-returns-in-Err-Memory-clause-searches g c = record { book = with-kept c.requires.can.kept c.read.ensures.reads.book; ends = search-memory }
+returns-in-Err-Memory-clause-searches g c = record { book = with-kept c.requires.can.kept c.read.ensures.reads.book; ends = search-memory (rw c.in-Err-Memory.field-0-is at c.in-Err-Memory.ensures.reads.cause) }
 
 pub returns-in-Err-Device-clause-searches : goal.returns-in-Err-Device-clause-searches
 returns-in-Err-Device-clause-searches g c = record { book = with-kept c.requires.can.kept c.read.ensures.reads.book; ends = search-device (rw c.in-Err-Device.field-0-is at c.in-Err-Device.ensures.reads.cause).1 }

@@ -86,7 +86,7 @@ returns-in_err-push g c =
             larges = no-value r _ _ c.from_residual-in_err-push.ensures.1;
             costs = stops-on texts c.loop-left.left.now bs done u (o c.args.host.now) (o c.loop-left.host) went some (o c.read_large.new.host) (spends-at u v _ (o c.loop-left.host) (o c.read_large.new.host) i.reads.same_place its.costs);
           };
-      reads = record { book = reads-on i.reads c.in_ok-read_large.ensures.reads.book; ends = read-memory r c.from_residual-in_err-push.ensures.1 };
+      reads = record { book = reads-on i.reads c.in_ok-read_large.ensures.reads.book; ends = read-memory r (NoFault-append i.no_fault c.in_ok-read_large.ensures.reads.ends.no_fault) c.from_residual-in_err-push.ensures.1 };
     }
 
 pub returns-clause-larges : goal.returns-clause-larges

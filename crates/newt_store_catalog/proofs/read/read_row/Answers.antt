@@ -52,7 +52,7 @@ returns-then-not-are_there g c =
         costs = read-costs g.H.Host.told c.args.objects.now (g.P.PageBook.numbers c.args.book.now) u (o c.args.host.now) kept tells texts holds c.args.id bytes at (o c.args.host.now) (o c.read.new.host) c.read.ensures.costs;
       };
       any = tt;
-      reads = record { book = with-kept kept c.read.ensures.reads.book; ends = record { cause = subst (StopsAt u (o c.args.host.now) (o c.read.new.host)) (sym c.lies.ensures) tt; no_fault = tt } };
+      reads = record { book = with-kept kept c.read.ensures.reads.book; ends = record { cause = subst (StopsAt u (o c.args.host.now) (o c.read.new.host)) (sym c.lies.ensures) c.in_ok-bytes.ensures.reads.no_fault; no_fault = tt } };
     }
 
 pub returns-in-Ok : goal.returns-in-Ok
@@ -89,7 +89,7 @@ returns-in-Err-Bad g c =
         costs = read-costs g.H.Host.told c.args.objects.now (g.P.PageBook.numbers c.args.book.now) u (o c.args.host.now) kept tells texts holds c.args.id bytes at (o c.args.host.now) (o c.read.new.host) c.read.ensures.costs;
       };
       any = tt;
-      reads = record { book = with-kept kept c.read.ensures.reads.book; ends = record { cause = subst (StopsAt u (o c.args.host.now) (o c.read.new.host)) (sym c.lies-in-Err-Bad.ensures) tt; no_fault = tt } };
+      reads = record { book = with-kept kept c.read.ensures.reads.book; ends = record { cause = subst (StopsAt u (o c.args.host.now) (o c.read.new.host)) (sym c.lies-in-Err-Bad.ensures) c.in_ok-bytes.ensures.reads.no_fault; no_fault = tt } };
     }
 
 pub returns : goal.returns
@@ -102,5 +102,5 @@ returns g c =
         costs = read-costs g.H.Host.told c.args.objects.now (g.P.PageBook.numbers c.args.book.now) (g.P.PageBook.place c.args.book.now) (o c.args.host.now) kept tells texts holds c.args.id bytes at (o c.args.host.now) (o c.read.new.host) c.read.ensures.costs;
       };
       any = tt;
-      reads = record { book = with-kept kept c.read.ensures.reads.book; ends = record { cause = tt; no_fault = tt } };
+      reads = record { book = with-kept kept c.read.ensures.reads.book; ends = record { cause = c.in_ok-bytes.ensures.reads.no_fault; no_fault = tt } };
     }

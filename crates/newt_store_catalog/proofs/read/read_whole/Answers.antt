@@ -76,7 +76,7 @@ returns-in_err-graph g c =
             costs = whole-spent sig e ids laid.larges_are.each_named u v (o c.args.host.now) (o c.read_row.new.host) (o c.read_larges.new.host) book.same_place its.costs (c.in_ok-larges.ensures.larges tells texts (its_bytes e ids) still have).costs;
           };
       valid = no-value r _ _ fails;
-      reads = record { book = reads-on book c.in_ok-larges.ensures.reads.book; ends = read-memory r fails };
+      reads = record { book = reads-on book c.in_ok-larges.ensures.reads.book; ends = read-memory r (NoFault-append one.reads.ends.no_fault c.in_ok-larges.ensures.reads.ends.no_fault) fails };
     }
 
 pub returns-clause-entry : goal.returns-clause-entry

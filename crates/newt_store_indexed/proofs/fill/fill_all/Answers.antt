@@ -7,7 +7,7 @@ use Rattle.newt_store_change.specs.Change.{pages_of_entry}
 use Rattle.newt_store_indexed.specs.Filling.{with_all}
 use Rattle.newt_store_change.specs.Change.{pages_listed}
 use Rattle.newt_store_indexed.proofs.Ends.{with-none, pages-none, behind, pages-first, with-first, sum-next, sum-below}
-use Rattle.newt_store_indexed.proofs.Reading.{shows-on, reads-more, spends-on, fetches-more}
+use Rattle.newt_store.proofs.Readings.{shows-on, reads-more, spends-on, fetches-more}
 use Rattle.newt_store_indexed.proofs.fill.fill_all.Goals as goal
 
 pub returns-clause-filled : goal.returns-clause-filled

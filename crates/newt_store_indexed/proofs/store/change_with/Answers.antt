@@ -33,7 +33,7 @@ returns-in-Ok-clause-changes g c =
       wears = e.wears;
       open_after = λ tells. ok-all r (e.open_after tells);
       alone = e.alone;
-      cause = is-memory r (FaultsAt u (o c.args.host.now) (o c.apply.new.host)) m tt;
+      cause = is-memory r (FaultsAt u (o c.args.host.now) (o c.apply.new.host)) m (e.no_fault tt);
       no_fault = λ goes. e.no_fault tt;
     }
 

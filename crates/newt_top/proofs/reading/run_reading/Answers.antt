@@ -5,7 +5,7 @@ use Rattle.newt_host.proofs.Outside.{NoFault-append, SameWork-refl}
 use Rattle.newt_script_session.specs.Calls.{OutputFailed, WriteCall}
 use Rattle.newt_script_session.specs.Named.{held_by}
 use Rattle.newt_script_session.proofs.Beginning.{attached_faultless}
-use Rattle.newt_store_backup.specs.Written.{device_on}
+use Rattle.newt_host.specs.Meanings.{device_on}
 use Rattle.newt_top.specs.Reading.{IsSaid}
 use Rattle.newt_top.specs.declared.status.Status.TheVariants.{Memory, Device}
 use Rattle.newt_top.proofs.Looking.{device-held, durable-held, ran-put, ran-unput, only-read, free-read, none-attached, ends-memory, ends-device, ends-put}
@@ -51,6 +51,7 @@ returns-in-Err-Memory-clause-ends g c =
     let mid = o c.attach_names-attached.new.host in
     let free = free-read (o c.args.host.now) mid (o c.said.new.host) (attached_faultless _ _ _ _ c.attach_names-attached.ensures.attached) c.said.ensures.looks in
     ends-memory c.args.reading (o c.args.host.now) (o c.said.new.host) free
+    (NoFault-append (none-attached _ _ _ _ c.attach_names-attached.ensures.attached) (rw c.in-Err-Memory.field-0-is at c.in-Err-Memory.ensures.ends.cause))
 
 pub returns-in-Err-Device-clause-ran : goal.returns-in-Err-Device-clause-ran
 returns-in-Err-Device-clause-ran g c = λ told.

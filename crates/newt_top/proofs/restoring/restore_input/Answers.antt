@@ -1,9 +1,8 @@
 use Rattle.std.proofs.Common.{Bool, List, ℕ, Err, map, Global, string_bytes, sym, ap, ◌∙◌, subst}
 use Rattle.newt_host_attach.specs.Named.{AreAttached}
-use Rattle.newt_host.proofs.Outside.{SameWork-append}
 use Rattle.newt_script_session.specs.Calls.{OutputFailed, WriteCall}
-use Rattle.newt_store_backup.specs.Remade.{IsDone, Restores}
-use Rattle.newt_top.proofs.Making.{ran-failed, ran-replied, ran-short}
+use Rattle.newt_store_backup.specs.Restored.{IsDone, Restores}
+use Rattle.newt_top.proofs.Making.{ran-failed, ran-replied, ran-short, writes-after, writes-before, writes-restored}
 use Rattle.newt_top.proofs.Naming.{distinct_names}
 use Rattle.newt_top.proofs.restoring.restore_input.Goals as goal
 
@@ -75,16 +74,34 @@ returns-clause-ran g c = λ told.
     new (record { untouched = λ unit none. g.met.H.Host.untouched c.write_all.new.host unit told none; history = λ unit some. g.met.H.Host.history c.write_all.new.host unit told some })
     c.deref.result.now c.write_all.result text (c.write_all.ensures.puts told) call).1 (sym c.is_err.ensures.value ∙ c.if-is_err.false)
 
--- ---- other devices
+-- ---- what was done to devices
 
-pub returns-in-Err-Memory-clause-others : goal.returns-in-Err-Memory-clause-others
-returns-in-Err-Memory-clause-others g c = λ unit other. SameWork-append (c.attach_names-attached.ensures.attached.counts.work unit) (c.restore_text.ensures.restores.alone.others unit other)
+pub returns-in-Err-Memory-clause-one : goal.returns-in-Err-Memory-clause-one
+returns-in-Err-Memory-clause-one g c =
+    let o = g.H.Host.outside in
+    let mid = o c.attach_names-attached.new.host in
+    let done = o c.restore_text.new.host in
+    writes-after (o c.args.host.now) mid done c.attach_names-attached.ensures.attached.counts (writes-restored g.H.Host.told c.args.input.items mid done c.restore_text.result c.restore_text.ensures.restores)
 
-pub returns-in-Err-Device-clause-others : goal.returns-in-Err-Device-clause-others
-returns-in-Err-Device-clause-others g c = λ unit other. SameWork-append (c.attach_names-attached.ensures.attached.counts.work unit) (c.restore_text.ensures.restores.alone.others unit other)
+pub returns-in-Err-Device-clause-one : goal.returns-in-Err-Device-clause-one
+returns-in-Err-Device-clause-one g c =
+    let o = g.H.Host.outside in
+    let mid = o c.attach_names-attached.new.host in
+    let done = o c.restore_text.new.host in
+    writes-after (o c.args.host.now) mid done c.attach_names-attached.ensures.attached.counts (writes-restored g.H.Host.told c.args.input.items mid done c.restore_text.result c.restore_text.ensures.restores)
 
-pub returns-then-is_err-clause-others : goal.returns-then-is_err-clause-others
-returns-then-is_err-clause-others g c = λ unit other. SameWork-append (SameWork-append (c.attach_names-attached.ensures.attached.counts.work unit) (c.restore_text.ensures.restores.alone.others unit other)) (c.write_all.ensures.call.devices.counts.work unit)
+pub returns-then-is_err-clause-one : goal.returns-then-is_err-clause-one
+returns-then-is_err-clause-one g c =
+    let o = g.H.Host.outside in
+    let mid = o c.attach_names-attached.new.host in
+    let done = o c.restore_text.new.host in
+    let made = writes-restored g.H.Host.told c.args.input.items mid done c.restore_text.result c.restore_text.ensures.restores in
+    writes-before (o c.args.host.now) done (o c.write_all.new.host) (writes-after (o c.args.host.now) mid done c.attach_names-attached.ensures.attached.counts made) c.write_all.ensures.call.devices
 
-pub returns-clause-others : goal.returns-clause-others
-returns-clause-others g c = λ unit other. SameWork-append (SameWork-append (c.attach_names-attached.ensures.attached.counts.work unit) (c.restore_text.ensures.restores.alone.others unit other)) (c.write_all.ensures.call.devices.counts.work unit)
+pub returns-clause-one : goal.returns-clause-one
+returns-clause-one g c =
+    let o = g.H.Host.outside in
+    let mid = o c.attach_names-attached.new.host in
+    let done = o c.restore_text.new.host in
+    let made = writes-restored g.H.Host.told c.args.input.items mid done c.restore_text.result c.restore_text.ensures.restores in
+    writes-before (o c.args.host.now) done (o c.write_all.new.host) (writes-after (o c.args.host.now) mid done c.attach_names-attached.ensures.attached.counts made) c.write_all.ensures.call.devices

@@ -1,8 +1,8 @@
 use Rattle.std.proofs.Common.{◌≤◌, ◌∙◌, Bool, ℕ, List, length, map, Global, string_bytes, sym, subst}
-use Rattle.newt_host.proofs.Outside.{SameWork-append}
 use Rattle.newt_laws_steps.specs.Devices.{SameDevices}
 use Rattle.newt_top.specs.Restoring.{RanRestored, RanRestoring}
 use Rattle.newt_top.specs.declared.status.Status.{Status}
+use Rattle.newt_top.proofs.Making.{writes-after, writes-none}
 use Rattle.newt_top.proofs.Restored.{halted-restoring, read-restoring}
 use Rattle.newt_top.proofs.restoring.run_restore.Goals as goal
 
@@ -27,10 +27,14 @@ returns-in-Ok-clause-ran g c = λ told.
     read-restoring names old mid new (c.in-Ok.ensures.quiet told) same c.args.limit c.restore_input.result ran (c.restore_input.ensures.left ∙ c.in-Ok.ensures.left told)
     (subst (λ (input : List ℕ). length input ≤ c.args.limit) (c.in-Ok.ensures.input told) c.in-Ok.ensures.within)
 
--- ---- other devices
+-- ---- what was done to devices
 
-pub returns-in-Err-clause-others : goal.returns-in-Err-clause-others
-returns-in-Err-clause-others g c = λ unit other. c.in-Err.ensures.call.devices.counts.work unit
+pub returns-in-Err-clause-one : goal.returns-in-Err-clause-one
+returns-in-Err-clause-one g c =
+    let o = g.H.Host.outside in
+    writes-none (o c.args.host.now) (o c.whole_input.new.host) c.in-Err.ensures.call.devices
 
-pub returns-in-Ok-clause-others : goal.returns-in-Ok-clause-others
-returns-in-Ok-clause-others g c = λ unit other. SameWork-append (c.in-Ok.ensures.call.devices.counts.work unit) (c.restore_input.ensures.others unit other)
+pub returns-in-Ok-clause-one : goal.returns-in-Ok-clause-one
+returns-in-Ok-clause-one g c =
+    let o = g.H.Host.outside in
+    writes-after (o c.args.host.now) (o c.whole_input.new.host) (o c.restore_input.new.host) c.in-Ok.ensures.call.devices.counts c.restore_input.ensures.one

@@ -2,7 +2,7 @@ use Rattle.std.proofs.Common.{◌≡◌, ℕ, List, Err, map, Global, string_byt
 use Rattle.std.proofs.lemmas.Grind.{common_steps}
 use Rattle.newt_host.proofs.Histories.{untouched-attached}
 use Rattle.newt_script_session.specs.declared.halt.Halt.TheVariants as halts
-use Rattle.newt_script_session.proofs.Counting.{never-refl}
+use Rattle.newt_script_session.proofs.Counting.{never-refl, none-refl}
 use Rattle.newt_spec_script.specs.Generator.{gen_script}
 use Rattle.newt_top.specs.Modes.{RanCounted}
 use Rattle.newt_top.proofs.Halting.{counted_nothing, ends_quiet}
@@ -22,7 +22,7 @@ returns-in_default-clause-ran g c = λ told.
     }
 
 pub returns-in_default-clause-ends : goal.returns-in_default-clause-ends
-returns-in_default-clause-ends g c = ends_quiet _ _ _ Memory tt tt (λ same. absurd (cc)) (never-refl _)
+returns-in_default-clause-ends g c = ends_quiet _ _ _ Memory (none-refl _) tt (λ same. absurd (cc)) (never-refl _)
 
 -- ---- the script
 

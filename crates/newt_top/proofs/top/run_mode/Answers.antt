@@ -78,7 +78,7 @@ returns-in-Read-clause-devices g c =
 pub returns-in-Restore-clause-devices : goal.returns-in-Restore-clause-devices
 returns-in-Restore-clause-devices g c =
     let P : Mode → Type 0 = λ mode. LeavesDevices g.H.Host.told (Some mode) (g.H.Host.outside c.args.host.now) (g.H.Host.outside c.run_restore.new.host) in
-    subst P (sym c.in-Restore.is) c.run_restore.ensures.others
+    subst P (sym c.in-Restore.is) c.run_restore.ensures.one
 
 -- ---- how it ends
 

@@ -22,4 +22,4 @@ pub returns-in-Ok-clause-ends : goal.returns-in-Ok-clause-ends
 returns-in-Ok-clause-ends g c = ends_ok _ _ _ c.in-Ok.ensures.faults.no_fault c.in-Ok.ensures.faults.later
 
 pub returns-in-Err-clause-ends : goal.returns-in-Err-clause-ends
-returns-in-Err-clause-ends g c = rw c.halted.ensures (ends_halted _ _ _ c.in-Err.halt c.in-Err.ensures.faults)
+returns-in-Err-clause-ends g c = rw c.halted.ensures (ends_halted _ _ _ c.in-Err.halt (λ same. same) c.in-Err.ensures.faults)

@@ -138,7 +138,7 @@ loop-part-preserved g c =
     let more : part - first + 1 ≡ part + 1 - first = omega (arith, low) in
     record {
       book = Looks-append g.P.PageBook.place g.P.PageBook.numbers g.P.PageBook.spare g.P.PageBook.stands g.H.Host.told i.book e.reads.book;
-      no_fault = NoFault-append i.no_fault c.in_ok-put_patched.ensures.reads.no_fault;
+      no_fault = NoFault-append i.no_fault (c.in_ok-put_patched.ensures.reads.no_fault tt);
       costs = spends_more unit first part (outside c.args.host.now) (outside c.loop-part.host) (outside c.put_patched.new.host) low i.costs
           (subst (λ (u : ℕ). Spends u 0 512 (outside c.loop-part.host) (outside c.put_patched.new.host)) i.book.same_place e.reads.costs);
       deletes = ap (λ (change : Change). change.deletes) is_put ∙ i.deletes;
@@ -204,7 +204,7 @@ returns-in_err-put_patched g c =
     record {
       plans = no_done r fault _ fails;
       unchanged = λ same. absurd (c.in_err-put_patched.ensures.reads.no_range (ap Err (the_fault r fault Range fails same)));
-      reads = range_failed g.P.PageBook.place g.P.PageBook.numbers g.P.PageBook.spare g.P.PageBook.stands g.H.Host.told (held c.args.objects.now c.args.id) at n r fault fails refl c.in_ok-check_range.ensures.within i.book c.in_err-put_patched.ensures.reads
+      reads = range_failed g.P.PageBook.place g.P.PageBook.numbers g.P.PageBook.spare g.P.PageBook.stands g.H.Host.told (held c.args.objects.now c.args.id) at n r fault fails refl c.in_ok-check_range.ensures.within i.book i.no_fault c.in_err-put_patched.ensures.reads
           (spends_part unit at n part c.parts_met.result old mid new c.parts_met.ensures c.loop-part.auto.part c.loop-part-test.true i.costs
           (subst (λ (u : ℕ). Spends u 0 512 mid new) i.book.same_place e.reads.costs));
     }

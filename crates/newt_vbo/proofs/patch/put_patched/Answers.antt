@@ -25,7 +25,7 @@ returns-in_err-put g c =
     let p = g.P.PageBook in
     record {
       put = no_done r Memory (PutsPatched g.H.Host.told (image (g.P.PageBook.place c.args.book.now) (g.H.Host.outside c.args.host.now).now) c.args.number c.args.from c.args.bytes.now c.args.batch.now c.put.new.self) fails;
-      reads = part_memory p.place p.numbers p.spare p.stands g.H.Host.told p.shown r fails c.load.ensures;
+      reads = part_memory p.place p.numbers p.spare p.stands g.H.Host.told p.shown r fails c.in_ok-load.ensures;
     }
 
 pub returns : goal.returns

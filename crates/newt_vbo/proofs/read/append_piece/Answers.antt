@@ -28,7 +28,7 @@ returns-in_err-extend_from_slice g c =
     record {
       appended = λ told live is. no_done r Memory (c.extend_from_slice.new.self.items ≡ c.args.bytes.now.items ++ bytes_from c.args.piece.from c.args.piece.count (data_at live c.args.number)) fails;
       size = no_done r Memory (length c.extend_from_slice.new.self.items ≡ length c.args.bytes.now.items + c.args.piece.count) fails;
-      reads = part_memory p.place p.numbers p.spare p.stands g.H.Host.told p.shown r fails c.load.ensures;
+      reads = part_memory p.place p.numbers p.spare p.stands g.H.Host.told p.shown r fails c.in_ok-load.ensures;
     }
 
 pub returns : goal.returns

@@ -99,7 +99,7 @@ loop-part-preserved g c =
     image-looked g.P.PageBook.place g.P.PageBook.numbers g.P.PageBook.spare g.P.PageBook.stands g.H.Host.told i.book in
     record {
       book = Looks-append g.P.PageBook.place g.P.PageBook.numbers g.P.PageBook.spare g.P.PageBook.stands g.H.Host.told i.book e.reads.book;
-      no_fault = NoFault-append i.no_fault c.in_ok-append_piece.ensures.reads.no_fault;
+      no_fault = NoFault-append i.no_fault (c.in_ok-append_piece.ensures.reads.no_fault tt);
       size = c.in_ok-append_piece.ensures.size ∙ ap (λ (n : ℕ). n + c.piece_in.result.count) (i.size ∙ sym piece.first) ∙ piece.last;
       costs = spends_more unit first part (outside c.args.host.now) (outside c.loop-part.host) (outside c.append_piece.new.host) c.loop-part.auto.part i.costs
           (subst (λ (u : ℕ). Spends u 0 512 (outside c.loop-part.host) (outside c.append_piece.new.host)) i.book.same_place e.reads.costs);
@@ -149,7 +149,7 @@ returns-in_err-append_piece g c =
       bytes = no_value r fault (λ bytes. IsTrue g.H.Host.told → (live : Pages) → pages (image unit old.now) ≡ Some live → IfSome (held c.args.objects.now c.args.id) (λ x. bytes.items ≡ bytes_from at len (joined live x))) fails;
       size = no_value r fault (λ bytes. length bytes.items ≡ len) fails;
       unchanged = λ same. absurd (c.in_err-append_piece.ensures.reads.no_range (ap Err (the_fault r fault Range fails same)));
-      reads = range_failed g.P.PageBook.place g.P.PageBook.numbers g.P.PageBook.spare g.P.PageBook.stands g.H.Host.told (held c.args.objects.now c.args.id) at len r fault fails refl c.in_ok-check_range.ensures.within i.book c.in_err-append_piece.ensures.reads
+      reads = range_failed g.P.PageBook.place g.P.PageBook.numbers g.P.PageBook.spare g.P.PageBook.stands g.H.Host.told (held c.args.objects.now c.args.id) at len r fault fails refl c.in_ok-check_range.ensures.within i.book i.no_fault c.in_err-append_piece.ensures.reads
           (spends_part unit at len part c.parts_met.result old mid new c.parts_met.ensures c.loop-part.auto.part c.loop-part-test.true i.costs
           (subst (λ (u : ℕ). Spends u 0 512 mid new) i.book.same_place e.reads.costs));
     }

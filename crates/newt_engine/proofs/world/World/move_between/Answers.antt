@@ -31,7 +31,7 @@ returns-in_err-soup g c =
     let w = world_of g.C.Card.reads units o in
     let cmd = command.Move c.args.unit c.args.name.now c.args.uid c.args.to c.args.target.now in
     served_handed at.laws g.H.Host.told c.args.self.now c.args.self.now o o c.requires.stands at.eight cmd
-    (move_no_cursor c.args.unit c.args.name.now c.args.uid c.args.to c.args.target.now) refl refl refl _ _ (err_from_is_err_and c.from_residual.result c.from_residual.ensures.1)
+    (move_no_cursor c.args.unit c.args.name.now c.args.uid c.args.to c.args.target.now) refl refl refl refl _ _ (err_from_is_err_and c.from_residual.result c.from_residual.ensures.1)
     (refused-obeys at cmd (λ n. Reply.number n) _ (none-refused (known_both g.C.Card.soups units.slots.items c.args.unit c.args.name.now c.args.to c.args.target.now) _ c.in_err-soup.ensures) _ (_, refl, refl)
     (λ t. both-refused at t {T = ℕ} c.args.unit c.args.name.now c.args.to c.args.target.now cmd (λ n. Reply.number n)
     (move-not-found w c.args.unit c.args.name.now c.args.uid c.args.to c.args.target.now) _ c.in_err-soup.ensures _ (_, refl, refl)))

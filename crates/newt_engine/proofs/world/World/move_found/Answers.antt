@@ -66,7 +66,7 @@ returns-in_err-graph g c name target both =
     let cmd = command.Move c.args.unit name c.args.uid c.args.to target in
     let read = c.in_err-graph.ensures in
     served_handed (laws g) g.H.Host.told c.args.self.now _ (o c.args.host.now) (o c.read_entry.new.host) c.requires.stands (units_are g c.read_entry.new.host) cmd
-    (move_no_cursor c.args.unit name c.args.uid c.args.to target) refl refl refl _ _ (err_from_is_err_and c.from_residual.result c.from_residual.ensures.1)
+    (move_no_cursor c.args.unit name c.args.uid c.args.to target) refl refl refl refl _ _ (err_from_is_err_and c.from_residual.result c.from_residual.ensures.1)
     (read-obeys at cmd (λ n. Reply.number n) read.looks
     (λ t means. copy-few (both t).0 c.args.uid c.args.to target (o c.args.host.now) (o c.read_entry.new.host) (read.fetches t (both t).0.blocks (both t).0.store (both t).0.on)) _ (handed-ends _ (_, refl, refl) read.ends)
     (λ t. move-missing w _ c.args.unit c.args.to name target c.args.soup c.args.into c.args.uid (both t).0 (both t).1 (read.looks.world t) _ (read.read t (both t).0.blocks (both t).0.store (both t).0.on)))
@@ -94,7 +94,7 @@ returns-in_err-added g c name target both =
       looks = read.looks;
       few = read.fetches t (both t).0.blocks (both t).0.store (both t).0.on;
     } in
-    served_handed (laws g) g.H.Host.told start _ (o c.args.host.now) (o c.change.new.host) c.requires.stands (units_are g c.change.new.host) cmd none refl refl refl _ _
+    served_handed (laws g) g.H.Host.told start _ (o c.args.host.now) (o c.change.new.host) c.requires.stands (units_are g c.change.new.host) cmd none refl refl refl refl _ _
     (err_from_is_err_and c.from_residual-in_err-added.result c.from_residual-in_err-added.ensures.1)
     (record {
       stands = first.stands;
@@ -246,10 +246,12 @@ returns g c name target both =
       costs = λ t. moved-costs (b t) first s.read (few t) second (λ goes. tt);
       step = λ t unread. absurd (unread_uses_cursor (with_cursors start.desk w) cmd none unread);
       alone = ends.alone;
-      cause = ends.cause;
       broke = tt;
-      no_fault = ends.no_fault;
-      ends = λ no. absurd (both-ways (sym no));
-      device = λ no. absurd (both-ways (sym no));
-      quiet = λ v. ap (λ (k : Shown). throws v (said k)) s.same;
+      ends = record {
+        cause = ends.cause;
+        no_fault = ends.no_fault;
+        memory = λ no. absurd (both-ways (sym no));
+        device = λ no. absurd (both-ways (sym no));
+        quiet = λ v. ap (λ (k : Shown). throws v (said k)) s.same;
+      };
     }

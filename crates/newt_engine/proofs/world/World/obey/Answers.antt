@@ -35,12 +35,14 @@ returns-in-Nsof g c =
       unrefused = λ t moves. absurd (moves_on_devices _ moves (ap uses_device c.in-Nsof.is));
       costs = λ t. still_costs (λ u. alone-refl u _) (λ means. idle-fetches _ _ o);
       alone = OnDevices-refl o;
-      cause = tt;
       broke = tt;
-      no_fault = λ goes. NoFault-refl o;
-      ends = λ none. tt;
-      device = λ none. tt;
-      quiet = λ u. refl;
+      ends = record {
+        cause = tt;
+        no_fault = λ goes. NoFault-refl o;
+        memory = λ none. tt;
+        device = λ none. tt;
+        quiet = λ u. refl;
+      };
     }
 
 pub returns-in-Lit : goal.returns-in-Lit
@@ -54,12 +56,14 @@ returns-in-Lit g c =
       unrefused = λ t moves. absurd (moves_on_devices _ moves (ap uses_device c.in-Lit.is));
       costs = λ t. still_costs (λ u. alone-refl u _) (λ means. idle-fetches _ _ o);
       alone = OnDevices-refl o;
-      cause = tt;
       broke = tt;
-      no_fault = λ goes. NoFault-refl o;
-      ends = λ none. tt;
-      device = λ none. tt;
-      quiet = λ u. refl;
+      ends = record {
+        cause = tt;
+        no_fault = λ goes. NoFault-refl o;
+        memory = λ none. tt;
+        device = λ none. tt;
+        quiet = λ u. refl;
+      };
     }
 
 pub format-requires-clause-sig : goal.format-requires-clause-sig
@@ -83,72 +87,74 @@ returns-in-Format g c =
       moments = λ t. moments_same g.C.Card.reads _ _ _ _ c.args.command _ c.in-Format.is (call.moments t);
       desk = refl;
       unrefused = λ t moves. absurd (moves_no_format _ _ _ (subst (λ x. moves_keys x ≡ true) c.in-Format.is moves));
-      costs = λ t. format_costs c.in-Format.is (λ goes. call.open_after t (goes_back on goes));
+      costs = λ t. format_costs c.in-Format.is call.costs (λ goes. call.open_after t (goes_back on goes));
       alone = call.ends.alone;
-      cause = err_on on _ call.ends.cause;
       broke = subst (λ x. IfErr c.done.result (AtDevice (BreaksIn g.C.Card.reads g.C.Card.place g.C.Card.stands g.H.Host.told x c.args.self.now.units c.format.new.self o p))) (sym c.in-Format.is) (err_on on _ call.broke);
-      no_fault = λ goes. call.ends.no_fault (goes_back on goes);
-      ends = λ none. absurd (both-ways (sym none ∙ ap takes_memory c.in-Format.is));
-      device = λ none. absurd (both-ways (sym none ∙ ap uses_device c.in-Format.is));
-      quiet = quiet_on on (λ x u. refl);
+      ends = record {
+        cause = err_on on _ call.ends.cause;
+        no_fault = λ goes. call.ends.no_fault (goes_back on goes);
+        memory = λ none. absurd (both-ways (sym none ∙ ap takes_memory c.in-Format.is));
+        device = λ none. absurd (both-ways (sym none ∙ ap uses_device c.in-Format.is));
+        quiet = quiet_on on (λ x u. refl);
+      };
     }
 
 pub returns-in-Mount : goal.returns-in-Mount
-returns-in-Mount g c = handed_obeyed c.mounted.ensures c.in-Mount.is refl refl (λ x r k. cc) (λ x u. refl) c.mount.ensures refl
+returns-in-Mount g c = handed_obeyed c.mounted.ensures c.in-Mount.is refl refl refl (λ x r k. cc) (λ x u. refl) c.mount.ensures refl
 
 pub returns-in-Soup : goal.returns-in-Soup
-returns-in-Soup g c = handed_obeyed c.numbered.ensures c.in-Soup.is refl refl (λ x r k. cc) (λ x u. refl) c.soup.ensures refl
+returns-in-Soup g c = handed_obeyed c.numbered.ensures c.in-Soup.is refl refl refl (λ x r k. cc) (λ x u. refl) c.soup.ensures refl
 
 pub returns-in-Drop : goal.returns-in-Drop
-returns-in-Drop g c = handed_obeyed c.done-in-Drop.ensures c.in-Drop.is refl refl (λ x r k. cc) (λ x u. refl) c.drop_soup.ensures refl
+returns-in-Drop g c = handed_obeyed c.done-in-Drop.ensures c.in-Drop.is refl refl refl (λ x r k. cc) (λ x u. refl) c.drop_soup.ensures refl
 
 pub returns-in-Index : goal.returns-in-Index
-returns-in-Index g c = handed_obeyed c.done-in-Index.ensures c.in-Index.is refl refl (λ x r k. cc) (λ x u. refl) c.index.ensures refl
+returns-in-Index g c = handed_obeyed c.done-in-Index.ensures c.in-Index.is refl refl refl (λ x r k. cc) (λ x u. refl) c.index.ensures refl
 
 pub returns-in-Unindex : goal.returns-in-Unindex
-returns-in-Unindex g c = handed_obeyed c.done-in-Unindex.ensures c.in-Unindex.is refl refl (λ x r k. cc) (λ x u. refl) c.unindex.ensures refl
+returns-in-Unindex g c = handed_obeyed c.done-in-Unindex.ensures c.in-Unindex.is refl refl refl (λ x r k. cc) (λ x u. refl) c.unindex.ensures refl
 
 pub returns-in-SetTags : goal.returns-in-SetTags
-returns-in-SetTags g c = handed_obeyed c.done-in-SetTags.ensures c.in-SetTags.is refl refl (λ x r k. cc) (λ x u. refl) c.set_tags.ensures refl
+returns-in-SetTags g c = handed_obeyed c.done-in-SetTags.ensures c.in-SetTags.is refl refl refl (λ x r k. cc) (λ x u. refl) c.set_tags.ensures refl
 
 pub returns-in-SetInfo : goal.returns-in-SetInfo
-returns-in-SetInfo g c = handed_obeyed c.done-in-SetInfo.ensures c.in-SetInfo.is refl refl (λ x r k. cc) (λ x u. refl) c.set_info.ensures refl
+returns-in-SetInfo g c = handed_obeyed c.done-in-SetInfo.ensures c.in-SetInfo.is refl refl refl (λ x r k. cc) (λ x u. refl) c.set_info.ensures refl
 
 pub returns-in-Add : goal.returns-in-Add
-returns-in-Add g c = handed_obeyed c.numbered-in-Add.ensures c.in-Add.is refl refl (λ x r k. cc) (λ x u. refl) c.add.ensures.obeyed refl
+returns-in-Add g c = handed_obeyed c.numbered-in-Add.ensures c.in-Add.is refl refl refl (λ x r k. cc) (λ x u. refl) c.add.ensures.obeyed refl
 
 pub returns-in-Addx : goal.returns-in-Addx
-returns-in-Addx g c = handed_obeyed c.numbered-in-Addx.ensures c.in-Addx.is refl refl (λ x r k. cc) (λ x u. refl) c.add-in-Addx.ensures.as_stream refl
+returns-in-Addx g c = handed_obeyed c.numbered-in-Addx.ensures c.in-Addx.is refl refl refl (λ x r k. cc) (λ x u. refl) c.add-in-Addx.ensures.as_stream refl
 
 pub returns-in-Addu : goal.returns-in-Addu
-returns-in-Addu g c = handed_obeyed c.added.ensures c.in-Addu.is refl refl (λ x r k. cc) (λ x u. refl) c.add_to_default.ensures refl
+returns-in-Addu g c = handed_obeyed c.added.ensures c.in-Addu.is refl refl refl (λ x r k. cc) (λ x u. refl) c.add_to_default.ensures refl
 
 pub returns-in-Get : goal.returns-in-Get
-returns-in-Get g c = handed_obeyed c.timed.ensures c.in-Get.is refl refl (λ x r k. cc) (λ x u. refl) c.get.ensures.obeyed refl
+returns-in-Get g c = handed_obeyed c.timed.ensures c.in-Get.is refl refl refl (λ x r k. cc) (λ x u. refl) c.get.ensures.obeyed refl
 
 pub returns-in-Getx : goal.returns-in-Getx
-returns-in-Getx g c = handed_obeyed c.timed_nsof.ensures c.in-Getx.is refl refl (λ x r k. cc) (λ x u. refl) c.get-in-Getx.ensures.as_stream refl
+returns-in-Getx g c = handed_obeyed c.timed_nsof.ensures c.in-Getx.is refl refl refl (λ x r k. cc) (λ x u. refl) c.get-in-Getx.ensures.as_stream refl
 
 pub returns-in-Set : goal.returns-in-Set
-returns-in-Set g c = handed_obeyed c.done-in-Set.ensures c.in-Set.is refl refl (λ x r k. cc) (λ x u. refl) c.set.ensures refl
+returns-in-Set g c = handed_obeyed c.done-in-Set.ensures c.in-Set.is refl refl refl (λ x r k. cc) (λ x u. refl) c.set.ensures refl
 
 pub returns-in-Change : goal.returns-in-Change
-returns-in-Change g c = handed_obeyed c.done-in-Change.ensures c.in-Change.is refl refl (λ x r k. cc) (λ x u. refl) c.change.ensures refl
+returns-in-Change g c = handed_obeyed c.done-in-Change.ensures c.in-Change.is refl refl refl (λ x r k. cc) (λ x u. refl) c.change.ensures refl
 
 pub returns-in-Remove : goal.returns-in-Remove
-returns-in-Remove g c = handed_obeyed c.done-in-Remove.ensures c.in-Remove.is refl refl (λ x r k. cc) (λ x u. refl) c.remove.ensures refl
+returns-in-Remove g c = handed_obeyed c.done-in-Remove.ensures c.in-Remove.is refl refl refl (λ x r k. cc) (λ x u. refl) c.remove.ensures refl
 
 pub returns-in-Copy : goal.returns-in-Copy
-returns-in-Copy g c = handed_obeyed c.numbered-in-Copy.ensures c.in-Copy.is refl refl (λ x r k. cc) (λ x u. refl) c.copy.ensures refl
+returns-in-Copy g c = handed_obeyed c.numbered-in-Copy.ensures c.in-Copy.is refl refl refl (λ x r k. cc) (λ x u. refl) c.copy.ensures refl
 
 pub returns-in-Move : goal.returns-in-Move
-returns-in-Move g c = handed_obeyed c.numbered-in-Move.ensures (within_own c.args.command _ _ _ _ _ c.in-Move.is c.requires.within) refl refl (λ x r k. cc) (λ x u. refl) c.move_within.ensures refl
+returns-in-Move g c = handed_obeyed c.numbered-in-Move.ensures (within_own c.args.command _ _ _ _ _ c.in-Move.is c.requires.within) refl refl refl (λ x r k. cc) (λ x u. refl) c.move_within.ensures refl
 
 pub returns-in-Vread : goal.returns-in-Vread
-returns-in-Vread g c = handed_obeyed c.hex.ensures c.in-Vread.is refl refl (λ x r k. cc) (λ x u. refl) c.vread.ensures refl
+returns-in-Vread g c = handed_obeyed c.hex.ensures c.in-Vread.is refl refl refl (λ x r k. cc) (λ x u. refl) c.vread.ensures refl
 
 pub returns-in-Vwrite : goal.returns-in-Vwrite
-returns-in-Vwrite g c = handed_obeyed c.done-in-Vwrite.ensures c.in-Vwrite.is refl refl (λ x r k. cc) (λ x u. refl) c.vwrite.ensures refl
+returns-in-Vwrite g c = handed_obeyed c.done-in-Vwrite.ensures c.in-Vwrite.is refl refl refl (λ x r k. cc) (λ x u. refl) c.vwrite.ensures refl
 
 pub obey_in_memory-obeyed-requires : goal.obey_in_memory-obeyed-requires
 obey_in_memory-obeyed-requires g c =
@@ -172,10 +178,12 @@ returns-in_default g c =
       unrefused = λ t moves. absurd (moves_on_devices c.args.command moves no_device);
       costs = λ t. still_costs (λ u. alone-refl u _) (λ means. idle-fetches _ _ o);
       alone = OnDevices-refl o;
-      cause = has_cause _ _ _ call.device;
       broke = none-devices _ _ call.device;
-      no_fault = λ goes. NoFault-refl o;
-      ends = call.ends;
-      device = λ uses_none. call.device;
-      quiet = call.quiet;
+      ends = record {
+        cause = has_cause _ _ _ (NoFault-refl o) call.device;
+        no_fault = λ goes. NoFault-refl o;
+        memory = call.ends;
+        device = λ uses_none. call.device;
+        quiet = call.quiet;
+      };
     }

@@ -82,18 +82,20 @@ returns-then-settles g c =
           reached_within a.desk sees k.0 k.1 k.2 k.3 command c.requires.no_cursor v (said c.in-Ok.reply) reached (done.unrefused t moves) (done.answered t) (is t) c.requires.form means u)));
       step = λ t unread. absurd (unread_uses_cursor (stood_for reads a o) command c.requires.no_cursor unread);
       alone = OnDevices-append e.alone s.read.alone;
-      cause = cause-after _ _ e.alone s.ends.cause;
       broke = err-device-both (λ u. FailsAlone m p u × (c.settled.new.self.desk ≡ c.obey.new.self.desk)) (λ u. IsTrue told → in_reach reached (mounted_store v u) ≡ true)
           (λ u. Fails reads g.C.Card.place g.C.Card.stands told command a c.settled.new.self o p u ⊎ FailsHalfway reads g.C.Card.place g.C.Card.stands told command a c.settled.new.self o p u) c.settled.result
           (λ u f reaches. inl (settling-fails laws told c.requires.stands command c.requires.no_cursor c.requires.within moves c.obey.new.self c.settled.new.self m p (answer sees command).0 e.moments (λ t. done.unrefused t moves) row
-          (λ t. subst MountedApart (row t) (apart t)) s.read (f.1 ∙ e.desk) u (fails-after e.alone.cards (done.no_fault tt) f.0)
+          (λ t. subst MountedApart (row t) (apart t)) s.read (f.1 ∙ e.desk) u (fails-after e.alone.cards (done.ends.no_fault tt) f.0)
           (λ t. subst (λ (x : World). in_reach (reach sees command) (mounted_store x u) ≡ true) (row t) (subst (λ (r : Reach). in_reach r (mounted_store v u) ≡ true) (is t) (reaches t)))))
           (err-device-both (FailsAlone m p) (λ u. c.settled.new.self.desk ≡ c.obey.new.self.desk) (λ u. FailsAlone m p u × (c.settled.new.self.desk ≡ c.obey.new.self.desk)) c.settled.result (λ u f same. (f, same)) s.ends.failed s.kept)
           (told-device (IsTrue told) (λ u. in_reach reached (mounted_store v u) ≡ true) c.settled.result s.own);
-      no_fault = λ goes. NoFault-append (done.no_fault tt) (s.ends.no_fault goes);
-      ends = λ none. absurd (moves_in_memory command moves none);
-      device = λ none. absurd (moves_on_devices command moves none);
-      quiet = settled_quiet c.in-Ok.reply c.settled.result s.same done.quiet;
+      ends = record {
+        cause = cause-after _ _ (done.ends.no_fault tt) s.ends.cause;
+        no_fault = λ goes. NoFault-append (done.ends.no_fault tt) (s.ends.no_fault goes);
+        memory = λ none. absurd (moves_in_memory command moves none);
+        device = λ none. absurd (moves_on_devices command moves none);
+        quiet = settled_quiet c.in-Ok.reply c.settled.result s.same done.ends.quiet;
+      };
     }
 
 pub returns-else-settles : goal.returns-else-settles
@@ -125,12 +127,8 @@ returns-else-settles g c =
           (λ means. alone_few a.desk w command o m (whole_known laws told a o c.requires.stands t command c.requires.no_cursor) ((done.costs t).fetched means));
       step = λ t unread. absurd (unread_uses_cursor (stood_for reads a o) command c.requires.no_cursor unread);
       alone = e.alone;
-      cause = done.cause;
       broke = tt;
-      no_fault = done.no_fault;
       ends = done.ends;
-      device = done.device;
-      quiet = done.quiet;
     }
 
 pub returns-in-Err : goal.returns-in-Err

@@ -28,10 +28,6 @@ returns g c =
       costs = λ t. still_costs e.read.untouched (λ means. absurd (means_no_cursor c.args.command.now c.requires.on_cursor means));
       step = λ t. e.fetches t (c.requires.stands.apart t) (c.requires.stands.settled t);
       alone = e.read.alone;
-      cause = e.cause;
       broke = err-device-both _ _ _ c.walk.result (λ u failed kept. inl (fails_reading c.args.command.now e.read kept failed)) e.failed e.kept;
-      no_fault = e.no_fault;
       ends = e.ends;
-      device = e.device;
-      quiet = e.quiet;
     }

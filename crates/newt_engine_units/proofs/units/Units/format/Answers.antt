@@ -23,7 +23,7 @@ use Rattle.newt_engine_units.specs.Calls.{Breaks, BreaksIn}
 use Rattle.newt_engine_units.specs.Stands.{Stands, due_in, world_of}
 use Rattle.newt_engine_units.proofs.Answering.{format-has-answers, format-answers, format-makes, format-blank, format-formats}
 use Rattle.newt_engine_units.proofs.Broken.{at-device-both, err-device-map, none-device}
-use Rattle.newt_engine_units.proofs.Costs.{same-before}
+use Rattle.newt_engine_units.proofs.Costs.{alone-once, alone-refl, once-after, same-before, synced-once}
 use Rattle.newt_engine_units.proofs.Marked.{free-card}
 use Rattle.newt_engine_units.specs.Looks.{IsFree, known_ready}
 use Rattle.newt_engine_units.proofs.Obeying.{breaks-behind, end-answers, handed, handed-ends, none-ends, none-refused, ends-after}
@@ -56,6 +56,7 @@ returns-in_err-find_ready g c =
       answered = λ t. subst (λ k. Answers (seen_on g.C.Card.reads w o.now k) w format (λ _. Reply.done) c.from_residual.result) (sym (not-looked at t c.args.unit _ c.in_err-find_ready.ensures))
           (ready-refused at t c.args.unit _ _ (λ r k. format-not-ready w c.args.unit r k c.args.name.now c.args.sig) _ c.in_err-find_ready.ensures _ p);
       moments = λ t. still at t _ _ _ refl;
+      costs = λ u. alone-once 10 (alone-refl u o);
       open_after = λ t goes u. inr refl;
       ends = handed-ends _ p (none-ends {T = Unit {0}} _ none);
       broke = handed (AtDevice B) _ _ p (none-device B _ none);
@@ -71,6 +72,7 @@ returns-in_err-make_sure g c =
       stands = λ goes. failed-stands at made;
       answered = λ t. end-answers _ _ _ _ _ _ p (failed-end at made);
       moments = λ t. failed-moments at made t _ _;
+      costs = synced-once made.alone made.costs (λ u. alone-once 9 (alone-refl u (g.H.Host.outside c.make_sure.new.host)));
       open_after = λ t goes u. inr (ap (image u) (made.nothing_done t));
       ends = handed-ends _ p made.ends;
       broke = handed (AtDevice (BreaksIn g.C.Card.reads g.C.Card.place g.C.Card.stands g.H.Host.told format c.args.self.now c.make_sure.new.self (g.H.Host.outside c.args.host.now) (g.H.Host.outside c.make_sure.new.host)))
@@ -95,6 +97,7 @@ returns-in_err-has_store g c =
       stands = λ goes. e.looks.stand;
       answered = λ t. end-answers _ _ _ _ _ _ p e.has;
       moments = λ t. sync-still at free made t (may t) format _ refl _ e.looks.moment;
+      costs = synced-once made.alone made.costs (λ u. alone-once 9 (e.looks.untouched u));
       open_after = λ t goes u. inr (ap (image u) e.looks.moment ∙ images-same at free made t u);
       ends = ends-after made.ends tt (handed-ends _ p e.ends);
       broke = handed (AtDevice B) _ _ p (at-device-both (λ k. k ≡ c.args.unit) (FailsAlone m q) B _
@@ -123,6 +126,7 @@ returns-then-branch g c =
           (format-has-answers mid _ c.args.unit _ (g.C.Card.reads (image c.args.unit m.now)) c.args.name.now c.args.sig (ready-there then t c.args.unit (now-free at free made) (now-sure at free made)) refl
           (sym (e.has t) ∙ c.if-branch.true) same);
       moments = λ t. sync-still at free made t (may t) format _ refl _ e.looks.moment;
+      costs = synced-once made.alone made.costs (λ u. alone-once 9 (e.looks.untouched u));
       open_after = λ t goes u. inr (ap (image u) e.looks.moment ∙ images-same at free made t u);
       ends = ends-after made.ends tt (ends-after e.ends tt (none-ends {T = Unit {0}} _ tt));
       broke = tt;
@@ -168,6 +172,7 @@ returns g c =
           (subst (λ (x : World). formats x format u ≡ true) (as-seen at free made format refl t) (format-formats mid mid u _ found c.args.name.now c.args.sig (ready t) refl empty)) empty
           (subst (λ (k : Moment). Always (Meanwhile g.C.Card.reads (due_in c.make_sure.new.self.slots.items) mid format v k) k p.now) e.looks.moment
           (subst (λ (x : World). Always (Meanwhile g.C.Card.reads (due_in c.make_sure.new.self.slots.items) x format v q.now) q.now p.now) same way)));
+      costs = synced-once made.alone made.costs (λ j. once-after (e.looks.untouched j) (e.looks.alone.cards.blocks j) (c.make.ensures.costs j));
       open_after = λ t goes j. same-before j o.now q.now p.now (ap (image j) e.looks.moment ∙ images-same at free made t j) (c.make.ensures.open_after t goes j);
       ends = ends-after made.ends tt (ends-after e.ends tt c.make.ensures.ends);
       broke = err-device-map P B c.make.result (λ k b. subst B (sym b.0) (record {

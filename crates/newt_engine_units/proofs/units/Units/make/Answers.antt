@@ -7,7 +7,7 @@ use Rattle.newt_engine_units.specs.Calls.{Breaks}
 use Rattle.newt_engine_units.proofs.Broken.{fails-alone, its-stops, world-beside}
 use Rattle.newt_engine_units.proofs.Marked.{free-card}
 use Rattle.newt_engine_units.proofs.Calls.{on-devices, stop-cause}
-use Rattle.newt_engine_units.proofs.Costs.{opened-alone}
+use Rattle.newt_engine_units.proofs.Costs.{format-once, opened-alone}
 use Rattle.newt_engine_units.proofs.Slots.{but-beside, but-of, stands-beside}
 use Rattle.newt_engine_units.proofs.Turns.{world-formatted, anything-moments}
 use Rattle.newt_engine_units.proofs.Settings.{Setting, stand-told}
@@ -36,6 +36,7 @@ returns-in-Ok g c =
       made = λ t. world-formatted g.C.Card.reads c.args.self.now c.args.unit o p c.args.name.now c.args.sig e.alone.cards (Leaves-others (e.any_moment t)) c.requires.sure free (c.in-Ok.ensures.formatted t).0;
       only = tt;
       moments = λ t command v has formatting makes. anything-moments at.laws c.args.self.now o at.eight (stand-told at t) c.args.unit _ command v _ has formatting makes c.requires.sure (e.any_moment t);
+      costs = format-once e.costs e.wears e.alone;
       open_after = λ t goes. opened-alone c.args.unit o.now p.now (c.in-Ok.ensures.open_after t) (Leaves-others (e.any_moment t));
       ends = record { alone = on-devices e.alone; cause = tt; failed = tt; no_fault = λ goes. c.in-Ok.ensures.no_fault };
       broke = tt;
@@ -54,6 +55,7 @@ returns-in-Err g c =
       made = λ t. tt;
       only = tt;
       moments = λ t command v has formatting makes. anything-moments at.laws c.args.self.now o at.eight (stand-told at t) c.args.unit _ command v _ has formatting makes c.requires.sure (e.any_moment t);
+      costs = format-once e.costs e.wears e.alone;
       open_after = λ t goes. absurd goes;
       ends = record {
         alone = on-devices e.alone;

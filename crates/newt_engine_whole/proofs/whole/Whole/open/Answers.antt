@@ -68,8 +68,8 @@ returns-in_err-reply g c =
     let o = g.H.Host.outside c.args.host.now in
     subst (λ (r : Result Reply AllocError). Applied g.C.Card.reads g.C.Card.place g.C.Card.stands g.H.Host.told (command.Open u c.args.name c.args.uid) c.args.self.now (record c.args.self.now { world = c.apply.new.self }) o (g.H.Host.outside c.apply.new.host) r)
     (sym memory.1)
-    (read-memory refl c.requires.stands u c.args.uid c.args.name c.in_err-reply.ensures memory.0 (λ w. refl) refl refl (λ t. ([], open-turn (known_whole g.C.Card.reads c.args.self.now o) u c.args.uid c.args.name))
-    (still-read c.requires.stands u c.args.uid c.args.name c.in_err-reply.ensures (λ t h m v it e. cc)))
+    (read-memory refl c.requires.stands u c.args.uid c.args.name c.in_err-reply.ensures memory.0 (λ w. refl) refl refl refl (λ t. ([], open-turn (known_whole g.C.Card.reads c.args.self.now o) u c.args.uid c.args.name))
+    (still-read c.requires.stands u c.args.uid c.args.name c.in_err-reply.ensures (λ t h m v it e. cc)) c.in_err-reply.ensures.finished.unhidden)
 
 pub returns-in-Timed : goal.returns-in-Timed
 returns-in-Timed g c =

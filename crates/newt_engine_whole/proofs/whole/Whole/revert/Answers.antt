@@ -96,8 +96,9 @@ returns-in_err-draft-in-Timed g c =
     let f = found g it host c.args.number at c.requires.stands (λ h s m. subst (λ (r : Result Place Refusal). FindsLiving h c.args.number r) c.in-Ok.is (c.in_ok-place.ensures.found (g.H.Host.outside host) h s m)) in
     subst (λ (r : Result Reply AllocError). Applied g.C.Card.reads g.C.Card.place g.C.Card.stands g.H.Host.told (command.Revert c.args.number) it (record it { world = c.apply.new.self }) (g.H.Host.outside host) (g.H.Host.outside c.apply.new.host) r)
     (sym memory.1)
-    (read-memory refl c.requires.stands at.unit at.uid at.name (applied-as c.in-Timed.is c.in_ok-reply.ensures) memory.0 (λ w. refl) refl refl (λ t. ([], turn g it host c.args.number at c.requires.stands f t))
-    (still-read c.requires.stands at.unit at.uid at.name (applied-as c.in-Timed.is c.in_ok-reply.ensures) (λ t h m v x e r. timed-stays h.world v at.unit at.uid at.name _ _ x e r)))
+    (read-memory refl c.requires.stands at.unit at.uid at.name (applied-as c.in-Timed.is c.in_ok-reply.ensures) memory.0 (λ w. refl) refl refl refl (λ t. ([], turn g it host c.args.number at c.requires.stands f t))
+    (still-read c.requires.stands at.unit at.uid at.name (applied-as c.in-Timed.is c.in_ok-reply.ensures) (λ t h m v x e r. timed-stays h.world v at.unit at.uid at.name _ _ x e r))
+    (let timed = applied-as c.in-Timed.is c.in_ok-reply.ensures in λ x. timed.finished.failed x refl))
 
 pub returns-in_err-reply : goal.returns-in_err-reply
 unfolding is_plain
@@ -109,8 +110,8 @@ returns-in_err-reply g c =
     let f = found g it host c.args.number at c.requires.stands (λ h s m. subst (λ (r : Result Place Refusal). FindsLiving h c.args.number r) c.in-Ok.is (c.in_ok-place.ensures.found (g.H.Host.outside host) h s m)) in
     subst (λ (r : Result Reply AllocError). Applied g.C.Card.reads g.C.Card.place g.C.Card.stands g.H.Host.told (command.Revert c.args.number) it (record it { world = c.apply.new.self }) (g.H.Host.outside host) (g.H.Host.outside c.apply.new.host) r)
     (sym memory.1)
-    (read-memory refl c.requires.stands at.unit at.uid at.name c.in_err-reply.ensures memory.0 (λ w. refl) refl refl (λ t. ([], turn g it host c.args.number at c.requires.stands f t))
-    (still-read c.requires.stands at.unit at.uid at.name c.in_err-reply.ensures (λ t h m v x e. cc)))
+    (read-memory refl c.requires.stands at.unit at.uid at.name c.in_err-reply.ensures memory.0 (λ w. refl) refl refl refl (λ t. ([], turn g it host c.args.number at c.requires.stands f t))
+    (still-read c.requires.stands at.unit at.uid at.name c.in_err-reply.ensures (λ t h m v x e. cc)) c.in_err-reply.ensures.finished.unhidden)
 
 pub apply-requires-clause-form : goal.apply-requires-clause-form
 unfolding has_form

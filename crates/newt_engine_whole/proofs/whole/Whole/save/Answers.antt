@@ -94,8 +94,9 @@ returns-in_err-reply g c =
     let f = found g it host c.args.number at c.requires.stands (λ h s m. subst (λ (r : Result Place Refusal). FindsLiving h c.args.number r) c.in-Ok.is (c.in_ok-place.ensures.found (g.H.Host.outside host) h s m)) in
     subst (λ (r : Result Reply AllocError). Applied g.C.Card.reads g.C.Card.place g.C.Card.stands g.H.Host.told (command.Save c.args.number) it (record it { world = c.apply.new.self }) (g.H.Host.outside host) (g.H.Host.outside c.apply.new.host) r)
     (sym memory.1)
-    (read-memory refl c.requires.stands at.unit at.uid at.name (applied-of (ap (λ (s : List ℕ). command.Get at.unit s at.uid) c.in_ok-name.ensures) c.in_err-reply.ensures) memory.0 (λ w. refl) refl refl (turn g it host c.args.number at c.requires.stands f)
-    (still-read c.requires.stands at.unit at.uid at.name (applied-of (ap (λ (s : List ℕ). command.Get at.unit s at.uid) c.in_ok-name.ensures) c.in_err-reply.ensures) (λ t h m v x e. cc)))
+    (read-memory refl c.requires.stands at.unit at.uid at.name (applied-of (ap (λ (s : List ℕ). command.Get at.unit s at.uid) c.in_ok-name.ensures) c.in_err-reply.ensures) memory.0 (λ w. refl) refl refl refl (turn g it host c.args.number at c.requires.stands f)
+    (still-read c.requires.stands at.unit at.uid at.name (applied-of (ap (λ (s : List ℕ). command.Get at.unit s at.uid) c.in_ok-name.ensures) c.in_err-reply.ensures) (λ t h m v x e. cc))
+    c.in_err-reply.ensures.finished.unhidden)
 
 -- the one that is known before has the entry as it was read, and so has each that is stood for then
 pub save_over-requires : goal.save_over-requires

@@ -5,8 +5,8 @@ use Rattle.newt_spec_image.specs.Pages.{pages}
 use Rattle.newt_journal.specs.declared.journal.Journal.{Journal}
 use Rattle.newt_pagebook.specs.declared.book.BookFault.TheVariants.{Device, NotStore}
 use Rattle.newt_pagelog.specs.Kept.{map_of}
-use Rattle.newt_pagelog.proofs.Ending.{looks-two, opened-as, opened-same}
-use Rattle.newt_pagelog.proofs.Failing.{no-value, same-err, not-err, rose-over}
+use Rattle.newt_pagelog.proofs.Ending.{looks-two, opened-same}
+use Rattle.newt_pagelog.proofs.Failing.{blames-as, no-value, same-err, not-err, rose-over}
 use Rattle.newt_pagelog.proofs.Replaying.{stands-on}
 use Rattle.newt_pageplain.proofs.book.PlainBookPageBook.open.Goals as goal
 
@@ -22,7 +22,7 @@ returns-in_err-journal g c =
       not_store = λ bad. c.in_err-journal.ensures.not_store (ap Err (same-err r e NotStore was.1 bad));
       reads = reads.looks;
       cause = λ bad. reads.cause (ap Err (same-err r e Device was.1 bad));
-      no_fault = λ opened. Touches-no_fault reads.looks.alone (reads.no_fault (opened-as Journal r e was.1 opened));
+      no_fault = λ opened. Touches-no_fault reads.looks.alone (reads.no_fault (blames-as Journal r e was.1 opened));
     }
 
 pub returns-in_err-pages : goal.returns-in_err-pages
@@ -45,7 +45,7 @@ returns-in_err-pages g c =
       reads = looks;
       cause = λ bad. rose-over j.unit u (o c.args.host.now) (o c.open_journal.new.host) (o c.read_pages.new.host) its.1 opened.looks.alone (reads.cause (ap Err (same-err r e Device was.1 bad)));
       no_fault = λ so. Touches-no_fault looks.alone
-          (opened-same (o c.open_journal.new.host) (o c.read_pages.new.host) its.1 (reads.no_fault (opened-as Journal r e was.1 so)) ∙ opened.no_fault tt);
+          (opened-same (o c.open_journal.new.host) (o c.read_pages.new.host) its.1 (reads.no_fault (blames-as Journal r e was.1 so)) ∙ opened.no_fault tt);
     }
 
 pub returns : goal.returns

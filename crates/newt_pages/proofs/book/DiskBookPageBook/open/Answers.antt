@@ -5,8 +5,8 @@ use Rattle.newt_spec_image.specs.Pages.{pages}
 use Rattle.newt_journal.specs.declared.journal.Journal.{Journal}
 use Rattle.newt_pagebook.specs.declared.book.BookFault.TheVariants.{Device, Memory, NotStore}
 use Rattle.newt_pagelog.specs.Placed.{HoldsAt}
-use Rattle.newt_pagelog.proofs.Ending.{looks-two, opened-as, opened-same}
-use Rattle.newt_pagelog.proofs.Failing.{no-value, same-err, not-err, rose-over}
+use Rattle.newt_pagelog.proofs.Ending.{looks-two, opened-same}
+use Rattle.newt_pagelog.proofs.Failing.{blames-as, no-value, same-err, not-err, rose-over}
 use Rattle.newt_pagelog.proofs.Replaying.{stands-on}
 use Rattle.newt_pages.proofs.Caching.{cached-none}
 use Rattle.newt_pages.proofs.book.DiskBookPageBook.open.Goals as goal
@@ -23,7 +23,7 @@ returns-in_err-journal g c =
       not_store = λ bad. c.in_err-journal.ensures.not_store (ap Err (same-err r e NotStore was.1 bad));
       reads = reads.looks;
       cause = λ bad. reads.cause (ap Err (same-err r e Device was.1 bad));
-      no_fault = λ opened. Touches-no_fault reads.looks.alone (reads.no_fault (opened-as Journal r e was.1 opened));
+      no_fault = λ opened. Touches-no_fault reads.looks.alone (reads.no_fault (blames-as Journal r e was.1 opened));
     }
 
 pub returns-in_err-places : goal.returns-in_err-places
@@ -46,11 +46,12 @@ returns-in_err-places g c =
       reads = looks;
       cause = λ bad. rose-over j.unit u (o c.args.host.now) (o c.open_journal.new.host) (o c.replay.new.host) its.1 opened.looks.alone (reads.cause (ap Err (same-err r e Device was.1 bad)));
       no_fault = λ so. Touches-no_fault looks.alone
-          (opened-same (o c.open_journal.new.host) (o c.replay.new.host) its.1 (reads.no_fault (opened-as Journal r e was.1 so)) ∙ opened.no_fault tt);
+          (opened-same (o c.open_journal.new.host) (o c.replay.new.host) its.1 (reads.no_fault (blames-as Journal r e was.1 so)) ∙ opened.no_fault tt);
     }
 
 pub returns-in_err-cache : goal.returns-in_err-cache
 returns-in_err-cache g c =
+    let o = g.H.Host.outside in
     let its = c.in_ok-journal.ensures.journal in
     let r = c.from_residual-in_err-cache.result in
     let was = c.from_residual-in_err-cache.ensures in
@@ -61,7 +62,9 @@ returns-in_err-cache g c =
       not_store = λ bad. absurd (let is = same-err r Memory NotStore was.1 bad in cc);
       reads = looks;
       cause = λ bad. absurd (let is = same-err r Memory Device was.1 bad in cc);
-      no_fault = λ so. absurd (opened-as Journal r Memory was.1 so);
+      no_fault = λ so. Touches-no_fault looks.alone
+          (opened-same (o c.open_journal.new.host) (o c.replay.new.host) its.1 (c.in_ok-places.ensures.reads.no_fault tt)
+          ∙ c.in_ok-journal.ensures.reads.no_fault tt);
     }
 
 pub returns : goal.returns

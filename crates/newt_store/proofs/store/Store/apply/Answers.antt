@@ -18,7 +18,7 @@ use Rattle.newt_store_change.specs.Change.{entry_fetched, pages_of_entry, most_b
 use Rattle.newt_store.specs.Next.{turn_bytes}
 use Rattle.newt_store_catalog.proofs.Opening.{same-image}
 use Rattle.newt_store.proofs.Applying.{no-patch, spends-more, spends-both, wears-both, none-due, full-due, refuses-full, refuses-first, refused-idle, from-err, sound-over, leaves-changed, leaves-before}
-use Rattle.newt_store.proofs.Unanswered.{no-value}
+use Rattle.newt_store.proofs.Unanswered.{memory-none, no-value}
 use Rattle.newt_store.proofs.Opened.{open-over, refused-on, shows-made, shows-still}
 use Rattle.newt_store.proofs.store.Store.apply.Goals as goal
 
@@ -300,3 +300,15 @@ carry_out-requires-clause-stands g c = c.plan_change.ensures.reads.stood
 
 pub carry_out-requires-clause-next : goal.carry_out-requires-clause-next
 carry_out-requires-clause-next g c = c.in_ok-next.ensures.plans.next
+
+pub returns-in-Patch-clause-unchanged : goal.returns-in-Patch-clause-unchanged
+returns-in-Patch-clause-unchanged g c = c.patch_entry.ensures.unchanged
+
+pub returns-in_err-next-clause-unchanged : goal.returns-in_err-next-clause-unchanged
+returns-in_err-next-clause-unchanged g c = λ wanting. c.plan_change.ensures.reads.looks.moment
+
+pub returns-in-Ok-clause-unchanged : goal.returns-in-Ok-clause-unchanged
+returns-in-Ok-clause-unchanged g c = λ wanting. absurd (memory-none wanting)
+
+pub returns-in-Err-clause-unchanged : goal.returns-in-Err-clause-unchanged
+returns-in-Err-clause-unchanged g c = λ wanting. c.in-Err.ensures.leaves.unchanged wanting ∙ c.plan_change.ensures.reads.looks.moment

@@ -6,7 +6,7 @@ use Rattle.newt_spec_store.specs.OfImage.{blocks_of}
 use Rattle.newt_store_change.specs.Change.{most_bytes, pages_read, entry_fetched, pages_of_entry}
 use Rattle.newt_store_indexed.proofs.Carded.{as-card}
 use Rattle.newt_store_indexed.proofs.Changing.{changes-over, changes-stopped, costs-after, costs-stopped}
-use Rattle.newt_store_indexed.proofs.Reading.{shows-on}
+use Rattle.newt_store.proofs.Readings.{shows-on}
 use Rattle.newt_store_indexed.proofs.store.IndexedStoreCard.apply.Goals as goal
 
 pub returns-in-Ok : goal.returns-in-Ok

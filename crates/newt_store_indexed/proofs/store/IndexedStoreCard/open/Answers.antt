@@ -8,7 +8,7 @@ use Rattle.newt_pagebook.specs.declared.book.BookFault.TheVariants.{NotStore, De
 use Rattle.newt_store_catalog.specs.Readable.{readable}
 use Rattle.newt_store_catalog.specs.Stands.{StandsFor}
 use Rattle.newt_store_catalog.proofs.Opening.{same-image}
-use Rattle.newt_store_catalog.proofs.Exits.{opening-is}
+use Rattle.newt_store_catalog.proofs.Exits.{blames-is}
 use Rattle.newt_store.specs.declared.store.Store.{Store}
 use Rattle.newt_engine_card.specs.Calls.{Opens}
 use Rattle.newt_store_indexed.specs.Stands.{StandsOn}
@@ -32,7 +32,7 @@ returns-in_err-store g c =
       not_store = λ is tells. e.ends.not_store (same-fault f NotStore is) tells;
       looks = e.looks;
       cause = λ is. e.ends.cause (same-fault f Device is);
-      no_fault = λ opening. e.ends.no_fault (opening-is (Store g.row.P.Denot × Listing) Card f opening);
+      no_fault = λ opening. e.ends.no_fault (blames-is (Store g.row.P.Denot × Listing) Card f opening);
     })
 
 pub returns : goal.returns

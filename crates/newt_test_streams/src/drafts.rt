@@ -1,0 +1,56 @@
+//! Edits of a working copy with ample memory.
+use newt_base::{Sig, Uid};
+use newt_graph::Graph;
+use newt_lit_print::print_literal;
+use newt_lit_read::read_literal;
+use newt_path::{Path, SetFault};
+use newt_work::Work;
+use std::alloc::Global;
+use std::test::*;
+
+fn literal(alloc: Global, text: &str) -> Result<Graph, Fail> {
+    Ok(read_literal(alloc, text).ok().ok_or("a literal")?)
+}
+
+/// A copy of the entry `{a: 1}` of the minute 4.
+fn opened(alloc: Global) -> Result<Work, Fail> {
+    let entry = literal(alloc, "{a: 1}")?;
+    Ok(Work::open(alloc, Sig(1), Sig(2), Uid(3), 4, entry)?)
+}
+
+/// The copy with 2 put at a path, or why it is not put.
+fn edited(alloc: Global, work: &mut Work, path: &[u8]) -> Result<Result<(), SetFault>, Fail> {
+    let path = Path::read(alloc, path).ok().ok_or("a path")?;
+    let two = literal(alloc, "2")?;
+    Ok(work.edit(&path, &two))
+}
+
+#[test]
+fn an_edit_changes_the_draft_alone(rt: HostRuntime) -> Result<(), Fail> {
+    let mut work = opened(rt.alloc())?;
+    assert!(rt; work.based(4, work.draft()));
+    assert!(rt; edited(rt.alloc(), &mut work, b"a")? == Ok(()));
+    let text = print_literal(rt.alloc(), work.draft())?;
+    assert!(rt; text.as_slice() == b"{a: 2}".as_slice());
+    assert!(rt; !work.based(4, work.draft()));
+    Ok(())
+}
+
+#[test]
+fn an_edit_without_a_path_leaves_the_draft(rt: HostRuntime) -> Result<(), Fail> {
+    let mut work = opened(rt.alloc())?;
+    assert!(rt; edited(rt.alloc(), &mut work, b"b.c")? == Err(SetFault::NoPath));
+    assert!(rt; work.based(4, work.draft()));
+    Ok(())
+}
+
+#[test]
+fn a_copy_begins_anew_with_its_draft(rt: HostRuntime) -> Result<(), Fail> {
+    let mut work = opened(rt.alloc())?;
+    assert!(rt; edited(rt.alloc(), &mut work, b"b")? == Ok(()));
+    let base = work.draft().copy()?;
+    let draft = base.copy()?;
+    work.rebase(5, base, draft);
+    assert!(rt; work.based(5, work.draft()));
+    Ok(())
+}
