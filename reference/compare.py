@@ -117,9 +117,9 @@ def main(program: str = "", first: str = "0", count: str = "100", lines: str = "
         differ = next((it for it in seeds if not is_same_at_random(path, it, (int(lines),))), None)
         print(f"{count} scripts from seed {first} on: " + ("no difference" if differ is None else f"seed {differ} differs"))
         return 0 if differ is None else 1
-    for lines, blocks in EDGES:
-        if not is_same_at_limits(path, lines(), blocks):
-            print(f"{lines.__name__}: the program and the reference differ")
+    for script, blocks in EDGES:
+        if not is_same_at_limits(path, script(), blocks):
+            print(f"{script.__name__}: the program and the reference differ")
             return 1
     for seed in seeds:
         if not is_same_at_random(path, seed) or not is_same_image(path, seed):

@@ -185,7 +185,7 @@ def name_anothers_large(random: Random, objects: dict[int, bytes]) -> None:
 
     def name(record_number: int, place: int, target: int) -> None:
         data = bytearray(objects[record_number])
-        length = len(objects[target]) if random.random() < 0.8 else random.choice(TELLING_NUMBERS)
+        length = len(objects.get(target, b"")) if random.random() < 0.8 else random.choice(TELLING_NUMBERS)
         data[place + 4 : place + 12] = struct.pack(">II", target, length)
         objects[record_number] = bytes(data)
 

@@ -24,7 +24,7 @@ from scripts import written
 from world import Unit, World
 
 BLOCKS = (13, 13, 14, 16, 24)
-MOST_WORLDS = 64
+MOST_WORLDS = 1024
 
 
 def copied(world: World) -> World:

@@ -27,6 +27,3 @@ pub use laws::{backups_are_graphs, backups_are_of_one_store};
 pub use newt_entries::FullEntry;
 pub use pack::pack_backup;
 pub use read::read_backup;
-
-#[cfg(test)]
-mod tests;

@@ -15,6 +15,3 @@ pub use fault::WatchFault;
 pub use note::{Kind, Note, NoteList, Notes};
 pub use watch::Watch;
 pub use watches::Watches;
-
-#[cfg(test)]
-mod tests;

@@ -19,6 +19,3 @@ mod text;
 pub use laws::backups_are_restored;
 pub use restoring::restore_text;
 pub use text::backup_text;
-
-#[cfg(test)]
-mod tests;

@@ -14,6 +14,3 @@ mod works;
 pub use fault::WorkFault;
 pub use work::Work;
 pub use works::Works;
-
-#[cfg(test)]
-mod tests;
