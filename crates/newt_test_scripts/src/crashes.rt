@@ -4,7 +4,7 @@ ghost use Rattle.std.specs.Prelude.{◌<◌};
 ghost use Rattle.newt_memhost.specs.Words.{calls_of};
 
 use crate::hosts::{blocks, over};
-use crate::runs::{has_device, is_clean, run_on, run_table};
+use crate::runs::{expect_status, has_device, is_clean, run_over, run_table};
 use crate::tables::lines_of;
 use newt_host::Unit;
 use newt_memhost::{Crash, MemHost, Pick};
@@ -64,10 +64,7 @@ impl Counts {
 /// What a next run answers over a device of these bytes, which it mounts first. That is mounted
 /// exactly where the mode `check` finds nothing damaged.
 pub fn look(alloc: Global, ask: &[u8], bytes: &[u8]) -> Result<Vec<u8>, Fail> {
-    let mut host = over(alloc, ask, bytes, &[])?;
-    if run_on(alloc, "run a", &mut host)? != Status::Ok {
-        return Err(Fail::new("a next run does not end well"));
-    }
+    let host = run_over(alloc, "run a", ask, bytes, &[])?;
     if is_clean(alloc, bytes)? != host.output().starts_with(b"ok ") {
         return Err(Fail::new("what is mounted is damaged, or what is clean is not mounted"));
     }
@@ -137,9 +134,7 @@ pub fn looks_behind(
     let [a, b] = devices;
     let mut host = over(alloc, script, a, b)?;
     host.piece(1);
-    if run_on(alloc, "run a b", &mut host)? != Status::Ok {
-        return Err(Fail::new("a first run does not end well"));
-    }
+    expect_status(alloc, "run a b", &mut host, Status::Ok)?;
     looks_of(alloc, &host, script, ask, unit)
 }
 

@@ -7,7 +7,7 @@ ghost use Rattle.newt_test_scripts.specs.Free.{IsFree};
 
 use crate::crashes::{Looks, begun, look, looks_behind};
 use crate::hosts::{blocks, over_blank};
-use crate::runs::{has_device, run_on, run_table};
+use crate::runs::{expect_status, has_device, run_table};
 use crate::tables::lines_of;
 use newt_host::Unit;
 use newt_memhost::MemHost;
@@ -76,10 +76,7 @@ pub fn run_failing(
     calls: &[u64],
 ) -> Result<MemHost, Fail> {
     let mut host = failing_host(alloc, script, calls)?;
-    let status = run_on(alloc, text, &mut host)?;
-    if status != Status::Ok {
-        return Err(Fail::new(format_args!("{status:?} where a device fails")));
-    }
+    expect_status(alloc, text, &mut host, Status::Ok)?;
     Ok(host)
 }
 
@@ -93,11 +90,13 @@ fn written_before(host: &MemHost, call: u64) -> &[u8]
 
 /// How often a card was thrown out in a run that wrote this.
 fn times_thrown(output: &[u8]) -> usize {
-    let mut count = 0usize;
-    for line in output.split(|byte| *byte == b'\n') {
-        if line.starts_with(b"error 50 ") {
+    let mut count: usize = 0;
+    let mut is_begin = true;
+    for place in 0..output.len() {
+        if is_begin && output[place..].starts_with(b"error 50 ") {
             count = count.saturating_add(1);
         }
+        is_begin = output[place] == b'\n';
     }
     count
 }
