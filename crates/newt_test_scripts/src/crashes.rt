@@ -138,6 +138,17 @@ pub fn looks_behind(
     looks_of(alloc, &host, script, ask, unit)
 }
 
+/// The same where both devices have 13 blocks of zero bytes.
+pub fn looks_behind_blank(
+    alloc: Global,
+    script: &[u8],
+    ask: &[u8],
+    unit: Unit,
+) -> Result<Looks, Fail> {
+    let blank = blocks(alloc, 13)?;
+    looks_behind(alloc, script, [&blank, &blank], ask, unit)
+}
+
 /// How many replies have begun in an output.
 pub fn begun(output: &[u8]) -> usize {
     let mut ended: usize = 0;
@@ -250,6 +261,22 @@ pub fn expect_safe(
     Ok(counts)
 }
 
+/// The same by each pick.
+fn expect_each_safe(
+    alloc: Global,
+    host: &MemHost,
+    unit: Unit,
+    picks: &[Pick],
+    ask: &[u8],
+    looks: &Looks,
+) -> Result<Counts, Fail> {
+    let mut counts = Counts::none();
+    for pick in picks {
+        counts.add(expect_safe(alloc, host, unit, *pick, ask, looks)?);
+    }
+    Ok(counts)
+}
+
 /// Runs a table over the devices `a` and `b` of 13 blocks of zero bytes. A next run over what a
 /// crash within any of its calls leaves of this unit by each pick, asked these lines, finds the
 /// store before or after the command whose reply is the next to begin. Says how much was compared.
@@ -262,13 +289,8 @@ pub fn expect_unit_safe(
 ) -> Result<Counts, Fail> {
     let host = run_table(alloc, "run a b", table)?;
     let (script, _) = lines_of(alloc, table)?;
-    let blank = blocks(alloc, 13)?;
-    let looks = looks_behind(alloc, &script, [&blank, &blank], ask, unit)?;
-    let mut counts = Counts::none();
-    for pick in picks {
-        counts.add(expect_safe(alloc, &host, unit, *pick, ask, &looks)?);
-    }
-    Ok(counts)
+    let looks = looks_behind_blank(alloc, &script, ask, unit)?;
+    expect_each_safe(alloc, &host, unit, picks, ask, &looks)
 }
 
 /// The same of each of these units.

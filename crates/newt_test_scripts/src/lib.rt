@@ -14,6 +14,7 @@ mod thrown;
 
 pub use crashes::{
     Counts, Looks, begun, expect_all_safe, expect_safe, expect_unit_safe, look, looks_behind,
+    looks_behind_blank,
 };
 pub use halts::{expect_halts, expect_statuses};
 pub use hosts::{blocks, host, over, over_blank, over_blocks};
