@@ -2,7 +2,7 @@
 
 use newt_host::Unit;
 use newt_memhost::Pick;
-use newt_test_scripts::{expect_all_safe, expect_halts, expect_thrown, image, run_table};
+use newt_test_scripts::{card_behind, expect_all_safe, expect_halts, expect_thrown};
 use std::test::Fail;
 
 /// What a next run is asked, and told to go on with.
@@ -116,7 +116,7 @@ vwrite 0 S 0 v 499 1212 => ok
 #[test]
 fn leaves_a_store_before_or_after_a_patch_while_banks_change(rt: HostRuntime) -> Result<(), Fail> {
     let alloc = rt.alloc();
-    let card = image(alloc, &run_table(alloc, "run a b", PATCHES)?, Unit(0))?;
+    let card = card_behind(alloc, "run a b", PATCHES)?;
     if card.first() != Some(&1) {
         return Err(Fail::new("no vote for the second bank"));
     }

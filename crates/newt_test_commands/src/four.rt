@@ -57,19 +57,25 @@ fn walk_all(alloc: Global, table: &mut String) -> Result<(), Fail> {
         step_to(alloc, table, "next", place)?;
     }
     table.push_str("next 0 => ok nil\nwhich 0 => ok end\n")?;
-    for place in (0..ALL).rev() {
-        step_to(alloc, table, "prev", place)?;
+    for before in 0..ALL {
+        step_to(alloc, table, "prev", ALL - 1 - before)?;
     }
     table.push_str("prev 0 => ok nil\nwhich 0 => ok begin\n")?;
     Ok(())
 }
 
+/// The rows of all that.
+fn push_all(alloc: Global, table: &mut String) -> Result<(), Fail> {
+    table.push_str(STORES)?;
+    add_all(alloc, table)?;
+    table.push_str("query * N {indexPath: 'k} => ok 0\ncount 0 => ok 200\n")?;
+    walk_all(alloc, table)
+}
+
 #[test]
 fn walks_over_200_entries_of_one_key(rt: HostRuntime) -> Result<(), Fail> {
     let alloc = rt.alloc();
-    let mut table = String::from_str(alloc, STORES)?;
-    add_all(alloc, &mut table)?;
-    table.push_str("query * N {indexPath: 'k} => ok 0\ncount 0 => ok 200\n")?;
-    walk_all(alloc, &mut table)?;
+    let mut table = String::new(alloc);
+    push_all(alloc, &mut table)?;
     expect_over(alloc, "run a b c d", table.as_str(), 20)
 }

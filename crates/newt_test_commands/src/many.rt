@@ -39,21 +39,27 @@ fn open_on_one(alloc: Global, table: &mut String) -> Result<(), Fail> {
     Ok(())
 }
 
+/// The rows by which all cursors follow one entry.
+fn push_following(alloc: Global, table: &mut String) -> Result<(), Fail> {
+    table.push_str(TWO)?;
+    open_on_one(alloc, table)?;
+    table.push_str("time 4 => ok\nset 0 S 1 k 9 => ok\n")?;
+    push_all(alloc, table, "entry", "ok 0 1 4 {k: 9}")?;
+    table.push_str("change 0 S 1 {k: 4} => ok\n")?;
+    push_all(alloc, table, "entry", "ok 0 1 4 {k: 4}")?;
+    table.push_str("move 0 S 1 1 S => ok 0\n")?;
+    push_all(alloc, table, "entry", "ok deleted")?;
+    push_all(alloc, table, "next", "ok 0 3 0 {k: 6}")?;
+    table.push_str("remove 0 S 3 => ok\n")?;
+    push_all(alloc, table, "entry", "ok deleted")?;
+    push_all(alloc, table, "prev", "ok 0 2 0 {k: 3}")
+}
+
 #[test]
 fn follow_one_entry(rt: HostRuntime) -> Result<(), Fail> {
     let alloc = rt.alloc();
-    let mut table = String::from_str(alloc, TWO)?;
-    open_on_one(alloc, &mut table)?;
-    table.push_str("time 4 => ok\nset 0 S 1 k 9 => ok\n")?;
-    push_all(alloc, &mut table, "entry", "ok 0 1 4 {k: 9}")?;
-    table.push_str("change 0 S 1 {k: 4} => ok\n")?;
-    push_all(alloc, &mut table, "entry", "ok 0 1 4 {k: 4}")?;
-    table.push_str("move 0 S 1 1 S => ok 0\n")?;
-    push_all(alloc, &mut table, "entry", "ok deleted")?;
-    push_all(alloc, &mut table, "next", "ok 0 3 0 {k: 6}")?;
-    table.push_str("remove 0 S 3 => ok\n")?;
-    push_all(alloc, &mut table, "entry", "ok deleted")?;
-    push_all(alloc, &mut table, "prev", "ok 0 2 0 {k: 3}")?;
+    let mut table = String::new(alloc);
+    push_following(alloc, &mut table)?;
     expect(alloc, "run a b", table.as_str())
 }
 

@@ -1,7 +1,6 @@
 //! What an overwritten large binary writes on the device.
 
-use newt_host::Unit;
-use newt_test_scripts::{image, run_table};
+use newt_test_scripts::card_behind;
 use std::process::Abort;
 use std::test::Fail;
 
@@ -31,10 +30,12 @@ const RECORD: usize = 1041;
 /// Where the records of the first bank of a unit of 13 blocks end. The last byte of a record is not
 /// FF.
 fn tail(image: &[u8]) -> usize {
-    let mut tail = 0usize;
-    for (place, byte) in image.iter().enumerate() {
-        if place < 32_768 && *byte != 0xFF {
-            tail = place.saturating_add(1);
+    let mut tail: usize = 0;
+    let mut end: usize = 0;
+    for byte in image {
+        end = end.saturating_add(1);
+        if end <= 32_768 && *byte != 0xFF {
+            tail = end;
         }
     }
     tail
@@ -54,10 +55,8 @@ fn has_two_pages_more(before: &[u8], after: &[u8]) -> bool {
 #[test]
 fn writes_two_pages_where_two_are_met(rt: HostRuntime) -> Result<(), Fail> {
     let alloc = rt.alloc();
-    let added = run_table(alloc, "run a b", ADDED)?;
-    let written = run_table(alloc, "run a b", WRITTEN)?;
-    let before = image(alloc, &added, Unit(0))?;
-    let after = image(alloc, &written, Unit(0))?;
+    let before = card_behind(alloc, "run a b", ADDED)?;
+    let after = card_behind(alloc, "run a b", WRITTEN)?;
     assert!(rt; has_two_pages_more(&before, &after));
     Ok(())
 }

@@ -2,8 +2,7 @@
 
 use crate::cards::patch;
 use newt_host::Unit;
-use newt_test_scripts::{backed_up, expect_unrestored, image, over, run_on, run_table};
-use newt_top::Status;
+use newt_test_scripts::{backed_up, card_behind, expect_unrestored, image, run_over};
 use std::alloc::Global;
 use std::test::Fail;
 
@@ -36,8 +35,7 @@ add 0 S {a: 1} => ok 0
 
 /// The backup of the store behind a table.
 pub(crate) fn backup_behind(alloc: Global, table: &str) -> Result<Vec<u8>, Fail> {
-    let host = run_table(alloc, "run a", table)?;
-    backed_up(alloc, &image(alloc, &host, Unit(0))?)
+    backed_up(alloc, &card_behind(alloc, "run a", table)?)
 }
 
 /// A device of 13 blocks of this byte.
@@ -77,10 +75,7 @@ fn is_refusal(line: &[u8]) -> bool {
 /// An input is refused, and the device stays; or it is the backup of the store that is restored.
 /// Says whether it is restored.
 fn is_restored(alloc: Global, input: &[u8], device: &[u8]) -> Result<bool, Fail> {
-    let mut host = over(alloc, input, device, &[])?;
-    if run_on(alloc, "restore a", &mut host)? != Status::Ok {
-        return Err(Fail::new("a restoring does not end well"));
-    }
+    let host = run_over(alloc, "restore a", input, device, &[])?;
     let left = image(alloc, &host, Unit(0))?;
     if is_refusal(host.output()) {
         if left.as_slice() != device {

@@ -1,15 +1,14 @@
 //! A card with a fresh store, some bytes of which are changed.
 
 use newt_host::Unit;
-use newt_test_scripts::{image, is_clean, run_table, run_table_on};
+use newt_test_scripts::{card_behind, image, is_clean, run_table_on};
 use newt_test_tables::bytes_of;
 use std::alloc::Global;
 use std::test::Fail;
 
 /// The image of a unit of 13 blocks that was formatted once.
 fn base(alloc: Global) -> Result<Vec<u8>, Fail> {
-    let host = run_table(alloc, "run a", "format 0 Internal 7 => ok")?;
-    image(alloc, &host, Unit(0))
+    card_behind(alloc, "run a", "format 0 Internal 7 => ok")
 }
 
 /// What a card opens as. A row is a table of lines and replies behind ` : `, which a run over the

@@ -3,7 +3,7 @@
 use crate::backups::{STORE, backup_behind, filled};
 use newt_host::{Host, Unit};
 use newt_memhost::{Crash, MemHost, Pick};
-use newt_test_scripts::{backed_up, over, restored, run_on};
+use newt_test_scripts::{backed_up, expect_status, over, restored};
 use newt_top::Status;
 use std::alloc::Global;
 use std::test::Fail;
@@ -83,9 +83,7 @@ fn stop_restoring(alloc: Global, device: &[u8]) -> Result<Found, Fail> {
     let input = backup_behind(alloc, STORE)?;
     let mut host = over(alloc, &input, device, &[])?;
     host.piece(1);
-    if run_on(alloc, "restore a", &mut host)? != Status::Ok {
-        return Err(Fail::new("a restoring does not end well"));
-    }
+    expect_status(alloc, "restore a", &mut host, Status::Ok)?;
     let mut found = Found {
         images: 0,
         stores: 0,

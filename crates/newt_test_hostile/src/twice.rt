@@ -4,10 +4,9 @@ use crate::script::{LAST, LISTING, SCRIPT, SECOND};
 use newt_host::{Host, Unit};
 use newt_memhost::{Crash, MemHost, Pick};
 use newt_test_scripts::{
-    Counts, Looks, begun, blocks, expect_safe, lines_of, look, looks_behind, over, run_on,
+    Counts, Looks, begun, expect_safe, lines_of, look, looks_behind, looks_behind_blank, run_over,
     run_table,
 };
-use newt_top::Status;
 use std::alloc::Global;
 use std::test::Fail;
 
@@ -18,10 +17,7 @@ const UNIT: Unit = Unit(0);
 /// the second run over what the unit holds where nothing is stopped.
 fn stop_second(alloc: Global, left: &[u8], plain: &[u8]) -> Result<Counts, Fail> {
     let looks = looks_behind(alloc, SECOND, [plain, &[]], LISTING, UNIT)?;
-    let mut host = over(alloc, SECOND, left, &[])?;
-    if run_on(alloc, "run a", &mut host)? != Status::Ok {
-        return Err(Fail::new("a second run does not end well"));
-    }
+    let host = run_over(alloc, "run a", SECOND, left, &[])?;
     expect_safe(alloc, &host, UNIT, Pick::Fill(1), LISTING, &looks)
 }
 
@@ -91,8 +87,7 @@ fn a_stop_within_recovery_leaves_a_store(rt: HostRuntime) -> Result<(), Fail> {
     let host = run_table(alloc, "run a b", SCRIPT)?;
     let (script, output) = lines_of(alloc, SCRIPT)?;
     let first = begun(&output).saturating_sub(LAST);
-    let blank = blocks(alloc, 13)?;
-    let looks = looks_behind(alloc, &script, [&blank, &blank], LISTING, UNIT)?;
+    let looks = looks_behind_blank(alloc, &script, LISTING, UNIT)?;
     if switches(&looks, first) != 1 {
         return Err(Fail::new("the last commands do not change the bank once"));
     }

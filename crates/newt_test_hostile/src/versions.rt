@@ -3,7 +3,7 @@
 use crate::cards::{expect_opened, patch};
 use newt_test_scripts::expect_said;
 use newt_test_tables::bytes_of;
-use std::alloc::Global;
+use std::alloc::{AllocError, Global};
 use std::test::Fail;
 
 /// Where the first bank begins, and what it begins with: a version stands behind this name.
@@ -35,20 +35,37 @@ fn push_pages(record: &mut Vec<u8>, directory: &[u8]) -> Result<(), Fail> {
     Ok(())
 }
 
-/// A card of so many blocks, with a bank of this version in which one record holds a directory.
-fn card_of(alloc: Global, count: u32, version: &[u8], directory: &[u8]) -> Result<Vec<u8>, Fail> {
-    let mut pages = Vec::new(alloc);
-    push_pages(&mut pages, directory)?;
-    let puts = u16::try_from(directory.len().div_ceil(PAGE)).unwrap_or(u16::MAX);
+/// Makes an empty list of bytes a bank of this version in which one record puts so many pages.
+fn push_bank(
+    bank: &mut Vec<u8>,
+    version: &[u8],
+    puts: u16,
+    pages: &[u8],
+) -> Result<(), AllocError> {
     let len = u32::try_from(pages.len()).unwrap_or(u32::MAX);
-    let mut bank = NAME.to_vec(alloc)?;
+    bank.extend_from_slice(NAME)?;
     bank.extend_from_slice(version)?;
     bank.resize(16, 0)?;
     bank.push(0)?;
     bank.extend_from_slice(&len.saturating_add(4).to_be_bytes())?;
     bank.extend_from_slice(&puts.to_be_bytes())?;
     bank.extend_from_slice(&[0, 0])?;
-    bank.extend_from_slice(&pages)?;
+    bank.extend_from_slice(pages)
+}
+
+/// A bank of this version in which one record holds a directory.
+fn bank_of(alloc: Global, version: &[u8], directory: &[u8]) -> Result<Vec<u8>, Fail> {
+    let mut pages = Vec::new(alloc);
+    push_pages(&mut pages, directory)?;
+    let puts = u16::try_from(directory.len().div_ceil(PAGE)).unwrap_or(u16::MAX);
+    let mut bank = Vec::new(alloc);
+    push_bank(&mut bank, version, puts, &pages)?;
+    Ok(bank)
+}
+
+/// A card of so many blocks, with such a bank.
+fn card_of(alloc: Global, count: u32, version: &[u8], directory: &[u8]) -> Result<Vec<u8>, Fail> {
+    let bank = bank_of(alloc, version, directory)?;
     let mut card = Vec::new(alloc);
     card.resize(count as usize * 4096, 0xFF)?;
     for block in [0, 4096, 8192] {
@@ -130,21 +147,38 @@ fn a_directory_opens_as_its_version_says(rt: HostRuntime) -> Result<(), Fail> {
     Ok(())
 }
 
-/// A directory of so many soups `S0`, `S1` and so on, each with so many indexes of one path.
-fn directory_of(alloc: Global, soups: u8, indexes: u8) -> Result<Vec<u8>, Fail> {
-    let mut bytes = bytes_of(alloc, "08496E7465726E616C 00000007")?;
+/// Appends a soup of this number and name, with so many indexes of one path.
+fn push_soup(bytes: &mut Vec<u8>, soup: u8, name: &[u8], indexes: u8) -> Result<(), AllocError> {
+    bytes.push(u8::try_from(name.len()).unwrap_or(u8::MAX))?;
+    bytes.extend_from_slice(name)?;
+    bytes.extend_from_slice(&[0, soup, 0, 0, 0, 0, indexes])?;
+    for index in 0..indexes {
+        bytes.extend_from_slice(&[1, 0, 0, 1, 1, b'a'.saturating_add(index)])?;
+    }
+    bytes.push(0)?;
+    Ok(())
+}
+
+/// Appends so many soups `S0`, `S1` and so on.
+fn push_soups(
+    alloc: Global,
+    bytes: &mut Vec<u8>,
+    soups: u8,
+    indexes: u8,
+) -> Result<(), AllocError> {
     bytes.extend_from_slice(&u16::from(soups).to_be_bytes())?;
     bytes.push(soups)?;
     for soup in 0..soups {
         let name = format!(in alloc; "S{soup}")?;
-        bytes.push(u8::try_from(name.len()).unwrap_or(u8::MAX))?;
-        bytes.extend_from_slice(name.as_bytes())?;
-        bytes.extend_from_slice(&[0, soup, 0, 0, 0, 0, indexes])?;
-        for index in 0..indexes {
-            bytes.extend_from_slice(&[1, 0, 0, 1, 1, b'a'.saturating_add(index)])?;
-        }
-        bytes.push(0)?;
+        push_soup(bytes, soup, name.as_bytes(), indexes)?;
     }
+    Ok(())
+}
+
+/// A directory of so many soups `S0`, `S1` and so on, each with so many indexes of one path.
+fn directory_of(alloc: Global, soups: u8, indexes: u8) -> Result<Vec<u8>, Fail> {
+    let mut bytes = bytes_of(alloc, "08496E7465726E616C 00000007")?;
+    push_soups(alloc, &mut bytes, soups, indexes)?;
     Ok(bytes)
 }
 
@@ -195,6 +229,18 @@ fn push_listing(alloc: Global, lines: &mut String) -> Result<(), Fail> {
     Ok(())
 }
 
+/// Appends the lines that list such a store before its first change and behind it.
+fn push_lines(alloc: Global, lines: &mut String) -> Result<(), Fail> {
+    lines.push_str("mount 0 => ok 7 Internal / ")?;
+    push_listing(alloc, lines)?;
+    lines.push_str(" / info 0 S7 {a: 1} => ok / unmount 0 => ok / mount 0 => ok 7 Internal / ")?;
+    push_listing(alloc, lines)?;
+    lines.push_str(
+        " / info 0 S7 => ok {a: 1} / soup 0 S => error 36 limit / add 0 S249 {a: \"b\"} => ok 0",
+    )?;
+    Ok(())
+}
+
 /// A store of 250 soups with 16 indexes each is opened, goes to the other bank with its first change
 /// that the first has no room for, and is listed there as before.
 #[test]
@@ -202,12 +248,6 @@ fn a_full_directory_is_opened_copied_and_listed(rt: HostRuntime) -> Result<(), F
     let alloc = rt.alloc();
     let card = card_of(alloc, 21, NOW, &directory_of(alloc, 250, 16)?)?;
     let mut lines = String::new(alloc);
-    lines.push_str("mount 0 => ok 7 Internal / ")?;
-    push_listing(alloc, &mut lines)?;
-    lines.push_str(" / info 0 S7 {a: 1} => ok / unmount 0 => ok / mount 0 => ok 7 Internal / ")?;
-    push_listing(alloc, &mut lines)?;
-    lines.push_str(
-        " / info 0 S7 => ok {a: 1} / soup 0 S => error 36 limit / add 0 S249 {a: \"b\"} => ok 0",
-    )?;
+    push_lines(alloc, &mut lines)?;
     expect_opened(alloc, &card, &lines)
 }

@@ -1,7 +1,7 @@
 use Rattle.std.proofs.Common.{true}
 use Rattle.newt_memhost.specs.Outside.{outside_of}
 use Rattle.newt_store.specs.Calls.{IsOpen}
-use Rattle.newt_test_card.proofs.contents.push_entries.Given as goal
+use Rattle.newt_test_store.proofs.made.fill.Given as goal
 
 abbrev pub invariant-loop-uid : goal.invariant-loop-uid
 invariant-loop-uid g l = record {

@@ -170,7 +170,7 @@ fn contents_in<P: PageBook>(alloc: Global, host: &mut MemHost) -> Result<Vec<u8>
 }
 
 /// What the store on a card of these bytes has, or `no store` where they are none.
-pub fn contents_on<P: PageBook>(alloc: Global, bytes: &[u8]) -> Result<Vec<u8>, Fail> {
+pub(crate) fn contents_on<P: PageBook>(alloc: Global, bytes: &[u8]) -> Result<Vec<u8>, Fail> {
     let mut host = host_of(alloc, bytes)?;
     contents_in::<P>(alloc, &mut host)
 }

@@ -1,25 +1,13 @@
 //! The entries of the tests: each has one of eleven graphs, whose keys are known.
-ghost use Rattle.std.specs.Prelude.{IfOk, IsTrue, ◌≡◌};
-ghost use Rattle.newt_base.specs.Names.{valid_path};
+ghost use Rattle.std.specs.Prelude.{◌≡◌};
 
+use crate::keys::{literal, part};
 use newt_base::Uid;
 use newt_graph::Graph;
-use newt_keys::{IndexPart, IndexSpec, Kind, Order};
-use newt_lit_read::read_literal;
+use newt_keys::{IndexSpec, Kind, Order};
 use newt_path::Path;
 use std::alloc::{AllocError, Global};
 use std::test::*;
-
-/// A part of a declaration, whose path is read.
-#[tactic(auto, using(newt_keys::proofs::Valid::path_valid))]
-fn part(alloc: Global, path: &str, kind: Kind, order: Order) -> Result<IndexPart, Fail>
-    ensures { IfOk result (λ part. IsTrue (valid_path part.path)) }
-{
-    match Path::read(alloc, path.as_bytes()) {
-        Ok(path) => Ok(IndexPart { path, kind, order }),
-        Err(_) => Err("a path".into()),
-    }
-}
 
 /// The integers at `a`.
 pub(crate) fn by_number(alloc: Global) -> Result<IndexSpec, Fail> {
@@ -72,10 +60,7 @@ fn of(text: &'static str, number: Option<i32>, name: Option<i32>) -> KnownGraph 
 
 /// The graph of an entry.
 pub(crate) fn graph(alloc: Global, uid: u32, changed: bool) -> Result<Graph, Fail> {
-    match read_literal(alloc, known(uid, changed).text) {
-        Ok(graph) => Ok(graph),
-        Err(_) => Err("a literal".into()),
-    }
+    literal(alloc, known(uid, changed).text)
 }
 
 /// Which range of a soup.

@@ -119,7 +119,7 @@ fn change_in(alloc: Global, line: &str) -> Result<Change, Fail> {
 }
 
 /// The change of a line, and its minute.
-pub fn change_of(alloc: Global, line: &str) -> Result<(Change, u32), Fail> {
+pub(crate) fn change_of(alloc: Global, line: &str) -> Result<(Change, u32), Fail> {
     let (line, minute) = line.split_once(" @").unwrap_or((line, "0"));
     let minute: u32 = minute.parse()?;
     Ok((change_in(alloc, line)?, minute))

@@ -1,10 +1,11 @@
 //! Whether a range is a list.
 use crate::entries::{By, Left, by_name, by_number, graph, id, sorted};
-use newt_base::{Sig, Uid};
+use crate::walks::id as id_of;
+use newt_base::Sig;
 use newt_graph::Graph;
 use newt_index::{Index, Probe};
 use newt_index_ranges::Ranges;
-use newt_keys::{IndexSpec, Key, key_of};
+use newt_keys::{IndexSpec, key_of};
 use std::alloc::{AllocError, Global};
 use std::test::*;
 
@@ -29,14 +30,6 @@ fn probe(
     match key_of(alloc, graph, spec)? {
         Some(key) => Ok(Some(Probe::new(alloc, &key, spec)?)),
         None => Ok(None),
-    }
-}
-
-/// The id of a pair.
-fn id_of(found: &Option<(&Key, Uid)>) -> Option<u32> {
-    match found {
-        Some((_, uid)) => Some(uid.0),
-        None => None,
     }
 }
 

@@ -1,11 +1,12 @@
 //! The places of a desk, with ample memory.
 
+use crate::keys::literal;
+use crate::sorted::key;
 use newt_base::{Name, Sig, Uid};
 use newt_cursor::{Desk, DeskFault, Place, Query, Scope};
 use newt_graph::Graph;
 use newt_index::Spot;
-use newt_keys::{Key, Part};
-use newt_lit_read::read_literal;
+use newt_keys::Part;
 use newt_query::{Shape, Spec};
 use std::alloc::Global;
 use std::process::Abort;
@@ -23,8 +24,7 @@ fn spec_of(alloc: Global, graph: &Graph) -> Result<Spec, Fail> {
 }
 
 fn empty_spec(alloc: Global) -> Result<Spec, Fail> {
-    let graph = read_literal(alloc, "{}").ok().ok_or("a literal")?;
-    spec_of(alloc, &graph)
+    spec_of(alloc, &literal(alloc, "{}")?)
 }
 
 /// A query over all soups of a name.
@@ -35,10 +35,6 @@ fn query(alloc: Global, name: &str) -> Result<Query, Fail> {
         name,
         spec: empty_spec(alloc)?,
     })
-}
-
-fn key(alloc: Global, number: i32) -> Result<Key, Fail> {
-    Ok(Key::of(vec![in alloc; Part::Int(number)]?))
 }
 
 /// On an entry of this store, with this number as its key.
@@ -98,6 +94,11 @@ fn full(alloc: Global) -> Result<Desk, Fail> {
     Ok(desk)
 }
 
+/// What is wanted holds.
+pub(crate) fn check(rt: &impl Abort, holds: bool, what: &str) {
+    assert!(rt; holds, "{what}");
+}
+
 fn assert_start(rt: &impl Abort, desk: &Desk, cursor: u8) {
     assert!(rt;
         matches!(desk.place(cursor), Some(Place::Start)),
@@ -112,11 +113,11 @@ fn is_full(alloc: Global, desk: &mut Desk) -> Result<bool, Fail> {
 }
 
 fn refuse_the_33rd(rt: &impl Abort, alloc: Global, desk: &mut Desk) -> Result<(), Fail> {
-    assert!(rt; is_full(alloc, desk)?);
+    check(rt, is_full(alloc, desk)?, "one too many");
     for cursor in 0..32u8 {
         assert_start(rt, desk, cursor);
     }
-    assert!(rt; desk.place(32).is_none());
+    check(rt, desk.place(32).is_none(), "no place 32");
     Ok(())
 }
 
@@ -138,11 +139,13 @@ fn close_and_open(rt: &impl Abort, alloc: Global, desk: &mut Desk) -> Result<(),
     desk.close(20);
     desk.close(7);
     desk.close(32);
-    assert!(rt; desk.query(7).is_none());
-    assert!(rt; opened(alloc, desk, "Dates", Place::Finish)? == 7);
-    assert!(rt; cloned(desk, 7)? == 20);
-    assert!(rt; matches!(desk.place(20), Some(Place::Finish)));
-    assert!(rt; is_over(desk, 20, b"Dates"));
+    check(rt, desk.query(7).is_none(), "7 is closed");
+    let dates = opened(alloc, desk, "Dates", Place::Finish)?;
+    check(rt, dates == 7, "the least number that is free");
+    check(rt, cloned(desk, 7)? == 20, "and the next one");
+    let is_behind = matches!(desk.place(20), Some(Place::Finish));
+    check(rt, is_behind, "the place of the clone");
+    check(rt, is_over(desk, 20, b"Dates"), "the query of the clone");
     Ok(())
 }
 
@@ -190,7 +193,7 @@ fn change_and_step(rt: &impl Abort, alloc: Global, desk: &mut Desk) -> Result<()
     desk.step(0, on(alloc, 5, 1, 4)?);
     assert_watchers(rt, desk, 3, 0b00100);
     assert_watchers(rt, desk, 4, 0b01001);
-    assert!(rt; cloned(desk, 2)? == 5);
+    check(rt, cloned(desk, 2)? == 5, "the clone");
     assert_watchers(rt, desk, 3, 0b100100);
     desk.step(5, Place::Finish);
     assert_shown(rt, desk, 2, (3, 8));

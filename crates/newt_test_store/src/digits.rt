@@ -16,7 +16,7 @@ fn push_piece(alloc: Global, to: &mut Vec<u8>, piece: &str) -> Result<(), Fail> 
 }
 
 /// The bytes of a text of pieces with blanks between them, as `0206 00*3` for `0206000000`.
-pub fn spelt(alloc: Global, text: &str) -> Result<Vec<u8>, Fail> {
+pub(crate) fn spelt(alloc: Global, text: &str) -> Result<Vec<u8>, Fail> {
     let mut bytes = Vec::new(alloc);
     for piece in text.split_whitespace() {
         push_piece(alloc, &mut bytes, piece)?;
@@ -26,10 +26,12 @@ pub fn spelt(alloc: Global, text: &str) -> Result<Vec<u8>, Fail> {
 
 /// How many bytes come before the last blank ones.
 pub(crate) fn used(bytes: &[u8], blank: u8) -> usize {
-    let mut used = 0;
-    for (at, byte) in bytes.iter().enumerate() {
+    let mut used: usize = 0;
+    let mut count: usize = 0;
+    for byte in bytes {
+        count = count.saturating_add(1);
         if *byte != blank {
-            used = at + 1;
+            used = count;
         }
     }
     used

@@ -1,6 +1,7 @@
 //! The masks of entries, after each change of their soup.
 ghost use Rattle.std.specs.Prelude.{◌≡◌, IfOk, [], ◌∷◌};
 
+use crate::desk::check;
 use crate::entries::{graph, id};
 use newt_base::Sig;
 use newt_graph::Bytes;
@@ -98,7 +99,7 @@ fn declare_after(rt: &impl Abort, alloc: Global, ranges: &mut Ranges) -> Result<
     change_three(alloc, ranges)?;
     expect_masks(alloc, ranges, AFTER)?;
     ranges.drop_soup(Sig(3));
-    assert!(rt; ranges.mask(Sig(3), id(0)).is_none());
+    check(rt, ranges.mask(Sig(3), id(0)).is_none(), "no mask");
     Ok(())
 }
 

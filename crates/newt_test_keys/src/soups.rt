@@ -1,6 +1,7 @@
 //! Changes of soups, after each of which the ranges are the lists sorted afresh.
+use crate::desk::check;
 use crate::entries::{By, Left, by_name, by_number, graph, id, number_paths};
-use crate::walks::{has_list, has_lists};
+use crate::ranges::{has_list, has_lists};
 use newt_base::{Sig, Uid};
 use newt_index::Index;
 use newt_index_ranges::{Ranges, add_entry};
@@ -141,9 +142,9 @@ fn has_numbers(alloc: Global, ranges: &Ranges, soup: u32) -> Result<bool, Fail> 
 fn undeclare(rt: &impl Abort, alloc: Global, ranges: &mut Ranges) -> Result<(), Fail> {
     make_both(alloc, ranges)?;
     undeclare_number(alloc, ranges)?;
-    assert!(rt; !has_numbers(alloc, ranges, 3)?);
-    assert!(rt; has_list(alloc, ranges, 3, By::Name, ALL)?);
-    assert!(rt; has_list(alloc, ranges, 3, By::Id, ALL)?);
+    check(rt, !has_numbers(alloc, ranges, 3)?, "no numbers");
+    check(rt, has_list(alloc, ranges, 3, By::Name, ALL)?, "the names");
+    check(rt, has_list(alloc, ranges, 3, By::Id, ALL)?, "the ids");
     expect_lists(alloc, ranges, 5, ALL)
 }
 
@@ -164,10 +165,10 @@ fn count_of(ranges: &Ranges, soup: u32) -> Option<usize> {
 fn drop_and_make(rt: &impl Abort, alloc: Global, ranges: &mut Ranges) -> Result<(), Fail> {
     make_both(alloc, ranges)?;
     ranges.drop_soup(Sig(3));
-    assert!(rt; !is_there(ranges, 3, None));
+    check(rt, !is_there(ranges, 3, None), "no soup 3");
     ranges.make_soup(Sig(6), &[], None)?;
-    assert!(rt; count_of(ranges, 6) == Some(0));
-    assert!(rt; !has_numbers(alloc, ranges, 6)?);
+    check(rt, count_of(ranges, 6) == Some(0), "no entries");
+    check(rt, !has_numbers(alloc, ranges, 6)?, "no numbers");
     expect_lists(alloc, ranges, 5, ALL)
 }
 
@@ -186,7 +187,7 @@ fn change_what_is_not_there(
     add_new(alloc, ranges, 4, 7)?;
     ranges.remove(Sig(4), Uid(7));
     ranges.drop_soup(Sig(4));
-    assert!(rt; !is_there(ranges, 4, None));
+    check(rt, !is_there(ranges, 4, None), "no soup 4");
     expect_lists(alloc, ranges, 5, ALL)
 }
 
