@@ -1,0 +1,1 @@
+for p in $(pgrep -x rattle) $(pgrep -x clang); do case "$(readlink /proc/$p/cwd)" in /work/e/*|/work/e2/*|/work/h2/*|/work/h/*|/work/s/*|/work/b/*|/work/u/*|/work/c42/*|/work/t/*|/work/lift*) kill -$1 $p;; esac; done
