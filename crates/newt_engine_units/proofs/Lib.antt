@@ -2,6 +2,7 @@ pub mod Slots
 pub mod Marked
 pub mod Known
 pub mod Left
+pub mod Looked
 pub mod Turns
 pub mod Broken
 pub mod Calls

@@ -1,4 +1,5 @@
 pub mod Given
+pub mod Turns
 pub mod TextForms
 pub mod PathForms
 pub mod Form

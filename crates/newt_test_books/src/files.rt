@@ -12,6 +12,11 @@ use std::test::Fail;
 
 const CARD: Unit = Unit(0);
 
+// What is wanted holds.
+fn check(rt: &impl Abort, holds: bool, what: &str) {
+    assert!(rt; holds, "{what}");
+}
+
 // The file becomes unit 0.
 fn attach_card<H: Host>(rt: &impl Abort, host: &mut H)
     requires { (unit : ℕ) → (H.outside host.old).card unit ≡ None }
@@ -26,7 +31,7 @@ fn erase_last<H: Host>(rt: &impl Abort, host: &mut H)
     ensures { IsSome ((H.outside host.new).card 0) }
 {
     assert!(rt; host.blocks(CARD) == 13);
-    assert!(rt; host.erase(CARD, 12).is_ok());
+    check(rt, host.erase(CARD, 12).is_ok(), "the erase");
 }
 
 // Three bytes are programmed in it.
@@ -36,7 +41,8 @@ fn program_three<H: Host>(rt: &impl Abort, host: &mut H)
     ensures { IsSome ((H.outside host.new).card 0) }
 {
     assert!(rt; host.blocks(CARD) == 13);
-    assert!(rt; host.program(CARD, 49_252, b"abc").is_ok());
+    let is_programmed = host.program(CARD, 49_252, b"abc").is_ok();
+    check(rt, is_programmed, "the program");
 }
 
 // All is made sure of.
@@ -44,7 +50,7 @@ fn sync_card<H: Host>(rt: &impl Abort, host: &mut H)
     requires { IsSome ((H.outside host.old).card 0) }
     ensures { IsSome ((H.outside host.new).card 0) }
 {
-    assert!(rt; host.sync(CARD).is_ok());
+    check(rt, host.sync(CARD).is_ok(), "the sync");
 }
 
 // These three bytes and one on each side of them are read.
@@ -53,8 +59,9 @@ fn assert_read<H: Host>(rt: &impl Abort, host: &mut H)
 {
     let mut buf = [0; 5];
     assert!(rt; host.blocks(CARD) == 13);
-    assert!(rt; host.read(CARD, 49_251, &mut buf).is_ok());
-    assert!(rt; buf == [255, b'a', b'b', b'c', 255]);
+    let is_read = host.read(CARD, 49_251, &mut buf).is_ok();
+    check(rt, is_read, "the read");
+    check(rt, buf == [255, b'a', b'b', b'c', 255], "the bytes");
 }
 
 // A host changes the last block.
@@ -95,9 +102,11 @@ fn assert_byte(rt: &impl Abort, place: usize, byte: u8) {
 
 // The bytes are as they are wanted.
 fn assert_bytes(rt: &impl Abort, bytes: &[u8]) {
-    assert!(rt; bytes.len() == 53_253);
-    for (place, byte) in bytes.iter().enumerate() {
+    check(rt, bytes.len() == 53_253, "the length");
+    let mut place: usize = 0;
+    for byte in bytes {
         assert_byte(rt, place, *byte);
+        place = place.saturating_add(1);
     }
 }
 
@@ -143,8 +152,8 @@ fn attaches_no_folder_and_no_missing_file(rt: HostRuntime) -> Result<(), Fail> {
     fs::create_dir(&rt, "folder")?;
     let folder = attached(&rt, "folder")?;
     fs::remove_dir(&rt, "folder")?;
-    assert!(rt; folder == None);
-    assert!(rt; attached(&rt, "missing")? == None);
+    check(&rt, folder == None, "no folder");
+    check(&rt, attached(&rt, "missing")? == None, "no missing file");
     Ok(())
 }
 
@@ -153,7 +162,7 @@ fn attaches_a_file_shorter_than_a_block_with_no_blocks(rt: HostRuntime) -> Resul
     fs::write(&rt, "short", b"less than a block".as_slice())?;
     let short = attached(&rt, "short")?;
     fs::remove_file(&rt, "short")?;
-    assert!(rt; short == Some(0));
+    check(&rt, short == Some(0), "no blocks");
     Ok(())
 }
 
@@ -168,6 +177,6 @@ fn attaches_only_what_can_be_written(rt: HostRuntime) -> Result<(), Fail> {
         .is_err();
     let locked = attached(&rt, "locked")?;
     fs::remove_file(&rt, "locked")?;
-    assert!(rt; locked.is_none() == refused);
+    check(&rt, locked.is_none() == refused, "what cannot be written");
     Ok(())
 }

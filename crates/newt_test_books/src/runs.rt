@@ -5,7 +5,6 @@ use newt_host_files::FileHost;
 use newt_top::{Status, run};
 use std::alloc::{AllocError, Global};
 use std::fs::{self, File};
-use std::process::Abort;
 use std::test::Fail;
 
 fn words(alloc: Global, texts: &[&str]) -> Result<Vec<String>, AllocError> {
@@ -86,9 +85,12 @@ ok
 ";
 
 // A run ended well, and wrote these replies and no others.
-fn assert_replies(rt: &impl Abort, status: Status, written: &[u8], wanted: &[u8]) {
-    assert!(rt; status == Status::Ok);
-    assert_eq!(rt; written, wanted);
+fn expect_replies(run: &(Status, Vec<u8>), wanted: &[u8]) -> Result<(), Fail> {
+    let (status, written) = run;
+    if *status != Status::Ok || written.as_slice() != wanted {
+        return Err(Fail::new(format_args!("{status:?} behind {written:?}")));
+    }
+    Ok(())
 }
 
 // The devices of a first run, of thirteen blocks each.
@@ -109,7 +111,6 @@ fn goes_on_with_the_stores_of_the_run_before(rt: HostRuntime) -> Result<(), Fail
     let first = session(&rt, FIRST)?;
     let second = session(&rt, SECOND)?;
     remove_cards(&rt)?;
-    assert_replies(&rt, first.0, &first.1, FIRST_REPLIES);
-    assert_replies(&rt, second.0, &second.1, SECOND_REPLIES);
-    Ok(())
+    expect_replies(&first, FIRST_REPLIES)?;
+    expect_replies(&second, SECOND_REPLIES)
 }

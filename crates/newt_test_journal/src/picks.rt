@@ -142,8 +142,10 @@ fn expect_told(
 fn expect_calls(rt: &impl Abort, alloc: Global, host: &MemHost) -> Result<(), Fail>
     requires { IsSome ((outside_of host.now).card 0) }
 {
-    for (call, row) in CALLS.lines().enumerate() {
-        expect_told(rt, alloc, host, call as u64, row)?;
+    let mut call: u64 = 0;
+    for row in CALLS.lines() {
+        expect_told(rt, alloc, host, call, row)?;
+        call = call.saturating_add(1);
     }
     Ok(())
 }

@@ -1,22 +1,34 @@
-//! Keys and indexes: paths and folded texts alone, and graphs that are read from literals: what
-//! strings fold to, which entries have a key, which values of a query are keys, in what order keys
-//! stand, and in what order an index is walked.
+//! Keys, indexes and cursors: paths and folded texts alone, and graphs that are read from literals:
+//! what strings fold to, which entries have a key, which values of a query are keys, in what order
+//! keys stand, and in what order an index is walked; ranges of 200 entries, added, changed and
+//! removed, against the list sorted afresh; the masks of their tags; and a desk of cursors, its 32
+//! places, and cursors that stand on one entry.
 //!
-//! It stands on `newt_path`, `newt_fold`, `newt_keys`, `newt_index` and the reader of literals, and
-//! has tests alone, most of them tables of `newt_test_tables`.
+//! It stands on the crates from `newt_path` to `newt_index_ranges` and `newt_cursor` and the reader
+//! of literals, and has tests alone, many of them tables of `newt_test_tables`.
 #![tactic(auto)]
 
 #[cfg(test)]
 mod calls;
 #[cfg(test)]
+mod desk;
+#[cfg(test)]
+mod entries;
+#[cfg(test)]
 mod folded;
 #[cfg(test)]
 mod keys;
+#[cfg(test)]
+mod masks;
 #[cfg(test)]
 mod missing;
 #[cfg(test)]
 mod paths;
 #[cfg(test)]
+mod ranges;
+#[cfg(test)]
 mod sorted;
+#[cfg(test)]
+mod soups;
 #[cfg(test)]
 mod walks;

@@ -1,44 +1,11 @@
 //! The order of keys of four parts with missing ones, in both directions, with ample memory.
-ghost use Rattle.std.specs.Prelude.{◌≡◌, ◌∷◌, [], IfOk};
-ghost use Rattle.newt_keys.specs.declared.types.IndexPart.{IndexPart};
-ghost use Rattle.newt_spec_store.specs.declared.Kind.TheVariants as kind;
-
 use crate::calls::Call;
 use crate::keys::literal;
-use newt_graph::Bytes;
-use newt_keys::{IndexPart, IndexSpec, Key, Kind, Order, compare, key_from};
-use newt_path::Path;
+use crate::walks::declaration;
+use newt_keys::{IndexSpec, Key, Kind, Order, compare, key_from};
 use newt_test_tables::expect_rows;
-use std::alloc::{AllocError, Global};
+use std::alloc::Global;
 use std::test::*;
-
-/// The integers at the path `a`, in this order.
-fn integers(alloc: Global, order: Order) -> Result<IndexPart, AllocError>
-    ensures { IfOk result (λ p. p ≡ record {
-      path = (97 ∷ []) ∷ [];
-      kind = kind.Int;
-      order =
-          order;
-    }) }
-{
-    let name = Bytes::of(vec![in alloc; b'a']?);
-    let path = Path::of(vec![in alloc; name]?);
-    Ok(IndexPart {
-        path,
-        kind: Kind::Int,
-        order,
-    })
-}
-
-/// A declaration of four such parts.
-fn four(alloc: Global, order: Order) -> Result<IndexSpec, AllocError> {
-    let mut parts = Vec::new(alloc);
-    parts.push(integers(alloc, order)?)?;
-    parts.push(integers(alloc, order)?)?;
-    parts.push(integers(alloc, order)?)?;
-    parts.push(integers(alloc, order)?)?;
-    Ok(IndexSpec::new(parts))
-}
 
 /// The keys that literals write down.
 fn keys(alloc: Global, spec: &IndexSpec, text: &str) -> Result<Vec<Key>, Fail> {
@@ -80,7 +47,7 @@ fn rise(keys: &[Key], spec: &IndexSpec) -> bool {
 
 /// Whether keys of four integers rise.
 pub(crate) fn rising(alloc: Global, order: Order, text: &str) -> Result<String, Fail> {
-    let spec = four(alloc, order)?;
+    let spec = declaration(alloc, Kind::Int, order)?;
     let keys = keys(alloc, &spec, text)?;
     Ok(format!(in alloc; "{}", rise(&keys, &spec))?)
 }

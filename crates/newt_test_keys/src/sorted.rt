@@ -27,7 +27,8 @@ fn declaration(alloc: Global, order: Order) -> Result<IndexSpec, AllocError>
     Ok(IndexSpec::new(vec![in alloc; part]?))
 }
 
-fn key(alloc: Global, number: i32) -> Result<Key, AllocError>
+/// The key of one integer.
+pub(crate) fn key(alloc: Global, number: i32) -> Result<Key, AllocError>
     ensures { IfOk result (λ key. key ≡ whole number ∷ []) }
 {
     Ok(Key::of(vec![in alloc; Part::Int(number)]?))

@@ -10,12 +10,13 @@ use std::alloc::Global;
 use std::cmp::Ordering;
 use std::test::*;
 
-/// Three parts of one type and order, at `k`, `l` and `m`.
-fn declaration(alloc: Global, kind: Kind, order: Order) -> Result<IndexSpec, Fail> {
+/// Four parts of one type and order, at `k`, `l`, `m` and `n`.
+pub(crate) fn declaration(alloc: Global, kind: Kind, order: Order) -> Result<IndexSpec, Fail> {
     let first = part(alloc, "k", kind, order)?;
     let second = part(alloc, "l", kind, order)?;
     let third = part(alloc, "m", kind, order)?;
-    Ok(IndexSpec::new(vec![in alloc; first, second, third]?))
+    let fourth = part(alloc, "n", kind, order)?;
+    Ok(IndexSpec::new(vec![in alloc; first, second, third, fourth]?))
 }
 
 /// The entries that a row has.
@@ -144,21 +145,12 @@ fn expect_rising(
     Ok(())
 }
 
-fn push_ids(alloc: Global, to: &mut String, ids: &[u32]) -> Result<(), Fail> {
-    for uid in ids {
-        to.push_str(&format!(in alloc; "{uid} ")?)?;
-    }
-    Ok(())
-}
-
 fn walked_in(alloc: Global, index: &Index, entries: &[Graph]) -> Result<String, Fail> {
     let spec = index.spec().ok_or("a declaration")?;
     let on = ids(alloc, index, spec, entries, true)?;
     expect_rising(alloc, spec, entries, &on)?;
-    let mut text = String::new(alloc);
-    push_ids(alloc, &mut text, &on)?;
-    push_ids(alloc, &mut text, &ids(alloc, index, spec, entries, false)?)?;
-    Ok(format!(in alloc; "{text}of {}", index.len())?)
+    let back = ids(alloc, index, spec, entries, false)?;
+    Ok(format!(in alloc; "{on:?} {back:?} of {}", index.len())?)
 }
 
 fn kind_of(word: &str) -> Kind {
@@ -184,57 +176,64 @@ fn declared(alloc: Global, words: &str) -> Result<IndexSpec, Fail> {
     declaration(alloc, kind_of(kind), order_of(order))
 }
 
+/// The index of the entries that a row has behind what is declared, and these entries.
+fn indexed(alloc: Global, row: &str) -> Result<(Index, Vec<Graph>), Fail> {
+    let (words, text) = row.split_once(' ').ok_or("entries")?;
+    let entries = entries_of(alloc, text)?;
+    Ok((filled(alloc, declared(alloc, words)?, &entries)?, entries))
+}
+
 /// The ids of entries, from the first of the index of their keys to its last, and back. They rise
 /// by the order of keys. Before them stands what is declared.
-pub(crate) fn walked(alloc: Global, text: &str) -> Result<String, Fail> {
-    let (words, text) = text.split_once(' ').ok_or("entries")?;
-    let entries = entries_of(alloc, text)?;
-    let index = filled(alloc, declared(alloc, words)?, &entries)?;
+pub(crate) fn walked(alloc: Global, row: &str) -> Result<String, Fail> {
+    let (index, entries) = indexed(alloc, row)?;
     walked_in(alloc, &index, &entries)
 }
 
-fn near_in(alloc: Global, index: &Index, at: &mut Probe) -> Result<String, Fail> {
-    let after = id(&index.after(at, Uid(1)));
-    let before = id(&index.before(at, Uid(1)));
-    Ok(format!(in alloc; "{after:?} {before:?} of {}", index.len())?)
+/// The probe of the string `d`.
+fn probe_of_d(alloc: Global, index: &Index) -> Result<Probe, Fail> {
+    let spec = index.spec().ok_or("a declaration")?;
+    probe(alloc, spec, &literal(alloc, "{k: \"d\"}")?)
 }
 
-/// The ids behind and before a pair of the string `d` and the id 1.
-pub(crate) fn near(alloc: Global, text: &str) -> Result<String, Fail> {
-    let spec = declaration(alloc, Kind::Text, Order::Ascend)?;
-    let mut d = probe(alloc, &spec, &literal(alloc, "{k: \"d\"}")?)?;
-    let index = filled(alloc, spec, &entries_of(alloc, text)?)?;
-    near_in(alloc, &index, &mut d)
+/// The ids behind and before a pair of the string `d` and the id 1. Before the entries stands what
+/// is declared.
+pub(crate) fn near(alloc: Global, row: &str) -> Result<String, Fail> {
+    let (index, _entries) = indexed(alloc, row)?;
+    let mut d = probe_of_d(alloc, &index)?;
+    let after = id(&index.after(&mut d, Uid(1)));
+    let before = id(&index.before(&mut d, Uid(1)));
+    Ok(format!(in alloc; "{after:?} {before:?} of {}", index.len())?)
 }
 
 /// The ids of a walk forward and of one back, and how many there are. Ties rise by id in both
 /// orders, and an entry without a key is not there.
 const TIES: &str = "
-string:ascend {k: \"x\"} | {k: \"y\"} | {k: \"X\"} => 0 2 1 1 2 0 of 3
-string:ascend {k: \"a\"} | {k: 5} | {k: \"c\"} | {k: \"e\"} => 0 2 3 3 2 0 of 3
-string:ascend {k: 5} => of 0
-string:descend {k: \"x\"} | {k: \"y\"} | {k: \"x\"} => 1 0 2 2 0 1 of 3
+string:ascend {k: \"x\"} | {k: \"y\"} | {k: \"X\"} => [0, 2, 1] [1, 2, 0] of 3
+string:ascend {k: \"a\"} | {k: 5} | {k: \"c\"} | {k: \"e\"} => [0, 2, 3] [3, 2, 0] of 3
+string:ascend {k: 5} => [] [] of 0
+string:descend {k: \"x\"} | {k: \"y\"} | {k: \"x\"} => [1, 0, 2] [2, 0, 1] of 3
 ";
 
 /// Keys that begin one another, each before those on its left: so none is told from another by its
 /// id.
 const BEGINNINGS: &str = "
-string:ascend {k: \"ab\"} | {k: \"a \"} | {k: \"a\\u0000b\"} | {k: \"a\\u0000\"} | {k: \"a\", l: \"b\"} | {k: \"a\", l: \"\"} | {k: \"a\", m: \"\"} | {k: \"a\"} | {k: \"\\u0000\"} | {k: \"\"} => 9 8 7 6 5 4 3 2 1 0 0 1 2 3 4 5 6 7 8 9 of 10
-string:descend {k: \"\"} | {k: \"\\u0000\"} | {k: \"a\", l: \"\"} | {k: \"a\", l: \"b\"} | {k: \"a\", m: \"\"} | {k: \"a\"} | {k: \"a\\u0000\"} | {k: \"a\\u0000b\"} | {k: \"a \"} | {k: \"ab\"} => 9 8 7 6 5 4 3 2 1 0 0 1 2 3 4 5 6 7 8 9 of 10
-symbol:ascend {k: 'ab} | {k: '|a b|} | {k: 'a, l: 'b} | {k: 'a, l: 'a} | {k: 'a, m: 'a} | {k: 'A} => 5 4 3 2 1 0 0 1 2 3 4 5 of 6
-symbol:descend {k: 'a, l: 'a} | {k: 'a, l: 'b} | {k: 'a, m: 'a} | {k: 'A} | {k: '|a b|} | {k: 'ab} => 5 4 3 2 1 0 0 1 2 3 4 5 of 6
-int:ascend {k: 256} | {k: 1, l: 0} | {k: 1, l: -536870912} | {k: 1, m: 1} | {k: 1} | {k: 0} | {k: -1} | {k: -536870912} => 7 6 5 4 3 2 1 0 0 1 2 3 4 5 6 7 of 8
-int:descend {k: -536870912} | {k: -1} | {k: 0} | {k: 1, l: -536870912} | {k: 1, l: 0} | {k: 1, m: 1} | {k: 1} | {k: 256} => 7 6 5 4 3 2 1 0 0 1 2 3 4 5 6 7 of 8
-char:ascend {k: $\\0100} | {k: $b} | {k: $a, l: $b} | {k: $a, l: $a} | {k: $a, m: $a} | {k: $a} => 5 4 3 2 1 0 0 1 2 3 4 5 of 6
-char:descend {k: $a, l: $a} | {k: $a, l: $b} | {k: $a, m: $a} | {k: $a} | {k: $b} | {k: $\\0100} => 5 4 3 2 1 0 0 1 2 3 4 5 of 6
+string:ascend {k: \"ab\"} | {k: \"a \"} | {k: \"a\\u0000b\"} | {k: \"a\\u0000\"} | {k: \"a\", l: \"b\"} | {k: \"a\", l: \"\"} | {k: \"a\", m: \"\"} | {k: \"a\"} | {k: \"\\u0000\"} | {k: \"\"} => [9, 8, 7, 6, 5, 4, 3, 2, 1, 0] [0, 1, 2, 3, 4, 5, 6, 7, 8, 9] of 10
+string:descend {k: \"\"} | {k: \"\\u0000\"} | {k: \"a\", l: \"\"} | {k: \"a\", l: \"b\"} | {k: \"a\", m: \"\"} | {k: \"a\"} | {k: \"a\\u0000\"} | {k: \"a\\u0000b\"} | {k: \"a \"} | {k: \"ab\"} => [9, 8, 7, 6, 5, 4, 3, 2, 1, 0] [0, 1, 2, 3, 4, 5, 6, 7, 8, 9] of 10
+symbol:ascend {k: 'ab} | {k: '|a b|} | {k: 'a, l: 'b} | {k: 'a, l: 'a} | {k: 'a, m: 'a} | {k: 'A} => [5, 4, 3, 2, 1, 0] [0, 1, 2, 3, 4, 5] of 6
+symbol:descend {k: 'a, l: 'a} | {k: 'a, l: 'b} | {k: 'a, m: 'a} | {k: 'A} | {k: '|a b|} | {k: 'ab} => [5, 4, 3, 2, 1, 0] [0, 1, 2, 3, 4, 5] of 6
+int:ascend {k: 256} | {k: 1, l: 0} | {k: 1, l: -536870912} | {k: 1, m: 1} | {k: 1} | {k: 0} | {k: -1} | {k: -536870912} => [7, 6, 5, 4, 3, 2, 1, 0] [0, 1, 2, 3, 4, 5, 6, 7] of 8
+int:descend {k: -536870912} | {k: -1} | {k: 0} | {k: 1, l: -536870912} | {k: 1, l: 0} | {k: 1, m: 1} | {k: 1} | {k: 256} => [7, 6, 5, 4, 3, 2, 1, 0] [0, 1, 2, 3, 4, 5, 6, 7] of 8
+char:ascend {k: $\\0100} | {k: $b} | {k: $a, l: $b} | {k: $a, l: $a} | {k: $a, m: $a} | {k: $a} => [5, 4, 3, 2, 1, 0] [0, 1, 2, 3, 4, 5] of 6
+char:descend {k: $a, l: $a} | {k: $a, l: $b} | {k: $a, m: $a} | {k: $a} | {k: $b} | {k: $\\0100} => [5, 4, 3, 2, 1, 0] [0, 1, 2, 3, 4, 5] of 6
 ";
 
 /// The ids behind and before a pair that is there, and one that is not.
 const NEAR: &str = "
-{k: \"a\"} | {k: \"d\"} | {k: \"c\"} | {k: \"e\"} => Some(3) Some(2) of 4
-{k: \"a\"} | {k: 5} | {k: \"c\"} | {k: \"e\"} => Some(3) Some(2) of 3
-{k: \"a\"} => None Some(0) of 1
-{k: \"e\"} => Some(0) None of 1
+string:ascend {k: \"a\"} | {k: \"d\"} | {k: \"c\"} | {k: \"e\"} => Some(3) Some(2) of 4
+string:ascend {k: \"a\"} | {k: 5} | {k: \"c\"} | {k: \"e\"} => Some(3) Some(2) of 3
+string:ascend {k: \"a\"} => None Some(0) of 1
+string:ascend {k: \"e\"} => Some(0) None of 1
 ";
 
 #[test]

@@ -1,18 +1,15 @@
 //! The backup of the store on a device, with texts that were written by hand.
 
 use crate::trial::expect_reading_halts;
-use newt_host::Unit;
-use newt_test_scripts::{blocks, expect_end, image, over, run_table};
-use newt_top::Status;
+use newt_test_scripts::{blocks, card_behind, run_writing};
 use std::alloc::Global;
 use std::test::Fail;
 
 /// Runs a table over the device `a` of 13 blocks of zero bytes, and looks for its backup then.
 fn expect_backup(alloc: Global, table: &str, output: &[u8]) -> Result<(), Fail> {
-    let first = run_table(alloc, "run a", table)?;
-    let bytes = image(alloc, &first, Unit(0))?;
-    let mut host = over(alloc, b"", &bytes, &[])?;
-    expect_end(alloc, "backup a", &mut host, Status::Ok, output)
+    let bytes = card_behind(alloc, "run a", table)?;
+    run_writing(alloc, "backup a", b"", &bytes, &[], output)?;
+    Ok(())
 }
 
 /// The backup of a store as it is formatted.
@@ -55,22 +52,15 @@ fn says_why_there_is_none(rt: HostRuntime) -> Result<(), Fail> {
         ("backup b", b"error 22 nostore\n"),
     ];
     for (text, output) in cases {
-        let mut host = over(alloc, b"", &small, &blank)?;
-        expect_end(alloc, text, &mut host, Status::Ok, output)?;
+        run_writing(alloc, text, b"", &small, &blank, output)?;
     }
-    let mut large = over(alloc, b"", &blocks(alloc, 4100)?, &[])?;
-    expect_end(
-        alloc,
-        "backup a",
-        &mut large,
-        Status::Ok,
-        b"error 27 blocks\n",
-    )
+    let large = blocks(alloc, 4100)?;
+    run_writing(alloc, "backup a", b"", &large, &[], b"error 27 blocks\n")?;
+    Ok(())
 }
 
 #[test]
 fn halts_at_each_call_that_fails(rt: HostRuntime) -> Result<(), Fail> {
     let alloc = rt.alloc();
-    let first = run_table(alloc, "run a", ONE_ENTRY)?;
-    expect_reading_halts(alloc, "backup a", &image(alloc, &first, Unit(0))?)
+    expect_reading_halts(alloc, "backup a", &card_behind(alloc, "run a", ONE_ENTRY)?)
 }

@@ -5,17 +5,13 @@ ghost use Rattle.newt_memhost.specs.Outside.{outside_of};
 use crate::trial::expect_reading_halts;
 use newt_host::{Host, Unit};
 use newt_memhost::{Crash, MemHost, Pick};
-use newt_test_scripts::{
-    blocks, expect_end, expect_said, image, over, run_on, run_table, run_table_on,
-};
-use newt_top::Status;
+use newt_test_scripts::{blocks, card_behind, expect_said, run_over, run_table_on, run_writing};
 use std::alloc::Global;
 use std::test::Fail;
 
 /// The bytes that the device `a` of 13 blocks of zero bytes has behind a table.
 fn card_of(alloc: Global, table: &str) -> Result<Vec<u8>, Fail> {
-    let host = run_table(alloc, "run a", table)?;
-    image(alloc, &host, Unit(0))
+    card_behind(alloc, "run a", table)
 }
 
 const FORMAT: &str = "format 0 Internal 7 => ok";
@@ -56,6 +52,20 @@ const DAMAGES: &[(usize, &[u8], &[u8])] = &[
     (12317, b"\0\0\0\x01", b"ok damaged directory 0\n"),
 ];
 
+/// A card with these changes is said to be that.
+fn expect_damage(
+    alloc: Global,
+    card: &[u8],
+    changes: &[(usize, &[u8])],
+    output: &[u8],
+) -> Result<(), Fail> {
+    let mut bytes = card.to_vec(alloc)?;
+    for (at, new) in changes {
+        patch(&mut bytes, *at, new)?;
+    }
+    expect_said(alloc, &bytes, output)
+}
+
 /// Each of these changes, alone, is said to be that damage.
 fn expect_damages(
     alloc: Global,
@@ -63,9 +73,7 @@ fn expect_damages(
     damages: &[(usize, &[u8], &[u8])],
 ) -> Result<(), Fail> {
     for (at, new, output) in damages {
-        let mut bytes = card.to_vec(alloc)?;
-        patch(&mut bytes, *at, new)?;
-        expect_said(alloc, &bytes, output)?;
+        expect_damage(alloc, card, &[(*at, new)], output)?;
     }
     Ok(())
 }
@@ -79,11 +87,8 @@ fn names_the_first_damage(rt: HostRuntime) -> Result<(), Fail> {
     let fresh = card_of(alloc, FORMAT)?;
     expect_damages(alloc, &fresh, DAMAGES)?;
     for [first, second, third] in NO_BANK {
-        let mut bytes = fresh.to_vec(alloc)?;
-        patch(&mut bytes, 0, &[*first])?;
-        patch(&mut bytes, 4096, &[*second])?;
-        patch(&mut bytes, 8192, &[*third])?;
-        expect_said(alloc, &bytes, b"ok damaged votes 0\n")?;
+        let votes: [(usize, &[u8]); 3] = [(0, &[*first]), (4096, &[*second]), (8192, &[*third])];
+        expect_damage(alloc, &fresh, &votes, b"ok damaged votes 0\n")?;
     }
     Ok(())
 }
@@ -170,17 +175,11 @@ fn says_why_nothing_is_looked_through(rt: HostRuntime) -> Result<(), Fail> {
         ("check a", b"error 27 blocks\n"),
     ];
     for (text, output) in cases {
-        let mut host = over(alloc, b"", &small, &[])?;
-        expect_end(alloc, text, &mut host, Status::Ok, output)?;
+        run_writing(alloc, text, b"", &small, &[], output)?;
     }
-    let mut large = over(alloc, b"", &blocks(alloc, 4100)?, &[])?;
-    expect_end(
-        alloc,
-        "check a",
-        &mut large,
-        Status::Ok,
-        b"error 27 blocks\n",
-    )
+    let large = blocks(alloc, 4100)?;
+    run_writing(alloc, "check a", b"", &large, &[], b"error 27 blocks\n")?;
+    Ok(())
 }
 
 #[test]
@@ -202,10 +201,8 @@ fn is_one_of(said: &[u8], before: &[u8], after: &[u8]) -> bool {
 
 /// The image is clean, with two entries or with three.
 fn expect_clean(alloc: Global, bytes: &[u8]) -> Result<(), Fail> {
-    let mut host = over(alloc, b"", bytes, &[])?;
-    let status = run_on(alloc, "check a", &mut host)?;
-    let is_clean = is_one_of(host.output(), b"ok clean 1 2 3\n", b"ok clean 1 3 4\n");
-    if status != Status::Ok || !is_clean {
+    let host = run_over(alloc, "check a", b"", bytes, &[])?;
+    if !is_one_of(host.output(), b"ok clean 1 2 3\n", b"ok clean 1 3 4\n") {
         return Err(Fail::new("damaged by a stop"));
     }
     Ok(())
@@ -216,12 +213,9 @@ mount 0 => ok 7 Internal
 add 0 S {c: 3} => ok 2
 ";
 
-#[test]
-fn is_clean_wherever_an_add_is_cut(rt: HostRuntime) -> Result<(), Fail> {
-    let alloc = rt.alloc();
-    let card = card_of(alloc, TWO_ENTRIES)?;
-    let host = run_table_on(alloc, "run a", THIRD, &card, &[])?;
-    if !has_device(&host) {
+/// What a stop within any call of a run leaves is clean.
+fn expect_all_clean(alloc: Global, host: &MemHost) -> Result<(), Fail> {
+    if !has_device(host) {
         return Err(Fail::new("no device"));
     }
     for call in 0..host.calls() {
@@ -231,4 +225,12 @@ fn is_clean_wherever_an_add_is_cut(rt: HostRuntime) -> Result<(), Fail> {
         }
     }
     Ok(())
+}
+
+#[test]
+fn is_clean_wherever_an_add_is_cut(rt: HostRuntime) -> Result<(), Fail> {
+    let alloc = rt.alloc();
+    let card = card_of(alloc, TWO_ENTRIES)?;
+    let host = run_table_on(alloc, "run a", THIRD, &card, &[])?;
+    expect_all_clean(alloc, &host)
 }

@@ -1,16 +1,15 @@
 //! Generated scripts, whose replies are counted.
 
 use newt_script_generator::gen_script;
-use newt_test_scripts::{blocks, expect_end, over, run_on};
-use newt_top::Status;
+use newt_test_scripts::{blocks, run_over, run_writing};
 use std::alloc::Global;
 use std::test::Fail;
 
 /// Runs these words with an input over a device `a` of 64 blocks of zero bytes, and looks for the
 /// output.
 fn expect_summary(alloc: Global, text: &str, input: &[u8], output: &[u8]) -> Result<(), Fail> {
-    let mut host = over(alloc, input, &blocks(alloc, 64)?, &[])?;
-    expect_end(alloc, text, &mut host, Status::Ok, output)
+    run_writing(alloc, text, input, &blocks(alloc, 64)?, &[], output)?;
+    Ok(())
 }
 
 #[test]
@@ -38,10 +37,7 @@ fn writes_the_summary(rt: HostRuntime) -> Result<(), Fail> {
 fn counts_what_a_run_of_the_script_writes(rt: HostRuntime) -> Result<(), Fail> {
     let alloc = rt.alloc();
     let script = gen_script(alloc, 1, 200)?;
-    let mut written = over(alloc, &script, &blocks(alloc, 64)?, &[])?;
-    if run_on(alloc, "run a", &mut written)? != Status::Ok {
-        return Err(Fail::new("the script does not end well"));
-    }
+    let written = run_over(alloc, "run a", &script, &blocks(alloc, 64)?, &[])?;
     let size = written.output().len();
     let summary = format!(in alloc; "commands 410\nok 410\nerrors 0\nbytes {size}\n")?;
     expect_summary(alloc, "gen 1 200 a", b"", summary.as_bytes())

@@ -6,8 +6,8 @@ use crate::versions::{BEFORE, FRESH as OLD_FRESH, GOES_ON};
 use newt_host::{Host, Unit};
 use newt_memhost::MemHost;
 use newt_test_scripts::{
-    backed_up, blocks, copied, expect_end, expect_goes_on, expect_unrestored, image, over,
-    restored, run_on, run_table, run_table_on,
+    backed_up, blocks, card_behind, copied, expect_end, expect_goes_on, expect_unrestored, image,
+    over, restored, run_on, run_table, run_table_on, run_writing,
 };
 use newt_test_tables::bytes_of;
 use newt_top::Status;
@@ -19,8 +19,7 @@ use std::test::Fail;
 fn restores_a_fresh_store_as_it_is_formatted(rt: HostRuntime) -> Result<(), Fail> {
     let alloc = rt.alloc();
     let card = restored(alloc, FRESH, &blocks(alloc, 13)?, b"ok 7 Internal\n")?;
-    let formatted = run_table(alloc, "run a", "format 0 Internal 7 => ok")?;
-    assert!(rt; card == image(alloc, &formatted, Unit(0))?);
+    assert!(rt; card == card_behind(alloc, "run a", "format 0 Internal 7 => ok")?);
     expect_unrestored(alloc, FRESH, &card, b"error 26 store\n")
 }
 
@@ -61,6 +60,12 @@ const REFUSED: [(&[u8], &[u8]); 4] = [
     (b"\x02\x0A", b"error 51 backup\n"),
 ];
 
+/// The backup of what 15 blocks hold behind a table.
+fn backup_behind(alloc: Global, table: &str) -> Result<Vec<u8>, Fail> {
+    let host = run_table_on(alloc, "run a", table, &blocks(alloc, 15)?, &[])?;
+    backed_up(alloc, &image(alloc, &host, Unit(0))?)
+}
+
 /// The backup of a soup with so many entries, which has a page for each and one for the directory.
 fn backup_of_entries(alloc: Global, count: u32) -> Result<Vec<u8>, Fail> {
     let mut table = String::from_str(
@@ -70,8 +75,7 @@ fn backup_of_entries(alloc: Global, count: u32) -> Result<Vec<u8>, Fail> {
     for id in 0..count {
         table.push_str(&format!(in alloc; "add 0 S {{}} => ok {id}\n")?)?;
     }
-    let host = run_table_on(alloc, "run a", &table, &blocks(alloc, 15)?, &[])?;
-    backed_up(alloc, &image(alloc, &host, Unit(0))?)
+    backup_behind(alloc, &table)
 }
 
 /// A device of these bytes gives these lines for a fresh store and for one of 39 pages, behind the
@@ -91,27 +95,32 @@ fn expect_refusals(
     Ok(())
 }
 
+/// What is refused where the device is blank, has a store, or has too few blocks or too many.
+fn expect_all_refused(alloc: Global, large: &[u8], blank: &[u8], card: &[u8]) -> Result<(), Fail> {
+    let (store, full): (&[u8], &[u8]) = (b"error 26 store\n", b"error 33 full\n");
+    let size: &[u8] = b"error 27 blocks\n";
+    let cut = FRESH.get(..FRESH.len().saturating_sub(2)).unwrap_or(FRESH);
+    expect_unrestored(alloc, cut, blank, b"error 1 malformed\n")?;
+    expect_refusals(alloc, &blocks(alloc, 12)?, large, [size, size])?;
+    expect_refusals(alloc, card, large, [store, store])?;
+    expect_unrestored(alloc, large, blank, full)?;
+    expect_unrestored(alloc, FRESH, &blocks(alloc, 4100)?, size)
+}
+
 #[test]
 fn refuses_in_order(rt: HostRuntime) -> Result<(), Fail> {
     let alloc = rt.alloc();
     let large = backup_of_entries(alloc, 38)?;
     let blank = blocks(alloc, 13)?;
     let card = restored(alloc, FRESH, &blank, b"ok 7 Internal\n")?;
-    let (store, full): (&[u8], &[u8]) = (b"error 26 store\n", b"error 33 full\n");
-    let size: &[u8] = b"error 27 blocks\n";
-    let cut = FRESH.get(..FRESH.len().saturating_sub(2)).unwrap_or(FRESH);
-    expect_unrestored(alloc, cut, &blank, b"error 1 malformed\n")?;
-    expect_refusals(alloc, &blocks(alloc, 12)?, &large, [size, size])?;
-    expect_refusals(alloc, &card, &large, [store, store])?;
-    expect_unrestored(alloc, &large, &blank, full)?;
-    expect_unrestored(alloc, FRESH, &blocks(alloc, 4100)?, size)
+    expect_all_refused(alloc, &large, &blank, &card)
 }
 
 /// Where there is no device nothing but the line is written.
 fn expect_alone(alloc: Global, input: &[u8], line: &[u8]) -> Result<(), Fail> {
     let blank = blocks(alloc, 13)?;
-    let mut host = over(alloc, input, &blank, &blank)?;
-    expect_end(alloc, "restore c", &mut host, Status::Ok, line)
+    run_writing(alloc, "restore c", input, &blank, &blank, line)?;
+    Ok(())
 }
 
 #[test]
@@ -132,16 +141,21 @@ add 0 S {} => ok 37
 get 0 S 37 => ok 0 {}
 ";
 
+/// 13 blocks just take a backup, and 15 blocks take another, which has a page more.
+fn expect_just_taken(alloc: Global, most: &[u8], more: &[u8]) -> Result<(), Fail> {
+    let blank = blocks(alloc, 13)?;
+    let card = restored(alloc, most, &blank, b"ok 7 Internal\n")?;
+    run_table_on(alloc, "run a", FULL, &card, &[])?;
+    expect_unrestored(alloc, more, &blank, b"error 33 full\n")?;
+    restored(alloc, more, &blocks(alloc, 15)?, b"ok 7 Internal\n")?;
+    Ok(())
+}
+
 #[test]
 fn restores_what_a_unit_just_takes(rt: HostRuntime) -> Result<(), Fail> {
     let alloc = rt.alloc();
-    let (most, more) = (backup_of_entries(alloc, 37)?, backup_of_entries(alloc, 38)?);
-    let blank = blocks(alloc, 13)?;
-    let card = restored(alloc, &most, &blank, b"ok 7 Internal\n")?;
-    run_table_on(alloc, "run a", FULL, &card, &[])?;
-    expect_unrestored(alloc, &more, &blank, b"error 33 full\n")?;
-    restored(alloc, &more, &blocks(alloc, 15)?, b"ok 7 Internal\n")?;
-    Ok(())
+    let most = backup_of_entries(alloc, 37)?;
+    expect_just_taken(alloc, &most, &backup_of_entries(alloc, 38)?)
 }
 
 /// A large binary of 36 pages, and one of a page more.
@@ -160,8 +174,7 @@ mount 0 => ok 7 Internal
 soup 0 S => ok 0
 {row}"
         )?;
-        let host = run_table_on(alloc, "run a", &table, &blocks(alloc, 15)?, &[])?;
-        let input = backed_up(alloc, &image(alloc, &host, Unit(0))?)?;
+        let input = backup_behind(alloc, &table)?;
         restored(alloc, &input, &blocks(alloc, 13)?, reply)?;
     }
     Ok(())
@@ -245,8 +258,7 @@ soup 0 Next => ok 1
 #[test]
 fn goes_on_where_the_store_was(rt: HostRuntime) -> Result<(), Fail> {
     let alloc = rt.alloc();
-    let several = run_table(alloc, "run a", SEVERAL)?;
-    expect_goes_on(alloc, &image(alloc, &several, Unit(0))?, GO_ON)?;
+    expect_goes_on(alloc, &card_behind(alloc, "run a", SEVERAL)?, GO_ON)?;
     let every = run_table(alloc, "run a b", EVERY)?;
     expect_goes_on(alloc, &image(alloc, &every, Unit(0))?, EVERY_0)?;
     expect_goes_on(alloc, &image(alloc, &every, Unit(1))?, EVERY_1)

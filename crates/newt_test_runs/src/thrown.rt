@@ -1,9 +1,10 @@
 //! Cards that fail: each is thrown out, and the run goes on.
 
 use newt_host::Unit;
+use newt_memhost::MemHost;
 use newt_script_generator::gen_script;
 use newt_test_scripts::{
-    blocks, calls_behind, expect_end, image, lines_of, over, run_failing, run_on,
+    blocks, calls_behind, expect_end, image, lines_of, over, run_failing, run_over,
 };
 use newt_top::Status;
 use std::alloc::Global;
@@ -20,12 +21,22 @@ pub(crate) enum Place {
 
 impl Place {
     fn of(self, calls: &[u64]) -> Option<u64> {
-        match self {
-            Place::First => calls.first().copied(),
-            Place::FromLast(back) => calls.iter().rev().nth(back).copied(),
-        }
+        let place = match self {
+            Place::First => 0,
+            Place::FromLast(back) => calls.len().checked_sub(back)?.checked_sub(1)?,
+        };
+        calls.get(place).copied()
+    }
+
+    /// The call of this place among those on a unit that the line behind so many replies makes.
+    fn call(self, alloc: Global, script: &[u8], unit: Unit, replies: usize) -> Result<u64, Fail> {
+        let calls = calls_behind(alloc, FIVE, script, &[], unit, replies)?;
+        Ok(self.of(&calls).ok_or("no such call")?)
     }
 }
+
+/// The words of a run over five devices.
+const FIVE: &str = "run a b c d e";
 
 /// Runs a table over five devices of 13 blocks of zero bytes, where this call of the line behind so
 /// many replies fails, which is on this unit, and looks for its replies.
@@ -36,13 +47,9 @@ pub(crate) fn expect_failing(
     replies: usize,
     place: Place,
 ) -> Result<(), Fail> {
-    let text = "run a b c d e";
     let (script, output) = lines_of(alloc, table)?;
-    let calls = calls_behind(alloc, text, &script, &[], unit, replies)?;
-    let Some(call) = place.of(&calls) else {
-        return Err(Fail::new("no such call"));
-    };
-    let host = run_failing(alloc, text, &script, &[call])?;
+    let call = place.call(alloc, &script, unit, replies)?;
+    let host = run_failing(alloc, FIVE, &script, &[call])?;
     if host.output() != output.as_slice() {
         return Err(Fail::new(format_args!("other replies where call {call} fails")));
     }
@@ -94,10 +101,7 @@ fn goes_on_behind_a_device_that_failed(rt: HostRuntime) -> Result<(), Fail> {
 fn names(alloc: Global) -> Result<Vec<u8>, Fail> {
     let mut script = gen_script(alloc, 1, 200)?;
     script.truncate(script.len().saturating_sub(b"quit\n".len()));
-    let mut host = over(alloc, &script, &blocks(alloc, 64)?, &[])?;
-    if run_on(alloc, "run a", &mut host)? != Status::Ok {
-        return Err(Fail::new("the script does not end well"));
-    }
+    let host = run_over(alloc, "run a", &script, &blocks(alloc, 64)?, &[])?;
     image(alloc, &host, Unit(0))
 }
 
@@ -118,30 +122,42 @@ ok 1 Gen
 ok 0 0 0 {name: {first: \"F8\", last: \"L838\"}, labels: 'business, n: 0}
 ";
 
-#[test]
-fn a_cursor_waits_for_its_card(rt: HostRuntime) -> Result<(), Fail> {
-    let alloc = rt.alloc();
-    let card = names(alloc)?;
-    let script = gets(alloc)?;
-    let mut sound = over(alloc, &script, &card, &[])?;
-    if run_on(alloc, "run a", &mut sound)? != Status::Ok || sound.calls() == 0 {
-        return Err(Fail::new("the card cannot be read"));
-    }
-    let mut read = 0u64;
-    for call in 0..sound.calls() {
-        if sound.unit_of(call).is_some() {
-            read = call;
+/// The last call on a device.
+fn last_read(host: &MemHost) -> Option<u64> {
+    let mut last = None;
+    for call in 0..host.calls() {
+        if host.unit_of(call).is_some() {
+            last = Some(call);
         }
     }
+    last
+}
+
+/// What a run writes whose call of a number fails, which reads the first entry.
+fn unread(alloc: Global, sound: &MemHost, read: u64) -> Result<Vec<u8>, Fail> {
     if read >= sound.calls() {
-        return Err(Fail::new("nothing is read"));
+        return Err(Fail::new("no such call"));
     }
     let end = sound.output().len().min(sound.out_before(read) as usize);
     let mut output = Vec::from_slice(alloc, &sound.output()[..end])?;
     output.extend_from_slice(UNREAD)?;
-    let mut host = over(alloc, &script, &card, &[])?;
+    Ok(output)
+}
+
+/// The last call on the card fails.
+fn expect_unread(alloc: Global, script: &[u8], card: &[u8]) -> Result<(), Fail> {
+    let sound = run_over(alloc, "run a", script, card, &[])?;
+    let read = last_read(&sound).ok_or("nothing is read")?;
+    let output = unread(alloc, &sound, read)?;
+    let mut host = over(alloc, script, card, &[])?;
     host.fail(read)?;
     expect_end(alloc, "run a", &mut host, Status::Ok, &output)
+}
+
+#[test]
+fn a_cursor_waits_for_its_card(rt: HostRuntime) -> Result<(), Fail> {
+    let alloc = rt.alloc();
+    expect_unread(alloc, &gets(alloc)?, &names(alloc)?)
 }
 
 /// An entry is on its new card, and could not be taken from the other.
@@ -278,17 +294,23 @@ get 1 S 0 => ok 0 {}
 quit => ok
 ";
 
-#[test]
-fn a_card_fails_for_ever(rt: HostRuntime) -> Result<(), Fail> {
-    let alloc = rt.alloc();
-    let (script, output) = lines_of(alloc, FOR_EVER)?;
+/// The first call on the card that each of its lines makes, where all those before it failed.
+fn failing_calls(alloc: Global, script: &[u8]) -> Result<Vec<u64>, Fail> {
     let mut failing: Vec<u64> = Vec::new(alloc);
     for replies in 6usize..14 {
-        let calls = calls_behind(alloc, "run a b", &script, &failing, Unit(0), replies)?;
+        let calls = calls_behind(alloc, "run a b", script, &failing, Unit(0), replies)?;
         if let Some(call) = calls.first() {
             failing.push(*call)?;
         }
     }
+    Ok(failing)
+}
+
+#[test]
+fn a_card_fails_for_ever(rt: HostRuntime) -> Result<(), Fail> {
+    let alloc = rt.alloc();
+    let (script, output) = lines_of(alloc, FOR_EVER)?;
+    let failing = failing_calls(alloc, &script)?;
     let host = run_failing(alloc, "run a b", &script, &failing)?;
     if failing.len() != 5 || host.output() != output.as_slice() {
         return Err(Fail::new(format_args!("{} calls fail", failing.len())));

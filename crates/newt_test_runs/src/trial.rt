@@ -2,7 +2,7 @@
 
 use newt_host::Unit;
 use newt_memhost::MemHost;
-use newt_test_scripts::{expect_end, host, image, lines_of, over, run_on};
+use newt_test_scripts::{expect_end, expect_status, host, image, lines_of, over, run_on};
 use newt_top::Status;
 use std::alloc::Global;
 use std::process::Abort;
@@ -88,9 +88,7 @@ fn expect_reading_halted(
 pub fn expect_reading_halts(alloc: Global, text: &str, bytes: &[u8]) -> Result<(), Fail> {
     let mut sound = over(alloc, b"", bytes, &[])?;
     sound.piece(40);
-    if run_on(alloc, text, &mut sound)? != Status::Ok {
-        return Err(Fail::new(format_args!("{text} does not end well")));
-    }
+    expect_status(alloc, text, &mut sound, Status::Ok)?;
     for call in 0..sound.calls() {
         expect_reading_halted(alloc, text, bytes, &sound, call)?;
     }

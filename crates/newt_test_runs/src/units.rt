@@ -1,7 +1,6 @@
 //! Commands on units, with replies that were written by hand.
 
-use newt_host::Unit;
-use newt_test_scripts::{blocks, expect, image, run_table, run_table_on};
+use newt_test_scripts::{blocks, card_behind, expect, run_table_on};
 use newt_top::Status;
 use std::process::Abort;
 use std::test::Fail;
@@ -53,8 +52,8 @@ fn is_fresh(image: &[u8]) -> bool {
 #[test]
 fn writes_a_store_where_the_formats_say(rt: HostRuntime) -> Result<(), Fail> {
     let alloc = rt.alloc();
-    let host = run_table(alloc, "run a", "format 0 Internal 7 => ok")?;
-    assert!(rt; is_fresh(&image(alloc, &host, Unit(0))?));
+    let card = card_behind(alloc, "run a", "format 0 Internal 7 => ok")?;
+    assert!(rt; is_fresh(&card));
     Ok(())
 }
 

@@ -4,10 +4,10 @@
 use newt_host::Unit;
 use newt_memhost::Pick;
 use newt_test_scripts::{
-    Counts, blocks, expect, expect_safe, image, looks_behind, over, run_on, run_table_on,
+    Counts, blocks, expect, expect_safe, image, looks_behind, run_over, run_table_on,
 };
 use newt_test_tables::bytes_of;
-use newt_top::Status;
+use std::alloc::Global;
 use std::process::Abort;
 use std::test::Fail;
 
@@ -219,35 +219,49 @@ tags 0 S => ok labels work home
 indexes 0 S => ok k:string:ascend, n.x:int:descend l:symbol:ascend c:char:ascend
 ";
 
+/// What the first of two devices of 13 blocks holds behind a table, where it held these bytes and
+/// the other one is blank.
+fn left_by(alloc: Global, table: &str, bytes: &[u8]) -> Result<Vec<u8>, Fail> {
+    let blank = blocks(alloc, 13)?;
+    let host = run_table_on(alloc, "run a b", table, bytes, &blank)?;
+    image(alloc, &host, Unit(0))
+}
+
+/// A table changes no byte of an image.
+fn expect_kept(alloc: Global, table: &str, bytes: &[u8]) -> Result<(), Fail> {
+    if left_by(alloc, table, bytes)?.as_slice() != bytes {
+        return Err(Fail::new("the image is changed"));
+    }
+    Ok(())
+}
+
 #[test]
 fn a_mount_of_an_old_image_changes_no_byte(rt: HostRuntime) -> Result<(), Fail> {
     let alloc = rt.alloc();
-    let (fresh, blank) = (bytes_of(alloc, FRESH)?, blocks(alloc, 13)?);
-    let host = run_table_on(alloc, "run a b", MOUNTS, &fresh, &blank)?;
-    assert!(rt; image(alloc, &host, Unit(0))?.as_slice() == fresh.as_slice());
-    Ok(())
+    expect_kept(alloc, MOUNTS, &bytes_of(alloc, FRESH)?)
+}
+
+/// All votes are for the other bank, which begins with these bytes.
+fn is_switched(image: &[u8], bank: &[u8]) -> bool {
+    let votes = [image.get(0), image.get(4096), image.get(8192)];
+    let other = image.get(OTHER_BANK..).unwrap_or(&[]);
+    votes == [Some(&1), Some(&1), Some(&1)] && other.starts_with(bank)
 }
 
 #[test]
 fn the_first_change_of_an_old_image_goes_to_the_other_bank(rt: HostRuntime) -> Result<(), Fail> {
     let alloc = rt.alloc();
-    let (fresh, blank) = (bytes_of(alloc, FRESH)?, blocks(alloc, 13)?);
-    let host = run_table_on(alloc, "run a b", CHANGES, &fresh, &blank)?;
-    let left = image(alloc, &host, Unit(0))?;
-    let votes = [left.get(0), left.get(4096), left.get(8192)];
-    assert!(rt; votes == [Some(&1), Some(&1), Some(&1)]);
-    let other = left.get(OTHER_BANK..).unwrap_or(&[]);
-    assert!(rt; other.starts_with(&bytes_of(alloc, SWITCHED)?));
+    let left = left_by(alloc, CHANGES, &bytes_of(alloc, FRESH)?)?;
+    assert!(rt; is_switched(&left, &bytes_of(alloc, SWITCHED)?));
     Ok(())
 }
 
 #[test]
 fn keeps_what_an_old_image_has(rt: HostRuntime) -> Result<(), Fail> {
     let alloc = rt.alloc();
-    let (before, blank) = (bytes_of(alloc, BEFORE)?, blocks(alloc, 13)?);
-    let host = run_table_on(alloc, "run a b", KEPT, &before, &blank)?;
-    assert!(rt; image(alloc, &host, Unit(0))?.as_slice() == before.as_slice());
-    run_table_on(alloc, "run a b", GOES_ON, &before, &blank)?;
+    let before = bytes_of(alloc, BEFORE)?;
+    expect_kept(alloc, KEPT, &before)?;
+    left_by(alloc, GOES_ON, &before)?;
     Ok(())
 }
 
@@ -279,10 +293,7 @@ fn a_stop_within_the_first_change_loses_nothing(rt: HostRuntime) -> Result<(), F
     let alloc = rt.alloc();
     let (before, blank) = (bytes_of(alloc, BEFORE)?, blocks(alloc, 13)?);
     let looks = looks_behind(alloc, FIRST, [&before, &blank], ASK, Unit(0))?;
-    let mut host = over(alloc, FIRST, &before, &blank)?;
-    if run_on(alloc, "run a b", &mut host)? != Status::Ok {
-        return Err(Fail::new("the first change does not end well"));
-    }
+    let host = run_over(alloc, "run a b", FIRST, &before, &blank)?;
     let mut counts = Counts::none();
     for pick in PICKS {
         counts.add(expect_safe(alloc, &host, Unit(0), pick, ASK, &looks)?);

@@ -4,7 +4,7 @@ ghost use Rattle.std.specs.Prelude.{◌<◌};
 ghost use Rattle.newt_memhost.specs.Words.{calls_of};
 
 use crate::hosts::{blocks, over};
-use crate::runs::{has_device, is_clean, run_on, run_table};
+use crate::runs::{expect_status, has_device, is_clean, run_over, run_table};
 use crate::tables::lines_of;
 use newt_host::Unit;
 use newt_memhost::{Crash, MemHost, Pick};
@@ -64,10 +64,7 @@ impl Counts {
 /// What a next run answers over a device of these bytes, which it mounts first. That is mounted
 /// exactly where the mode `check` finds nothing damaged.
 pub fn look(alloc: Global, ask: &[u8], bytes: &[u8]) -> Result<Vec<u8>, Fail> {
-    let mut host = over(alloc, ask, bytes, &[])?;
-    if run_on(alloc, "run a", &mut host)? != Status::Ok {
-        return Err(Fail::new("a next run does not end well"));
-    }
+    let host = run_over(alloc, "run a", ask, bytes, &[])?;
     if is_clean(alloc, bytes)? != host.output().starts_with(b"ok ") {
         return Err(Fail::new("what is mounted is damaged, or what is clean is not mounted"));
     }
@@ -137,10 +134,19 @@ pub fn looks_behind(
     let [a, b] = devices;
     let mut host = over(alloc, script, a, b)?;
     host.piece(1);
-    if run_on(alloc, "run a b", &mut host)? != Status::Ok {
-        return Err(Fail::new("a first run does not end well"));
-    }
+    expect_status(alloc, "run a b", &mut host, Status::Ok)?;
     looks_of(alloc, &host, script, ask, unit)
+}
+
+/// The same where both devices have 13 blocks of zero bytes.
+pub fn looks_behind_blank(
+    alloc: Global,
+    script: &[u8],
+    ask: &[u8],
+    unit: Unit,
+) -> Result<Looks, Fail> {
+    let blank = blocks(alloc, 13)?;
+    looks_behind(alloc, script, [&blank, &blank], ask, unit)
 }
 
 /// How many replies have begun in an output.
@@ -255,6 +261,22 @@ pub fn expect_safe(
     Ok(counts)
 }
 
+/// The same by each pick.
+fn expect_each_safe(
+    alloc: Global,
+    host: &MemHost,
+    unit: Unit,
+    picks: &[Pick],
+    ask: &[u8],
+    looks: &Looks,
+) -> Result<Counts, Fail> {
+    let mut counts = Counts::none();
+    for pick in picks {
+        counts.add(expect_safe(alloc, host, unit, *pick, ask, looks)?);
+    }
+    Ok(counts)
+}
+
 /// Runs a table over the devices `a` and `b` of 13 blocks of zero bytes. A next run over what a
 /// crash within any of its calls leaves of this unit by each pick, asked these lines, finds the
 /// store before or after the command whose reply is the next to begin. Says how much was compared.
@@ -267,13 +289,8 @@ pub fn expect_unit_safe(
 ) -> Result<Counts, Fail> {
     let host = run_table(alloc, "run a b", table)?;
     let (script, _) = lines_of(alloc, table)?;
-    let blank = blocks(alloc, 13)?;
-    let looks = looks_behind(alloc, &script, [&blank, &blank], ask, unit)?;
-    let mut counts = Counts::none();
-    for pick in picks {
-        counts.add(expect_safe(alloc, &host, unit, *pick, ask, &looks)?);
-    }
-    Ok(counts)
+    let looks = looks_behind_blank(alloc, &script, ask, unit)?;
+    expect_each_safe(alloc, &host, unit, picks, ask, &looks)
 }
 
 /// The same of each of these units.

@@ -5,7 +5,7 @@ ghost use Rattle.newt_memhost.specs.Outside.{outside_of};
 ghost use Rattle.newt_memhost.specs.Words.{calls_of};
 ghost use Rattle.newt_test_scripts.specs.Free.{IsFree};
 
-use crate::crashes::{Looks, begun, expect_found, look, looks_behind};
+use crate::crashes::{Looks, begun, expect_found, look, looks_behind_blank};
 use crate::hosts::{blocks, over_blank};
 use crate::runs::{has_device, run_on, run_table};
 use crate::tables::lines_of;
@@ -124,8 +124,7 @@ fn expect_all_halted(
     ask: &[u8],
     sound: &MemHost,
 ) -> Result<(), Fail> {
-    let blank = blocks(alloc, 13)?;
-    let looks = looks_behind(alloc, script, [&blank, &blank], ask, Unit(0))?;
+    let looks = looks_behind_blank(alloc, script, ask, Unit(0))?;
     for call in 0..sound.calls() {
         if sound.unit_of(call).is_none() {
             expect_halted(alloc, script, ask, sound, call, &looks)?;
@@ -144,19 +143,30 @@ pub fn expect_halts(alloc: Global, table: &str, ask: &[u8]) -> Result<(), Fail> 
     expect_all_halted(alloc, &script, ask, &sound)
 }
 
+/// The run of this script ends at a call that fails.
+fn expect_ended(alloc: Global, script: &[u8], sound: &MemHost, call: u64) -> Result<(), Fail>
+    requires { call < calls_of sound.now }
+{
+    let mut host = over_blank(alloc, script)?;
+    expect_status(alloc, sound, call, &mut host)
+}
+
+/// The same where each call of a stream fails. Says how many there are.
+fn expect_all_ended(alloc: Global, script: &[u8], sound: &MemHost) -> Result<u32, Fail> {
+    let mut count: u32 = 0;
+    for call in 0..sound.calls() {
+        if sound.unit_of(call).is_none() {
+            expect_ended(alloc, script, sound, call)?;
+            count = count.saturating_add(1);
+        }
+    }
+    Ok(count)
+}
+
 /// The same without a next run: the run ends there with the status of the call, behind what it had
 /// written so far. Says how many such calls there are.
 pub fn expect_statuses(alloc: Global, table: &str) -> Result<u32, Fail> {
     let sound = run_table(alloc, "run a b", table)?;
     let (script, _) = lines_of(alloc, table)?;
-    let mut count = 0u32;
-    for call in 0..sound.calls() {
-        if sound.unit_of(call).is_some() {
-            continue;
-        }
-        let mut host = over_blank(alloc, &script)?;
-        expect_status(alloc, &sound, call, &mut host)?;
-        count = count.saturating_add(1);
-    }
-    Ok(count)
+    expect_all_ended(alloc, &script, &sound)
 }

@@ -1,27 +1,22 @@
 //! Stores that are backed up and restored.
 
 use crate::crashes::look;
-use crate::hosts::{blocks, over};
-use crate::runs::{expect_end, has_device, image, is_clean, run_on, run_table_on};
+use crate::hosts::blocks;
+use crate::runs::{has_device, image, is_clean, run_over, run_table_on, run_writing};
 use newt_host::Unit;
 use newt_memhost::MemHost;
-use newt_top::Status;
 use std::alloc::Global;
 use std::test::Fail;
 
 /// What the mode `backup` writes of a device of these bytes: the backup of its store, or a line.
 pub fn backed_up(alloc: Global, bytes: &[u8]) -> Result<Vec<u8>, Fail> {
-    let mut host = over(alloc, b"", bytes, &[])?;
-    if run_on(alloc, "backup a", &mut host)? != Status::Ok {
-        return Err(Fail::new("a backup does not end well"));
-    }
+    let host = run_over(alloc, "backup a", b"", bytes, &[])?;
     Ok(Vec::from_slice(alloc, host.output())?)
 }
 
 /// What a device of these bytes holds once an input was to be restored to it, with this reply.
 pub fn restored(alloc: Global, input: &[u8], bytes: &[u8], reply: &[u8]) -> Result<Vec<u8>, Fail> {
-    let mut host = over(alloc, input, bytes, &[])?;
-    expect_end(alloc, "restore a", &mut host, Status::Ok, reply)?;
+    let host = run_writing(alloc, "restore a", input, bytes, &[], reply)?;
     image(alloc, &host, Unit(0))
 }
 

@@ -34,16 +34,34 @@ pub fn run_on(alloc: Global, text: &str, host: &mut MemHost) -> Result<Status, A
 
 /// How many lines two outputs have before the first byte that differs.
 fn equal_lines(output: &[u8], wanted: &[u8]) -> usize {
-    let mut lines = 0usize;
-    for (byte, other) in output.iter().zip(wanted) {
-        if byte != other {
+    let mut lines: usize = 0;
+    let mut place: usize = 0;
+    for byte in output {
+        if wanted.get(place) != Some(byte) {
             break;
         }
         if *byte == b'\n' {
             lines = lines.saturating_add(1);
         }
+        place = place.saturating_add(1);
     }
     lines
+}
+
+/// Runs these words over a host, and looks for the status.
+pub fn expect_status(
+    alloc: Global,
+    text: &str,
+    host: &mut MemHost,
+    status: Status,
+) -> Result<(), Fail>
+    requires { IsFree (outside_of host.old) }
+{
+    let ended = run_on(alloc, text, host)?;
+    if ended != status {
+        return Err(Fail::new(format_args!("{text} ends with {ended:?}")));
+    }
+    Ok(())
 }
 
 /// Runs these words over a host, and looks for the status and the output.
@@ -57,15 +75,40 @@ pub fn expect_end(
     requires { IsFree (outside_of host.old) }
     ensures { OnOk result (out_of (outside_of host.new) ≡ output.now) }
 {
-    let ended = run_on(alloc, text, host)?;
-    if ended != status {
-        return Err(Fail::new(format_args!("{text} ends with {ended:?}")));
-    }
+    expect_status(alloc, text, host, status)?;
     if host.output() != output {
         let lines = equal_lines(host.output(), output);
         return Err(Fail::new(format_args!("{text} writes other bytes behind {lines} lines")));
     }
     Ok(())
+}
+
+/// Runs these words with an input over the devices `a` and `b` of these bytes, which are whole
+/// blocks, and looks for the status Ok.
+pub fn run_over(
+    alloc: Global,
+    text: &str,
+    input: &[u8],
+    a: &[u8],
+    b: &[u8],
+) -> Result<MemHost, Fail> {
+    let mut host = over(alloc, input, a, b)?;
+    expect_status(alloc, text, &mut host, Status::Ok)?;
+    Ok(host)
+}
+
+/// The same, and looks for the output.
+pub fn run_writing(
+    alloc: Global,
+    text: &str,
+    input: &[u8],
+    a: &[u8],
+    b: &[u8],
+    output: &[u8],
+) -> Result<MemHost, Fail> {
+    let mut host = over(alloc, input, a, b)?;
+    expect_end(alloc, text, &mut host, Status::Ok, output)?;
+    Ok(host)
 }
 
 /// Runs a table over the devices `a` and `b` of these bytes, which are whole blocks, and looks for
@@ -78,9 +121,7 @@ pub fn run_table_on(
     b: &[u8],
 ) -> Result<MemHost, Fail> {
     let (script, output) = lines_of(alloc, table)?;
-    let mut host = over(alloc, &script, a, b)?;
-    expect_end(alloc, text, &mut host, Status::Ok, &output)?;
-    Ok(host)
+    run_writing(alloc, text, &script, a, b, &output)
 }
 
 /// Runs a table over five devices `a` to `e` of 13 blocks of zero bytes, and looks for its replies.
@@ -91,7 +132,13 @@ pub fn run_table(alloc: Global, text: &str, table: &str) -> Result<MemHost, Fail
     Ok(host)
 }
 
-/// The same, and each store that is left is restored from its backup.
+/// The bytes of the first unit behind such a run.
+pub fn card_behind(alloc: Global, text: &str, table: &str) -> Result<Vec<u8>, Fail> {
+    let host = run_table(alloc, text, table)?;
+    image(alloc, &host, Unit(0))
+}
+
+/// Runs a table in the same way, and each store that is left is restored from its backup.
 pub fn expect(alloc: Global, text: &str, table: &str) -> Result<(), Fail> {
     expect_all_restored(alloc, &run_table(alloc, text, table)?)
 }
@@ -107,17 +154,13 @@ pub fn expect_over(alloc: Global, text: &str, table: &str, count: u32) -> Result
 
 /// Whether the mode `check` finds nothing damaged on a device of these bytes.
 pub fn is_clean(alloc: Global, bytes: &[u8]) -> Result<bool, Fail> {
-    let mut host = over(alloc, b"", bytes, &[])?;
-    if run_on(alloc, "check a", &mut host)? != Status::Ok {
-        return Err(Fail::new("a check does not end well"));
-    }
+    let host = run_over(alloc, "check a", b"", bytes, &[])?;
     Ok(host.output().starts_with(b"ok clean "))
 }
 
 /// Looks for what is said of a device of these bytes, which stay.
 pub fn expect_said(alloc: Global, bytes: &[u8], output: &[u8]) -> Result<(), Fail> {
-    let mut host = over(alloc, b"", bytes, &[])?;
-    expect_end(alloc, "check a", &mut host, Status::Ok, output)?;
+    let host = run_writing(alloc, "check a", b"", bytes, &[], output)?;
     if image(alloc, &host, Unit(0))?.as_slice() != bytes {
         return Err(Fail::new("the device is changed"));
     }

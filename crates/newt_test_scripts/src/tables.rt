@@ -22,12 +22,14 @@ fn push_many(to: &mut Vec<u8>, part: &str) -> Result<(), Fail> {
 
 /// Appends a text. What stands in it between two `~` is a text and how often it stands there.
 fn push_text(to: &mut Vec<u8>, text: &str) -> Result<(), Fail> {
-    for (number, part) in text.split('~').enumerate() {
-        if number % 2 == 0 {
-            to.extend_from_slice(part.as_bytes())?;
-        } else {
+    let mut is_many = false;
+    for part in text.split('~') {
+        if is_many {
             push_many(to, part)?;
+        } else {
+            to.extend_from_slice(part.as_bytes())?;
         }
+        is_many = !is_many;
     }
     Ok(())
 }

@@ -5,9 +5,9 @@ ghost use Rattle.newt_memhost.specs.Outside.{outside_of};
 ghost use Rattle.newt_memhost.specs.Words.{calls_of};
 ghost use Rattle.newt_test_scripts.specs.Free.{IsFree};
 
-use crate::crashes::{Looks, begun, look, looks_behind};
-use crate::hosts::{blocks, over_blank};
-use crate::runs::{has_device, run_on, run_table};
+use crate::crashes::{Looks, begun, look, looks_behind_blank};
+use crate::hosts::over_blank;
+use crate::runs::{expect_status, has_device, run_table};
 use crate::tables::lines_of;
 use newt_host::Unit;
 use newt_memhost::MemHost;
@@ -76,10 +76,7 @@ pub fn run_failing(
     calls: &[u64],
 ) -> Result<MemHost, Fail> {
     let mut host = failing_host(alloc, script, calls)?;
-    let status = run_on(alloc, text, &mut host)?;
-    if status != Status::Ok {
-        return Err(Fail::new(format_args!("{status:?} where a device fails")));
-    }
+    expect_status(alloc, text, &mut host, Status::Ok)?;
     Ok(host)
 }
 
@@ -93,11 +90,13 @@ fn written_before(host: &MemHost, call: u64) -> &[u8]
 
 /// How often a card was thrown out in a run that wrote this.
 fn times_thrown(output: &[u8]) -> usize {
-    let mut count = 0usize;
-    for line in output.split(|byte| *byte == b'\n') {
-        if line.starts_with(b"error 50 ") {
+    let mut count: usize = 0;
+    let mut is_begin = true;
+    for place in 0..output.len() {
+        if is_begin && output[place..].starts_with(b"error 50 ") {
             count = count.saturating_add(1);
         }
+        is_begin = output[place] == b'\n';
     }
     count
 }
@@ -132,20 +131,63 @@ impl Failing<'_> {
         Ok(script)
     }
 
+    /// A run has written what was written before the call, so often that the unit is thrown out,
+    /// and these answers.
+    fn expect_output(
+        &self,
+        alloc: Global,
+        host: &MemHost,
+        times: usize,
+        answers: &[u8],
+    ) -> Result<(), Fail> {
+        let output = self.output(alloc, times, answers)?;
+        if host.output() != output.as_slice() {
+            return Err(Fail::new(format_args!("other answers behind call {}", self.call)));
+        }
+        Ok(())
+    }
+
+    /// A run went on: each line has its reply, and one alone says that the card was thrown out.
+    fn has_gone_on(&self, host: &MemHost, sound: &MemHost) -> bool {
+        begun(host.output()) == begun(sound.output()) && times_thrown(host.output()) == 1
+    }
+
+    /// The card was thrown out at the call of a run, and no other call of a device was made before
+    /// that was written.
+    fn is_thrown_at_once(&self, host: &MemHost, first: &[u8]) -> bool {
+        let next = self.call.saturating_add(1);
+        let is_next = next < host.calls() && host.unit_of(next).is_some();
+        host.output().starts_with(first) && !is_next
+    }
+
     /// The whole script goes on behind the call: each line has its reply, and one alone says that
     /// the card was thrown out. No other call of a device is made before that is written.
     fn expect_goes_on(&self, alloc: Global, sound: &MemHost, script: &[u8]) -> Result<(), Fail> {
         let host = run_failing(alloc, "run a b", script, &[self.call])?;
         let first = self.output(alloc, 1, &[])?;
-        let next = self.call.saturating_add(1);
-        let is_next = next < host.calls() && host.unit_of(next).is_some();
-        if !host.output().starts_with(&first) || is_next {
-            return Err(Fail::new(format_args!("not thrown out at call {}", self.call)));
-        }
-        if begun(host.output()) != begun(sound.output()) || times_thrown(host.output()) != 1 {
+        if !self.is_thrown_at_once(&host, &first) || !self.has_gone_on(&host, sound) {
             return Err(Fail::new(format_args!("not gone on behind call {}", self.call)));
         }
         Ok(())
+    }
+
+    /// What another run finds on the card behind a run that has mounted it again, which is its
+    /// store before or after the line.
+    fn found_behind(
+        &self,
+        alloc: Global,
+        host: &MemHost,
+        ask: &[u8],
+        looks: &Looks,
+    ) -> Result<Vec<u8>, Fail> {
+        if !has_device(host, self.unit) {
+            return Err(Fail::new("a unit without a device"));
+        }
+        let found = look(alloc, ask, host.bytes(self.unit))?;
+        if looks.lines_before(&found, begun(self.written)).is_none() {
+            return Err(Fail::new(format_args!("another store behind call {}", self.call)));
+        }
+        Ok(found)
     }
 
     /// A next mount tells which store the card holds, that before or after the line, and what it
@@ -159,17 +201,15 @@ impl Failing<'_> {
     ) -> Result<Vec<u8>, Fail> {
         let script = self.script(alloc, table, &[ask])?;
         let host = run_failing(alloc, "run a b", &script, &[self.call])?;
-        if !has_device(&host, self.unit) {
-            return Err(Fail::new("a unit without a device"));
-        }
-        let found = look(alloc, ask, host.bytes(self.unit))?;
-        if host.output() != self.output(alloc, 1, &found)?.as_slice() {
-            return Err(Fail::new(format_args!("other answers behind call {}", self.call)));
-        }
-        if looks.lines_before(&found, begun(self.written)).is_none() {
-            return Err(Fail::new(format_args!("another store behind call {}", self.call)));
-        }
+        let found = self.found_behind(alloc, &host, ask, looks)?;
+        self.expect_output(alloc, &host, 1, &found)?;
         Ok(found)
+    }
+
+    /// The next call on the unit in a run of a script.
+    fn next_call(&self, alloc: Global, script: &[u8]) -> Result<u64, Fail> {
+        let host = run_failing(alloc, "run a b", script, &[self.call])?;
+        Ok(next_of(&host, self.unit, self.call.saturating_add(1)).ok_or("no call of a mount")?)
     }
 
     /// The same where the first call of that mount fails as well, and another one comes behind it.
@@ -181,18 +221,22 @@ impl Failing<'_> {
         found: &[u8],
     ) -> Result<(), Fail> {
         let script = self.script(alloc, table, &[b"mount 0\n", ask])?;
-        let first = run_failing(alloc, "run a b", &script, &[self.call])?;
-        let Some(other) = next_of(&first, self.unit, self.call.saturating_add(1)) else {
-            return Err(Fail::new(format_args!("no call of a mount behind call {}", self.call)));
-        };
+        let other = self.next_call(alloc, &script)?;
         let host = run_failing(alloc, "run a b", &script, &[self.call, other])?;
-        if host.output() != self.output(alloc, 2, found)?.as_slice() {
-            return Err(Fail::new(format_args!(
-                "other answers behind calls {} and {other}",
-                self.call
-            )));
-        }
-        Ok(())
+        self.expect_output(alloc, &host, 2, found)
+    }
+
+    /// All three.
+    fn expect_all(
+        &self,
+        alloc: Global,
+        sound: &MemHost,
+        trial: &Trial,
+        looks: &Looks,
+    ) -> Result<(), Fail> {
+        self.expect_goes_on(alloc, sound, trial.script)?;
+        let found = self.expect_comes_back(alloc, trial.table, trial.ask, looks)?;
+        self.expect_comes_back_later(alloc, trial.table, trial.ask, &found)
     }
 }
 
@@ -226,17 +270,23 @@ fn next_of(host: &MemHost, unit: Unit, from: u64) -> Option<u64> {
     None
 }
 
-/// Runs a table over the devices `a` and `b` of 13 blocks of zero bytes, once for each call on a
-/// device, which fails. Its reply is then that the card was thrown out, and the run goes on; and
-/// where a mount and these questions stand behind it, or two mounts, whose first one fails, the
-/// card comes back with its store before or after the line. Says how many such calls there are.
-pub fn expect_thrown(alloc: Global, table: &str, ask: &[u8]) -> Result<u32, Fail> {
-    let sound = run_table(alloc, "run a b", table)?;
-    let (script, _) = lines_of(alloc, table)?;
-    let blank = blocks(alloc, 13)?;
-    let first = looks_behind(alloc, &script, [&blank, &blank], ask, Unit(0))?;
-    let second = looks_behind(alloc, &script, [&blank, &blank], ask, Unit(1))?;
-    let mut count = 0u32;
+/// A table, its script, and what a next run is asked.
+#[derive(Clone, Copy)]
+struct Trial<'a> {
+    table: &'a str,
+    script: &'a [u8],
+    ask: &'a [u8],
+}
+
+/// Each call on a device of a sound run fails, once. Says how many there are.
+fn expect_each_thrown(
+    alloc: Global,
+    sound: &MemHost,
+    trial: &Trial,
+    first: &Looks,
+    second: &Looks,
+) -> Result<u32, Fail> {
+    let mut count: u32 = 0;
     for call in 0..sound.calls() {
         let Some(unit) = sound.unit_of(call) else {
             continue;
@@ -244,13 +294,28 @@ pub fn expect_thrown(alloc: Global, table: &str, ask: &[u8]) -> Result<u32, Fail
         let failing = Failing {
             call,
             unit,
-            written: written_before(&sound, call),
+            written: written_before(sound, call),
         };
-        let looks = if unit == Unit(0) { &first } else { &second };
-        failing.expect_goes_on(alloc, &sound, &script)?;
-        let found = failing.expect_comes_back(alloc, table, ask, looks)?;
-        failing.expect_comes_back_later(alloc, table, ask, &found)?;
+        let looks = if unit == Unit(0) { first } else { second };
+        failing.expect_all(alloc, sound, trial, looks)?;
         count = count.saturating_add(1);
     }
     Ok(count)
+}
+
+/// Runs a table over the devices `a` and `b` of 13 blocks of zero bytes, once for each call on a
+/// device, which fails. Its reply is then that the card was thrown out, and the run goes on; and
+/// where a mount and these questions stand behind it, or two mounts, whose first one fails, the
+/// card comes back with its store before or after the line. Says how many such calls there are.
+pub fn expect_thrown(alloc: Global, table: &str, ask: &[u8]) -> Result<u32, Fail> {
+    let sound = run_table(alloc, "run a b", table)?;
+    let (script, _) = lines_of(alloc, table)?;
+    let first = looks_behind_blank(alloc, &script, ask, Unit(0))?;
+    let second = looks_behind_blank(alloc, &script, ask, Unit(1))?;
+    let trial = Trial {
+        table,
+        script: &script,
+        ask,
+    };
+    expect_each_thrown(alloc, &sound, &trial, &first, &second)
 }

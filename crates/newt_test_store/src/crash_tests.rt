@@ -1,6 +1,6 @@
 //! What a change writes, and what a crash leaves of it.
+use crate::tables::play;
 use newt_pageplain::PlainBook;
-use newt_test_card::play;
 use std::test::Fail;
 
 /// An entry gets a new id and minute where it moves to, and is gone where it was, by one record of

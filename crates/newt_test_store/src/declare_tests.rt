@@ -1,8 +1,8 @@
 //! Indexes and tags that are declared, spelt as a directory has them: the number of indexes, each
 //! its number of parts, and of each part its kind, its order and its path; then whether there are
 //! tags, their path, their number and each.
+use crate::tables::play;
 use newt_pageplain::PlainBook;
-use newt_test_card::play;
 use std::test::Fail;
 
 /// Sixteen indexes of paths of one letter, a path that is there but for ASCII case, and one too

@@ -1,10 +1,10 @@
 // The small image with some bytes changed.
 ghost use Rattle.std.specs.Prelude.{◌<◌};
 
+use crate::contents::contents_on;
 use crate::small::{BEFORE, SMALL};
 use newt_base::hex_read;
 use newt_pageplain::PlainBook;
-use newt_test_card::contents_on;
 use std::alloc::Global;
 use std::test::Fail;
 

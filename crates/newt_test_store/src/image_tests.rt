@@ -1,8 +1,10 @@
 //! Images of stores, spelt by hand.
+use crate::card::{card_bytes, formatted};
+use crate::contents::contents_on;
+use crate::digits::spelt;
 use crate::flips::{expect_bytes, expect_patches, expect_places};
 use crate::small::{FRESH, IMAGE, SMALL};
 use newt_pageplain::PlainBook;
-use newt_test_card::{card_bytes, contents_on, formatted, spelt};
 use std::alloc::Global;
 use std::test::Fail;
 

@@ -9,11 +9,21 @@
 #![tactic(auto)]
 
 #[cfg(test)]
+mod asked;
+#[cfg(test)]
 mod card;
+#[cfg(test)]
+mod changes;
+#[cfg(test)]
+mod contents;
 #[cfg(test)]
 mod crash_tests;
 #[cfg(test)]
+mod crashes;
+#[cfg(test)]
 mod declare_tests;
+#[cfg(test)]
+mod digits;
 #[cfg(test)]
 mod entries;
 #[cfg(test)]
@@ -21,7 +31,15 @@ mod flips;
 #[cfg(test)]
 mod image_tests;
 #[cfg(test)]
+mod indexed;
+#[cfg(test)]
+mod indexed_tables;
+#[cfg(test)]
+mod made;
+#[cfg(test)]
 mod masks;
+#[cfg(test)]
+mod modes;
 #[cfg(test)]
 mod replace_tests;
 #[cfg(test)]

@@ -1,6 +1,6 @@
 //! Entries whose graphs are replaced.
+use crate::tables::play;
 use newt_pageplain::PlainBook;
-use newt_test_card::play;
 use std::test::Fail;
 
 /// An entry gets texts at minutes, each by one record of the journal over its own object: a longer

@@ -1,6 +1,6 @@
 //! Changes of a store, after each of which its ranges are lists that were sorted outside the
 //! program, also once it is opened again.
-use crate::tables::play;
+use crate::indexed_tables::play;
 use newt_pageplain::PlainBook;
 use std::test::Fail;
 

@@ -1,142 +1,142 @@
-//! Tables of what is done with the store. A row is a change of `newt_test_card`; `each WORD UID
-//! COUNT STEP` for changes of so many entries, from this id on in such steps; or `range BY STATE`,
-//! behind which ` => ` and the ids of a range stand, by `id` or the number of an index, `before` or
-//! `after` each third was changed; or `masks SOUP COUNT`, behind which ` => ` and the masks of so
-//! many ids stand.
+//! Tables of what is done with the store on a card, and how they are played. A table is one text.
+//! Each of its rows is a line and, behind ` => `, its reply; a row that is answered otherwise, or
+//! that finds something that is not as it should be, is a test's failure.
+//!
+//! A line is a change: `make NAME`, `drop SOUP`, `add SOUP TEXT`, `remove SOUP UID`, `move SOUP UID
+//! SOUP`, `replace SOUP UID TEXT`, `index SOUP DECLARED`, `unindex SOUP DECLARED`, `tags SOUP
+//! DECLARED` and `info SOUP TEXT`, or `info SOUP` for none, with ` @MINUTE` behind it where the
+//! minute is not 0. Its reply is its answer or the word of its refusal. Bytes are spelt in digits,
+//! `00*3` for `000000`. A change that is refused changes nothing.
+//!
+//! A change behind `cut` changes something, and a crash within each of its calls leaves the store
+//! before it or after it; behind `resume` that store also takes an entry. Behind `record` the reply
+//! goes on with the length of its record in the journal of bank 0, and the object of the record's
+//! second page.
+//!
+//! The other lines are `fill SOUP UID COUNT`, which adds so many empty frames, the first with this
+//! id, `reopen`, behind which another run goes on, and those that ask: `rows` for all that the
+//! store has, which another run finds as well, as at the end of a table, `has SOUP UID`, `count
+//! SOUP`, `uids SOUP`, `declared SOUP` for the numbers of indexes and tags, and `vote` for the bank
+//! that the card votes for.
 ghost use Rattle.std.specs.Prelude.{true, OnOk};
+ghost use Rattle.newt_host.specs.Moments.{IsDurable};
 ghost use Rattle.newt_memhost.specs.Outside.{outside_of};
-ghost use Rattle.newt_store_indexed.specs.Stands.{StandsOn};
+ghost use Rattle.newt_store.specs.Calls.{IsOpen};
 
-use crate::card::{accept, opened};
-use crate::entries::change_by;
-use crate::masks::masks_text;
-use crate::walks::range_text;
+use crate::asked::asked;
+use crate::card::{card_bytes, formatted, host_of, opened};
+use crate::made::{changed, fill, rows};
+use crate::modes::{mode_reply, split_mode, vote};
 use newt_memhost::MemHost;
 use newt_pagebook::PageBook;
-use newt_store_indexed::IndexedStore;
-use newt_test_card::{card_bytes, change_of, formatted, host_of};
+use newt_store::Store;
 use std::alloc::Global;
 use std::test::Fail;
 
-/// A number, and what stands behind it.
-fn number(text: &str) -> Result<(u32, &str), Fail> {
-    let (number, rest) = text.split_once(' ').unwrap_or((text, ""));
-    Ok((number.parse()?, rest))
-}
-
-/// A word, the first id, how many and the step between them.
-fn steps(text: &str) -> Result<(&str, u32, u32, u32), Fail> {
-    let (word, rest) = text.split_once(' ').ok_or("no steps")?;
-    let (first, rest) = number(rest)?;
-    let (count, rest) = number(rest)?;
-    let (step, _) = number(rest)?;
-    Ok((word, first, count, step))
-}
-
-/// Makes the changes of the entries of these ids.
-fn change_each<P: PageBook>(
+// The reply to a line that is a change.
+fn change_reply<P: PageBook>(
     alloc: Global,
     host: &mut MemHost,
-    store: &mut IndexedStore<P>,
-    text: &str,
-) -> Result<(), Fail>
-    requires { StandsOn P.place P.numbers P.stands true store.old (outside_of host.old) }
-    ensures { OnOk result (StandsOn P.place P.numbers P.stands true store.new
+    store: &mut Store<P>,
+    line: &str,
+) -> Result<Vec<u8>, Fail>
+    requires is_open { IsOpen P.place P.numbers P.stands true store.old (outside_of host.old) }
+    ensures is_open { OnOk result (IsOpen P.place P.numbers P.stands true store.new
         (outside_of host.new)) }
 {
-    let (word, first, count, step) = steps(text)?;
-    for place in 0..count {
-        let uid = first.saturating_add(step.saturating_mul(place));
-        accept(host, store, change_by(alloc, word, uid)?)?;
-    }
-    Ok(())
+    let (mode, line) = split_mode(alloc, host, line)?;
+    let trace = changed(alloc, host, store, line)?;
+    mode_reply::<P>(alloc, host, mode, &trace)
 }
 
-/// The range of a row is the list behind it.
-fn expect_range<P: PageBook>(
+// The reply to a line.
+fn reply_to<P: PageBook>(
     alloc: Global,
-    store: &IndexedStore<P>,
-    text: &str,
-) -> Result<(), Fail> {
-    let (line, wanted) = text.split_once(" => ").ok_or("no list")?;
-    let (by, state) = line.split_once(' ').ok_or("no state")?;
-    let found = range_text(alloc, store, by, state == "after")?;
-    if found.as_str() != wanted {
-        return Err(Fail::new(format_args!("another range {line}: {found}")));
+    host: &mut MemHost,
+    store: &mut Store<P>,
+    line: &str,
+) -> Result<Vec<u8>, Fail>
+    requires is_open { IsOpen P.place P.numbers P.stands true store.old (outside_of host.old) }
+    ensures is_open { OnOk result (IsOpen P.place P.numbers P.stands true store.new
+        (outside_of host.new)) }
+{
+    let (word, rest) = line.split_once(' ').unwrap_or((line, ""));
+    match word {
+        "rows" => rows(alloc, host, store),
+        "vote" => vote(alloc, host),
+        "fill" => fill(alloc, host, store, rest),
+        "has" | "count" | "uids" | "declared" => asked(alloc, store, word, rest),
+        _ => change_reply(alloc, host, store, line),
     }
-    Ok(())
 }
 
-/// The masks of a row are those behind it.
-fn expect_masks<P: PageBook>(
-    alloc: Global,
-    store: &IndexedStore<P>,
-    text: &str,
-) -> Result<(), Fail> {
-    let (line, wanted) = text.split_once(" => ").ok_or("no masks")?;
-    let (soup, rest) = number(line)?;
-    let (count, _) = number(rest)?;
-    let found = masks_text(alloc, store, soup, count)?;
-    if found.as_str() != wanted {
-        return Err(Fail::new(format_args!("other masks {line}: {found}")));
-    }
-    Ok(())
+fn another_reply(line: &str, reply: &[u8]) -> Fail {
+    Fail::new(format_args!("another reply: {line:.200} => {reply:?}"))
 }
 
-/// Plays a row.
+// Plays a row, which is answered as it says.
 fn play_row<P: PageBook>(
     alloc: Global,
     host: &mut MemHost,
-    store: &mut IndexedStore<P>,
+    store: &mut Store<P>,
     row: &str,
 ) -> Result<(), Fail>
-    requires { StandsOn P.place P.numbers P.stands true store.old (outside_of host.old) }
-    ensures { OnOk result (StandsOn P.place P.numbers P.stands true store.new
+    requires is_open { IsOpen P.place P.numbers P.stands true store.old (outside_of host.old) }
+    ensures is_open { OnOk result (IsOpen P.place P.numbers P.stands true store.new
         (outside_of host.new)) }
 {
-    match row.split_once(' ') {
-        Some(("range", rest)) => expect_range(alloc, store, rest),
-        Some(("masks", rest)) => expect_masks(alloc, store, rest),
-        Some(("each", rest)) => change_each(alloc, host, store, rest),
-        _ => {
-            let (change, _) = change_of(alloc, row)?;
-            accept(host, store, change)
-        }
+    let (line, wanted) = row.split_once(" => ").unwrap_or((row, ""));
+    let reply = reply_to(alloc, host, store, line)?;
+    if reply.as_slice() != wanted.as_bytes() {
+        return Err(another_reply(line, &reply));
     }
+    Ok(())
 }
 
-/// Plays the rows of one run.
+// Plays the rows of one run, behind which another run finds what the store has.
 fn play_rows<P: PageBook>(
     alloc: Global,
     host: &mut MemHost,
-    store: &mut IndexedStore<P>,
-    rows: &str,
+    store: &mut Store<P>,
+    table: &str,
 ) -> Result<(), Fail>
-    requires { StandsOn P.place P.numbers P.stands true store.old (outside_of host.old) }
+    requires is_open { IsOpen P.place P.numbers P.stands true store.old (outside_of host.old) }
 {
-    for row in rows.lines() {
+    for row in table.lines() {
         if !row.is_empty() {
             play_row(alloc, host, store, row)?;
         }
     }
+    rows(alloc, host, store)?;
     Ok(())
 }
 
-/// Plays the rows of one run on a card of these bytes, and answers what the card has then.
+// Plays the rows of one run on the card.
+fn play_run<P: PageBook>(alloc: Global, host: &mut MemHost, rows: &str) -> Result<(), Fail>
+    requires { IsDurable 0 (outside_of host.old).now }
+{
+    let mut store: Store<P> = opened(alloc, host)?;
+    play_rows(alloc, host, &mut store, rows)
+}
+
+// Plays the rows of one run on a card of these bytes, and answers what the card has then.
 fn run<P: PageBook>(alloc: Global, bytes: &[u8], rows: &str) -> Result<Vec<u8>, Fail> {
     let mut host = host_of(alloc, bytes)?;
-    let mut store: IndexedStore<P> = opened(alloc, &mut host)?;
-    play_rows(alloc, &mut host, &mut store, rows)?;
+    play_run::<P>(alloc, &mut host, rows)?;
     card_bytes(alloc, &host)
 }
 
-/// Plays a table on a card of so many blocks, formatted as a store. Behind a row `reopen` another
-/// run goes on.
-pub(crate) fn play<P: PageBook>(alloc: Global, blocks: u32, table: &str) -> Result<(), Fail> {
-    let host = formatted::<P>(alloc, blocks)?;
-    let mut bytes = card_bytes(alloc, &host)?;
+/// Plays a table on a card of these bytes.
+pub(crate) fn play_on<P: PageBook>(alloc: Global, bytes: &[u8], table: &str) -> Result<(), Fail> {
+    let mut bytes = bytes.to_vec(alloc)?;
     for rows in table.split("reopen\n") {
         bytes = run::<P>(alloc, &bytes, rows)?;
     }
     Ok(())
+}
+
+/// Plays a table on a card of so many blocks, formatted as the store `Internal` of signature 7.
+pub(crate) fn play<P: PageBook>(alloc: Global, blocks: u32, table: &str) -> Result<(), Fail> {
+    let host = formatted::<P>(alloc, blocks)?;
+    play_on::<P>(alloc, &card_bytes(alloc, &host)?, table)
 }

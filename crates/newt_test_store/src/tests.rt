@@ -1,8 +1,9 @@
 //! Changes of stores on a card in memory.
+use crate::digits::spelt;
 use crate::flips::patched;
 use crate::small::{IMAGE, SMALL};
+use crate::tables::{play, play_on};
 use newt_pageplain::PlainBook;
-use newt_test_card::{play, play_on, spelt};
 use std::alloc::{AllocError, Global};
 use std::test::Fail;
 

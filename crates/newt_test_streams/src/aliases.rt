@@ -1,4 +1,5 @@
 //! Aliases with ample memory.
+use crate::records::check;
 use newt_base::{Sig, Uid};
 use newt_entries_alias::Alias;
 use std::test::*;
@@ -11,7 +12,7 @@ fn an_alias_is_read_back(rt: HostRuntime) -> Result<(), Fail> {
         uid: Uid(12),
     };
     let graph = alias.graph(rt.alloc())?;
-    assert!(rt; graph.len() == 2);
-    assert!(rt; Alias::read(&graph) == Some(alias));
+    check(&rt, graph.len() == 2, "an array and its class");
+    check(&rt, Alias::read(&graph) == Some(alias), "the alias");
     Ok(())
 }

@@ -157,38 +157,41 @@ fn add_soup(alloc: Global, directory: &mut Directory, number: u32) -> Result<(),
     Ok(())
 }
 
-/// Whether a directory is written, and read again in each version.
-fn read_again(alloc: Global, directory: &Directory) -> Result<(bool, bool), Fail> {
+/// Whether a directory is written, and read again in each version, and whether it takes no more
+/// soups.
+fn read_again(alloc: Global, directory: &Directory) -> Result<[bool; 3], Fail> {
+    let is_full = directory.is_full();
     if !directory.is_well_formed() {
-        return Ok((false, false));
+        return Ok([false, false, is_full]);
     }
     let bytes = write_directory(alloc, directory)?;
-    Ok((
-        read_directory(alloc, &bytes, 1).is_ok(),
-        read_directory(alloc, &bytes, 2).is_ok(),
-    ))
+    let first = read_directory(alloc, &bytes, 1).is_ok();
+    let second = read_directory(alloc, &bytes, 2).is_ok();
+    Ok([first, second, is_full])
 }
 
-/// The same of a directory with so many soups.
-fn versions_of(alloc: Global, count: u32) -> Result<(bool, bool), Fail> {
+/// Fails where it is otherwise with a directory with so many soups.
+fn expect_soups(alloc: Global, count: u32, wanted: [bool; 3]) -> Result<(), Fail> {
     let directory = with_soups(alloc, count)?;
-    read_again(alloc, &directory)
+    if read_again(alloc, &directory)? != wanted {
+        return Err(Fail::new(format_args!("{count} soups")));
+    }
+    Ok(())
 }
 
-/// Whether a directory with so many soups takes no more.
-fn is_full_of(alloc: Global, count: u32) -> Result<bool, Fail> {
-    let directory = with_soups(alloc, count)?;
-    Ok(directory.is_full())
-}
+/// How many soups there are, whether each version reads them, and whether there may be no more.
+const COUNTS: [(u32, [bool; 3]); 4] = [
+    (64, [true, true, false]),
+    (65, [false, true, false]),
+    (250, [false, true, true]),
+    (251, [false, false, true]),
+];
 
 #[test]
 fn versions_limit_the_number_of_soups(rt: HostRuntime) -> Result<(), Fail> {
-    let alloc = rt.alloc();
-    check(&rt, versions_of(alloc, 64)? == (true, true), "64 soups");
-    check(&rt, versions_of(alloc, 65)? == (false, true), "65 soups");
-    check(&rt, is_full_of(alloc, 250)?, "no more than 250 soups");
-    check(&rt, versions_of(alloc, 250)? == (false, true), "250 soups");
-    check(&rt, versions_of(alloc, 251)? == (false, false), "251 soups");
+    for (count, wanted) in COUNTS {
+        expect_soups(rt.alloc(), count, wanted)?;
+    }
     Ok(())
 }
 

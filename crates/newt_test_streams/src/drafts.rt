@@ -1,4 +1,5 @@
 //! Edits of a working copy with ample memory.
+use crate::records::check;
 use newt_base::{Sig, Uid};
 use newt_graph::Graph;
 use newt_lit_print::print_literal;
@@ -6,6 +7,7 @@ use newt_lit_read::read_literal;
 use newt_path::{Path, SetFault};
 use newt_work::Work;
 use std::alloc::Global;
+use std::process::Abort;
 use std::test::*;
 
 fn literal(alloc: Global, text: &str) -> Result<Graph, Fail> {
@@ -25,32 +27,43 @@ fn edited(alloc: Global, work: &mut Work, path: &[u8]) -> Result<Result<(), SetF
     Ok(work.edit(&path, &two))
 }
 
+/// The entry stays what it was.
+fn edit_draft(rt: &impl Abort, alloc: Global, work: &mut Work) -> Result<(), Fail> {
+    check(rt, work.based(4, work.draft()), "the entry");
+    check(rt, edited(alloc, work, b"a")? == Ok(()), "the edit");
+    let text = print_literal(alloc, work.draft())?;
+    check(rt, text.as_slice() == b"{a: 2}".as_slice(), "the draft");
+    check(rt, !work.based(4, work.draft()), "another entry");
+    Ok(())
+}
+
 #[test]
 fn an_edit_changes_the_draft_alone(rt: HostRuntime) -> Result<(), Fail> {
     let mut work = opened(rt.alloc())?;
-    assert!(rt; work.based(4, work.draft()));
-    assert!(rt; edited(rt.alloc(), &mut work, b"a")? == Ok(()));
-    let text = print_literal(rt.alloc(), work.draft())?;
-    assert!(rt; text.as_slice() == b"{a: 2}".as_slice());
-    assert!(rt; !work.based(4, work.draft()));
-    Ok(())
+    edit_draft(&rt, rt.alloc(), &mut work)
 }
 
 #[test]
 fn an_edit_without_a_path_leaves_the_draft(rt: HostRuntime) -> Result<(), Fail> {
     let mut work = opened(rt.alloc())?;
-    assert!(rt; edited(rt.alloc(), &mut work, b"b.c")? == Err(SetFault::NoPath));
-    assert!(rt; work.based(4, work.draft()));
+    let fault = edited(rt.alloc(), &mut work, b"b.c")?;
+    check(&rt, fault == Err(SetFault::NoPath), "no path");
+    check(&rt, work.based(4, work.draft()), "the draft");
+    Ok(())
+}
+
+/// The draft is the entry that the copy has then, of another minute.
+fn begin_anew(rt: &impl Abort, alloc: Global, work: &mut Work) -> Result<(), Fail> {
+    check(rt, edited(alloc, work, b"b")? == Ok(()), "the edit");
+    let base = work.draft().copy()?;
+    let draft = base.copy()?;
+    work.rebase(5, base, draft);
+    check(rt, work.based(5, work.draft()), "the draft");
     Ok(())
 }
 
 #[test]
 fn a_copy_begins_anew_with_its_draft(rt: HostRuntime) -> Result<(), Fail> {
     let mut work = opened(rt.alloc())?;
-    assert!(rt; edited(rt.alloc(), &mut work, b"b")? == Ok(()));
-    let base = work.draft().copy()?;
-    let draft = base.copy()?;
-    work.rebase(5, base, draft);
-    assert!(rt; work.based(5, work.draft()));
-    Ok(())
+    begin_anew(&rt, rt.alloc(), &mut work)
 }

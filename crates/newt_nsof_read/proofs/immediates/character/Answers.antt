@@ -1,0 +1,7 @@
+-- The code and what is behind it are those of the definition.
+use Rattle.std.proofs.Common.{arith}
+use Rattle.std.proofs.lemmas.Grind.{common_steps}
+use Rattle.newt_nsof_read.proofs.immediates.character.Goals as goal
+
+pub returns-in-len1-up : goal.returns-in-len1-up
+returns-in-len1-up c = λ met. grind (arith, common_steps)

@@ -1,0 +1,10 @@
+-- The copy has the declarations so far.
+use Rattle.std.proofs.Common.{arith}
+use Rattle.std.proofs.lemmas.Grind.{common_steps}
+use Rattle.newt_soupdir.proofs.indexes.Specs.copy.Goals as goal
+
+pub loop-spec-preserved : goal.loop-spec-preserved
+loop-spec-preserved c = grind (arith, common_steps)
+
+pub returns : goal.returns
+returns c = grind (arith, common_steps)

@@ -1,0 +1,7 @@
+-- No declaration so far has the paths that are asked for.
+use Rattle.std.proofs.Common.{arith}
+use Rattle.std.proofs.lemmas.Grind.{common_steps}
+use Rattle.newt_soupdir.proofs.indexes.place_with_paths.Goals as goal
+
+pub loop-left-preserved : goal.loop-left-preserved
+loop-left-preserved c = grind (arith, common_steps)

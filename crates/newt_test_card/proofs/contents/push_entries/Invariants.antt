@@ -1,9 +1,0 @@
-use Rattle.std.proofs.Common.{true}
-use Rattle.newt_memhost.specs.Outside.{outside_of}
-use Rattle.newt_store.specs.Calls.{IsOpen}
-use Rattle.newt_test_card.proofs.contents.push_entries.Given as goal
-
-abbrev pub invariant-loop-uid : goal.invariant-loop-uid
-invariant-loop-uid g l = record {
-  is_open : IsOpen g.P.PageBook.place g.P.PageBook.numbers g.P.PageBook.stands true l.store (outside_of l.host);
-}
