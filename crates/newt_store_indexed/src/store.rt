@@ -57,13 +57,17 @@ impl<P: PageBook> Card for IndexedStore<P> {
 
     ghost fits = { fits_read };
 
-    ghost plain = { λ card outside stands. plain_read P.place P.numbers P.stands card outside stands };
+    ghost plain = { λ card outside stands.
+        plain_read P.place P.numbers P.stands card outside stands };
 
-    ghost durable = { λ card outside stands. (P.tells true card.store.book outside stands.is_open.book refl).1 };
+    ghost durable = { λ card outside stands.
+        (P.tells true card.store.book outside stands.is_open.book refl).1 };
 
-    ghost banks = { λ told card outside stands. (P.has_banks told card.store.book outside stands.is_open.book).0 };
+    ghost banks = { λ told card outside stands.
+        (P.has_banks told card.store.book outside stands.is_open.book).0 };
 
-    ghost kept = { λ told card old new stands same. kept_on P.place P.numbers P.stands P.kept told card old new stands same };
+    ghost kept = { λ told card old new stands same.
+        kept_on P.place P.numbers P.stands P.kept told card old new stands same };
 
     fn format<H: Host>(
         alloc: Global,

@@ -5,8 +5,8 @@
 //! Stands on the loop over a script, on the engine over a store on whichever book, on
 //! `newt_host_files` and on the top call. What it holds has no clause: that a unit fills to its
 //! last page and is used then, that what a crash leaves of an add among many entries is found
-//! again, that pages which were read are not read again while they are cached, that 200 entries come
-//! back from their backup, and that what was written to files is read back.
+//! again, that pages which were read are not read again while they are cached, that 200 entries
+//! come back from their backup, and that what was written to files is read back.
 #![tactic(auto)]
 
 #[cfg(test)]

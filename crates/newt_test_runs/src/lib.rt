@@ -1,8 +1,8 @@
 //! Whole runs of the top call over a host in memory: of every kind of command; in `commands` walks
-//! of cursors and entries with large binaries; in `hostile` what a stranger, a stop or a failing call
-//! may do to a run. It stands on the trials of whole runs, and carries no promise of its own: what it
-//! holds is tests, whose replies come from the rules of the language and of the image and not from
-//! the program.
+//! of cursors and entries with large binaries; in `hostile` what a stranger, a stop or a failing
+//! call may do to a run. It stands on the trials of whole runs, and carries no promise of its own:
+//! what it holds is tests, whose replies come from the rules of the language and of the image and
+//! not from the program.
 #![tactic(auto)]
 
 #[cfg(test)]

@@ -180,7 +180,8 @@ soup 0 S => ok 0
     Ok(())
 }
 
-/// Entries of several soups that were added and removed in turn, among them all of a soup that goes.
+/// Entries of several soups that were added and removed in turn, among them all of a soup that
+/// goes.
 const SEVERAL: &str = "
 format 0 Internal 7 => ok
 mount 0 => ok 7 Internal

@@ -25,8 +25,8 @@ fn out_behind(host: &MemHost, call: u64) -> u64 {
     }
 }
 
-/// How a run ends where this call of a stream of a sound run fails: by the output, if it was written
-/// by it, or the input.
+/// How a run ends where this call of a stream of a sound run fails: by the output, if it was
+/// written by it, or the input.
 fn wanted(sound: &MemHost, call: u64) -> Status
     requires { call < calls_of sound.now }
 {

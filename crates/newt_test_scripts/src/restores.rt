@@ -62,7 +62,8 @@ pub(crate) fn expect_all_restored(alloc: Global, host: &MemHost) -> Result<(), F
     Ok(())
 }
 
-/// The backup of what a device of these bytes holds behind a table, with whose replies it is played.
+/// The backup of what a device of these bytes holds behind a table, with whose replies it is
+/// played.
 fn played(alloc: Global, table: &str, bytes: &[u8]) -> Result<Vec<u8>, Fail> {
     let host = run_table_on(alloc, "run a", table, bytes, &[])?;
     backed_up(alloc, &image(alloc, &host, Unit(0))?)

@@ -67,8 +67,8 @@ fn failing_host(alloc: Global, script: &[u8], calls: &[u64]) -> Result<MemHost, 
     Ok(host)
 }
 
-/// A run of a script over five devices `a` to `e` of 13 blocks of zero bytes, which ends well though
-/// these calls fail.
+/// A run of a script over five devices `a` to `e` of 13 blocks of zero bytes, which ends well
+/// though these calls fail.
 pub fn run_failing(
     alloc: Global,
     text: &str,

@@ -6,8 +6,8 @@ use newt_test_scripts::{backed_up, card_behind, expect_unrestored, image, run_ov
 use std::alloc::Global;
 use std::test::Fail;
 
-/// A store of two soups, one with an index, tags and an info frame, and of entries whose graphs have
-/// each kind of node.
+/// A store of two soups, one with an index, tags and an info frame, and of entries whose graphs
+/// have each kind of node.
 pub(crate) const STORE: &str = "
 format 0 Internal 7 => ok
 mount 0 => ok 7 Internal

@@ -100,7 +100,8 @@ fn all_vote(image: &[u8], bank: u8) -> bool {
     true
 }
 
-/// Behind a record that is not begun a change goes to the other bank, for which all three vote then.
+/// Behind a record that is not begun a change goes to the other bank, for which all three vote
+/// then.
 #[test]
 fn a_closed_bank_is_switched(rt: HostRuntime) -> Result<(), Fail> {
     let alloc = rt.alloc();

@@ -1,5 +1,5 @@
-//! The script: every command but those of info frames, watches and working copies, on two units of 13
-//! blocks.
+//! The script: every command but those of info frames, watches and working copies, on two units of
+//! 13 blocks.
 
 /// How many of the last commands are stopped twice. One of them makes unit 0 go on in its other
 /// bank.

@@ -79,8 +79,8 @@ fn card_of(alloc: Global, count: u32, version: &[u8], directory: &[u8]) -> Resul
 const SOUP: &str = "08496E7465726E616C 00000007 0001 01 0153 0000 00000000 00";
 
 /// What a card opens as. A row is the version of its bank and, of the directory, the soup's flags
-/// and what follows them; behind ` : ` stand lines and replies, with ` / ` between them. Rows behind
-/// a `#` say what they are.
+/// and what follows them; behind ` : ` stand lines and replies, with ` / ` between them. Rows
+/// behind a `#` say what they are.
 const CARDS: &str = "
 # No such version.
 0000 00 : mount 0 => error 22 nostore
@@ -241,8 +241,8 @@ fn push_lines(alloc: Global, lines: &mut String) -> Result<(), Fail> {
     Ok(())
 }
 
-/// A store of 250 soups with 16 indexes each is opened, goes to the other bank with its first change
-/// that the first has no room for, and is listed there as before.
+/// A store of 250 soups with 16 indexes each is opened, goes to the other bank with its first
+/// change that the first has no room for, and is listed there as before.
 #[test]
 fn a_full_directory_is_opened_copied_and_listed(rt: HostRuntime) -> Result<(), Fail> {
     let alloc = rt.alloc();
