@@ -1,16 +1,12 @@
-//! Whole runs of the top call over a host in memory: of every kind of command; in `commands` walks
-//! of cursors and entries with large binaries; in `hostile` what a stranger, a stop or a failing
-//! call may do to a run. It stands on the trials of whole runs, and carries no promise of its own:
-//! what it holds is tests, whose replies come from the rules of the language and of the image and
-//! not from the program.
+//! Whole runs of the top call over a host in memory: of every kind of command and of every mode. It
+//! stands on the trials of whole runs, and carries no promise of its own: what it holds is tests,
+//! whose replies come from the rules of the language and of the image and not from the program.
 #![tactic(auto)]
 
 #[cfg(test)]
 mod backups;
 #[cfg(test)]
 mod checks;
-#[cfg(test)]
-mod commands;
 #[cfg(test)]
 mod crashes;
 #[cfg(test)]
@@ -19,8 +15,6 @@ mod declared;
 mod faults;
 #[cfg(test)]
 mod generated;
-#[cfg(test)]
-mod hostile;
 #[cfg(test)]
 mod limits;
 #[cfg(test)]
@@ -34,11 +28,5 @@ mod replaces;
 #[cfg(test)]
 mod restores;
 #[cfg(test)]
-mod thrown;
-#[cfg(test)]
-mod told;
-#[cfg(test)]
 mod trial;
-#[cfg(test)]
-mod units;
 mod versions;

@@ -1,6 +1,6 @@
 //! Cards of either version, whose directories are made by hand.
 
-use crate::hostile::cards::{expect_opened, patch};
+use crate::cards::{expect_opened, patch};
 use newt_test_scripts::expect_said;
 use newt_test_tables::bytes_of;
 use std::alloc::{AllocError, Global};

@@ -1,6 +1,6 @@
 //! A stop at each call of a restoring.
 
-use crate::hostile::backups::{STORE, backup_behind, filled};
+use crate::backups::{STORE, backup_behind, filled};
 use newt_host::{Host, Unit};
 use newt_memhost::{Crash, MemHost, Pick};
 use newt_test_scripts::{backed_up, expect_status, over, restored};

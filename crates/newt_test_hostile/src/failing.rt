@@ -1,6 +1,6 @@
 //! Each call of the outside fails once, and some of two.
 
-use crate::hostile::script::{LISTING, SCRIPT};
+use crate::script::{LISTING, SCRIPT};
 use newt_test_scripts::{expect_statuses, expect_thrown};
 use std::test::Fail;
 

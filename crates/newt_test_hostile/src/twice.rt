@@ -1,6 +1,6 @@
 //! A stop within the last commands, and another one in the run that goes on with what is left.
 
-use crate::hostile::script::{LAST, LISTING, SCRIPT, SECOND};
+use crate::script::{LAST, LISTING, SCRIPT, SECOND};
 use newt_host::{Host, Unit};
 use newt_memhost::{Crash, MemHost, Pick};
 use newt_test_scripts::{

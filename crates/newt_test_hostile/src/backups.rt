@@ -1,6 +1,6 @@
 //! Backups of which bytes are missing or changed.
 
-use crate::hostile::cards::patch;
+use crate::cards::patch;
 use newt_host::Unit;
 use newt_test_scripts::{backed_up, card_behind, expect_unrestored, image, run_over};
 use std::alloc::Global;

@@ -1,6 +1,6 @@
 //! A stop at each call of the script.
 
-use crate::hostile::script::{LISTING, SCRIPT};
+use crate::script::{LISTING, SCRIPT};
 use newt_host::Unit;
 use newt_memhost::Pick;
 use newt_test_scripts::{Counts, expect_unit_safe};
