@@ -3,8 +3,8 @@
 //! uses every command but those of info frames, watches and working copies, stopped at each call,
 //! and run with each call of the outside failing; backups that were cut and bent, a restoring that
 //! is stopped at each call, and backups of many soups. It stands on the trials of whole runs, and
-//! carries no promise of its own: what it holds is tests, of the crash half of `run` too, in which a
-//! next run tells what a stop has left.
+//! carries no promise of its own: what it holds is tests, of the crash half of `run` too, in which
+//! a next run tells what a stop has left.
 //!
 //! The replies come from the rules of the image and of the language and not from the program. The
 //! rows of the script are made here: what the plain world holds behind each command is what a next

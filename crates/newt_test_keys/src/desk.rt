@@ -1,5 +1,6 @@
 //! The places of a desk, with ample memory.
 
+use crate::check::check;
 use crate::keys::literal;
 use crate::sorted::key;
 use newt_base::{Name, Sig, Uid};
@@ -92,11 +93,6 @@ fn full(alloc: Global) -> Result<Desk, Fail> {
         }
     }
     Ok(desk)
-}
-
-/// What is wanted holds.
-pub(crate) fn check(rt: &impl Abort, holds: bool, what: &str) {
-    assert!(rt; holds, "{what}");
 }
 
 fn assert_start(rt: &impl Abort, desk: &Desk, cursor: u8) {

@@ -11,6 +11,8 @@
 #[cfg(test)]
 mod calls;
 #[cfg(test)]
+mod check;
+#[cfg(test)]
 mod desk;
 #[cfg(test)]
 mod entries;

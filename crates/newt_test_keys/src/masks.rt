@@ -1,7 +1,7 @@
 //! The masks of entries, after each change of their soup.
 ghost use Rattle.std.specs.Prelude.{◌≡◌, IfOk, [], ◌∷◌};
 
-use crate::desk::check;
+use crate::check::check;
 use crate::entries::{graph, id};
 use newt_base::Sig;
 use newt_graph::Bytes;

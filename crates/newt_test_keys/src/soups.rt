@@ -1,5 +1,5 @@
 //! Changes of soups, after each of which the ranges are the lists sorted afresh.
-use crate::desk::check;
+use crate::check::check;
 use crate::entries::{By, Left, by_name, by_number, graph, id, number_paths};
 use crate::ranges::{has_list, has_lists};
 use newt_base::{Sig, Uid};

@@ -1,0 +1,8 @@
+//! What a test wants. A call of this costs the proof less than an assertion in its place.
+
+use std::process::Abort;
+
+/// What is wanted holds.
+pub(crate) fn check(rt: &impl Abort, holds: bool, what: &str) {
+    assert!(rt; holds, "{what}");
+}
