@@ -1,5 +1,5 @@
 -- A backup is read back as its store, and what is not read is no backup.
-use Rattle.std.proofs.Common.{◌≡◌, refl, sym, ◌∙◌, ap, subst, ℕ, ◌+◌, ◌-◌, ◌<◌, ◌≤◌, Bool, true, List, [], ◌∷◌, ◌++◌, map, length, take, drop, All, Option, Some, None, arith, append_assoc, nat_le}
+use Rattle.std.proofs.Common.{◌≡◌, refl, sym, ◌∙◌, ap, subst, ℕ, ◌+◌, ◌-◌, ◌<◌, ◌≤◌, Bool, true, List, [], ◌∷◌, ◌++◌, map, length, take, drop, All, Option, Some, None, Vec, Global, arith, append_assoc, nat_le}
 use Rattle.std.specs.Prelude.{option_map, ◌&&◌, IfSome}
 use Rattle.std.specs.List.{list_all, sum_by}
 use Rattle.std.proofs.lemmas.Bool.{and_parts}
@@ -33,7 +33,7 @@ use Rattle.newt_backup.specs.Together.{others, with_own, left_over, together}
 use Rattle.newt_backup.specs.Checks.{are_of}
 use Rattle.newt_backup.specs.Contents.{store_in, IsSound, AreKept}
 use Rattle.newt_entries.specs.Full.{as_entry, told}
-use Rattle.newt_backup.proofs.Bounds.{store-total}
+use Rattle.newt_backup.proofs.Bounds.{store-total, kept-short}
 use Rattle.newt_backup.proofs.Contents.{directory-same, entries-same, own-length}
 use Rattle.newt_backup.proofs.Kept.{kept-formed, valid-most}
 use Rattle.newt_backup.proofs.One.{fulls-read, directory-kept}
@@ -143,6 +143,24 @@ contents-kept s k = rw (packed-read (directory_bytes s) (fulls s), directory-kep
 -- where nothing is read, no store has this backup
 pub nothing-read : (g : RawGraph) → contents_read (texts_from [] g.nodes) ≡ None → Unbacked g
 nothing-read g h = λ s k e. none-some (bare s, all_entries s) (sym h ∙ ap (λ g. contents_read (texts_from [] g.nodes)) (sym e) ∙ contents-kept s k)
+
+texts-total : (ts : List (Vec ℕ Global)) → sum_by (λ (t : Vec ℕ Global). length t.items) ts ≡ sum_by (λ (b : List ℕ). length b) (map (λ (t : Vec ℕ Global). t.items) ts)
+texts-total [] = refl
+texts-total (t ∷ ts) = sum_by-cons (λ (t : Vec ℕ Global). length t.items) t ts ∙ ap (λ n. length t.items + n) (texts-total ts)
+    ∙ sym (sum_by-cons (λ (b : List ℕ). length b) t.items (map (λ (t : Vec ℕ Global). t.items) ts))
+
+four-total : (d : List ℕ) (es : List (List ℕ)) → sum_by (λ (b : List ℕ). length b) ([] ∷ d ∷ [] ∷ es) ≡ length d + sum_by (λ (b : List ℕ). length b) es
+four-total d es = omega (arith, sum_by-cons (λ (b : List ℕ). length b) [] (d ∷ [] ∷ es), sum_by-cons (λ (b : List ℕ). length b) d ([] ∷ es), sum_by-cons (λ (b : List ℕ). length b) [] es)
+
+-- nor where the texts have more bytes than those of a store
+pub too-long : (g : RawGraph) (ts : List (Vec ℕ Global)) → map (λ (t : Vec ℕ Global). t.items) ts ≡ texts_from [] g.nodes
+    → 7_989_000 < sum_by (λ (t : Vec ℕ Global). length t.items) ts → Unbacked g
+too-long g ts same more = λ s k e.
+    let are : map (λ (t : Vec ℕ Global). t.items) ts ≡ [] ∷ directory_bytes s ∷ [] ∷ fulls s
+    = same ∙ ap (λ g. texts_from [] g.nodes) (sym e) ∙ packed-read (directory_bytes s) (fulls s) in
+    let total : sum_by (λ (t : Vec ℕ Global). length t.items) ts ≡ length (directory_bytes s) + sum_by (λ (b : List ℕ). length b) (fulls s)
+    = texts-total ts ∙ ap (λ l. sum_by (λ (b : List ℕ). length b) l) are ∙ four-total (directory_bytes s) (fulls s) in
+    omega (arith, more, total, kept-short s k)
 
 -- a directory and entries that are those of a store
 pub found-store : (s : Store) (d : Directory) (es : List FullEntry) → IsKept s → bare s ≡ bare_store d → all_entries s ≡ map told es → AreKept d es × (store_in d es ≡ s)

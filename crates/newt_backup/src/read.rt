@@ -1,5 +1,7 @@
 //! A store read from its backup.
-ghost use Rattle.std.specs.Prelude.{◌≡◌, [], true, false, map, Some, None, IfOk, IsErrOf};
+ghost use Rattle.std.specs.Prelude.{◌≡◌, ◌<◌, [], true, false, length, map, Some, None};
+ghost use Rattle.std.specs.Prelude.{IfOk, IsErrOf};
+ghost use Rattle.std.specs.List.{sum_by};
 ghost use Rattle.newt_nsof_flat.specs.Stream.{stream_graph};
 ghost use Rattle.newt_soupdir.specs.Bare.{bare_store};
 ghost use Rattle.newt_spec_graph.specs.Graph.{every};
@@ -25,6 +27,10 @@ use std::mem;
 /// The version of a directory in a backup.
 const VERSION: u16 = 2;
 
+/// The most bytes that the texts of a store's backup have together: 500 for each page of the
+/// largest unit.
+const MOST_BYTES: usize = 7_989_000;
+
 /// The texts of nodes: the bytes of all binaries between two arrays, joined. The first has what
 /// stands before any array.
 pub(crate) fn texts(alloc: Global, nodes: &[Node]) -> Result<Vec<Vec<u8>>, AllocError>
@@ -43,6 +49,22 @@ pub(crate) fn texts(alloc: Global, nodes: &[Node]) -> Result<Vec<Vec<u8>>, Alloc
     }
     texts.push(text)?;
     Ok(texts)
+}
+
+/// Whether texts have no more bytes together than those of a store's backup.
+fn are_short(texts: &[Vec<u8>]) -> bool
+    ensures { result ≡ false → 7_989_000 < sum_by (λ text. length text.items) texts.now }
+{
+    let mut room = MOST_BYTES;
+    let mut left = texts;
+    while let [text, rest @ ..] = left {
+        if room < text.len() {
+            return false;
+        }
+        room -= text.len();
+        left = rest;
+    }
+    true
 }
 
 /// The entry that a text has whole.
@@ -111,13 +133,17 @@ fn contents(alloc: Global, texts: &[Vec<u8>]) -> Result<(Directory, Vec<FullEntr
     Ok((directory, entries))
 }
 
-/// The directory and the entries that are read of a graph, if it is a backup.
+/// The directory and the entries that are read of a graph, if it is a backup. Of one with more
+/// bytes than any store has nothing is read, so that memory is wanted for what may be a store alone.
 fn store_of(alloc: Global, graph: &Graph) -> Result<(Directory, Vec<FullEntry>), BackupFault>
     ensures found { IfOk result (λ x. contents_read (texts_from [] graph.now.nodes)
         ≡ Some (bare_store x.0, map told x.1.items)) }
     ensures bad { IsErrOf result BackupFault.Bad → Unbacked graph.now }
 {
     let texts = texts(alloc, graph.nodes())?;
+    if !are_short(&texts) {
+        return Err(BackupFault::Bad);
+    }
     contents(alloc, &texts)
 }
 

@@ -22,7 +22,7 @@ use Rattle.newt_laws_world.specs.Cursors.{with_cursors, uses_cursors}
 use Rattle.newt_store_change.specs.declared.fault.StoreFault.{StoreFault}
 use Rattle.newt_engine_card.specs.Bounds.{Costs, FetchesAtMost, FetchesWithin, FormatsOnce, IsOpenOrSame, LeftAlone, ProgramsAtMost}
 use Rattle.newt_store_change.specs.Faults.{GoesOn}
-use Rattle.newt_engine_cursors.specs.Unread.{steps_unread}
+use Rattle.newt_engine_cursors.specs.Unread.{steps_unread, walks_unread}
 use Rattle.newt_engine_units.specs.Calls.{CostsOf}
 use Rattle.newt_engine_units.proofs.Costs.{alone-bound, alone-once, bound-before, once-before}
 use Rattle.newt_engine.specs.Bounds.{CommandCosts, is_format, most_formatted, most_settled}
@@ -75,6 +75,12 @@ unread_uses_cursor w (command.Gotokey _ _) h k = cc
 unread_uses_cursor w (command.Count _) h k = cc
 unread_uses_cursor w (command.Which _) h k = cc
 unread_uses_cursor w _ h k = cc
+
+-- a command that is known by the cursors is known by the world
+pub walks_steps : (w : World) (c : Command) → walks_unread w.cursors c ≡ true → steps_unread w c ≡ true
+walks_steps w (command.Query _ _ _) h = cc
+walks_steps w (command.QueryAll _ _) h = cc
+walks_steps w _ h = h
 
 -- a command that uses no cursor costs the same with cursors, and to settle them programs nothing
 pub settled_costs : {S T : Type 0} (ks : List (Option Cursor)) {w : World} {c : Command} {few fetches : ℕ → ℕ} {call : Result S StoreFault} {result : Result T StoreFault} {o m p : Outside} → uses_cursors c ≡ false

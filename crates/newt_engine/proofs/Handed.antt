@@ -16,6 +16,8 @@ use Rattle.newt_laws_steps.specs.StandsFor.{seen, seen_on}
 use Rattle.newt_spec_graph.proofs.Lists.{both-ways}
 use Rattle.newt_spec_world.specs.Step.{looks_anew}
 use Rattle.newt_spec_world.specs.declared.command.Command.TheVariants as command
+use Rattle.newt_engine_cursors.specs.Calls.{ShowsNothing}
+use Rattle.newt_engine_cursors.specs.Replies.{shows_nothing}
 use Rattle.newt_engine.specs.Ends.{uses_device}
 use Rattle.newt_spec_script.specs.Rows.{throws}
 use Rattle.newt_engine_units.specs.Breaks.{Meanwhile}
@@ -53,6 +55,20 @@ module _ {T : Type 0} {made : T → plain.Reply} {found : Result T StoreFault} {
       go : (f : Result T StoreFault) (r : Result Reply StoreFault) → IsHanded made f r → IfErr f P → IfErr r P
       go (Ok x) (Ok y) s h = tt
       go (Err f) (Err g) s h = subst P (sym s) h
+      go (Ok x) (Err g) s h = absurd s
+      go (Err f) (Ok y) s h = absurd s
+
+  -- where nothing is shown, nothing was
+  pub shows_back : ShowsNothing said result → ShowsNothing made found
+  shows_back h = go found result on.same h
+    where
+      fault : (f : StoreFault) → ShowsNothing said (Err f) → ShowsNothing made (Err f)
+      fault (Refused r) h = tt
+      fault (Stop stop) h = absurd h
+
+      go : (f : Result T StoreFault) (r : Result Reply StoreFault) → IsHanded made f r → ShowsNothing said r → ShowsNothing made f
+      go (Ok x) (Ok y) s h = ap shows_nothing (sym s) ∙ h
+      go (Err f) (Err g) s h = fault f (subst (λ e. ShowsNothing said (Err e)) s h)
       go (Ok x) (Err g) s h = absurd s
       go (Err f) (Ok y) s h = absurd s
 

@@ -30,7 +30,7 @@ use Rattle.newt_engine_cursors.specs.declared.show.Shown.TheVariants.{Nil, Delet
 use Rattle.newt_engine_cursors.specs.declared.show.Side.{Side}
 use Rattle.newt_engine_cursors.specs.declared.show.Side.TheVariants as at
 use Rattle.newt_spec_world.specs.Answer.{or_nil}
-use Rattle.newt_engine_cursors.specs.Unread.{steps_unread}
+use Rattle.newt_engine_cursors.specs.Unread.{steps_unread, walks_unread}
 use Rattle.newt_engine_cursors.specs.Fits.{DeskFits}
 use Rattle.newt_engine_cursors.specs.World.{world_with}
 use Rattle.newt_engine.specs.Bounds.{is_format, most_stepped}
@@ -39,7 +39,7 @@ use Rattle.newt_engine.specs.Ends.{takes_memory, uses_device}
 use Rattle.newt_engine.specs.Handed.{HandsOn}
 use Rattle.newt_engine.specs.declared.world.World.{World}
 use Rattle.newt_engine.proofs.Costing.{costs_on}
-use Rattle.newt_engine.proofs.Handed.{answered_on, err_on, goes_back, has_cause, moments_same, ok_on, quiet_on, unrefused_on}
+use Rattle.newt_engine.proofs.Handed.{answered_on, err_on, goes_back, has_cause, moments_same, ok_on, quiet_on, shows_back, unrefused_on}
 
 -- the command is one that may take memory and use a device
 pub handed_obeyed : {C : Type 0} {reads : List ℕ → Option Store} {place : C → ℕ} {standing : Bool → C → Outside → Type 0} {told : Bool} {T : Type 0} {made : T → plain.Reply} {found : Result T StoreFault}
@@ -89,6 +89,7 @@ handed_walked {reads = reads} {old = old} {o = o} {p} on is memory device quiet 
   answered = λ t apart settled. answered_on on _ _ is (call.answered t apart settled);
   fetches = λ t apart settled. subst (λ x. steps_unread (world_with reads old.units old.desk o) x ≡ true → FetchesAtMost (most_stepped (world_with reads old.units old.desk o) x) o p) (sym is)
       (call.fetches t apart settled);
+  idle = λ un nothing. call.idle (sym (ap (walks_unread old.desk) is) ∙ un) (shows_back on nothing);
   failed = err_on on _ call.failed;
   kept = err_on on _ call.kept;
   ends = record {
@@ -111,6 +112,7 @@ handed_placed {reads = reads} {found = found} {c = c} {old = old} {o = o} on is 
   desk = desk;
   answered = λ t apart settled. answered_on on _ _ is (answered settled);
   fetches = λ t apart settled unread u. up (o.fetched u) (most_stepped (world_with reads old.units old.desk o) c u);
+  idle = λ un nothing u. up (o.fetched u) 0;
   failed = err_on on _ (none-devices _ found none);
   kept = err_on on _ (none-devices _ found none);
   ends = record {

@@ -39,7 +39,7 @@ use Rattle.newt_engine.specs.Calls.{Fails, FailsHalfway, Obeyed, Served}
 use Rattle.newt_engine.specs.Ends.{takes_memory, uses_device}
 use Rattle.newt_engine.specs.Standing.{IsStanding, stood_for}
 use Rattle.newt_engine.specs.declared.world.World.{World}
-use Rattle.newt_engine.proofs.Costing.{alone_few, settled_costs, unread_uses_cursor}
+use Rattle.newt_engine.proofs.Costing.{alone_few, settled_costs, unread_uses_cursor, walks_steps}
 use Rattle.newt_engine.proofs.Looking.{seen-with}
 use Rattle.newt_engine.proofs.Obeying.{handed_obeyed}
 use Rattle.newt_engine.proofs.Settling.{fault_answers, moments_with, seen-whole, stands_after, start-formed, whole, writes_with}
@@ -123,6 +123,7 @@ served_fault {reads = reads} laws told old new o p s eight c none fault e =
       costs = λ t. settled_costs old.desk none (e.costs t) (λ goes. goes) refl (λ u. alone-refl u _)
           (λ means. alone_few old.desk (world_of reads old.units o) c o p (whole_known laws told old o s t c none) ((e.costs t).fetched means));
       step = λ t unread. absurd (unread_uses_cursor (stood_for reads old o) c none unread);
+      idle = λ walks nothing. absurd (unread_uses_cursor (stood_for reads old o) c none (walks_steps (stood_for reads old o) c walks));
       alone = e.alone;
       broke = at-device-map _ _ fault (λ u b. inl (fails_with c none e.desk b)) e.broke;
       ends = e.ends;
@@ -158,6 +159,7 @@ served_ended {reads = reads} {place} {stands = stands} laws told old new o p s e
       moments = moments;
       costs = λ t. let k = costs t in record { bound = k.bound; format = k.format; fetched = k.fetched; open_after = λ goes. k.open_after (fault-goes {T = Reply} S (Err fault) (fault, refl, refl) goes) };
       step = λ t unread. absurd (unread_uses_cursor (stood_for reads old o) c none unread);
+      idle = λ walks nothing. absurd (unread_uses_cursor (stood_for reads old o) c none (walks_steps (stood_for reads old o) c walks));
       alone = over.alone;
       broke = broke;
       ends = record {

@@ -64,9 +64,9 @@ pub trait Card: Sized + Drop {
 
     /// Makes a change at a minute, and answers the new id or soup signature, else 0. After a
     /// refusal all is as it was.
-    fn apply<H: Host>(&mut self, host: &mut H, change: Change, now: u32) -> Result<u32, StoreFault>
+    fn apply<H: Host>(&mut self, host: &mut H, change: &Change, now: u32) -> Result<u32, StoreFault>
         requires { stands H.told self.old (H.outside host.old) }
-        ensures { Changes reads place stands H.told change now self.old self.new
+        ensures { Changes reads place stands H.told change.now now self.old self.new
             (H.outside host.old) (H.outside host.new) result };
 
     /// Reads an entry; none where it is not there.

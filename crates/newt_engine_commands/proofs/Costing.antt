@@ -101,31 +101,31 @@ named-spent {w = w} {u = u} {name = name} h c spent low less = named-costs h c s
 
 -- the bytes of an entry that is added, in a world
 abbrev pub added_bytes : ℕ → RawGraph → Store → Soup → World → ℕ
-added_bytes blocks g s p w = unless (add_tests blocks w.minute p.name g s p) (change_bytes s (change_soup p.name (add_entry w.minute g) s) (record { uid = p.next_uid; time = w.minute; graph = g } ∷ []) [])
+added_bytes blocks g s p w = unless (add_tests blocks w.minute p.name g s p) (change_bytes true s (change_soup p.name (add_entry w.minute g) s) (record { uid = p.next_uid; time = w.minute; graph = g } ∷ []) [])
 
 -- the bytes of an entry of which the graph is replaced, in a world
 abbrev pub replaced_bytes : ℕ → RawGraph → Store → Soup → Entry → ℕ → World → ℕ
-replaced_bytes blocks g s p e uid w = unless (replace_tests blocks w.minute p.name uid g s) (change_bytes s (replaced w.minute p.name uid g s) (with_graph w.minute g e ∷ []) (e ∷ []))
+replaced_bytes blocks g s p e uid w = unless (replace_tests blocks w.minute p.name uid g s) (change_bytes false s (replaced w.minute p.name uid g s) (with_graph w.minute g e ∷ []) (e ∷ []))
 
 -- the bytes of an entry that is removed
 abbrev pub removed_bytes : Store → Soup → Entry → ℕ → ℕ
-removed_bytes s p e uid = change_bytes s (change_soup p.name (remove_entry uid) s) [] (e ∷ [])
+removed_bytes s p e uid = change_bytes false s (change_soup p.name (remove_entry uid) s) [] (e ∷ [])
 
 -- the bytes of an index that is declared
 abbrev pub index_bytes : ℕ → Store → Soup → IndexSpec → ℕ
-index_bytes blocks s p spec = unless (index_tests blocks p.name spec s p) (change_bytes s (change_soup p.name (with_index spec) s) [] [])
+index_bytes blocks s p spec = unless (index_tests blocks p.name spec s p) (change_bytes true s (change_soup p.name (with_index spec) s) [] [])
 
 -- the bytes of an index that is removed
 abbrev pub unindex_bytes : Store → Soup → List Path → ℕ
-unindex_bytes s p paths = change_bytes s (change_soup p.name (without_index paths) s) [] []
+unindex_bytes s p paths = change_bytes true s (change_soup p.name (without_index paths) s) [] []
 
 -- the bytes of a tags declaration
 abbrev pub tags_bytes : ℕ → Store → Soup → TagTable → ℕ
-tags_bytes blocks s p table = unless (tags_tests blocks p.name table s) (change_bytes s (tagged p.name table s) [] [])
+tags_bytes blocks s p table = unless (tags_tests blocks p.name table s) (change_bytes true s (tagged p.name table s) [] [])
 
 -- the bytes of an info frame
 abbrev pub info_bytes : ℕ → Store → Soup → Option RawGraph → ℕ
-info_bytes blocks s p info = unless (info_tests blocks p.name info s) (change_bytes s (informed p.name info s) [] [])
+info_bytes blocks s p info = unless (info_tests blocks p.name info s) (change_bytes true s (informed p.name info s) [] [])
 
 -- an entry of a soup is within the limits
 fits : {w : World} {u : ℕ} {name : List ℕ} {sig : ℕ} (h : HasSoup w u name sig) (uid : ℕ) (e : Entry) → entry_of uid h.soup ≡ Some e → valid_entry e ≡ true
@@ -134,7 +134,7 @@ fits {name = name} h uid e found = entry-fits h.store name h.soup uid e h.formed
 -- ---- one change of one store
 
 module _ {w : World} {u : ℕ} {name : List ℕ} {sig : ℕ} (h : HasSoup w u name sig) {T : Type 0} {result : Result T StoreFault} {o p : Outside} where
-  pub drop-costs : {f : ℕ} → Spent u (change_bytes h.store (drop_soup h.soup.name h.store) [] h.soup.entries) f result o p → CostsOf w (command.Drop u name) result o p
+  pub drop-costs : {f : ℕ} → Spent u (change_bytes true h.store (drop_soup h.soup.name h.store) [] h.soup.entries) f result o p → CostsOf w (command.Drop u name) result o p
   drop-costs k = named-costs h (command.Drop u) k.programs (drop-most w u h.blocks h.store h.soup.name h.on h.soup h.self_named) (λ means. absurd (both-ways means))
 
   pub add-costs : (g : RawGraph) → Spent u (added_bytes h.blocks g h.store h.soup w) 0 result o p → CostsOf w (command.Add u name g) result o p
@@ -175,14 +175,14 @@ module _ {w : World} {u : ℕ} {name : List ℕ} {sig uid : ℕ} (x : HasEntry w
   -- within one store
   pub inside-costs : {target : List ℕ} {into : ℕ} (k : HasSoup w u target into)
       → Spent u (unless (move_tests x.of.blocks w.minute x.of.soup.name uid k.soup.name x.entry.graph x.of.store k.soup)
-      (change_bytes x.of.store (moved_within w.minute x.of.soup.name uid k.soup.name x.entry.graph x.of.store) (record { uid = k.soup.next_uid; time = w.minute; graph = x.entry.graph } ∷ []) (x.entry ∷ [])))
+      (change_bytes true x.of.store (moved_within w.minute x.of.soup.name uid k.soup.name x.entry.graph x.of.store) (record { uid = k.soup.next_uid; time = w.minute; graph = x.entry.graph } ∷ []) (x.entry ∷ [])))
       (512 * its_pages x.of uid + 512 * its_pages x.of uid) result o p
       → CostsOf w (command.Move u name uid u target) result o p
   inside-costs {target} {into} k spent = subst (λ c. CostsOf w c result o p) (move-named w u u name target sig into uid x.of k) (on-costs spent.programs most (λ means.
       on-within (most_programmed w (command.Move u x.of.soup.name uid u k.soup.name)) (most_fetched w (command.Move u x.of.soup.name uid u k.soup.name)) spent.reads most few))
     where
       most : unless (move_tests x.of.blocks w.minute x.of.soup.name uid k.soup.name x.entry.graph x.of.store k.soup)
-          (change_bytes x.of.store (moved_within w.minute x.of.soup.name uid k.soup.name x.entry.graph x.of.store) (record { uid = k.soup.next_uid; time = w.minute; graph = x.entry.graph } ∷ []) (x.entry ∷ []))
+          (change_bytes true x.of.store (moved_within w.minute x.of.soup.name uid k.soup.name x.entry.graph x.of.store) (record { uid = k.soup.next_uid; time = w.minute; graph = x.entry.graph } ∷ []) (x.entry ∷ []))
           ≤ most_programmed w (command.Move u x.of.soup.name uid u k.soup.name) u
       most = within-most w u x.of.blocks x.of.store x.of.soup.name x.of.soup uid x.of.on x.of.self_named k.soup.name k.soup (inside-named w u name target sig into uid x k) x.entry x.found
 

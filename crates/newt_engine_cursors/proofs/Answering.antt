@@ -1,6 +1,6 @@
 -- What the world answers to the commands that move a cursor.
-use Rattle.std.proofs.Common.{◌≡◌, refl, ap, sym, ◌∙◌, subst, ℕ, [], ◌∷◌, Bool, true, false, Option, Some, None, ℤ}
-use Rattle.std.specs.Prelude.{Result, Ok, Err, is_none}
+use Rattle.std.proofs.Common.{◌≡◌, refl, ap, sym, ◌∙◌, subst, ℕ, [], ◌∷◌, Bool, true, false, List, Option, Some, None, ℤ}
+use Rattle.std.specs.Prelude.{Result, Ok, Err, is_none, slice_get}
 use Rattle.newt_base.specs.Refusals.{Checks, first_of}
 use Rattle.newt_base.specs.declared.Refusal.{Refusal}
 use Rattle.newt_base.specs.declared.Refusal.TheVariants.{Cursor as NoCursor, Key as BadKey}
@@ -10,7 +10,7 @@ use Rattle.newt_spec_query.specs.Cursor.{Cursor, Place}
 use Rattle.newt_spec_world.specs.declared.command.Command.{Command}
 use Rattle.newt_spec_world.specs.declared.command.Command.TheVariants as command
 use Rattle.newt_spec_world.specs.Reply.{Reply}
-use Rattle.newt_spec_world.specs.World.{World, cursor, hits_of, set_place, settle}
+use Rattle.newt_spec_world.specs.World.{World, cursor, flat, hits_of, set_place, settle}
 use Rattle.newt_spec_world.specs.Changed.{Step, changed, step_from, stepped, go_to_key, to_key, key_from}
 use Rattle.newt_spec_world.specs.Refused.{checks, no_cursor, bad_key, on_some}
 use Rattle.newt_spec_world.specs.Answer.{answer, current, fields, or_nil}
@@ -20,7 +20,7 @@ use Rattle.newt_engine_cursors.specs.Calls.{Shows}
 use Rattle.newt_engine_cursors.specs.Motions.{Steers, step_of}
 use Rattle.newt_engine_units.specs.Answers.{Answers}
 use Rattle.newt_engine_cursors.specs.Replies.{shown_at, shown_reply}
-use Rattle.newt_engine_cursors.specs.Unread.{is_unread, steps_unread}
+use Rattle.newt_engine_cursors.specs.Unread.{is_unread, steps_unread, walks_unread}
 use Rattle.newt_laws_answers.specs.Fetched.{pages_shown}
 use Rattle.newt_laws_world.specs.Settled.{IsSettled, moves_keys}
 use Rattle.newt_engine_cursors.specs.declared.show.Shown.{Shown}
@@ -40,27 +40,28 @@ pub record IsStepping (c : Command) (n : ℕ) (step : Step) : Type 0 where
   pub does : (w : World) → changed w c ≡ stepped w n step
   pub shows : (w v : World) → fields w v c ≡ or_nil (current v) (cursor v n)
   pub unread : (w : World) → steps_unread w c ≡ is_unread (cursor w n)
+  pub known : (ks : List (Option Cursor)) → walks_unread ks c ≡ is_unread (flat (slice_get ks n))
   pub few : moves_keys c ≡ false
 
 pub next-steps : (n : ℕ) → IsStepping (command.Next n) n (step_of (motion.Step On))
 unfolding checks changed fields moves_keys
-next-steps n = record { tests = λ w. refl; does = λ w. refl; shows = λ w v. refl; unread = λ w. refl; few = refl }
+next-steps n = record { tests = λ w. refl; does = λ w. refl; shows = λ w v. refl; unread = λ w. refl; known = λ ks. refl; few = refl }
 
 pub prev-steps : (n : ℕ) → IsStepping (command.Prev n) n (step_of (motion.Step Back))
 unfolding checks changed fields moves_keys
-prev-steps n = record { tests = λ w. refl; does = λ w. refl; shows = λ w v. refl; unread = λ w. refl; few = refl }
+prev-steps n = record { tests = λ w. refl; does = λ w. refl; shows = λ w v. refl; unread = λ w. refl; known = λ ks. refl; few = refl }
 
 pub reset-steps : (n : ℕ) → IsStepping (command.Reset n) n (step_of (motion.Leap On))
 unfolding checks changed fields moves_keys
-reset-steps n = record { tests = λ w. refl; does = λ w. refl; shows = λ w v. refl; unread = λ w. refl; few = refl }
+reset-steps n = record { tests = λ w. refl; does = λ w. refl; shows = λ w v. refl; unread = λ w. refl; known = λ ks. refl; few = refl }
 
 pub end-steps : (n : ℕ) → IsStepping (command.End n) n (step_of (motion.Leap Back))
 unfolding checks changed fields moves_keys
-end-steps n = record { tests = λ w. refl; does = λ w. refl; shows = λ w v. refl; unread = λ w. refl; few = refl }
+end-steps n = record { tests = λ w. refl; does = λ w. refl; shows = λ w v. refl; unread = λ w. refl; known = λ ks. refl; few = refl }
 
 moveby-steps : (n : ℕ) (by : ℤ) → IsStepping (command.Moveby n by) n (step_of (motion.By by))
 unfolding checks changed fields moves_keys
-moveby-steps n by = record { tests = λ w. refl; does = λ w. refl; shows = λ w v. refl; unread = λ w. refl; few = refl }
+moveby-steps n by = record { tests = λ w. refl; does = λ w. refl; shows = λ w v. refl; unread = λ w. refl; known = λ ks. refl; few = refl }
 
 -- a cursor that is open steps to where it comes
 pub there-stepped : (w : World) (n : ℕ) (step : Step) (k : Cursor) (next : Place) → Some k ≡ cursor w n → next ≡ step (hits_of w k.query) k.query.spec.index k.place → set_place w n next ≡ stepped w n step

@@ -1,5 +1,5 @@
 -- What the calls on cursors promise. All of it is this project's own.
-use Rattle.std.specs.Prelude.{◌≡◌, ◌*◌, ℕ, Bool, true, IsTrue, List, Option, Result, IfErr, OnOk}
+use Rattle.std.specs.Prelude.{◌≡◌, ◌*◌, ℕ, Bool, true, IsTrue, List, Option, Result, Ok, Err, IfErr, OnOk}
 use Rattle.newt_host.specs.Outside.{Outside, NoFault}
 use Rattle.newt_pagebook.specs.Stops.{HasStopCause}
 use Rattle.newt_pagebook.specs.declared.book.Stop.{Stop}
@@ -13,14 +13,15 @@ use Rattle.newt_laws_world.specs.Settled.{IsSettled, MountedApart}
 use Rattle.newt_laws_answers.specs.Fetched.{pages_shown}
 use Rattle.newt_store_change.specs.Faults.{GoesOn, HasFaultCause}
 use Rattle.newt_store_change.specs.declared.fault.StoreFault.{StoreFault}
+use Rattle.newt_store_change.specs.declared.fault.StoreFault.TheVariants.{Refused, Stop as Ends}
 use Rattle.newt_engine_card.specs.Bounds.{FetchesAtMost}
 use Rattle.newt_engine_units.specs.Answers.{Answers}
 use Rattle.newt_engine_units.specs.Breaks.{AtDevice, AtStop, FailsAlone}
 use Rattle.newt_engine_units.specs.Calls.{AreRead}
 use Rattle.newt_engine_units.specs.declared.units.Units.{Units}
 use Rattle.newt_engine_cursors.specs.Fits.{DeskFits}
-use Rattle.newt_engine_cursors.specs.Replies.{shown_at, shown_reply}
-use Rattle.newt_engine_cursors.specs.Unread.{steps_unread}
+use Rattle.newt_engine_cursors.specs.Replies.{shown_at, shown_reply, shows_nothing}
+use Rattle.newt_engine_cursors.specs.Unread.{steps_unread, walks_unread}
 use Rattle.newt_engine_cursors.specs.World.{world_with}
 use Rattle.newt_engine_cursors.specs.declared.show.Shown.{Shown}
 
@@ -28,6 +29,12 @@ use Rattle.newt_engine_cursors.specs.declared.show.Shown.{Shown}
 pub record Shows (w v : World) (n : ℕ) (answer : Shown) : Type 0 where
   pub world : v ≡ w
   pub shown : shown_reply answer ≡ shown_at w n
+
+-- a command was refused, or what it answers shows no entry, nor that one is gone
+abbrev pub ShowsNothing : {T : Type 0} → (T → Reply) → Result T StoreFault → Type 0
+ShowsNothing reply (Ok it) = shows_nothing (reply it) ≡ true
+ShowsNothing reply (Err (Refused refusal)) = Unit {0}
+ShowsNothing reply (Err (Ends stop)) = ⊥
 
 module _ {C : Type 0} (reads : List ℕ → Option Store) (place : C → ℕ) (standing : Bool → C → Outside → Type 0) where
   -- A call that settles the cursors `was`, which are then `is`. The units are read alone and the places fit; the world with its cursors has become what is
@@ -56,7 +63,8 @@ module _ {C : Type 0} (reads : List ℕ → Option Store) (place : C → ℕ) (s
     pub no_fault : GoesOn result → NoFault before after
 
   -- A command of cursors, in a world whose cursors are settled. It is answered as that world answers it, and the units are read alone; one that opens, shows,
-  -- moves or counts a cursor whose query asks for no words or texts fetches the entry that is shown and nothing else, whatever its result is; a device that
+  -- moves or counts a cursor whose query asks for no words or texts fetches the entry that is shown and nothing else, whatever its result is, and where nothing
+  -- is shown of an entry it fetches nothing, also where the host tells no bytes; a device that
   -- fails is the only one, and leaves the cursors as they were.
   pub record Walks {T : Type 0} (told : Bool) (command : Command) (reply : T → Reply) (old new : Units C) (was is : List (Option Cursor)) (before after : Outside)
       (result : Result T StoreFault) : Type 0 where
@@ -65,6 +73,7 @@ module _ {C : Type 0} (reads : List ℕ → Option Store) (place : C → ℕ) (s
     pub answered : IsTrue told → let w = world_with reads old was before in MountedApart w → IsSettled w → Answers w (world_with reads new is after) command reply result
     pub fetches : IsTrue told → let w = world_with reads old was before in MountedApart w → IsSettled w → steps_unread w command ≡ true
         → FetchesAtMost (λ u. 512 * pages_shown (answer w command).1 u) before after
+    pub idle : walks_unread was command ≡ true → ShowsNothing reply result → FetchesAtMost (λ u. 0) before after
     pub cause : IfErr result (λ fault. HasFaultCause fault before after)
     pub failed : IfErr result (AtDevice (FailsAlone before after))
     pub kept : IfErr result (AtDevice (λ u. is ≡ was))

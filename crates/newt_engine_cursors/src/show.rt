@@ -16,7 +16,7 @@ ghost use Rattle.newt_engine_hits.specs.Present.{IsPresent, entry_there, fetched
 ghost use Rattle.newt_engine_hits.specs.Present.{Present as Hit};
 ghost use Rattle.newt_engine_cursors.specs.Motions.{IsAmong};
 ghost use Rattle.newt_engine_cursors.specs.Replies.{entry_reply, hit_reply, shown_place};
-ghost use Rattle.newt_engine_cursors.specs.Replies.{shown_reply};
+ghost use Rattle.newt_engine_cursors.specs.Replies.{shown_reply, shows_nothing};
 
 use newt_cursor::{Place, Query};
 use newt_engine_card::Card;
@@ -61,6 +61,8 @@ pub(crate) fn show<C: Card, H: Host>(
     requires { Stands C.place C.stands H.told units.old (H.outside host.old) }
     ensures reading { IsReading C.reads C.place C.stands true H.told units.old units.new
         (H.outside host.old) (H.outside host.new) result }
+    ensures idle { IfOk result (λ shown. shows_nothing (shown_reply shown) ≡ true
+        → FetchesAtMost (λ u. 0) (H.outside host.old) (H.outside host.new)) }
     ensures shown { IsTrue H.told → let w = world_of C.reads units.old (H.outside host.old) in
         let q = query_of query.now in MountedApart w
         → (is_found ≡ true → IsAmong (hits_of w q) (place_of place.now))
@@ -94,6 +96,7 @@ fn show_searched<C: Card, H: Host>(
     requires { Stands C.place C.stands H.told units.old (H.outside host.old) }
     ensures reading { IsReading C.reads C.place C.stands true H.told units.old units.new
         (H.outside host.old) (H.outside host.new) result }
+    ensures shows { IfOk result (λ shown. shows_nothing (shown_reply shown) ≡ false) }
     ensures shown { IsTrue H.told → let w = world_of C.reads units.old (H.outside host.old) in
         let reply = shown_place w (query_of query.now) (on (spot_hit spot.now)) in
         MountedApart w → IfOk result (λ shown. shown_reply shown ≡ reply) }
@@ -117,6 +120,7 @@ fn show_found<C: Card, H: Host>(
     requires { Stands C.place C.stands H.told units.old (H.outside host.old) }
     ensures reading { IsReading C.reads C.place C.stands true H.told units.old units.new
         (H.outside host.old) (H.outside host.new) result }
+    ensures shows { IfOk result (λ shown. shows_nothing (shown_reply shown) ≡ false) }
     ensures shown { IsTrue H.told → let w = world_of C.reads units.old (H.outside host.old) in
         let at = on (spot_hit spot.now) in MountedApart w → (q : Asked) → IsAmong (hits_of w q) at
         → IfOk result (λ shown. shown_reply shown ≡ shown_place w q at) }
@@ -141,6 +145,7 @@ fn show_hit<C: Card, H: Host>(
     requires { Stands C.place C.stands H.told units.old (H.outside host.old) }
     ensures reading { IsReading C.reads C.place C.stands true H.told units.old units.new
         (H.outside host.old) (H.outside host.new) result }
+    ensures shows { IfOk result (λ shown. shows_nothing (shown_reply shown) ≡ false) }
     ensures shown { IsTrue H.told → let w = world_of C.reads units.old (H.outside host.old) in
         (x : Hit) → IsPresent (Some hit) (Some x)
         → entry_there w spot.now.store spot.now.soup spot.now.uid ≡ Some x.entry
@@ -166,6 +171,7 @@ fn read_and_show<C: Card, H: Host>(
     requires { Stands C.place C.stands H.told units.old (H.outside host.old) }
     ensures reading { IsReading C.reads C.place C.stands true H.told units.old units.new
         (H.outside host.old) (H.outside host.new) result }
+    ensures shows { IfOk result (λ shown. shows_nothing (shown_reply shown) ≡ false) }
     ensures shown { IsTrue H.told → let w = world_of C.reads units.old (H.outside host.old) in
         (e : Plain) → entry_there w spot.now.store spot.now.soup spot.now.uid ≡ Some e
         → IfOk result (λ shown. shown_reply shown ≡ entry_reply unit e) }

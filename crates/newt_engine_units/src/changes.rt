@@ -33,7 +33,7 @@ impl<C: Card> Units<C> {
     {
         let minute = self.minute;
         match &mut self.slots[unit.0 as usize].card {
-            Some(card) => card.apply(host, change, minute),
+            Some(card) => card.apply(host, &change, minute),
             None => Err(StoreFault::Refused(Refusal::Notmounted)),
         }
     }

@@ -174,6 +174,7 @@ rest-ended reads told old o c {asked} result memory quiet = record {
   format = λ t is u. alone-once 10 (alone-refl u o);
   fetched = λ t means u room. no-more (o.fetched u) _;
   step = λ t unread u. no-more (o.fetched u) _;
+  idle = λ walks. each_ok result (λ it nothing u. no-more (o.fetched u) 0);
   open_after = λ t. each_ok result (λ it u other. inr refl);
   threw = still-threw result o.dev_faults quiet;
   failed = each_ok result (λ it u none. refl);

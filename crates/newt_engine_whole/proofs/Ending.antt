@@ -54,6 +54,7 @@ ended-plain {C} {reads} {told} {c} {old} {o} {p} {result} plain f =
       format = f.format;
       fetched = λ t means u. first-fetches w c [] u o p (f.settling t (sym s.entries ∙ means) u);
       step = f.step;
+      idle = f.idle;
       open_after = f.open_after;
       threw = f.threw;
       failed = f.failed;

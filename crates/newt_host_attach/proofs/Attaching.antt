@@ -156,6 +156,7 @@ module _ (told : Bool) (names : List (List ℕ)) (done : ℕ) (old mid now : Out
 -- all of them have been attached
 pub attaching_all : (told : Bool) (names : List (List ℕ)) (old now : Outside) → Attaching told names (length names) old now → AreAttached told names old now
 attaching_all told names old now a = record {
+  own = a.own;
   cards = λ tells unit. elim (cases_lt unit (length names)) [
     | inl less ↦ a.cards tells unit less
     | inr le ↦ a.later unit le ∙ sym (ap (if_known old) (slice_get_past names unit le))

@@ -14,6 +14,8 @@ if_known outside (Some name) = option_map (λ bytes. name) (outside.devices name
 
 -- The names have been attached, each to the unit of its place, and nothing else has happened.
 pub record AreAttached (told : Bool) (names : List (List ℕ)) (old new : Outside) : Type 0 where
+  -- no unit has another device than that of the name at its place, also where the host tells no bytes
+  pub own : (unit : ℕ) (name : List ℕ) → new.card unit ≡ Some name → slice_get names unit ≡ Some name
   -- what each unit has
   pub cards : IsTrue told → (unit : ℕ) → new.card unit ≡ if_known old (slice_get names unit)
   -- it reads as the device was held, and that is all that has happened to it

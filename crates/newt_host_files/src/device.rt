@@ -5,18 +5,24 @@ ghost use Rattle.newt_host_files.specs.Cards.{SameCard};
 use crate::card::Card;
 use newt_host::{UNITS, Unit};
 use std::alloc::{AllocError, Global};
-use std::fs::{OpenFile, OpenOptions};
+use std::fs::{File, OpenFile, OpenOptions, TryLockError};
 use std::os::unix::fs::FileExt;
 use std::rt::Files;
 
-/// Opens a file for reading and writing and syncs it, and answers it with the number of its whole
-/// blocks of 4,096 bytes, at most `u32::MAX`. None where the system refuses one of these.
-pub(crate) fn open<S: Files>(system: &S, name: &str) -> Option<(S::File, u32)> {
-    let file = OpenOptions::new()
+/// Opens a file for reading and writing, takes the lock on it and syncs it, and answers it with the
+/// number of its whole blocks of 4,096 bytes, at most `u32::MAX`. None where the system refuses one
+/// of these; where it has no locks, none is taken.
+pub(crate) fn open<S: Files<File = File>>(system: &S, name: &str) -> Option<(File, u32)> {
+    let opened = OpenOptions::new()
         .read(true)
         .write(true)
         .open(system, name)
         .ok()?;
+    // Where a standard stream is closed, the file may have got its number; a clone never does.
+    let file = opened.try_clone().ok()?;
+    if let Err(TryLockError::WouldBlock) = file.try_lock() {
+        return None;
+    }
     let bytes = file.metadata().ok()?.len();
     file.sync_all().ok()?;
     Some((file, u32::try_from(bytes / 4096).unwrap_or(u32::MAX)))

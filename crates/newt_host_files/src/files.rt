@@ -6,25 +6,25 @@ use crate::card::{Card, MOST_NAME, count};
 use crate::{counts, device, edge};
 use newt_host::{Failed, Host, Unit};
 use std::alloc::{AllocError, Global};
+use std::fs::File;
 use std::io::{Read, Write};
-use std::os::unix::fs::FileExt;
 use std::rt::Files;
 
 /// Standard input and output, and up to eight files.
 #[derive(Drop)]
-pub struct FileHost<S: Files + Drop, R: Read + Drop, W: Write + Drop> {
+pub struct FileHost<S: Files<File = File> + Drop, R: Read + Drop, W: Write + Drop> {
     system: S,
     input: R,
     output: W,
     cards: [Card; 8],
     // The open file of each unit, by its number.
-    files: Vec<Option<S::File>>,
+    files: Vec<Option<File>>,
     in_faults: u64,
     out_faults: u64,
     ghost eight: { length cards ≡ 8 },
 }
 
-impl<S: Files + Drop, R: Read + Drop, W: Write + Drop> FileHost<S, R, W> {
+impl<S: Files<File = File> + Drop, R: Read + Drop, W: Write + Drop> FileHost<S, R, W> {
     /// Without files. It takes all the memory that a host needs.
     pub fn new(alloc: Global, system: S, input: R, output: W) -> Result<Self, AllocError>
         ensures { IfOk result (λ host. (unit : ℕ) → name_of (slice_get host.cards unit) ≡ None) }
@@ -57,10 +57,7 @@ fn blank_cards(alloc: Global) -> Result<[Card; 8], AllocError>
     ])
 }
 
-impl<S: Files + Drop, R: Read + Drop, W: Write + Drop> Host for FileHost<S, R, W>
-where
-    S::File: FileExt,
-{
+impl<S: Files<File = File> + Drop, R: Read + Drop, W: Write + Drop> Host for FileHost<S, R, W> {
     ghost use Rattle.std.specs.Prelude.{false};
     ghost use Rattle.newt_host_files.specs.Outside.{told_by};
     ghost use Rattle.newt_host_files.specs.Laws.{eight_of, few_of, none_of, untold};

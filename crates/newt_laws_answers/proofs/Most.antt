@@ -57,14 +57,14 @@ most-of w c u n tests same bytes =
     (ap (λ o. cond (is_some o) 0 (bytes_done w (changed w c) c u)) same ∙ ap (unless tests) bytes)
 
 -- a change of a store of which these entries are put and let go
-most-between : (w : World) (c : Command) (u blocks : ℕ) (a b : Store) (put gone : List Entry) (tests : Checks)
-    → bytes_done w (changed w c) c u ≡ bytes_between (store_on_unit w u) (store_on_unit (changed w c) u) (touched w (changed w c) c u)
+most-between : (written : Bool) (w : World) (c : Command) (u blocks : ℕ) (a b : Store) (put gone : List Entry) (tests : Checks)
+    → bytes_done w (changed w c) c u ≡ bytes_between written (store_on_unit w u) (store_on_unit (changed w c) u) (touched w (changed w c) c u)
     → first_of (checks w c) ≡ first_of tests → OnUnit w u blocks a → OnUnit (changed w c) u blocks b → touched w (changed w c) c u ≡ Some (put, gone)
-    → unless tests (change_bytes a b put gone) ≤ most_programmed w c u
-most-between w c u blocks a b put gone tests change same before after touch = most-of w c u (change_bytes a b put gone) tests same (change
-    ∙ ap (λ s. bytes_between s (store_on_unit (changed w c) u) (touched w (changed w c) c u)) (is-there w u blocks a before)
-    ∙ ap (λ s. bytes_between (Some a) s (touched w (changed w c) c u)) (is-there (changed w c) u blocks b after)
-    ∙ ap {A = Touch} (bytes_between (Some a) (Some b)) touch)
+    → unless tests (change_bytes written a b put gone) ≤ most_programmed w c u
+most-between written w c u blocks a b put gone tests change same before after touch = most-of w c u (change_bytes written a b put gone) tests same (change
+    ∙ ap (λ s. bytes_between written s (store_on_unit (changed w c) u) (touched w (changed w c) c u)) (is-there w u blocks a before)
+    ∙ ap (λ s. bytes_between written (Some a) s (touched w (changed w c) c u)) (is-there (changed w c) u blocks b after)
+    ∙ ap {A = Touch} (bytes_between written (Some a) (Some b)) touch)
 
 -- ---- the unit is the one, or is another
 
@@ -77,14 +77,14 @@ if-other v u x y differ = ap (λ b. cond b x y) (ne_eqb v u differ)
 -- ---- soups
 
 module _ (w : World) (u blocks : ℕ) (s : Store) (name : List ℕ) (h : OnUnit w u blocks s) where
-  pub soup-most : unless (refusals (MakeSoup name) blocks w.minute s) (change_bytes s (make_soup name s) [] []) ≤ most_programmed w (command.Soup u name) u
+  pub soup-most : unless (refusals (MakeSoup name) blocks w.minute s) (change_bytes true s (make_soup name s) [] []) ≤ most_programmed w (command.Soup u name) u
   unfolding changed
-  soup-most = most-between w (command.Soup u name) u blocks s (make_soup name s) [] [] (refusals (MakeSoup name) blocks w.minute s) refl (soup-checks w u blocks s name h) h (on-changed w u blocks s (make_soup name) h)
+  soup-most = most-between true w (command.Soup u name) u blocks s (make_soup name s) [] [] (refusals (MakeSoup name) blocks w.minute s) refl (soup-checks w u blocks s name h) h (on-changed w u blocks s (make_soup name) h)
       (if-same {X = Touch} u (Some ([], [])) None)
 
-  pub drop-most : (p : Soup) → soup_named name s ≡ Some p → change_bytes s (drop_soup name s) [] p.entries ≤ most_programmed w (command.Drop u name) u
+  pub drop-most : (p : Soup) → soup_named name s ≡ Some p → change_bytes true s (drop_soup name s) [] p.entries ≤ most_programmed w (command.Drop u name) u
   unfolding checks changed
-  drop-most p f = most-between w (command.Drop u name) u blocks s (drop_soup name s) [] p.entries [] refl (all-pass w u blocks s name p [] h f) h (on-changed w u blocks s (drop_soup name) h)
+  drop-most p f = most-between true w (command.Drop u name) u blocks s (drop_soup name s) [] p.entries [] refl (all-pass w u blocks s name p [] h f) h (on-changed w u blocks s (drop_soup name) h)
       (if-same {X = Touch} u (Some ([], entries_of (soup_in w u name))) None ∙ ap {B = Touch} (λ o. Some ([], entries_of o)) (soup-named w u blocks s name h ∙ f))
 
 -- ---- an entry is added
@@ -100,22 +100,22 @@ module _ (w : World) (u blocks : ℕ) (s : Store) (name : List ℕ) (p : Soup) (
   added-touch : cond {A = Touch} (u == u) (Some (new_in w u name g ∷ [], [])) None ≡ Some (new_entry w p g ∷ [], [])
   added-touch = if-same {X = Touch} u (Some (new_in w u name g ∷ [], [])) None ∙ ap {A = Entry} {B = Touch} (λ e. Some (e ∷ [], [])) new-is
 
-  pub add-most : unless (add_tests blocks w.minute name g s p) (change_bytes s (change_soup name (add_entry w.minute g) s) (new_entry w p g ∷ []) []) ≤ most_programmed w (command.Add u name g) u
+  pub add-most : unless (add_tests blocks w.minute name g s p) (change_bytes true s (change_soup name (add_entry w.minute g) s) (new_entry w p g ∷ []) []) ≤ most_programmed w (command.Add u name g) u
   unfolding changed
-  add-most = most-between w (command.Add u name g) u blocks s (change_soup name (add_entry w.minute g) s) (new_entry w p g ∷ []) [] (add_tests blocks w.minute name g s p) refl
+  add-most = most-between true w (command.Add u name g) u blocks s (change_soup name (add_entry w.minute g) s) (new_entry w p g ∷ []) [] (add_tests blocks w.minute name g s p) refl
       (add-checks w u blocks s name p g h f) h (on-changed w u blocks s (change_soup name (add_entry w.minute g)) h) added-touch
 
-  pub addx-most : unless (add_tests blocks w.minute name g s p) (change_bytes s (change_soup name (add_entry w.minute g) s) (new_entry w p g ∷ []) []) ≤ most_programmed w (command.Addx u name g) u
+  pub addx-most : unless (add_tests blocks w.minute name g s p) (change_bytes true s (change_soup name (add_entry w.minute g) s) (new_entry w p g ∷ []) []) ≤ most_programmed w (command.Addx u name g) u
   unfolding changed
-  addx-most = most-between w (command.Addx u name g) u blocks s (change_soup name (add_entry w.minute g) s) (new_entry w p g ∷ []) [] (add_tests blocks w.minute name g s p) refl
+  addx-most = most-between true w (command.Addx u name g) u blocks s (change_soup name (add_entry w.minute g) s) (new_entry w p g ∷ []) [] (add_tests blocks w.minute name g s p) refl
       (addx-checks w u blocks s name p g h f) h (on-changed w u blocks s (change_soup name (add_entry w.minute g)) h) added-touch
 
 -- to the default store
 pub addu-most : (w : World) (u blocks : ℕ) (s : Store) (name : List ℕ) (p : Soup) (g : RawGraph) → default_unit w ≡ u → OnUnit w u blocks s → soup_named name s ≡ Some p
-    → unless (add_tests blocks w.minute name g s p) (change_bytes s (change_soup name (add_entry w.minute g) s) (new_entry w p g ∷ []) []) ≤ most_programmed w (command.Addu name g) u
+    → unless (add_tests blocks w.minute name g s p) (change_bytes true s (change_soup name (add_entry w.minute g) s) (new_entry w p g ∷ []) []) ≤ most_programmed w (command.Addu name g) u
 unfolding changed
 addu-most w u blocks s name p g d h f =
-    most-between w (command.Addu name g) u blocks s (change_soup name (add_entry w.minute g) s) (new_entry w p g ∷ []) [] (add_tests blocks w.minute name g s p) refl
+    most-between true w (command.Addu name g) u blocks s (change_soup name (add_entry w.minute g) s) (new_entry w p g ∷ []) [] (add_tests blocks w.minute name g s p) refl
     (addu-checks w u blocks s name p g d h f) h
     (subst (λ v. OnUnit (with_added w v name g) u blocks (change_soup name (add_entry w.minute g) s)) (sym d) (on-changed w u blocks s (change_soup name (add_entry w.minute g)) h))
     (ap {B = Touch} (λ v. cond (v == u) (Some (new_in w u name g ∷ [], [])) None) d ∙ added-touch w u blocks s name p g h f)
@@ -136,9 +136,9 @@ module _ (w : World) (u blocks : ℕ) (s : Store) (name : List ℕ) (p : Soup) (
   there : entry_in w u name uid ≡ Some e
   there = entry-named w u blocks s name p uid h f ∙ here
 
-  pub remove-most : change_bytes s (change_soup name (remove_entry uid) s) [] (e ∷ []) ≤ most_programmed w (command.Remove u name uid) u
+  pub remove-most : change_bytes false s (change_soup name (remove_entry uid) s) [] (e ∷ []) ≤ most_programmed w (command.Remove u name uid) u
   unfolding checks changed
-  remove-most = most-between w (command.Remove u name uid) u blocks s (change_soup name (remove_entry uid) s) [] (e ∷ []) [] refl (all-there w u blocks s name p uid h f e here) h
+  remove-most = most-between false w (command.Remove u name uid) u blocks s (change_soup name (remove_entry uid) s) [] (e ∷ []) [] refl (all-there w u blocks s name p uid h f e here) h
       (on-changed w u blocks s (change_soup name (remove_entry uid)) h)
       (if-same {X = Touch} u (Some ([], listed (entry_in w u name uid))) None ∙ ap {B = Touch} (λ o. Some ([], listed o)) there)
 
@@ -157,10 +157,10 @@ module _ (w : World) (u blocks : ℕ) (s : Store) (name : List ℕ) (p : Soup) (
         if-same {X = Touch} u (Some (listed (entry_in (change_store w u (replaced w.minute name uid g)) u name uid), listed (entry_in w u name uid))) None
         ∙ ap {B = Touch} (λ o. Some (listed o, listed (entry_in w u name uid))) entry-after ∙ ap {B = Touch} (λ o. Some (with_graph w.minute g e ∷ [], listed o)) there
 
-    pub change-most : unless (replace_tests blocks w.minute name uid g s) (change_bytes s (replaced w.minute name uid g s) (with_graph w.minute g e ∷ []) (e ∷ []))
+    pub change-most : unless (replace_tests blocks w.minute name uid g s) (change_bytes false s (replaced w.minute name uid g s) (with_graph w.minute g e ∷ []) (e ∷ []))
         ≤ most_programmed w (command.Change u name uid g) u
     unfolding changed
-    change-most = most-between w (command.Change u name uid g) u blocks s (replaced w.minute name uid g s) (with_graph w.minute g e ∷ []) (e ∷ []) (replace_tests blocks w.minute name uid g s) refl
+    change-most = most-between false w (command.Change u name uid g) u blocks s (replaced w.minute name uid g s) (with_graph w.minute g e ∷ []) (e ∷ []) (replace_tests blocks w.minute name uid g s) refl
         (change-checks w u blocks s name p uid h f e here g) h (on-changed w u blocks s (replaced w.minute name uid g) h) replaced-touch
 
   module _ (path : Path) (g raw : RawGraph) (is : put e.graph path g ≡ Some raw) (new : RawGraph) (form : normal_form raw ≡ Some new) (within : within_limits new ≡ true)
@@ -168,9 +168,9 @@ module _ (w : World) (u blocks : ℕ) (s : Store) (name : List ℕ) (p : Soup) (
     made : changed w (command.Set u name uid path g) ≡ change_store w u (replaced w.minute name uid new)
     made = set-changed w u blocks s name p uid h f e here path g raw is new form within ok
 
-    pub set-most : unless (replace_tests blocks w.minute name uid new s) (change_bytes s (replaced w.minute name uid new s) (with_graph w.minute new e ∷ []) (e ∷ []))
+    pub set-most : unless (replace_tests blocks w.minute name uid new s) (change_bytes false s (replaced w.minute name uid new s) (with_graph w.minute new e ∷ []) (e ∷ []))
         ≤ most_programmed w (command.Set u name uid path g) u
-    set-most = most-between w (command.Set u name uid path g) u blocks s (replaced w.minute name uid new s) (with_graph w.minute new e ∷ []) (e ∷ []) (replace_tests blocks w.minute name uid new s) refl
+    set-most = most-between false w (command.Set u name uid path g) u blocks s (replaced w.minute name uid new s) (with_graph w.minute new e ∷ []) (e ∷ []) (replace_tests blocks w.minute name uid new s) refl
         (set-checks w u blocks s name p uid h f e here path g raw is new form within ok) h
         (subst (λ v. OnUnit v u blocks (replaced w.minute name uid new s)) (sym made) (on-changed w u blocks s (replaced w.minute name uid new) h))
         (ap {B = Touch} (λ v. cond (u == u) (Some (listed (entry_in v u name uid), listed (entry_in w u name uid))) None) made ∙ replaced-touch new)
@@ -182,6 +182,12 @@ module _ (w : World) (u blocks : ℕ) (s : Store) (name : List ℕ) (p : Soup) (
 
 -- ---- an entry is copied or moved
 
+-- the directory of a unit's store is written where the entry comes
+moved-bytes : (w : World) (t x u : ℕ) (name target : List ℕ) (uid : ℕ) (written : Bool) → (x == u) ≡ written → let c : Command = command.Move t name uid x target in
+    bytes_done w (changed w c) c u ≡ bytes_between written (store_on_unit w u) (store_on_unit (changed w c) u) (touched w (changed w c) c u)
+moved-bytes w t x u name target uid written is = let c : Command = command.Move t name uid x target in
+    ap (λ b. bytes_between b (store_on_unit w u) (store_on_unit (changed w c) u) (touched w (changed w c) c u)) is
+
 module _ (w : World) (u blocks : ℕ) (s : Store) (name : List ℕ) (p : Soup) (uid : ℕ) (h : OnUnit w u blocks s) (f : soup_named name s ≡ Some p)
     (v other : ℕ) (t : Store) (target : List ℕ) (q : Soup) (k : OnUnit w v other t) (g : soup_named target t ≡ Some q) (e : Entry) (here : entry_of uid p ≡ Some e) where
   -- the entry that is new in the target
@@ -189,9 +195,9 @@ module _ (w : World) (u blocks : ℕ) (s : Store) (name : List ℕ) (p : Soup) (
   copied-is = ap (copied_in w v target) (there w u blocks s name p uid h f e here) ∙ ap {A = Entry} {B = List Entry} (λ x. x ∷ []) (new-is w v other t target q e.graph k g)
 
   module _ (ok : valid_entry e ≡ true) where
-    pub copy-most : unless (add_tests other w.minute target e.graph t q) (change_bytes t (change_soup target (add_entry w.minute e.graph) t) (new_entry w q e.graph ∷ []) [])
+    pub copy-most : unless (add_tests other w.minute target e.graph t q) (change_bytes true t (change_soup target (add_entry w.minute e.graph) t) (new_entry w q e.graph ∷ []) [])
         ≤ most_programmed w (command.Copy u name uid v target) v
-    copy-most = most-between w (command.Copy u name uid v target) v other t (change_soup target (add_entry w.minute e.graph) t) (new_entry w q e.graph ∷ []) []
+    copy-most = most-between true w (command.Copy u name uid v target) v other t (change_soup target (add_entry w.minute e.graph) t) (new_entry w q e.graph ∷ []) []
         (add_tests other w.minute target e.graph t q) refl
         (copy-checks w u blocks s name p uid h f v other t target q k g e here ∙ sym (graph-passes other w.minute target e t q ok)) k
         (subst (λ x. OnUnit x v other (change_soup target (add_entry w.minute e.graph) t)) (sym (copied w u blocks s name p uid h f v other t target q k g e here))
@@ -208,10 +214,10 @@ module _ (w : World) (u blocks : ℕ) (s : Store) (name : List ℕ) (p : Soup) (
       after-move : (x many : ℕ) (a : Store) → OnUnit (moved_world w u blocks s name p uid h f v other t target q k g e here) x many a → OnUnit (changed w (command.Move u name uid v target)) x many a
       after-move x many a on = subst (λ y. OnUnit y x many a) (sym (moved w u blocks s name p uid h f v other t target q k g e here)) on
 
-      pub move-to-most : unless (add_tests other w.minute target e.graph t q) (change_bytes t (change_soup target (add_entry w.minute e.graph) t) (new_entry w q e.graph ∷ []) [])
+      pub move-to-most : unless (add_tests other w.minute target e.graph t q) (change_bytes true t (change_soup target (add_entry w.minute e.graph) t) (new_entry w q e.graph ∷ []) [])
           ≤ most_programmed w (command.Move u name uid v target) v
-      move-to-most = most-between w (command.Move u name uid v target) v other t (change_soup target (add_entry w.minute e.graph) t) (new_entry w q e.graph ∷ []) []
-          (add_tests other w.minute target e.graph t q) refl move-checks k
+      move-to-most = most-between true w (command.Move u name uid v target) v other t (change_soup target (add_entry w.minute e.graph) t) (new_entry w q e.graph ∷ []) []
+          (add_tests other w.minute target e.graph t q) (moved-bytes w u v v name target uid true (eq-eqb v v refl)) move-checks k
           (after-move v other (change_soup target (add_entry w.minute e.graph) t) (on-other (with_added w v target e.graph) v u other _ (change_soup name (remove_entry uid)) differ
           (on-changed w v other t (change_soup target (add_entry w.minute e.graph)) k)))
           (if-same {X = Touch} v (Some (copied_in w v target (entry_in w u name uid), cond (u == v) (listed (entry_in w u name uid)) [])) _
@@ -219,8 +225,9 @@ module _ (w : World) (u blocks : ℕ) (s : Store) (name : List ℕ) (p : Soup) (
           ∙ ap {B = Touch} (λ es. Some (es, [])) copied-is)
 
       pub move-from-most : first_of (add_tests other w.minute target e.graph t q) ≡ None
-          → change_bytes s (change_soup name (remove_entry uid) s) [] (e ∷ []) ≤ most_programmed w (command.Move u name uid v target) u
-      move-from-most none = most-between w (command.Move u name uid v target) u blocks s (change_soup name (remove_entry uid) s) [] (e ∷ []) [] refl (move-checks ∙ none) h
+          → change_bytes false s (change_soup name (remove_entry uid) s) [] (e ∷ []) ≤ most_programmed w (command.Move u name uid v target) u
+      move-from-most none = most-between false w (command.Move u name uid v target) u blocks s (change_soup name (remove_entry uid) s) [] (e ∷ []) []
+          (moved-bytes w u v u name target uid false (ne_eqb v u differ)) (move-checks ∙ none) h
           (after-move u blocks (change_soup name (remove_entry uid) s) (on-changed (with_added w v target e.graph) u blocks s (change_soup name (remove_entry uid))
           (on-other w u v blocks s (change_soup target (add_entry w.minute e.graph)) (λ i. differ (sym i)) h)))
           (if-other {X = Touch} v u _ (cond (u == u) (Some ([], listed (entry_in w u name uid))) None) differ
@@ -230,9 +237,9 @@ module _ (w : World) (u blocks : ℕ) (s : Store) (name : List ℕ) (p : Soup) (
 module _ (w : World) (u blocks : ℕ) (s : Store) (name : List ℕ) (p : Soup) (uid : ℕ) (h : OnUnit w u blocks s) (f : soup_named name s ≡ Some p)
     (target : List ℕ) (q : Soup) (g : soup_named target s ≡ Some q) (e : Entry) (here : entry_of uid p ≡ Some e) where
   pub within-most : unless (move_tests blocks w.minute name uid target e.graph s q)
-      (change_bytes s (moved_within w.minute name uid target e.graph s) (new_entry w q e.graph ∷ []) (e ∷ [])) ≤ most_programmed w (command.Move u name uid u target) u
-  within-most = most-between w (command.Move u name uid u target) u blocks s (moved_within w.minute name uid target e.graph s) (new_entry w q e.graph ∷ []) (e ∷ [])
-      (move_tests blocks w.minute name uid target e.graph s q) refl
+      (change_bytes true s (moved_within w.minute name uid target e.graph s) (new_entry w q e.graph ∷ []) (e ∷ [])) ≤ most_programmed w (command.Move u name uid u target) u
+  within-most = most-between true w (command.Move u name uid u target) u blocks s (moved_within w.minute name uid target e.graph s) (new_entry w q e.graph ∷ []) (e ∷ [])
+      (move_tests blocks w.minute name uid target e.graph s q) (moved-bytes w u u u name target uid true (eq-eqb u u refl))
       (ids-first w u blocks s name p uid h f u blocks s target q h g e here _ (full-within w u blocks s name p uid h f target q g e here)) h
       (subst (λ x. OnUnit x u blocks (moved_within w.minute name uid target e.graph s)) (sym (moved w u blocks s name p uid h f u blocks s target q h g e here))
       (on-changed (with_added w u target e.graph) u blocks _ (change_soup name (remove_entry uid)) (on-changed w u blocks s (change_soup target (add_entry w.minute e.graph)) h)))
@@ -245,32 +252,32 @@ module _ (w : World) (u blocks : ℕ) (s : Store) (name : List ℕ) (p : Soup) (
 
 module _ (w : World) (u blocks : ℕ) (s : Store) (name : List ℕ) (p : Soup) (h : OnUnit w u blocks s) (f : soup_named name s ≡ Some p) where
   pub index-most : (parts : List PartWord) → has_paths (paths_of_words parts) p.specs ≡ false → (real_part parts).1 ≡ false
-      → unless (index_tests blocks name (spec_of_words parts) s p) (change_bytes s (change_soup name (with_index (spec_of_words parts)) s) [] []) ≤ most_programmed w (command.Index u name parts) u
+      → unless (index_tests blocks name (spec_of_words parts) s p) (change_bytes true s (change_soup name (with_index (spec_of_words parts)) s) [] []) ≤ most_programmed w (command.Index u name parts) u
   unfolding changed
   index-most parts new typed =
-      most-between w (command.Index u name parts) u blocks s (change_soup name (with_index (spec_of_words parts)) s) [] [] (index_tests blocks name (spec_of_words parts) s p) refl
+      most-between true w (command.Index u name parts) u blocks s (change_soup name (with_index (spec_of_words parts)) s) [] [] (index_tests blocks name (spec_of_words parts) s p) refl
       (index-checks w u blocks s name p h f parts new typed) h (on-changed w u blocks s (change_soup name (with_index (spec_of_words parts))) h) (if-same {X = Touch} u (Some ([], [])) None)
 
-  pub unindex-most : (paths : List Path) → has_paths paths p.specs ≡ true → change_bytes s (change_soup name (without_index paths) s) [] [] ≤ most_programmed w (command.Unindex u name paths) u
+  pub unindex-most : (paths : List Path) → has_paths paths p.specs ≡ true → change_bytes true s (change_soup name (without_index paths) s) [] [] ≤ most_programmed w (command.Unindex u name paths) u
   unfolding changed
-  unindex-most paths has = most-between w (command.Unindex u name paths) u blocks s (change_soup name (without_index paths) s) [] [] [] refl
+  unindex-most paths has = most-between true w (command.Unindex u name paths) u blocks s (change_soup name (without_index paths) s) [] [] [] refl
       (unindex-there w u blocks s name p h f paths ∙ first-false BadIndex _ [] (ap not (has-is w u blocks s name p h f paths ∙ has))) h
       (on-changed w u blocks s (change_soup name (without_index paths)) h) (if-same {X = Touch} u (Some ([], [])) None)
 
 pub set-tags-most : (w : World) (u : ℕ) (name : List ℕ) (path : Path) (symbols : List (List ℕ)) → (blocks : ℕ) (s : Store) (p : Soup) → OnUnit w u blocks s
     → soup_named name s ≡ Some p → nat_lt 64 (length symbols) ≡ false
-    → unless (tags_tests blocks name (record { path = path; symbols = symbols }) s) (change_bytes s (tagged name (record { path = path; symbols = symbols }) s) [] [])
+    → unless (tags_tests blocks name (record { path = path; symbols = symbols }) s) (change_bytes true s (tagged name (record { path = path; symbols = symbols }) s) [] [])
     ≤ most_programmed w (command.SetTags u name path symbols) u
 unfolding changed
 set-tags-most w u name path symbols blocks s p h f few =
-    most-between w (command.SetTags u name path symbols) u blocks s (change_soup name (with_tags (Some (record { path = path; symbols = symbols }))) s) [] [] (tags_tests blocks name (record { path = path; symbols = symbols }) s) refl
+    most-between true w (command.SetTags u name path symbols) u blocks s (change_soup name (with_tags (Some (record { path = path; symbols = symbols }))) s) [] [] (tags_tests blocks name (record { path = path; symbols = symbols }) s) refl
     (tags-checks w u name path symbols blocks s p h f few) h (on-changed w u blocks s (change_soup name (with_tags (Some (record { path = path; symbols = symbols })))) h) (if-same {X = Touch} u (Some ([], [])) None)
 
 pub set-info-most : (w : World) (u : ℕ) (name : List ℕ) (g : RawGraph) → (blocks : ℕ) (s : Store) (p : Soup) → OnUnit w u blocks s → soup_named name s ≡ Some p
-    → unless (info_tests blocks name (info_from g) s) (change_bytes s (informed name (info_from g) s) [] []) ≤ most_programmed w (command.SetInfo u name g) u
+    → unless (info_tests blocks name (info_from g) s) (change_bytes true s (informed name (info_from g) s) [] []) ≤ most_programmed w (command.SetInfo u name g) u
 unfolding changed
 set-info-most w u name g blocks s p h f =
-    most-between w (command.SetInfo u name g) u blocks s (change_soup name (with_info (info_from g)) s) [] [] (info_tests blocks name (info_from g) s) refl
+    most-between true w (command.SetInfo u name g) u blocks s (change_soup name (with_info (info_from g)) s) [] [] (info_tests blocks name (info_from g) s) refl
     (info-checks w u name g blocks s p h f) h (on-changed w u blocks s (change_soup name (with_info (info_from g))) h) (if-same {X = Touch} u (Some ([], [])) None)
 
 -- ---- cursors

@@ -1,5 +1,5 @@
 -- Stores that are made, mounted and unmounted.
-use Rattle.std.proofs.Common.{◌≡◌, refl, ap, ◌∙◌, ℕ, List, [], ◌∷◌, Bool, true, false, Option, Some, None, option_map, option_and_then, unwrap_or, replicate, map, length, cond, nat_lt, nat_le, ◌==◌, ◌||◌}
+use Rattle.std.proofs.Common.{◌≡◌, refl, ap, ◌∙◌, ℕ, List, [], ◌∷◌, Bool, true, false, Option, Some, None, option_map, option_and_then, unwrap_or, replicate, map, length, nat_lt, nat_le, ◌==◌, ◌||◌}
 use Rattle.std.specs.Option.{is_none, is_some}
 use Rattle.std.specs.List.{list_any}
 use Rattle.newt_base.specs.Refusals.{Checks, first_of}

@@ -1,19 +1,20 @@
 -- How many bytes a command programs at most, on a unit whose bank is not closed and has room for them. All of it is this project's own.
-use Rattle.std.specs.Prelude.{ℕ, ◌+◌, cond, ◌==◌, List, [], ◌∷◌, length, sum_by, Option, Some, None, is_some, option_map, if◌then◌else◌}
+use Rattle.std.specs.Prelude.{ℕ, ◌+◌, Bool, true, false, cond, ◌==◌, List, [], ◌∷◌, length, sum_by, Option, Some, None, is_some, option_map, if◌then◌else◌}
 use Rattle.newt_base.specs.Refusals.{Checks, first_of}
 use Rattle.newt_graph.specs.Graph.{RawGraph}
-use Rattle.newt_spec_store.specs.Cost.{directory_pages, entry_pages, patch_bytes, pages_bytes}
+use Rattle.newt_spec_store.specs.Cost.{entry_pages, patch_bytes, pages_bytes}
 use Rattle.newt_spec_store.specs.Store.{Store, Soup, Entry, next_uid_of}
 use Rattle.newt_spec_world.specs.World.{World, default_unit, store_on_unit, soup_in, entry_in}
 use Rattle.newt_spec_world.specs.declared.command.Command.{Command}
 use Rattle.newt_spec_world.specs.declared.command.Command.TheVariants as command
 use Rattle.newt_spec_world.specs.Changed.{changed}
 use Rattle.newt_spec_world.specs.Refused.{checks}
+use Rattle.newt_store_change.specs.Change.{pages_if}
 
--- The bytes of the batch that makes one store of another: it puts the pages of the directory and of entries, and lets go those of the directory before and of the
--- entries that were there. (this project's own)
-abbrev pub change_bytes : Store → Store → List Entry → List Entry → ℕ
-change_bytes a b put gone = pages_bytes (directory_pages b + sum_by entry_pages put) (directory_pages a + sum_by entry_pages gone)
+-- The bytes of the batch that makes one store of another: it puts the pages of the directory, where that is written, and of entries, and lets go those of the
+-- directory before, then, and of the entries that were there. (this project's own)
+abbrev pub change_bytes : Bool → Store → Store → List Entry → List Entry → ℕ
+change_bytes written a b put gone = pages_bytes (pages_if written b + sum_by entry_pages put) (pages_if written a + sum_by entry_pages gone)
 
 -- nothing where a test holds (this project's own)
 abbrev pub unless : Checks → ℕ → ℕ
@@ -59,15 +60,24 @@ touched w v (command.SetTags t s path symbols) u = if t == u then Some ([], []) 
 touched w v (command.SetInfo t s g) u = if t == u then Some ([], []) else None
 touched w v c u = None
 
+-- The command writes the directory of a unit's store, if it writes the store: not where an entry goes, or gets another graph, since the directory says nothing
+-- of these. (this project's own)
+abbrev pub rewrites_directory : Command → ℕ → Bool
+rewrites_directory (command.Set t s uid path g) u = false
+rewrites_directory (command.Change t s uid g) u = false
+rewrites_directory (command.Remove t s uid) u = false
+rewrites_directory (command.Move t s uid x y) u = x == u
+rewrites_directory c u = true
+
 -- the bytes of the change of a unit's store, of which these entries are put and let go (a word of these definitions)
-abbrev pub bytes_between : Option Store → Option Store → Option (List Entry × List Entry) → ℕ
-bytes_between (Some a) (Some b) (Some (put, gone)) = change_bytes a b put gone
-bytes_between a b entries = 0
+abbrev pub bytes_between : Bool → Option Store → Option Store → Option (List Entry × List Entry) → ℕ
+bytes_between written (Some a) (Some b) (Some (put, gone)) = change_bytes written a b put gone
+bytes_between written a b entries = 0
 
 -- the most that a command programs where it is not refused (this project's own)
 abbrev pub bytes_done : World → World → Command → ℕ → ℕ
 bytes_done w v (command.Vwrite t s uid path at bytes) u = if t == u then patch_bytes (length bytes) else 0
-bytes_done w v c u = bytes_between (store_on_unit w u) (store_on_unit v u) (touched w v c u)
+bytes_done w v c u = bytes_between (rewrites_directory c u) (store_on_unit w u) (store_on_unit v u) (touched w v c u)
 
 -- The most bytes that a command but a format programs on a unit: none where it is refused or does not write the unit's store. (this project's own)
 unfoldable pub most_programmed : World → Command → ℕ → ℕ

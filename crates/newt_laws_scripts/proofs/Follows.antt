@@ -1,5 +1,5 @@
 -- A run over what a crash of an earlier one has left.
-use Rattle.std.proofs.Common.{ℕ, zero, suc, ◌≡◌, ◌⊎◌, inl, inr, ◌+◌, ◌≤◌, ◌<◌, refl, sym, ◌∙◌, ap, subst, arith, List, [], ◌∷◌, length, map, Option, Some, None, Ok, Err}
+use Rattle.std.proofs.Common.{ℕ, zero, suc, ◌≡◌, inl, inr, ◌+◌, ◌≤◌, ◌<◌, refl, ◌∙◌, ap, subst, arith, List, [], ◌∷◌, length, map, Option, Some, None}
 use Rattle.std.specs.Prelude.{slice_get, option_map, option_and_then, take}
 use Rattle.newt_laws_changes.specs.Later.{EntryGone, StoreLater}
 use Rattle.newt_laws_changes.proofs.Later.{entry-gone, store-trans}
@@ -12,7 +12,7 @@ use Rattle.newt_spec_world.specs.Answer.{answer}
 use Rattle.newt_spec_store.specs.Store.{Store}
 use Rattle.newt_spec_world.specs.Alias.{Alias, Spot, resolved}
 use Rattle.newt_spec_world.specs.First.{media_of, device_of, unit_of, unit_numbers, world_of}
-use Rattle.newt_spec_world.specs.World.{Device, Media, World, flat, store_of, store_on_unit}
+use Rattle.newt_spec_world.specs.World.{Device, World, flat, store_of, store_on_unit}
 
 -- ---- where the next run begins
 

@@ -63,14 +63,14 @@ copies-kept h (command.Discard m) n k here on = set-other m n None h.copies (apa
 copies-kept h _ n k here on = here
 
 -- refused or not
-step-kept : (h : Whole) (c : Command) (n : ℕ) (k : Copy) (o : Option Refusal) → copy h n ≡ Some k → (o ≡ None → ends_edits n c ≡ false)
+pub step-kept : (h : Whole) (c : Command) (n : ℕ) (k : Copy) (o : Option Refusal) → copy h n ≡ Some k → (o ≡ None → ends_edits n c ≡ false)
     → copy (whole_answered h c o).0 n ≡ Some (edited (put_all k.draft (if_done o (edit_by n c))) k)
 step-kept h c n k (Some r) here on = here
 step-kept h c n k None here on = copies-kept h c n k here (on refl)
 
 -- ---- many commands
 
-put-more : (g : RawGraph) (es fs : List Edit) → put_all g (es ++ fs) ≡ put_all (put_all g es) fs
+pub put-more : (g : RawGraph) (es fs : List Edit) → put_all g (es ++ fs) ≡ put_all (put_all g es) fs
 put-more g [] fs = refl
 put-more g (e ∷ es) fs = put-more (graph_after_set e.0 e.1 g) es fs
 

@@ -8,3 +8,10 @@ pub mod Fits
 pub mod Stepping
 pub mod Telling
 pub mod Reading
+pub mod Asking
+pub mod Noted
+pub mod Sound
+pub mod RunCopies
+pub mod Begun
+pub mod RunWatched
+pub mod Unchanged

@@ -39,7 +39,7 @@ good-notes w v c (Reply.refused x) h = absurd (both-ways (sym h))
 good-notes w v c (Reply.thrown u) h = absurd (both-ways (sym h))
 good-notes w v c _ h = refl
 
-answer-notes : (w : World) (c : Command) → let a = answer w c in notes_behind w c a.0 a.1 ≡ notes_of w c
+pub answer-notes : (w : World) (c : Command) → let a = answer w c in notes_behind w c a.0 a.1 ≡ notes_of w c
 unfolding answer
 answer-notes w c = go (first_of (checks w c))
   where
@@ -48,20 +48,20 @@ answer-notes w c = go (first_of (checks w c))
     go None = let v = (answered w c None).0 in good-notes w v c (fields w v c) (fields_good w v c)
 
 -- a format and a mount have no notes
-looked-none : (w : World) (c : Command) (u : ℕ) → looks_at c ≡ Some u → events w c ≡ []
+pub looked-none : (w : World) (c : Command) (u : ℕ) → looks_at c ≡ Some u → events w c ≡ []
 unfolding events
 looked-none w (command.Format x name sig) u h = refl
 looked-none w (command.Mount x) u h = refl
 looked-none w _ u h = absurd (cc)
 
-looked : (w : World) (c : Command) (u : ℕ) → looks_anew w c ≡ Some u → (x : ℕ) × (looks_at c ≡ Some x)
+pub looked : (w : World) (c : Command) (u : ℕ) → looks_anew w c ≡ Some u → (x : ℕ) × (looks_at c ≡ Some x)
 looked w c u h = go (looks_at c) h
   where
     go : (o : Option ℕ) → option_and_then (unsure_look w) o ≡ Some u → (x : ℕ) × (o ≡ Some x)
     go None k = absurd (none-some u k)
     go (Some x) k = (x, refl)
 
-no-notes : (w v : World) (c : Command) (r : Reply) → events w c ≡ [] → notes_behind w c v r ≡ []
+pub no-notes : (w v : World) (c : Command) (r : Reply) → events w c ≡ [] → notes_behind w c v r ≡ []
 no-notes w v c (Reply.refused x) h = refl
 no-notes w v c (Reply.thrown u) h = ap (λ es. if moves_away c u && has_taken w c v then take 1 es else []) h ∙ go (moves_away c u && has_taken w c v)
   where
@@ -71,14 +71,14 @@ no-notes w v c (Reply.thrown u) h = ap (λ es. if moves_away c u && has_taken w 
 no-notes w v c _ h = h
 
 -- none refused or not
-none-done : (o : Option Refusal) → ◌≡◌ {A = List Event} (if_done o []) []
+pub none-done : (o : Option Refusal) → ◌≡◌ {A = List Event} (if_done o []) []
 none-done None = refl
 none-done (Some r) = refl
 
 -- ---- a unit that is thrown out
 
 -- a move away from a unit goes to another one
-away : (t uid x u : ℕ) (s y : List ℕ) → moves_away (command.Move t s uid x y) u ≡ true → (t ≡ u) × (x ≡ u → ⊥)
+pub away : (t uid x u : ℕ) (s y : List ℕ) → moves_away (command.Move t s uid x y) u ≡ true → (t ≡ u) × (x ≡ u → ⊥)
 away t uid x u s y h = (eqb-true t u (first (t == u) h), λ e. both-ways (sym (other (t == u) (x == u) h) ∙ (Decides-eqb x u).1 e))
   where
     first : (b : Bool) → b && not (x == u) ≡ true → b ≡ true
@@ -196,13 +196,18 @@ module _ (w : World) (t uid x u : ℕ) (s y : List ℕ) (moves : moves_away (com
       ∙ ap (λ (o : Option Soup). not ((into.0.next_uid + 1) == unwrap_or (option_map (λ (p : Soup). p.next_uid) o) 0)) into.1
       ∙ one-more into.0.next_uid
 
-halfway-notes : (w : World) (c : Command) (u : ℕ) → moves_away c u ≡ true → first_of (checks w c) ≡ None
+pub halfway-notes : (w : World) (c : Command) (u : ℕ) → moves_away c u ≡ true → first_of (checks w c) ≡ None
     → notes_behind w c (world_halfway w c u) (Reply.thrown u) ≡ take 1 (events w c)
 halfway-notes w (command.Move t s uid x y) u moves done =
     let k = command.Move t s uid x y in
     ap (λ (b : Bool). if b && has_taken w k (world_halfway w k u) then take 1 (events w k) else []) moves
     ∙ ap (λ (b : Bool). if b then take 1 (events w k) else []) (taken w t uid x u s y moves (all-false (checks w k) done))
 halfway-notes w _ u moves done = absurd (both-ways moves)
+
+-- a unit that is thrown out takes no note with it
+pub thrown-notes : (w : World) (c : Command) (u : ℕ) (change : Media → Media) → notes_behind w c (settle (thrown_out w u change)) (Reply.thrown u) ≡ []
+thrown-notes w c u change = same-not-taken w (settle (thrown_out w u change)) c u
+    (λ t uid x s y e differs. soup-by (settle (thrown_out w u change)) w x y (out-other w u x change differs))
 
 -- ---- a step
 

@@ -21,7 +21,7 @@ use Rattle.newt_laws_whole.specs.Steps.{notes_of}
 use Rattle.newt_laws_whole.specs.Told.{entries_on, told_to}
 
 -- no note of this name is told where none of the notes is
-told-apart : (name s : List ℕ) (note : Note) (more : List Note) → (if equal_text s name then note ∷ more else more) ≡ [] → (equal_text s name ≡ false) × (more ≡ [])
+pub told-apart : (name s : List ℕ) (note : Note) (more : List Note) → (if equal_text s name then note ∷ more else more) ≡ [] → (equal_text s name ≡ false) × (more ≡ [])
 told-apart name s note more h = go (equal_text s name) h
   where
     go : (b : Bool) → (if b then note ∷ more else more) ≡ [] → (b ≡ false) × (more ≡ [])
@@ -120,7 +120,7 @@ module _ (name : List ℕ) where
       media (two a b) = refl
       media lost = refl
 
-  soup-apart : (w : World) (n : ℕ) (s : List ℕ) (f : Soup → Soup) → equal_text s name ≡ false → ((p : Soup) → (f p).name ≡ p.name)
+  pub soup-apart : (w : World) (n : ℕ) (s : List ℕ) (f : Soup → Soup) → equal_text s name ≡ false → ((p : Soup) → (f p).name ≡ p.name)
       → (u : ℕ) → entries_on (change_soup_in w n s f) u name ≡ entries_on w u name
   soup-apart w n s f apart keeps = store-leaves w n (change_soup s f) (λ t. ap entries_of (change-apart s f apart keeps t.soups))
 
@@ -128,11 +128,11 @@ module _ (name : List ℕ) where
       → (u : ℕ) → entries_on (change_soup_in w n s f) u name ≡ entries_on w u name
   soup-beside w n s f keeps same = store-leaves w n (change_soup s f) (λ t. change-beside s f keeps same t.soups)
 
-  copy-apart : (w : World) (v : ℕ) (t : List ℕ) (o : Option Entry) → equal_text t name ≡ false → (u : ℕ) → entries_on (copy_to w v t o) u name ≡ entries_on w u name
+  pub copy-apart : (w : World) (v : ℕ) (t : List ℕ) (o : Option Entry) → equal_text t name ≡ false → (u : ℕ) → entries_on (copy_to w v t o) u name ≡ entries_on w u name
   copy-apart w v t None apart u = refl
   copy-apart w v t (Some e) apart u = soup-apart w v t (add_entry w.minute e.graph) apart (λ p. refl) u
 
-  units-leave : (v w : World) → v.units ≡ w.units → (u : ℕ) → entries_on v u name ≡ entries_on w u name
+  pub units-leave : (v w : World) → v.units ≡ w.units → (u : ℕ) → entries_on v u name ≡ entries_on w u name
   units-leave v w e u = ap (λ us. on_device (flat (slice_get us u))) e
 
   -- no store was there to be formatted

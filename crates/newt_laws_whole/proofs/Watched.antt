@@ -23,7 +23,7 @@ use Rattle.newt_laws_whole.proofs.Drafts.{apart}
 
 -- ---- notes are given
 
-end : {X : Type 0} (xs : List X) → xs ++ [] ≡ xs
+pub end : {X : Type 0} (xs : List X) → xs ++ [] ≡ xs
 end [] = refl
 end (x ∷ xs) = ap (λ ys. x ∷ ys) (end xs)
 
@@ -43,7 +43,7 @@ one-told e es w = go (equal_text e.0 w.name)
     go true = ap {A = List Note} {B = Watching} (λ ns. record w { notes = ns }) (append_assoc w.notes (e.1 ∷ []) (told_to w.name es))
     go false = refl
 
-all-told : (es : List Event) (ws : List (Option Watching)) (n : ℕ) (w : Watching) → flat (slice_get ws n) ≡ Some w
+pub all-told : (es : List Event) (ws : List (Option Watching)) (n : ℕ) (w : Watching) → flat (slice_get ws n) ≡ Some w
     → flat (slice_get (note_all es ws) n) ≡ Some (with_notes (told_to w.name es) w)
 all-told [] ws n w here = here ∙ ap {A = List Note} {B = Option Watching} (λ ns. Some (record w { notes = ns })) (sym (end w.notes))
 all-told (e ∷ es) ws n w here =
@@ -66,14 +66,14 @@ row-kept h (command.Notes m) n w here on = at-other m n emptied h.watches (apart
 row-kept h (command.Unwatch m) n w here on = set-other m n None h.watches (apart m n on) ∙ here
 row-kept h _ n w here on = here
 
-step-told : (h : Whole) (c : Command) (n : ℕ) (w : Watching) (o : Option Refusal) → watch h n ≡ Some w → (o ≡ None → ends_notes n c ≡ false)
+pub step-told : (h : Whole) (c : Command) (n : ℕ) (w : Watching) (o : Option Refusal) → watch h n ≡ Some w → (o ≡ None → ends_notes n c ≡ false)
     → watch (whole_answered h c o).0 n ≡ Some (with_notes (told_to w.name (if_done o (events_of h.world (asks h c)))) w)
 step-told h c n w (Some r) here on = here ∙ ap {A = List Note} {B = Option Watching} (λ ns. Some (record w { notes = ns })) (sym (end w.notes))
 step-told h c n w None here on = all-told (events_of h.world (asks h c)) (watches_after h c) n w (row-kept h c n w here (on refl))
 
 -- ---- many commands
 
-told-more : (name : List ℕ) (es fs : List Event) → told_to name (es ++ fs) ≡ told_to name es ++ told_to name fs
+pub told-more : (name : List ℕ) (es fs : List Event) → told_to name (es ++ fs) ≡ told_to name es ++ told_to name fs
 told-more name [] fs = refl
 told-more name (e ∷ es) fs = go (equal_text e.0 name) (told-more name es fs)
   where

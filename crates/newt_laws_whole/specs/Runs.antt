@@ -8,6 +8,10 @@ use Rattle.newt_spec_store.specs.Store.{Store}
 use Rattle.newt_spec_store.specs.Valid.{well_formed}
 use Rattle.newt_work.specs.Work.{Copy, copy_at}
 use Rattle.newt_spec_world.specs.World.{World, mounted_store}
+use Rattle.newt_spec_whole.specs.Whole.{Whole}
+use Rattle.newt_laws_steps.specs.Meant.{MountedSure}
+use Rattle.newt_laws_world.specs.Settled.{IsSettled, MountedApart}
+use Rattle.newt_laws_world.specs.Worlds.{AllValid}
 
 -- The graph can be that of an entry: its root is a frame, it is within the limits, and its skeleton
 -- is not too large. (this project's own)
@@ -23,3 +27,14 @@ AllFormed w = (u : ℕ) (t : Store) → mounted_store w u ≡ Some t → well_fo
 -- each working copy's draft can be the graph of an entry (this project's own)
 abbrev pub DraftsFit : List (Option Copy) → Type 0
 DraftsFit copies = (n : ℕ) (k : Copy) → copy_at n copies ≡ Some k → CanBeEntry k.draft
+
+-- What holds of a whole at the start of a run and behind each of its steps: of each mounted unit it
+-- is known what it holds; no cursor has another key than its hit; no two mounted stores have one
+-- signature; each store that a unit has or may have is valid; and each draft can be the graph of an
+-- entry. (this project's own)
+pub record IsSound (h : Whole) : Type 0 where
+  pub sure : MountedSure h.world
+  pub settled : IsSettled h.world
+  pub apart : MountedApart h.world
+  pub valid : AllValid h.world
+  pub drafts : DraftsFit h.copies

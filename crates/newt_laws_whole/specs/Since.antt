@@ -1,14 +1,17 @@
 -- What becomes of a working copy.
-use Rattle.std.specs.Prelude.{◌≡◌, ℕ, Bool, false, ◌==◌, List, [], ◌∷◌, ◌++◌, Option, Some, None}
-use Rattle.std.specs.Prelude.{cond, ⊤}
+use Rattle.std.specs.Prelude.{◌≡◌, ℕ, Bool, true, false, ◌==◌, List, [], ◌∷◌, ◌++◌, Option, Some}
+use Rattle.std.specs.Prelude.{None, cond, ⊤, Ok, Err}
 use Rattle.newt_base.specs.declared.Refusal.{Refusal}
 use Rattle.newt_base.specs.Refusals.{first_of}
 use Rattle.newt_graph.specs.Graph.{RawGraph}
+use Rattle.newt_spec_script.specs.Rows.{Row}
+use Rattle.newt_spec_script.specs.Script.{Item}
 use Rattle.newt_spec_store.specs.Keys.{Path}
 use Rattle.newt_work.specs.Work.{Copy}
 use Rattle.newt_spec_world.specs.World.{settle}
 use Rattle.newt_spec_world.specs.Changed.{changed, graph_after_set}
 use Rattle.newt_spec_world.specs.Alias.{Spot}
+use Rattle.newt_spec_world.specs.Reply.{Reply}
 use Rattle.newt_spec_world.specs.declared.command.Command.{Command}
 use Rattle.newt_spec_world.specs.declared.command.Command.TheVariants as command
 use Rattle.newt_spec_whole.specs.Whole.{Whole, living}
@@ -65,3 +68,27 @@ pub record Saves (h v : Whole) (k : Copy) (draft : RawGraph) : Type 0 where
   pub same_graph : spot.entry.graph ≡ k.base
   pub after : v.world
       ≡ settle (changed h.world (command.Change spot.unit spot.soup.name spot.entry.uid draft))
+
+-- ---- where devices may fail
+
+-- the reply is `ok` (this project's own)
+abbrev pub is_ok : Reply → Bool
+is_ok Reply.done = true
+is_ok reply = false
+
+-- the edit that a line makes in a copy, where it is answered `ok` (this project's own)
+abbrev pub edit_in : ℕ → Item → Reply → List Edit
+edit_in n (Ok c) reply = cond (is_ok reply) (edit_by n c) []
+edit_in n (Err r) reply = []
+
+-- the edits that the lines of a run make in a copy (this project's own)
+unfoldable pub edits_in : ℕ → List Item → List (Row Whole) → List Edit
+edits_in n (item ∷ items) (row ∷ rows) = edit_in n item row.1 ++ edits_in n items rows
+edits_in n items rows = []
+
+-- no line that is answered `ok` saves, reverts or discards the copy (this project's own)
+unfoldable pub KeepsEdits : ℕ → List Item → List (Row Whole) → Type 0
+KeepsEdits n (Ok c ∷ items) (row ∷ rows) =
+    (row.1 ≡ Reply.done → ends_edits n c ≡ false) × KeepsEdits n items rows
+KeepsEdits n (Err r ∷ items) (row ∷ rows) = KeepsEdits n items rows
+KeepsEdits n items rows = ⊤

@@ -1,17 +1,18 @@
 -- The whole behind a step of its world.
 use Rattle.std.specs.Prelude.{ℕ, Bool, false, not, ◌==◌, ◌&&◌, List, [], take, Option, Some, None}
+use Rattle.newt_spec_graph.specs.Lists.{Among}
 use Rattle.std.specs.Prelude.{if◌then◌else◌}
 use Rattle.newt_base.specs.Refusals.{first_of}
 use Rattle.newt_spec_world.specs.Answer.{new_uid}
 use Rattle.newt_spec_world.specs.Reply.{Reply}
-use Rattle.newt_spec_world.specs.Step.{moves_away}
+use Rattle.newt_spec_world.specs.Step.{Step, moves_away}
 use Rattle.newt_spec_store.specs.Store.{Soup}
 use Rattle.newt_spec_world.specs.World.{World, soup_in}
 use Rattle.newt_spec_world.specs.Refused.{checks}
 use Rattle.newt_spec_world.specs.declared.command.Command.{Command}
 use Rattle.newt_spec_world.specs.declared.command.Command.TheVariants as command
-use Rattle.newt_spec_whole.specs.Whole.{Whole}
-use Rattle.newt_spec_whole.specs.Events.{Event, events, note_all}
+use Rattle.newt_spec_whole.specs.Whole.{Whole, asked_in_turn, asks}
+use Rattle.newt_spec_whole.specs.Events.{Event, events, events_of, note_all}
 use Rattle.newt_laws_whole.specs.Since.{if_done}
 
 -- the notes of a command of the world: none where it is refused (this project's own)
@@ -40,3 +41,18 @@ notes_behind w c v (Reply.refused refusal) = []
 notes_behind w c v (Reply.thrown u) =
     if moves_away c u && has_taken w c v then take 1 (events w c) else []
 notes_behind w c v reply = events w c
+
+-- The notes of a step of the whole, as the world behind it and the reply tell them: of a save that
+-- is done those of the change that it asks; of any other command those of the world's step.
+-- (this project's own)
+abbrev pub told_by : Whole → Command → World → Reply → List Event
+told_by h (command.Save n) v Reply.done = events_of h.world (asks h (command.Save n))
+told_by h (command.Save n) v reply = []
+told_by h c v reply = notes_behind h.world c v reply
+
+-- The world makes a step by one of the commands that this one asks in turn. (this project's own)
+pub record WorldStep (h : Whole) (c : Command) (v : Whole) : Type 0 where
+  pub asked : Command
+  pub among : Among (asked_in_turn h c) asked
+  pub reply : Reply
+  pub step : Step h.world asked v.world reply

@@ -1,11 +1,14 @@
 -- What a watch is told.
 use Rattle.std.specs.Prelude.{◌≡◌, ℕ, Bool, false, ◌==◌, List, [], ◌∷◌, ◌++◌, ⊤}
-use Rattle.std.specs.Prelude.{Option, option_and_then, option_map, if◌then◌else◌}
+use Rattle.std.specs.Prelude.{Option, option_and_then, option_map, if◌then◌else◌, Ok, Err}
 use Rattle.newt_base.specs.Names.{equal_text}
 use Rattle.newt_base.specs.Refusals.{first_of}
 use Rattle.newt_notify.specs.declared.note.Note.{Note}
 use Rattle.newt_notify.specs.Watch.{Watching}
-use Rattle.newt_spec_store.specs.Store.{Entry, soup_named}
+use Rattle.newt_spec_graph.specs.Lists.{Among, Each}
+use Rattle.newt_spec_script.specs.Rows.{Row}
+use Rattle.newt_spec_script.specs.Script.{Item}
+use Rattle.newt_spec_store.specs.Store.{Entry, Store, soup_named}
 use Rattle.newt_spec_world.specs.World.{World, store_on_unit}
 use Rattle.newt_spec_world.specs.declared.command.Command.{Command}
 use Rattle.newt_spec_world.specs.declared.command.Command.TheVariants as command
@@ -14,6 +17,7 @@ use Rattle.newt_spec_whole.specs.Events.{Event, events_of}
 use Rattle.newt_spec_whole.specs.Refused.{whole_checks}
 use Rattle.newt_spec_whole.specs.Answer.{whole_answer}
 use Rattle.newt_laws_whole.specs.Since.{IsDone, if_done}
+use Rattle.newt_laws_whole.specs.Steps.{told_by}
 
 -- the notes of soups of this name (this project's own)
 abbrev pub told_to : List ℕ → List Event → List Note
@@ -46,3 +50,32 @@ with_notes more w = record w { notes = w.notes ++ more }
 abbrev pub entries_on : World → ℕ → List ℕ → Option (List Entry)
 entries_on w u name =
     option_map (λ p. p.entries) (option_and_then (soup_named name) (store_on_unit w u))
+
+-- ---- where devices may fail
+
+-- the notes that the steps of a run tell, one after another; a line that is refused tells none
+-- (this project's own)
+unfoldable pub told_in : Whole → List Item → List (Row Whole) → List Event
+told_in h (Ok c ∷ items) (row ∷ rows) = told_by h c row.0.world row.1 ++ told_in row.0 items rows
+told_in h (Err r ∷ items) (row ∷ rows) = told_in row.0 items rows
+told_in h items rows = []
+
+-- the line empties the watch or takes it away (this project's own)
+abbrev pub item_ends_notes : ℕ → Item → Bool
+item_ends_notes n (Ok c) = ends_notes n c
+item_ends_notes n (Err r) = false
+
+-- none of the lines does (this project's own)
+abbrev pub KeepsWatch : ℕ → List Item → Type 0
+KeepsWatch n items = Each (λ item. item_ends_notes n item ≡ false) items
+
+-- the entries of the soup of this name in a store; none where there is no such soup
+-- (a word of these definitions)
+abbrev pub entries_named : List ℕ → Store → Option (List Entry)
+entries_named name s = option_map (λ p. p.entries) (soup_named name s)
+
+-- Each of these stores has the entries of the soup of this name that one of those before had, and
+-- has such a soup exactly where that one had it. (this project's own)
+abbrev pub KeepEntries : List ℕ → (before after : List Store) → Type 0
+KeepEntries name before after = (t : Store) → Among after t
+    → (s : Store) × Among before s × (entries_named name t ≡ entries_named name s)

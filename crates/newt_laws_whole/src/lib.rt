@@ -1,19 +1,27 @@
 //! Laws of watches and working copies beside the world, each as the contract of a function without
-//! a body.
+//! a body: where no device fails (`runs`, `copies`, `watches`), and whatever fails (`steps`,
+//! `worlds`, `failures`).
 //!
-//! It stands on the definitions of the whole (`newt_spec_whole`) and on the laws of the world and of
-//! its steps.
+//! It stands on the definitions of the whole (`newt_spec_whole`) and on the laws of the world and
+//! of its steps.
 #![tactic(auto)]
 
 mod copies;
+mod failures;
 mod runs;
 mod steps;
 mod watches;
+mod worlds;
 
 pub use copies::{
     copies_begin_from_the_entry, copies_keep_their_edits, edits_are_put,
     saves_replace_what_was_read,
 };
+pub use failures::{
+    copies_begin_in_steps, copies_outlive_failures, saves_replace_what_was_read_whatever_fails,
+    watches_get_the_notes_of_steps, what_changes_is_told_whatever_fails,
+};
 pub use runs::{drafts_stay_fit, other_commands, plain_commands, saves_are_changes};
 pub use steps::{quiet_whole_steps_are_plain, steps_of_the_world_tell_their_notes};
 pub use watches::{notes_are_taken_once, watches_get_their_notes, what_changes_is_told};
+pub use worlds::{whole_runs_keep_ids, whole_steps_are_steps_of_the_world, wholes_stay_sound};

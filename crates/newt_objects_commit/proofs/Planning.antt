@@ -15,7 +15,7 @@ use Rattle.newt_spec_graph.specs.Lists.{Among}
 use Rattle.newt_spec_graph.proofs.Lists.{each-at, among-append, among-left, among-right}
 use Rattle.newt_objects_commit.specs.declared.batch.NewEntry.{NewEntry}
 use Rattle.newt_objects_commit.specs.declared.batch.NewLarge.{NewLarge}
-use Rattle.newt_objects_commit.specs.Batch.{HasPut, HasNone, HasIds, HasLarges, HasEntry, HasEntries, AreApart, IsApart, AreOnce, AreWritten, AddsPages, large_ids, pages_held, all_pages_held, over_pages}
+use Rattle.newt_objects_commit.specs.Batch.{HasPut, HasNone, HasIds, HasLarges, HasEntry, HasEntries, AreApart, IsApart, AreOnce, HasDirectory, AreWritten, AddsPages, large_ids, pages_held, all_pages_held, over_pages}
 
 -- ---- elements of lists
 
@@ -167,8 +167,15 @@ entries-more entries e old mid new apart ids last_ids so_far put = record {
       ∙ so_far.others id (λ x before. out x (among-left entries (e ∷ []) x before));
 }
 
+-- the directory, which is put or stays
+pub directory-put : (bytes : List ℕ) (old new : Objects) → HasPut 0 bytes old new → HasDirectory (Some bytes) old new
+directory-put bytes old new put = record { object = put.object; others = put.others }
+
+pub directory-stays : (texts : Objects) → HasDirectory None texts texts
+directory-stays texts = record { object = refl; others = λ id out. refl }
+
 -- all three steps of a change
-pub written : (directory : List ℕ) (entry : Option NewEntry) (gone : List ℕ) (a b c d : Objects) → HasPut 0 directory a b → HasEntry entry b c → HasNone gone c d
+pub written : (directory : Option (List ℕ)) (entry : Option NewEntry) (gone : List ℕ) (a b c d : Objects) → HasDirectory directory a b → HasEntry entry b c → HasNone gone c d
     → ((e : NewEntry) → entry ≡ Some e → e.id ≢ 0) → ((e : NewEntry) (id : ℕ) → entry ≡ Some e → Among (large_ids e) id → id ≢ 0) → ((id : ℕ) → Among gone id → id ≢ 0) → IsApart entry gone
     → AreWritten directory entry gone a d
 written directory entry gone a b c d first second third not_first not_larges not_gone apart = record {

@@ -1,5 +1,6 @@
 -- Objects as a change plans them.
-use Rattle.std.specs.Prelude.{◌≡◌, ◌≢◌, ℕ, ◌+◌, ◌%◌, ◌<◌, List, [], length, map as map_list, sum_by, Option, Some, None, IsSome}
+use Rattle.std.specs.Prelude.{◌≡◌, ◌≢◌, ℕ, ◌+◌, ◌%◌, ◌<◌, List, [], length, map as map_list, sum_by, Option, Some, None, IsSome, option_map, Vec}
+use Rattle.std.specs.Global.{Global}
 use Rattle.std.specs.FinMap as map
 use Rattle.newt_spec_image.specs.Pages.{Pages, Change}
 use Rattle.newt_spec_image.specs.Objects.{pages_for, Objects}
@@ -56,9 +57,23 @@ pub record AreApart (e other : NewEntry) : Type 0 where
   pub records_apart : e.id ≢ other.id
   pub larges_apart : (id : ℕ) → Among (large_ids e) id → Among (large_ids other) id → ⊥
 
--- The directory, the new entry's record and its large binaries were put, and these are no objects any more.
-pub record AreWritten (directory : List ℕ) (entry : Option NewEntry) (gone : List ℕ) (old new : Objects) : Type 0 where
-  pub directory_is : map.get new 0 ≡ Some directory
+-- the bytes, if there are some
+abbrev pub bytes_if : Option (Vec ℕ Global) → Option (List ℕ)
+bytes_if bytes = option_map (λ b. b.items) bytes
+
+-- the bytes that are put, or what is there where none are
+abbrev pub put_or : Option (List ℕ) → Option (List ℕ) → Option (List ℕ)
+put_or None there = there
+put_or (Some bytes) there = Some bytes
+
+-- The directory was put, if there is one to put, and all other objects are as they were.
+pub record HasDirectory (directory : Option (List ℕ)) (old new : Objects) : Type 0 where
+  pub object : map.get new 0 ≡ put_or directory (map.get old 0)
+  pub others : (q : ℕ) → q ≢ 0 → map.get new q ≡ map.get old q
+
+-- The directory, if there is one to put, the new entry's record and its large binaries were put, and these are no objects any more.
+pub record AreWritten (directory : Option (List ℕ)) (entry : Option NewEntry) (gone : List ℕ) (old new : Objects) : Type 0 where
+  pub directory_is : map.get new 0 ≡ put_or directory (map.get old 0)
   pub entry_is : (e : NewEntry) → entry ≡ Some e → map.get new e.id ≡ Some e.bytes.items
   pub larges_are : (e : NewEntry) (l : NewLarge) → entry ≡ Some e → Among e.larges.items l → map.get new l.id ≡ Some l.bytes.items
   pub gone_are : (id : ℕ) → Among gone id → map.get new id ≡ None
@@ -82,6 +97,16 @@ new_pages (Some e) = pages_for (length e.bytes.items) + sum_by (λ l. pages_for 
 abbrev pub over_pages : Held → Option NewEntry → ℕ
 over_pages objects None = 0
 over_pages objects (Some e) = pages_held objects e.id + all_pages_held objects (large_ids e)
+
+-- how many pages the directory has that is put, none where it stays
+abbrev pub directory_puts : Option (List ℕ) → ℕ
+directory_puts None = 0
+directory_puts (Some bytes) = pages_for (length bytes)
+
+-- how many pages the object has that it is put over, none where it stays
+abbrev pub directory_over : Held → Option (List ℕ) → ℕ
+directory_over objects None = 0
+directory_over objects (Some bytes) = pages_held objects 0
 
 -- none of these is the object of the new entry's record or of one of its large binaries
 pub record IsApart (entry : Option NewEntry) (gone : List ℕ) : Type 0 where

@@ -8,8 +8,10 @@ ghost use Rattle.newt_objects_commit.specs.declared.batch.NewEntry.{NewEntry as 
 ghost use Rattle.newt_objects_commit.specs.Batch.{AreOnce, CanBePlanned, IsFree, IsOnTheWay};
 ghost use Rattle.newt_objects_commit.specs.Batch.{large_ids, pages_held, all_pages_held, new_pages};
 ghost use Rattle.newt_objects_commit.specs.Batch.{over_pages};
-ghost use Rattle.newt_objects_commit.specs.Batch.{AddsPages, AreWritten, HasEntry, HasLarges};
-ghost use Rattle.newt_objects_commit.specs.Batch.{HasNone, HasPut, LeadsTo, LeavesUnplanned};
+ghost use Rattle.newt_objects_commit.specs.Batch.{bytes_if, directory_over, directory_puts};
+ghost use Rattle.newt_objects_commit.specs.Batch.{AddsPages, AreWritten, HasDirectory, HasEntry};
+ghost use Rattle.newt_objects_commit.specs.Batch.{HasLarges, HasNone, HasPut, LeadsTo};
+ghost use Rattle.newt_objects_commit.specs.Batch.{LeavesUnplanned};
 
 use newt_base::{Sig, Uid};
 use newt_objects::Objects;
@@ -125,26 +127,52 @@ fn plan_gone(objects: &mut Objects, gone: &[u32], batch: &mut Batch) -> Result<(
     Ok(())
 }
 
-/// Plans all objects of a change: the directory, the record of the new entry and its large
-/// binaries, and the objects that go.
+// Plans the bytes of the directory, if it is put.
+fn plan_directory(
+    objects: &mut Objects,
+    directory: &Option<Vec<u8>>,
+    batch: &mut Batch,
+) -> Result<(), AllocError>
+    requires no_plan { IsUnplanned objects.old 0 }
+    requires way { IsOnTheWay objects.old batch.old }
+    ensures way { OnOk result (LeadsTo (HasDirectory (bytes_if directory.now))
+        objects.old batch.old objects.new batch.new) }
+    ensures held { (other : ℕ) → held objects.new other ≡ held objects.old other }
+    ensures others { OnOk result (LeavesUnplanned (λ other. other ≢ 0) objects.old objects.new) }
+    ensures pages { OnOk result (AddsPages
+        (directory_puts (bytes_if directory.now))
+        (directory_over objects.old (bytes_if directory.now))
+        batch.old batch.new) }
+{
+    let Some(bytes) = directory else {
+        return Ok(());
+    };
+    plan_object(objects, 0, bytes, batch)?;
+    Ok(())
+}
+
+/// Plans all objects of a change: the directory, if it is put, the record of the new entry and its
+/// large binaries, and the objects that go. A directory that is not put stays as it is.
 pub fn plan_objects(
     objects: &mut Objects,
-    directory: &[u8],
+    directory: &Option<Vec<u8>>,
     entry: &Option<NewEntry>,
     gone: &[u32],
     batch: &mut Batch,
 ) -> Result<(), AllocError>
     requires way { IsOnTheWay objects.old batch.old }
     requires can { CanBePlanned objects.old entry.now gone.now }
-    ensures way { OnOk result (LeadsTo (AreWritten directory.now entry.now gone.now)
+    ensures way { OnOk result (LeadsTo
+        (AreWritten (bytes_if directory.now) entry.now gone.now)
         objects.old batch.old objects.new batch.new) }
     ensures held { (other : ℕ) → held objects.new other ≡ held objects.old other }
     ensures pages { OnOk result (AddsPages
-        (pages_for (length directory.now) + new_pages entry.now)
-        (pages_held objects.old 0 + over_pages objects.old entry.now
-        + all_pages_held objects.old gone.now) batch.old batch.new) }
+        (directory_puts (bytes_if directory.now) + new_pages entry.now)
+        (directory_over objects.old (bytes_if directory.now)
+        + over_pages objects.old entry.now + all_pages_held objects.old gone.now)
+        batch.old batch.new) }
 {
-    plan_object(objects, 0, directory, batch)?;
+    plan_directory(objects, directory, batch)?;
     plan_entry(objects, entry, batch)?;
     plan_gone(objects, gone, batch)?;
     Ok(())

@@ -7,11 +7,11 @@ use Rattle.newt_host_attach.specs.Named.{AreAttached, if_known}
 use Rattle.newt_host_attach.proofs.Since.{since_attached}
 use Rattle.std.proofs.lemmas.Result.{on_ok_weaker}
 use Rattle.newt_host.specs.Meanings.{left_since, out_of, since}
-use Rattle.newt_host.specs.Moments.{Attached, Change, IsDurable, IsHistory, LeftBy, MayLeave, Moment, Always, here, later, changes, image, moment_at, output as printed}
+use Rattle.newt_host.specs.Moments.{Attached, Change, Extends, IsDurable, IsHistory, LeftBy, MayLeave, Moment, Always, here, later, changes, image, moment_at, taken, output as printed}
 use Rattle.newt_host.specs.Outside.{Outside}
 use Rattle.newt_host.proofs.Extending.{extends-always}
 use Rattle.newt_host.proofs.Histories.{untouched-attached}
-use Rattle.newt_host.proofs.Moments.{Always-last}
+use Rattle.newt_host.proofs.Moments.{Always-last, Always-map}
 use Rattle.newt_host.proofs.Since.{Always-at}
 use Rattle.newt_laws_steps.specs.Answering.{ReadsOneOf}
 use Rattle.newt_spec_graph.specs.Lists.{Among}
@@ -27,8 +27,8 @@ use Rattle.newt_script_session.specs.Counted.{Counted, CountedAt, HasLeftCounted
 use Rattle.newt_script_session.specs.Counts.{summary_of}
 use Rattle.newt_script_session.specs.First.{unmounted}
 use Rattle.newt_script_session.specs.Moments.{Between, BlankThrough, CrashAt, HasLeft, replies_begun}
-use Rattle.newt_script_session.specs.Named.{CountedNamed, RanNamed, first_world, held_by}
-use Rattle.newt_script_session.specs.Reading.{ReadsInTime}
+use Rattle.newt_script_session.specs.Named.{AttachedFirst, CountedNamed, RanNamed, attaching, first_world, held_by}
+use Rattle.newt_script_session.specs.Reading.{ActsInTime, ReadsInTime}
 use Rattle.newt_spec_script.specs.Rows.{output_of, Row, Stepping, world_at}
 use Rattle.newt_script_session.specs.Run.{Halted, IsReadThrough, SummaryHalted}
 use Rattle.newt_script_session.specs.Script.{script_items}
@@ -37,8 +37,9 @@ use Rattle.newt_laws_steps.specs.Devices.{device_now}
 use Rattle.newt_laws_steps.proofs.Beginning.{attached-world}
 use Rattle.newt_laws_steps.specs.Thrown.{RowsFailed, RowsThrew}
 use Rattle.newt_script_session.specs.declared.halt.Halt.{Halt}
+use Rattle.newt_script_session.proofs.Acting.{acts_from, still_quiet}
 use Rattle.newt_script_session.proofs.Crashing.{AtRest, at_rest, left_same}
-use Rattle.newt_script_session.proofs.Reading.{takes_append, takes_map, takes_none}
+use Rattle.newt_script_session.proofs.Reading.{only_append, only_map, only_none}
 use Rattle.newt_script_session.proofs.Throwing.{failed_from, threw_from}
 
 -- ---- the first world
@@ -76,6 +77,34 @@ module _ (names : List (List ℕ)) (old mid new : Outside) (a : AreAttached true
       go : (d : Option (List ℕ)) → option_map (λ (b : List ℕ). other) d ≡ Some name → old.devices other ≡ Some bytes
       go None e = absurd (cc)
       go (Some b) e = let same : other ≡ name = cc in ap old.devices same ∙ there
+
+  unknown_name : (o : Option (List ℕ)) → if_known old o ≡ None → option_and_then old.devices o ≡ None
+  unknown_name None none = refl
+  unknown_name (Some name) none = go (old.devices name) none
+    where
+      go : (d : Option (List ℕ)) → option_map (λ (b : List ℕ). name) d ≡ None → d ≡ None
+      go None e = refl
+      go (Some b) e = absurd (cc)
+
+  -- until all of the names were attached nothing was put out
+  quiet_first : Always (λ m. (taken m ≡ taken old.now) × (printed m ≡ printed old.now)) old.now mid.now
+  quiet_first = still_quiet (a.unread refl) (a.quiet refl)
+
+  -- they were attached first
+  pub attached_first : ((unit : ℕ) → mid.card unit ≡ None → changes unit mid.now ≡ []) → ((unit : ℕ) → new.card unit ≡ mid.card unit) → Extends mid.now new.now → AttachedFirst names old new
+  attached_first blank cards extends = record {
+    cards = λ unit. cards unit ∙ a.cards refl unit;
+    then = mid.now;
+    still = quiet_first;
+    only = λ unit. go unit (mid.card unit) refl;
+    behind = extends;
+  }
+    where
+      go : (unit : ℕ) (o : Option (List ℕ)) → mid.card unit ≡ o → changes unit mid.now ≡ attaching (held_by names old unit)
+      go unit None e = blank unit e ∙ ap attaching (sym (unknown_name (slice_get names unit) (sym (a.cards refl unit) ∙ e)))
+      go unit (Some name) e =
+          let was = a.begins refl unit name e in
+          was.2 ∙ ap attaching (sym (known_name name was.0 (slice_get names unit) (sym (a.cards refl unit) ∙ e) was.1))
 
   seen_since : (Q : Moment → Type 0) → Always Q mid.now new.now → (unit t : ℕ) (bytes left shown : List ℕ) (size : ℕ) → changes unit old.now ≡ []
       → option_and_then old.devices (slice_get names unit) ≡ Some bytes → changes unit mid.now ≡ Attached bytes ∷ []
@@ -146,7 +175,7 @@ module _ (names : List (List ℕ)) (old mid new : Outside) (a : AreAttached true
         (s.holds.leaves later more unit left s.may);
   }
 
-  module _ (step : Stepping Whole) (reads : List ℕ → Option Store) (cards : (unit : ℕ) → new.card unit ≡ mid.card unit) (fresh : (unit : ℕ) → changes unit old.now ≡ [])
+  module _ (step : Stepping Whole) (reads : List ℕ → Option Store) (blank : (unit : ℕ) → mid.card unit ≡ None → changes unit mid.now ≡ []) (cards : (unit : ℕ) → new.card unit ≡ mid.card unit) (fresh : (unit : ℕ) → changes unit old.now ≡ [])
       (unknown : (unit : ℕ) → new.card unit ≡ None → changes unit new.now ≡ [])
       (history : (unit : ℕ) → IsSome (new.card unit) → IsHistory (new.blocks unit * 4096) (changes unit new.now)) where
     -- so it is said of a script from before the names were attached
@@ -155,17 +184,18 @@ module _ (names : List (List ℕ)) (old mid new : Outside) (a : AreAttached true
         let w = first_world reads names old in
         let G : List ℕ → Type 0 = λ i. (given : Given step w (script_items i)) × OnOk result ((given.rest ≡ []) × (out_of new ≡ out_of mid ++ output_of given.rows))
         × OnOk result (IsReadThrough limit i new.input) × IfErr result (λ halt. Halted limit halt given.first given.rows i new.input (out_of mid) (out_of new))
-        × ReadsInTime step w given.rows mid.now new.now × Always (CrashAt reads mid.now w given.first given.rows (out_of mid)) mid.now new.now
+        × ReadsInTime step w given.rows mid.now new.now × ActsInTime true given.rows mid.now new.now × Always (CrashAt reads mid.now w given.first given.rows (out_of mid)) mid.now new.now
         × RowsThrew given.rows mid.dev_faults new.dev_faults × RowsFailed given.rows mid.dev_faults new.dev_faults in
-        let t = subst G a.input (s.played.given, s.played.out, s.played.read, s.played.halted, s.played.in_time, s.crash, s.played.threw, s.played.failed) in
+        let t = subst G a.input (s.played.given, s.played.out, s.played.read, s.played.halted, s.played.in_time, s.played.acts, s.crash, s.played.threw, s.played.failed) in
         let R : List ℕ → Type 0 = λ o. IfErr result (λ halt. Halted limit halt t.0.first t.0.rows old.input new.input o (out_of new)) in
         record {
+          attached = attached_first blank cards (extends-always s.crash);
           played = record {
             given = t.0;
             out = on_ok_weaker result (λ put. (put.0, put.1 ∙ ap (λ o. o ++ output_of t.0.rows) (a.quiet refl))) t.1;
             read = t.2;
             halted = subst R (a.quiet refl) t.3;
-            in_time = takes_append (takes_none (a.unread refl)) (takes_map (λ m answered. record {
+            in_time = only_append (only_none (a.unread refl)) (only_map (λ m answered. record {
               bytes = answered.bytes;
               since = answered.since ∙ ap (λ b. b ++ answered.bytes) (Always-last (a.unread refl));
               first = answered.first;
@@ -175,11 +205,12 @@ module _ (names : List (List ℕ)) (old mid new : Outside) (a : AreAttached true
               out = answered.out ∙ ap (λ o. o ++ output_of answered.first) (a.quiet refl);
               no_quit = answered.no_quit;
             }) t.4);
-            threw = threw_from t.0.rows old.dev_faults mid.dev_faults new.dev_faults a.counts.dev_faults t.6;
-            failed = failed_from t.0.rows old.dev_faults mid.dev_faults new.dev_faults a.counts.dev_faults t.7;
+            acts = acts_from true t.0.rows old.now mid.now new.now (a.quiet refl) (Always-map (λ m both. both.1) quiet_first) t.5;
+            threw = threw_from t.0.rows old.dev_faults mid.dev_faults new.dev_faults a.counts.dev_faults t.7;
+            failed = failed_from t.0.rows old.dev_faults mid.dev_faults new.dev_faults a.counts.dev_faults t.8;
           };
           crash = λ unit at left shown since_is might.
-              has_left reads w t.0.first t.0.rows unit left shown (seen_named (CrashAt reads mid.now w t.0.first t.0.rows (printed mid.now)) t.5 cards fresh unknown history unit at left shown since_is might);
+              has_left reads w t.0.first t.0.rows unit left shown (seen_named (CrashAt reads mid.now w t.0.first t.0.rows (printed mid.now)) t.6 cards fresh unknown history unit at left shown since_is might);
         }
 
     pub named_counted : {T : Type 0} (script : List ℕ) (result : Result T Halt) → Counted step reads script result (first_world reads names old) mid new
@@ -193,6 +224,7 @@ module _ (names : List (List ℕ)) (old mid new : Outside) (a : AreAttached true
           halted = subst R (a.quiet refl) s.halted;
           threw = threw_from s.given.rows old.dev_faults mid.dev_faults new.dev_faults a.counts.dev_faults s.threw;
           failed = failed_from s.given.rows old.dev_faults mid.dev_faults new.dev_faults a.counts.dev_faults s.failed;
+          acts = acts_from false s.given.rows old.now mid.now new.now (a.quiet refl) (Always-map (λ m both. both.1) quiet_first) s.acts;
           crash = λ unit at left shown since_is might.
               has_left_counted reads w (script_items script) s.given.rows unit left shown
               (seen_named (CountedAt reads mid.now w (script_items script) s.given.rows (printed mid.now)) s.crash cards fresh unknown history unit at left shown since_is might);

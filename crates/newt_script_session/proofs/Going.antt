@@ -13,7 +13,7 @@ use Rattle.newt_spec_whole.specs.Whole.{Whole}
 use Rattle.newt_script_session.specs.Answered.{Answered, Given, Ran}
 use Rattle.newt_script_session.specs.Lines.{ended_lines, unended, last_line, lines_of}
 use Rattle.newt_script_session.specs.Moments.{SafeAt, Untouched}
-use Rattle.newt_script_session.specs.Reading.{ReadsInTime, start as takes_start}
+use Rattle.newt_script_session.specs.Reading.{ActsInTime, ReadsInTime, start as takes_start}
 use Rattle.newt_spec_script.specs.Rows.{IsRun, output_of, Row, Stepping, world_behind}
 use Rattle.newt_script_session.specs.Run.{AnsweredTaken, Halted, HaltedIn, IsReadThrough, IsTooLong}
 use Rattle.newt_script_session.specs.Script.{has_quit, commands_of, ended_items, quits, script_items}
@@ -21,11 +21,12 @@ use Rattle.newt_script_session.specs.Session.{Session}
 use Rattle.newt_laws_steps.specs.Thrown.{RowsFailed, RowsThrew}
 use Rattle.newt_script_session.specs.declared.halt.Halt.{Halt}
 use Rattle.newt_script_session.specs.declared.halt.Halt.TheVariants.{Memory, Source, Sink, TooLong}
+use Rattle.newt_script_session.proofs.Acting.{acts_start, acts_took}
 use Rattle.newt_script_session.proofs.Crashing.{AtRest, crash_always, safe_here}
 use Rattle.newt_script_session.proofs.Cutting.{cut_append, left_append}
 use Rattle.newt_script_session.proofs.Feeding.{lines_from}
 use Rattle.newt_script_session.proofs.Progress.{Progress, answered_none, progress_more, ran_all, ran_halted}
-use Rattle.newt_script_session.proofs.Reading.{takes_append, takes_map, takes_more, takes_none}
+use Rattle.newt_script_session.proofs.Reading.{only_append, only_map, only_none, takes_more}
 use Rattle.newt_script_session.proofs.Replying.{commands_go, commands_none, commands_some, commands_stop, quit_go, quit_none, quit_stop}
 use Rattle.newt_script_session.proofs.Spelling.{script_items_are}
 use Rattle.newt_script_session.proofs.Throwing.{failed_same, threw_none, threw_same}
@@ -71,7 +72,7 @@ quits_later taken rest limit stop size =
 
 -- the input is read in time for a run that goes on
 pub in_time_more : (step : Stepping Whole) (world : Whole) (rows part : List (Row Whole)) (old now : Moment) → ReadsInTime step world rows old now → ReadsInTime step world (rows ++ part) old now
-in_time_more step world rows part old now r = takes_map (λ m s. record {
+in_time_more step world rows part old now r = only_map (λ m s. record {
   bytes = s.bytes;
   since = s.since;
   first = s.first;
@@ -93,6 +94,7 @@ pub record Going (step : Stepping Whole) (reads : List ℕ → Option Store) (wo
   pub threw : RowsThrew rows was is
   pub failed : RowsFailed rows was is
   pub in_time : ReadsInTime step world rows old now
+  pub acts : ActsInTime true rows old now
   pub moments : (start : Moment) (before : List Whole) → Untouched start before world old → Always (SafeAt true reads start before world (ended_items taken) rows (printed old)) old now
 
 module _ (step : Stepping Whole) (reads : List ℕ → Option Store) where
@@ -109,6 +111,7 @@ module _ (step : Stepping Whole) (reads : List ℕ → Option Store) where
     threw = threw_none was was (λ unit. refl);
     failed = λ unit none. refl;
     in_time = takes_start;
+    acts = acts_start true [] now;
     moments = λ start before u. subst (λ (i : List Item). Always (SafeAt true reads start before world i [] (printed now)) now now) (sym commands_none) (here (safe_here true reads start before world now (its start before u)));
   }
 
@@ -128,6 +131,7 @@ module _ (step : Stepping Whole) (reads : List ℕ → Option Store) where
         threw = threw_same g.rows was mid is counts g.threw;
         failed = failed_same g.rows was mid is counts g.failed;
         in_time = g.in_time;
+        acts = g.acts;
         moments = g.moments;
       })
 
@@ -160,6 +164,7 @@ module _ (step : Stepping Whole) (reads : List ℕ → Option Store) where
           out = a.put;
           no_quit = g.go;
         });
+        acts = acts_took true g.rows bytes old then g.acts;
         moments = λ start before u. let so_far = g.moments start before u in
             later_moment (Took bytes) then so_far (safe_took start before world (ended_items taken) g.rows (printed old) bytes then (Always-last so_far));
       })
@@ -179,7 +184,7 @@ module _ (step : Stepping Whole) (reads : List ℕ → Option Store) where
 
     -- which are still to be answered
     abbrev pub going_progress : Progress step true reads world (script_items script) Later (commands_of (lines_from line left)) had has old then was mid
-    going_progress = record { done = ended_items taken; split = items_left; rows = g.rows; run = g.run; answered = g.answered; threw = g.threw; failed = g.failed; moments = g.moments }
+    going_progress = record { done = ended_items taken; split = items_left; rows = g.rows; run = g.run; answered = g.answered; threw = g.threw; failed = g.failed; acts = g.acts; moments = g.moments }
 
     -- so far no more has been given
     abbrev pub going_given : Given step world (script_items script)
@@ -192,7 +197,7 @@ module _ (step : Stepping Whole) (reads : List ℕ → Option Store) where
     unfolding progress_more
     going_more piece rest Next begun more now is unread split go begun_is r =
         let p : Progress step true reads world (ended_items taken ++ commands_of (ended_lines line piece)) Later (commands_of (ended_lines line piece)) had has old then was mid =
-        record { done = ended_items taken; split = refl; rows = g.rows; run = g.run; answered = g.answered; threw = g.threw; failed = g.failed; moments = g.moments } in
+        record { done = ended_items taken; split = refl; rows = g.rows; run = g.run; answered = g.answered; threw = g.threw; failed = g.failed; acts = g.acts; moments = g.moments } in
         let q = progress_more step true reads world (ended_items taken ++ commands_of (ended_lines line piece)) Later (commands_of (ended_lines line piece)) had has old then was mid p
         (commands_of (ended_lines line piece)) [] (sym (append-nil (commands_of (ended_lines line piece)))) Next more now is r in
         let items_are : q.done ≡ ended_items (taken ++ piece) =
@@ -206,7 +211,8 @@ module _ (step : Stepping Whole) (reads : List ℕ → Option Store) where
           answered = q.answered;
           threw = q.threw;
           failed = q.failed;
-          in_time = takes_append (in_time_more step world g.rows r.given.rows old then g.in_time) (takes_none unread);
+          in_time = only_append (in_time_more step world g.rows r.given.rows old then g.in_time) (only_none unread);
+          acts = q.acts;
           moments = λ start before u. subst (λ (i : List Item). Always (SafeAt true reads start before world i q.rows (printed old)) old now) items_are (q.moments start before u);
         }
 
@@ -271,6 +277,7 @@ module _ {T : Type 0} (step : Stepping Whole) (reads : List ℕ → Option Store
       read = read;
       halted = lines result (r.halted refl);
       in_time = in_time;
+      acts = r.acts;
       threw = r.threw;
       failed = r.failed;
     };
@@ -293,6 +300,7 @@ module _ {T : Type 0} (step : Stepping Whole) (reads : List ℕ → Option Store
           read = tt;
           halted = some;
           in_time = g.in_time;
+          acts = g.acts;
           threw = g.threw;
           failed = g.failed;
         };
@@ -306,7 +314,7 @@ module _ (step : Stepping Whole) (reads : List ℕ → Option Store) (limit : �
   so_far = going_progress step reads world old.input taken left Later line had half old.now then old.dev_faults mid g
 
   in_time : (rows : List (Row Whole)) → ReadsInTime step world (g.rows ++ rows) old.now new.now
-  in_time rows = takes_append (in_time_more step world g.rows rows old.now then g.in_time) (takes_none unread)
+  in_time rows = only_append (in_time_more step world g.rows rows old.now then g.in_time) (only_none unread)
 
   -- the run was halted in the items that came next
   pub session_part : {T U : Type 0} (result : Result T Halt) (halt : Halt) → result ≡ Err halt → Ran step true reads {T = U} (Err halt) (world_behind world g.rows) Next part half has then new.now mid new.dev_faults

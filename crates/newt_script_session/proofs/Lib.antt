@@ -8,6 +8,7 @@ pub mod Throwing
 pub mod Replying
 pub mod Turning
 pub mod Crashing
+pub mod Acting
 pub mod Progress
 pub mod Obeying
 pub mod Feeding
@@ -19,3 +20,4 @@ pub mod Summing
 pub mod Beginning
 pub mod Plain
 mod Begun
+mod Acted

@@ -11,11 +11,13 @@ use Rattle.newt_spec_whole.specs.Whole.{Whole}
 use Rattle.newt_script_session.specs.Answered.{Given, Ran}
 use Rattle.newt_script_session.specs.Causes.{HasSinkCause}
 use Rattle.newt_script_session.specs.Moments.{SafeAt, Untouched}
+use Rattle.newt_script_session.specs.Reading.{ActsInTime}
 use Rattle.newt_script_session.specs.Run.{HaltedIn}
 use Rattle.newt_script_session.specs.Stream.{Puts, WroteSome, put_out}
 use Rattle.newt_laws_steps.specs.Thrown.{Failed, Threw}
 use Rattle.newt_script_session.specs.declared.halt.Halt.{Halt}
 use Rattle.newt_script_session.specs.declared.halt.Halt.TheVariants.{Memory, Source, Sink, TooLong}
+use Rattle.newt_script_session.proofs.Acting.{acts_printing, acts_quiet}
 use Rattle.newt_script_session.proofs.Crashing.{AnsweringItem, AtRest, answering_leaves, safe_answering, safe_writing, untouched_next, untouched_same}
 use Rattle.newt_script_session.proofs.Rows.{output_one}
 use Rattle.newt_script_session.proofs.Throwing.{failed_one, threw_one}
@@ -32,6 +34,9 @@ module _ (step : Stepping Whole) (shows : Bool) (reads : List ℕ → Option Sto
 
   quiet : printed then ≡ printed old
   quiet = (Always-last answering).quiet
+
+  item_acts : ActsInTime shows (row ∷ []) old then
+  item_acts = acts_quiet shows (row ∷ []) old then (Always-map (λ m a. a.quiet) answering)
 
   item_next : (start : Moment) (before : List Whole) → Untouched start before world old → Untouched start (world ∷ before) row.0 then
   item_next start before u = untouched_next reads start before world item row.0 old then u (Always-last answering)
@@ -64,6 +69,7 @@ module _ (step : Stepping Whole) (shows : Bool) (reads : List ℕ → Option Sto
     halted = λ yes. tt;
     threw = threw_one row was is threw;
     failed = failed_one row was is failed;
+    acts = acts_printing shows (row ∷ []) (put_out shows text) old then now item_acts puts.moments;
     moments = item_moments {T = U} {E = E} (Ok y) now its puts;
   }
 
@@ -84,6 +90,7 @@ module _ (step : Stepping Whole) (shows : Bool) (reads : List ℕ → Option Sto
             (subst (λ (before : List ℕ). WroteSome text before (printed now)) quiet (subst (λ (b : Bool). WroteSome (put_out b text) (printed then) (printed now)) yes puts.failed));
         threw = threw_one row was is threw;
         failed = failed_one row was is failed;
+        acts = acts_printing shows (row ∷ []) (put_out shows text) old then now item_acts puts.moments;
         moments = item_moments {T = U} {E = Halt} (Err halt) now its puts;
       })
 
@@ -95,5 +102,6 @@ module _ (step : Stepping Whole) (shows : Bool) (reads : List ℕ → Option Sto
     halted = λ yes. subst (λ (o : List ℕ). WroteSome (output_of (row ∷ [])) (printed old) o) (sym quiet) (wrote_nothing (output_of (row ∷ [])) (printed old));
     threw = threw_one row was is threw;
     failed = failed_one row was is failed;
+    acts = item_acts;
     moments = item_answering;
   }

@@ -7,12 +7,14 @@ use Rattle.newt_spec_store.specs.Store.{Store}
 use Rattle.newt_spec_whole.specs.Whole.{Whole}
 use Rattle.newt_script_session.specs.Answered.{Answered, Given, Ran}
 use Rattle.newt_script_session.specs.Moments.{SafeAt, Untouched, worlds_behind}
+use Rattle.newt_script_session.specs.Reading.{ActsInTime}
 use Rattle.newt_spec_script.specs.Rows.{IsRun, output_of, reply_texts, Row, Stepping, world_behind}
 use Rattle.newt_script_session.specs.Run.{HaltedIn}
 use Rattle.newt_script_session.specs.Stream.{WroteSome, put_out}
 use Rattle.newt_laws_steps.specs.Thrown.{RowsFailed, RowsThrew}
 use Rattle.newt_script_session.specs.declared.halt.Halt.{Halt}
 use Rattle.newt_script_session.specs.declared.halt.Halt.TheVariants.{Memory, Source, Sink, TooLong}
+use Rattle.newt_script_session.proofs.Acting.{acts_both, acts_start}
 use Rattle.newt_script_session.proofs.Crashing.{AtRest, none_put, both_put, safe_here, safe_more, safe_laters}
 use Rattle.newt_script_session.proofs.Rows.{behind_append, output_append, output_none, replies_append, run_append, run_length, worlds_append}
 use Rattle.newt_script_session.proofs.Throwing.{failed_both, threw_both, threw_none}
@@ -55,6 +57,7 @@ module _ (step : Stepping Whole) (shows : Bool) (reads : List ℕ → Option Sto
     pub answered : Answered shows world Later rows had has old now
     pub threw : RowsThrew rows was is
     pub failed : RowsFailed rows was is
+    pub acts : ActsInTime shows rows old now
     pub moments : (start : Moment) (before : List Whole) → Untouched start before world old → Always (SafeAt shows reads start before world done rows (printed old)) old now
 
   unfoldable pub progress_start : (world : Whole) (Now : Whole → Type 0) (all : List Item) (has : List (List ℕ) → Type 0) (now : Moment) (was : ℕ → ℕ) → Now world → AtRest reads world now → Progress world all Now all has has now now was was
@@ -66,6 +69,7 @@ module _ (step : Stepping Whole) (shows : Bool) (reads : List ℕ → Option Sto
     answered = answered_none shows world Now has now means;
     threw = threw_none was was (λ unit. refl);
     failed = λ unit none. refl;
+    acts = acts_start shows [] now;
     moments = λ start before u. here (safe_here shows reads start before world now (its start before u));
   }
 
@@ -113,6 +117,7 @@ module _ (step : Stepping Whole) (shows : Bool) (reads : List ℕ → Option Sto
           answered = answered_both shows world Later Next p.rows r.given.rows had has has_more old then now p.answered r.done.1;
           threw = threw_both p.rows r.given.rows was mid is p.threw r.threw;
           failed = failed_both p.rows r.given.rows was mid is p.failed r.failed;
+          acts = acts_both shows p.rows r.given.rows old then now p.answered.put p.acts r.acts;
           moments = progress_part r.given.first r.given.rows now r.moments;
         }
 
@@ -140,6 +145,7 @@ module _ (step : Stepping Whole) (shows : Bool) (reads : List ℕ → Option Sto
       halted = λ yes. halted_later yes r.given.rows (printed now) halt (r.halted yes);
       threw = threw_both p.rows r.given.rows was mid is p.threw r.threw;
       failed = failed_both p.rows r.given.rows was mid is p.failed r.failed;
+      acts = acts_both shows p.rows r.given.rows old then now p.answered.put p.acts r.acts;
       moments = progress_part r.given.first r.given.rows now r.moments;
     }
 
@@ -156,7 +162,7 @@ module _ (step : Stepping Whole) (shows : Bool) (reads : List ℕ → Option Sto
 
     -- memory was refused before more was
     pub ran_memory : {T : Type 0} (Last : Whole → Type 0) (has_more : List (List ℕ) → Type 0) → Ran step shows reads {T = T} (Err Memory) world Last all had has_more old now was is
-    ran_memory Last has_more = record { given = given_done; done = tt; halted = λ told. all_put told; threw = p.threw; failed = p.failed; moments = p.moments }
+    ran_memory Last has_more = record { given = given_done; done = tt; halted = λ told. all_put told; threw = p.threw; failed = p.failed; acts = p.acts; moments = p.moments }
       where
         all_put : IsTrue shows → WroteSome (output_of p.rows) (printed old) (printed now)
         all_put told = (
@@ -170,7 +176,7 @@ module _ (step : Stepping Whole) (shows : Bool) (reads : List ℕ → Option Sto
 
     -- all of them were
     unfoldable pub ran_all : {T : Type 0} (x : T) → rest ≡ [] → Ran step shows reads {T = T} (Ok x) world Later all had has old now was is
-    ran_all x none = record { given = given_done; done = (none, p.answered); halted = λ yes. tt; threw = p.threw; failed = p.failed; moments = p.moments }
+    ran_all x none = record { given = given_done; done = (none, p.answered); halted = λ yes. tt; threw = p.threw; failed = p.failed; acts = p.acts; moments = p.moments }
 
   -- no item was given
   pub ran_none : {T : Type 0} (x : T) (world : Whole) (Now : Whole → Type 0) (items : List Item) (has : List (List ℕ) → Type 0) (now : Moment) (was : ℕ → ℕ) → Now world → AtRest reads world now → items ≡ []
@@ -195,10 +201,10 @@ module _ (step : Stepping Whole) (shows : Bool) (reads : List ℕ → Option Sto
   pub ran_as : {T U : Type 0} (x : T) (y : U) (world : Whole) (Next : Whole → Type 0) (items same : List Item) (had has : List (List ℕ) → Type 0) (old now : Moment) (was is : ℕ → ℕ) → same ≡ items
       → Ran step shows reads {T = U} (Ok y) world Next items had has old now was is → Ran step shows reads {T = T} (Ok x) world Next same had has old now was is
   ran_as {T} x y world Next items same had has old now was is e r =
-      subst (λ (i : List Item). Ran step shows reads {T = T} (Ok x) world Next i had has old now was is) (sym e) (record { given = r.given; done = r.done; halted = λ yes. tt; threw = r.threw; failed = r.failed; moments = r.moments })
+      subst (λ (i : List Item). Ran step shows reads {T = T} (Ok x) world Next i had has old now was is) (sym e) (record { given = r.given; done = r.done; halted = λ yes. tt; threw = r.threw; failed = r.failed; acts = r.acts; moments = r.moments })
 
   pub ran_failed : {T U : Type 0} (result : Result T Halt) (halt : Halt) (world : Whole) (Next : Whole → Type 0) (items same : List Item) (had has : List (List ℕ) → Type 0) (old now : Moment) (was is : ℕ → ℕ) → result ≡ Err halt
       → same ≡ items → Ran step shows reads {T = U} (Err halt) world Next items had has old now was is → Ran step shows reads result world Next same had has old now was is
   ran_failed {T} result halt world Next items same had has old now was is ends e r =
       subst (λ (v : Result T Halt). Ran step shows reads v world Next same had has old now was is) (sym ends)
-      (subst (λ (i : List Item). Ran step shows reads {T = T} (Err halt) world Next i had has old now was is) (sym e) (record { given = r.given; done = tt; halted = r.halted; threw = r.threw; failed = r.failed; moments = r.moments }))
+      (subst (λ (i : List Item). Ran step shows reads {T = T} (Err halt) world Next i had has old now was is) (sym e) (record { given = r.given; done = tt; halted = r.halted; threw = r.threw; failed = r.failed; acts = r.acts; moments = r.moments }))

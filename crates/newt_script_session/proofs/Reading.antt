@@ -1,4 +1,4 @@
--- When the input is read.
+-- When the input is read, and what changes only at some moments.
 use Rattle.std.proofs.Common.{◌≡◌, ℕ, Bool, IsTrue, List, [], ◌∷◌, Option, Result, refl, sym, ◌∙◌, ap}
 use Rattle.newt_host.specs.Moments.{Moment, Always, here, later, Printed, Took, taken}
 use Rattle.newt_host.specs.Outside.{OnDevices, Outside, PrintsSome, printed}
@@ -10,7 +10,7 @@ use Rattle.newt_spec_script.specs.Rows.{Stepping}
 use Rattle.newt_spec_store.specs.Store.{Store}
 use Rattle.newt_spec_whole.specs.Whole.{Whole}
 use Rattle.newt_script_session.specs.Calls.{Unread}
-use Rattle.newt_script_session.specs.Reading.{TakesOnlyWhere, start, goes_on}
+use Rattle.newt_script_session.specs.Reading.{ChangesOnlyWhere, start, goes_on}
 use Rattle.newt_script_session.proofs.Writing.{prints_always}
 
 taken-printed : (bytes : List ℕ) (m : Moment) → taken (printed bytes m) ≡ taken m
@@ -38,20 +38,25 @@ unread_stepped on some stepped = record {
   moments = λ tells. let w = some tells in Always-map (λ m a. a.unread) (stepped tells w.0 w.1).moments;
 }
 
--- nothing is read
-pub takes_none : {P : Moment → Type 0} {old now : Moment} → Always (λ m. taken m ≡ taken old) old now → TakesOnlyWhere P old now
-takes_none (here same) = start
-takes_none (later event now so_far same) = goes_on event now (takes_none so_far) (λ grows. absurd (grows (same ∙ sym (Always-last so_far))))
+-- nothing of what is seen changes
+pub only_none : {A : Type 0} {seen : Moment → A} {P : Moment → Type 0} {old now : Moment} → Always (λ m. seen m ≡ seen old) old now → ChangesOnlyWhere seen P old now
+only_none (here same) = start
+only_none (later event now so_far same) = goes_on event now (only_none so_far) (λ differs. absurd (differs (same ∙ sym (Always-last so_far))))
 
-pub takes_append : {P : Moment → Type 0} {a b c : Moment} → TakesOnlyWhere P a b → TakesOnlyWhere P b c → TakesOnlyWhere P a c
-takes_append first start = first
-takes_append first (goes_on event now so_far due) = goes_on event now (takes_append first so_far) due
+-- P holds at each moment
+pub only_always : {A : Type 0} {seen : Moment → A} {P : Moment → Type 0} {old now : Moment} → Always P old now → ChangesOnlyWhere seen P old now
+only_always (here p) = start
+only_always (later event now so_far p) = goes_on event now (only_always so_far) (λ differs. Always-last so_far)
+
+pub only_append : {A : Type 0} {seen : Moment → A} {P : Moment → Type 0} {a b c : Moment} → ChangesOnlyWhere seen P a b → ChangesOnlyWhere seen P b c → ChangesOnlyWhere seen P a c
+only_append first start = first
+only_append first (goes_on event now so_far due) = goes_on event now (only_append first so_far) due
 
 -- each of them in turn
-pub takes_map : {P Q : Moment → Type 0} {old now : Moment} → ((m : Moment) → P m → Q m) → TakesOnlyWhere P old now → TakesOnlyWhere Q old now
-takes_map f start = start
-takes_map f (goes_on event now so_far due) = goes_on event now (takes_map f so_far) (λ grows. f now (due grows))
+pub only_map : {A : Type 0} {seen : Moment → A} {P Q : Moment → Type 0} {old now : Moment} → ((m : Moment) → P m → Q m) → ChangesOnlyWhere seen P old now → ChangesOnlyWhere seen Q old now
+only_map f start = start
+only_map f (goes_on event now so_far due) = goes_on event now (only_map f so_far) (λ differs. f now (due differs))
 
 -- the next bytes are taken where P holds
-pub takes_more : {P : Moment → Type 0} (bytes : List ℕ) {old now : Moment} → TakesOnlyWhere P old now → P now → TakesOnlyWhere P old (Took bytes ∷ now)
+pub takes_more : {P : Moment → Type 0} (bytes : List ℕ) {old now : Moment} → ChangesOnlyWhere taken P old now → P now → ChangesOnlyWhere taken P old (Took bytes ∷ now)
 takes_more bytes {now = now} so_far due = goes_on (Took bytes) now so_far (λ grows. due)

@@ -27,6 +27,7 @@ use Rattle.newt_script_session.specs.Script.{commands_of, given, items_of, scrip
 use Rattle.newt_script_session.specs.Stream.{Puts, WroteSome}
 use Rattle.newt_script_session.specs.declared.halt.Halt.{Halt}
 use Rattle.newt_script_session.specs.declared.tally.Tally.{Tally}
+use Rattle.newt_script_session.proofs.Acting.{acts_printing}
 use Rattle.newt_script_session.proofs.Crashing.{AtRest, counted_always, fresh_through, its_at, left_same, prints_changes}
 use Rattle.newt_script_session.proofs.Halting.{halted_quiet, halted_writing}
 use Rattle.newt_script_session.proofs.Rows.{run_length}
@@ -111,6 +112,7 @@ module _ (step : Stepping Whole) (reads : List ℕ → Option Store) (script : L
         halted = halted_quiet halt old mid r.given.rest (summary_of r.given.rows) (out_of old) (out_of mid) cause (quiet {T = U} (Err halt) Last had has r);
         threw = r.threw;
         failed = r.failed;
+        acts = r.acts;
         crash = counting {T = U} (Err halt) Last had has r;
       })
 
@@ -160,6 +162,7 @@ module _ (step : Stepping Whole) (reads : List ℕ → Option Store) (script : L
           out = on_ok_weaker result (λ e. (r.done.0, e ∙ ap (λ o. o ++ summary_of rows) same)) put.whole;
           threw = threw_same rows old.dev_faults mid.dev_faults new.dev_faults counts_same r.threw;
           failed = failed_same rows old.dev_faults mid.dev_faults new.dev_faults counts_same r.failed;
+          acts = acts_printing false rows (summary_of rows) old.now mid.now new.now r.acts put.moments;
           halted = halted_writing result mid new r.given.rest (summary_of rows) (out_of old) (out_of new) r.done.0 cause
               (subst (λ (o : List ℕ). OnErr result (WroteSome (summary_of rows) o (out_of new))) same put.failed);
           crash = Always-append (counting {T = T} (Ok x) Last (Tallies first) has r) (Always-map (λ m some. counted_last (summary_of rows) m some) put.moments);

@@ -8,6 +8,7 @@ use Rattle.newt_spec_whole.specs.Whole.{Whole}
 use Rattle.newt_script_session.specs.Causes.{flow_of}
 use Rattle.newt_script_session.specs.Lines.{ended_lines, unended}
 use Rattle.newt_script_session.specs.Moments.{SafeAt, Untouched, worlds_behind}
+use Rattle.newt_script_session.specs.Reading.{ActsInTime}
 use Rattle.newt_spec_script.specs.Rows.{IsRun, output_of, reply_texts, Row, Stepping, world_behind}
 use Rattle.newt_script_session.specs.Run.{HaltedIn}
 use Rattle.newt_script_session.specs.Script.{has_quit}
@@ -45,8 +46,8 @@ module _ (step : Stepping Whole) where
 
   module _ (shows : Bool) (store_of_image : List ℕ → Option Store) where
     -- The answering of items came to a result: all were given and answered, or it was halted in the
-    -- first ones; whatever it is, their replies tell the faults of devices, and a crash at each
-    -- moment leaves what it may.
+    -- first ones; whatever it is, their replies tell the faults of devices, nothing is done to one
+    -- while a reply is out in part, and a crash at each moment leaves what it may.
     pub record Ran {T : Type 0} (result : Result T Halt) (world : Whole)
         (StoodFor : Whole → Type 0) (items : List Item) (had has : List (List ℕ) → Type 0)
         (old now : Moment) (was is : ℕ → ℕ) : Type 0 where
@@ -57,6 +58,7 @@ module _ (step : Stepping Whole) where
           → IfErr result (λ halt. HaltedIn halt given.rows (printed old) (printed now))
       pub threw : RowsThrew given.rows was is
       pub failed : RowsFailed given.rows was is
+      pub acts : ActsInTime shows given.rows old now
       pub moments : (start : Moment) (before : List Whole) → Untouched start before world old
           → Always (SafeAt shows store_of_image start before world given.first given.rows
           (printed old)) old now

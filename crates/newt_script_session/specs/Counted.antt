@@ -1,12 +1,13 @@
 -- What a crash leaves at each moment of a script whose replies are counted. All of it is this
 -- project's own.
-use Rattle.std.specs.Prelude.{◌≡◌, ℕ, ◌<◌, List, [], ◌++◌, length, Option, Some, Result, OnOk, IfErr}
+use Rattle.std.specs.Prelude.{◌≡◌, ℕ, ◌<◌, false, List, [], ◌++◌, length, Option, Some, Result, OnOk, IfErr}
 use Rattle.newt_host.specs.Meanings.{out_of}
 use Rattle.newt_host.specs.Moments.{Moment, MayLeave, Always, output as printed}
 use Rattle.newt_host.specs.Outside.{Outside}
 use Rattle.newt_script_session.specs.Answered.{Given}
 use Rattle.newt_script_session.specs.Counts.{summary_of}
 use Rattle.newt_script_session.specs.Moments.{Behind}
+use Rattle.newt_script_session.specs.Reading.{ActsInTime}
 use Rattle.newt_spec_script.specs.Rows.{Row, Stepping}
 use Rattle.newt_script_session.specs.Run.{SummaryHalted}
 use Rattle.newt_script_session.specs.Script.{script_items}
@@ -44,8 +45,8 @@ pub record HasLeftCounted (store_of_image : List ℕ → Option Store) (world : 
       unit left
 
 -- The script was answered from this world on, by a run over its first items, and with an answer
--- over all, and the replies counted: what was written of the summary, and what a crash leaves at
--- each moment.
+-- over all, and the replies counted: what was written of the summary, that nothing was done to a
+-- device once a byte was out, and what a crash leaves at each moment.
 pub record Counted {T : Type 0} (step : Stepping Whole) (store_of_image : List ℕ → Option Store)
     (script : List ℕ) (result : Result T Halt) (world : Whole) (old new : Outside) : Type 0 where
   pub given : Given step world (script_items script)
@@ -54,5 +55,6 @@ pub record Counted {T : Type 0} (step : Stepping Whole) (store_of_image : List �
       (λ halt. SummaryHalted halt given.rest (summary_of given.rows) (out_of old) (out_of new))
   pub threw : RowsThrew given.rows old.dev_faults new.dev_faults
   pub failed : RowsFailed given.rows old.dev_faults new.dev_faults
+  pub acts : ActsInTime false given.rows old.now new.now
   pub crash : Always (CountedAt store_of_image old.now world (script_items script) given.rows
       (out_of old)) old.now new.now

@@ -1,15 +1,17 @@
--- When the input is read. All of it is this project's own.
-use Rattle.std.specs.Prelude.{◌≡◌, ◌≢◌, ℕ, false, List, ◌∷◌, ◌++◌}
-use Rattle.newt_host.specs.Moments.{Event, Moment, taken, output as printed}
+-- When the input is read, and when something is done to a device. All of it is this project's own.
+use Rattle.std.specs.Prelude.{◌≡◌, ◌≢◌, ℕ, Bool, false, List, ◌∷◌, ◌++◌}
+use Rattle.newt_host.specs.Moments.{Event, Moment, changes, taken, output as printed}
 use Rattle.newt_spec_whole.specs.Whole.{Whole}
 use Rattle.newt_spec_script.specs.Rows.{IsRun, output_of, Row, Stepping}
 use Rattle.newt_script_session.specs.Script.{ended_items, quits}
+use Rattle.newt_script_session.specs.Stream.{put_out}
 
--- From one moment to another, more of the input is only taken where P holds just before.
-pub data TakesOnlyWhere (P : Moment → Type 0) (old : Moment) : Moment → Type 0 where
-  start : TakesOnlyWhere P old old
-  goes_on : (event : Event) (now : Moment) → TakesOnlyWhere P old now
-      → (taken (event ∷ now) ≢ taken now → P now) → TakesOnlyWhere P old (event ∷ now)
+-- From one moment to another, what is seen of the outside only changes where P holds just before.
+pub data ChangesOnlyWhere {A : Type 0} (seen : Moment → A) (P : Moment → Type 0) (old : Moment)
+    : Moment → Type 0 where
+  start : ChangesOnlyWhere seen P old old
+  goes_on : (event : Event) (now : Moment) → ChangesOnlyWhere seen P old now
+      → (seen (event ∷ now) ≢ seen now → P now) → ChangesOnlyWhere seen P old (event ∷ now)
 
 module _ (step : Stepping Whole) where
   -- These bytes were taken since: the first of the rows are those of the lines that ended in them,
@@ -26,4 +28,17 @@ module _ (step : Stepping Whole) where
 
   -- The input is not read ahead of a reply that is due, and not behind a quit.
   abbrev pub ReadsInTime : Whole → List (Row Whole) → (old now : Moment) → Type 0
-  ReadsInTime world rows old now = TakesOnlyWhere (IsAnswered world rows old) old now
+  ReadsInTime world rows old now = ChangesOnlyWhere taken (IsAnswered world rows old) old now
+
+-- The replies to the first of the rows are out, each of them whole, and nothing else; where they are
+-- kept nothing is.
+pub record AreWhole (shows : Bool) (rows : List (Row Whole)) (old now : Moment) : Type 0 where
+  pub first : List (Row Whole)
+  pub more : List (Row Whole)
+  pub split : rows ≡ first ++ more
+  pub out : printed now ≡ printed old ++ put_out shows (output_of first)
+
+-- Nothing is done to a device while a reply is out in part.
+abbrev pub ActsInTime : Bool → List (Row Whole) → (old now : Moment) → Type 0
+ActsInTime shows rows old now =
+    (unit : ℕ) → ChangesOnlyWhere (changes unit) (AreWhole shows rows old) old now

@@ -1,5 +1,5 @@
 -- A script that is read from the input and answered. All of it is this project's own.
-use Rattle.std.specs.Prelude.{◌≡◌, ℕ, List, [], ◌++◌, Option, Result, OnOk, IfErr}
+use Rattle.std.specs.Prelude.{◌≡◌, ℕ, true, List, [], ◌++◌, Option, Result, OnOk, IfErr}
 use Rattle.newt_host.specs.Meanings.{out_of}
 use Rattle.newt_host.specs.Moments.{Always}
 use Rattle.newt_host.specs.Outside.{Outside}
@@ -7,7 +7,7 @@ use Rattle.newt_spec_store.specs.Store.{Store}
 use Rattle.newt_spec_whole.specs.Whole.{Whole}
 use Rattle.newt_script_session.specs.Answered.{Given}
 use Rattle.newt_script_session.specs.Moments.{CrashAt}
-use Rattle.newt_script_session.specs.Reading.{ReadsInTime}
+use Rattle.newt_script_session.specs.Reading.{ActsInTime, ReadsInTime}
 use Rattle.newt_spec_script.specs.Rows.{output_of, Stepping}
 use Rattle.newt_script_session.specs.Run.{Halted, IsReadThrough}
 use Rattle.newt_script_session.specs.Script.{script_items}
@@ -16,9 +16,9 @@ use Rattle.newt_script_session.specs.declared.halt.Halt.{Halt}
 
 -- The script of the input was answered from this world on, by a run over its first items, and with
 -- an answer over all: what was written, what was read, how far the run came where it was halted,
--- and, whatever the result is, that nothing was read ahead of a reply that was due, that the
--- replies that tell a fault of a device are at most as many as its faults that were counted, and that
--- where none tells one none was counted.
+-- and, whatever the result is, that nothing was read ahead of a reply that was due, that nothing was
+-- done to a device while a reply was out in part, that the replies that tell a fault of a device are
+-- at most as many as its faults that were counted, and that where none tells one none was counted.
 pub record Played {T : Type 0} (step : Stepping Whole) (limit : ℕ) (result : Result T Halt)
     (world : Whole) (old new : Outside) : Type 0 where
   pub given : Given step world (script_items old.input)
@@ -27,6 +27,7 @@ pub record Played {T : Type 0} (step : Stepping Whole) (limit : ℕ) (result : R
   pub halted : IfErr result (λ halt. Halted limit halt given.first given.rows old.input new.input
       (out_of old) (out_of new))
   pub in_time : ReadsInTime step world given.rows old.now new.now
+  pub acts : ActsInTime true given.rows old.now new.now
   pub threw : RowsThrew given.rows old.dev_faults new.dev_faults
   pub failed : RowsFailed given.rows old.dev_faults new.dev_faults
 

@@ -3,7 +3,7 @@ ghost use Rattle.std.specs.Prelude.{IsTrue, ◌≡◌, ℕ, ◌≤◌, None, len
 ghost use Rattle.newt_host_attach.specs.Named.{AreDistinct};
 ghost use Rattle.newt_script_session.specs.Calls.{Faults};
 ghost use Rattle.newt_script_session.specs.Causes.{HasCause, HasSinkCause};
-ghost use Rattle.newt_script_session.specs.Named.{CountedNamed, RanNamed};
+ghost use Rattle.newt_script_session.specs.Named.{AttachedFirst, CountedNamed, HasNamed, RanNamed};
 
 use crate::count::tally_script;
 use crate::halt::Halt;
@@ -26,6 +26,7 @@ pub fn run_named<H: Host, I: Interpreter>(
     requires free { (unit : ℕ) → (H.outside host.old).card unit ≡ None }
     ensures ran { IsTrue H.told → RanNamed I.step I.store_of_image limit result
         (map string_bytes names.now) (H.outside host.old) (H.outside host.new) }
+    ensures named { HasNamed (map string_bytes names.now) (H.outside host.new) }
     ensures faults { Faults HasCause result (H.outside host.old) (H.outside host.new) }
 {
     let Ok(mut interpreter) = I::new(alloc, host, names) else {
@@ -47,6 +48,9 @@ pub fn tally_named<H: Host, I: Interpreter>(
     requires free { (unit : ℕ) → (H.outside host.old).card unit ≡ None }
     ensures counted { IsTrue H.told → CountedNamed I.step I.store_of_image script.now result
         (map string_bytes names.now) (H.outside host.old) (H.outside host.new) }
+    ensures attached { IsTrue H.told → AttachedFirst (map string_bytes names.now)
+        (H.outside host.old) (H.outside host.new) }
+    ensures named { HasNamed (map string_bytes names.now) (H.outside host.new) }
     ensures left { (H.outside host.new).input ≡ (H.outside host.old).input }
     ensures faults { Faults HasSinkCause result (H.outside host.old) (H.outside host.new) }
 {

@@ -1,5 +1,6 @@
 -- Changes that add an entry.
 use Rattle.std.proofs.Common.{IsTrue, ◌≡◌, ◌≢◌, inl, inr, ℕ, ◌+◌, ◌<◌, ◌≤◌, ◌==◌, ◌&&◌, Bool, true, false, not, nat_le, nat_lt, List, [], ◌∷◌, map as map_list, Option, Some, None, sym, ◌∙◌, ap, subst, arith}
+use Rattle.std.specs.FinMap as map
 use Rattle.std.specs.Option.{is_some, is_none}
 use Rattle.std.proofs.lemmas.Bool.{and_parts}
 use Rattle.std.proofs.lemmas.Bool.Decides.{nat_tests}
@@ -32,7 +33,7 @@ use Rattle.newt_laws_changes.proofs.Lying.{added_lies}
 use Rattle.newt_laws_changes.proofs.Places.{above-is-not, odd-is-not, place-there}
 use Rattle.newt_laws_changes.proofs.Members.{in-below}
 use Rattle.newt_laws_images.proofs.Chosen.{soup-there, soup-good}
-use Rattle.newt_objects_commit.specs.Batch.{large_ids, new_pages}
+use Rattle.newt_objects_commit.specs.Batch.{put_or, large_ids, new_pages}
 use Rattle.newt_objects_commit.specs.declared.batch.NewEntry.{NewEntry}
 use Rattle.newt_objects_commit.specs.Names.{names_of, AreSoundNames}
 use Rattle.newt_objects_commit.specs.Places.{place_of, AreSoundPlaces}
@@ -42,7 +43,7 @@ use Rattle.newt_store.specs.declared.next.Next.{Next}
 use Rattle.newt_store.specs.declared.next.Gone.{Gone}
 use Rattle.newt_store.specs.declared.next.Gone.TheVariants.{Nothing}
 use Rattle.newt_store_change.specs.Change.{first_checks, is_too_large, has_no_ids, changed_soup, pages_of_entry}
-use Rattle.newt_store.specs.Next.{Goes, HasIdLeft, IsNew, LosesNames, IsGoing, Turns, IsAdding, IsPlanOf, goes_pages, replaced_pages}
+use Rattle.newt_store.specs.Next.{directory_after, written_bytes, Goes, HasIdLeft, IsNew, LosesNames, IsGoing, Turns, IsAdding, IsPlanOf, goes_pages, replaced_pages}
 use Rattle.newt_store_catalog.specs.Stands.{Describes}
 use Rattle.newt_store.proofs.Found.{soup-same, soup-some, emptied-some}
 use Rattle.newt_store.proofs.Ids.{is-none, free-in, free-names, are-larges, entry-pages}
@@ -116,14 +117,14 @@ module _ (catalog : Catalog) (s : Store) (sig : ℕ) (p : Soup) (found : soup_of
     turns-added = record {
       described = λ old new place names d are places named.
           let t : Store = change_soup p.name (add_entry now g) s in
-          let is : bare t ≡ bare_store next.directory = added_bare s sig p d.formed found now g ∙ ap (take_uid_of sig) d.bare_is ∙ sym adds.directory in
+          let is : bare t ≡ bare_store adds.directory = added_bare s sig p d.formed found now g ∙ ap (take_uid_of sig) d.bare_is ∙ sym adds.taken in
           let of = adds.of_graph in
-          describes next.directory new place names t
+          subst (λ (o : Option Directory). Describes (directory_after catalog.directory o) place names new t) (sym adds.is_directory) (describes adds.directory new place names t
           (added_lies sig adds.entry.id now (large_ids adds.entry) g old new place-now place names s p d.lies d.formed found graph time (record {
             odd = of.ids.odd;
             is_new = free-in catalog s places-sound names-sound old adds.entry.id d (odd-is-not adds.entry.id of.ids.odd) adds.free;
             are_new = λ o m. free-in catalog s places-sound names-sound old o d (above-is-not o (of.ids.even o m).1) (adds.larges_free o m);
-            head_is = are.directory ∙ ap Some (bytes-of next.directory t is);
+            head_is = are.directory ∙ ap (λ (o : Option Directory). put_or (written_bytes o) (map.get old 0)) adds.is_directory ∙ ap Some (bytes-of adds.directory t is);
             record_is = are.entry adds.entry adds.is_entry ∙ ap Some of.bytes;
             larges_are = are-larges new sig p.next_uid now g adds.entry of (λ l m. are.larges adds.entry l adds.is_entry m);
             others = λ o ne other unnamed. are.others o ne (λ e at same. other (sym same ∙ ap (λ (x : NewEntry). x.id) (same-entry e at)))
@@ -135,12 +136,13 @@ module _ (catalog : Catalog) (s : Store) (sig : ℕ) (p : Soup) (found : soup_of
               other_names = λ r ne. named.others r (λ loses. ne (add-loses r loses)) ∙ d.names_are r;
             };
           }))
-          (added_formed sig s p now g d.formed found room valid) is;
+          (added_formed sig s p now g d.formed found room valid) is);
       fresh = λ texts d e is.
           let same : e ≡ adds.entry = same-entry e is in
           inl (ap (λ (x : NewEntry). place-now x.sig x.uid) same ∙ ap (λ (n : ℕ). place-now n adds.entry.uid) adds.of_graph.of_sig ∙ ap (place-now sig) adds.of_graph.of_uid ∙ not-yet texts d);
       stays = λ texts d e is goes. goes-not e.sig e.uid goes;
-      bare_is = λ texts d. added_bare s sig p d.formed found now g ∙ ap (take_uid_of sig) d.bare_is ∙ sym adds.directory;
+      bare_is = λ texts d. added_bare s sig p d.formed found now g ∙ ap (take_uid_of sig) d.bare_is ∙ sym adds.taken
+          ∙ ap (λ (o : Option Directory). bare_store (directory_after catalog.directory o)) (sym adds.is_directory);
     }
 
 -- ---- an entry more
@@ -222,6 +224,7 @@ add-planned catalog texts s sig now g row next places-sound names-sound d is of_
       answer = adds.answer ∙ sym (ap next_uid_of p.1 ∙ p.2);
       turns = subst (λ (t : Store). Turns catalog next s t) (ap (λ (o : Option Soup). changed_soup o (add_entry now g) s) (sym p.1))
           (turns-added catalog s sig p.0 p.1 places-sound names-sound now g (skeleton-graph g graph) time room' (is-valid-graph p.0.next_uid now g graph frame short) next adds');
+      written = ap is_some adds.is_directory;
       added = added-pages catalog row.sig row.next_uid now g Nothing next adds;
       removed = ap (λ (n : ℕ). n + goes_pages next.gone s) (none-replaced catalog texts s sig p.0.next_uid now g Nothing next d adds' (not-yet catalog s sig p.0 p.1 texts d))
           ∙ none-over (goes_pages next.gone s) ∙ ap (λ (gone : Gone). goes_pages gone s) adds.of_gone;

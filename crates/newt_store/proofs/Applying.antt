@@ -12,7 +12,7 @@ use Rattle.newt_host.proofs.Moments.{Leaves-start, Leaves-weaken}
 use Rattle.newt_spec_image.specs.Pages.{cap}
 use Rattle.newt_pagebook.specs.Book.{Numbers, IsOpenFor}
 use Rattle.newt_spec_store.specs.Store.{Soup, Store, remove_entry, soup_of, without_index}
-use Rattle.newt_spec_store.specs.Cost.{cost, directory_pages, pages_bytes}
+use Rattle.newt_spec_store.specs.Cost.{cost, pages_bytes}
 use Rattle.newt_spec_store.specs.OfImage.{blocks_of}
 use Rattle.newt_spec_store.specs.Keys.{Path}
 use Rattle.newt_laws_changes.proofs.Costs.{dropped_cost, removed_cost}
@@ -25,7 +25,7 @@ use Rattle.newt_objects_commit.specs.Places.{place_of}
 use Rattle.newt_store_catalog.specs.declared.catalog.Catalog.{Catalog}
 use Rattle.newt_store_change.specs.declared.change.Change.{Change}
 use Rattle.newt_store_change.specs.declared.change.Change.TheVariants.{MakeSoup, DropSoup, Add, Remove, Move, Replace, Patch, AddIndex, DropIndex, SetTags, SetInfo}
-use Rattle.newt_store_change.specs.Change.{changed_by, first_checks, full_check, refusal_of, dropped_soup, changed_soup, pages_put, pages_gone, is_patch, bytes_of, most_bytes}
+use Rattle.newt_store_change.specs.Change.{pages_if, changed_by, first_checks, full_check, refusal_of, dropped_soup, changed_soup, pages_put, pages_gone, is_patch, bytes_of, most_bytes}
 use Rattle.newt_store.specs.declared.next.Next.{Next}
 use Rattle.newt_store.specs.Next.{IsEitherStore, IsPlanOf, goes_pages, replaced_pages, turn_bytes}
 use Rattle.newt_store_catalog.specs.Readable.{readable}
@@ -192,8 +192,8 @@ bytes-put (SetInfo sig info) now s other = refl
 planned-bytes : (catalog : Catalog) (change : Change) (blocks now : ℕ) (s : Store) (next : Next) → is_patch change ≡ false → IsPlanOf catalog change now s next → refusal_of change blocks now s ≡ None → turn_bytes next s (changed_by change now s) ≡ most_bytes change blocks now s
 unfolding most_bytes turn_bytes
 planned-bytes catalog change blocks now s next other plan none =
-    ap (pages_bytes (directory_pages (changed_by change now s) + new_pages next.entry)) (three (directory_pages s) (replaced_pages next.entry s) (goes_pages next.gone s))
-    ∙ (λ i. pages_bytes (directory_pages (changed_by change now s) + plan.added i) (directory_pages s + plan.removed i))
+    ap (pages_bytes (pages_if (is_some next.directory) (changed_by change now s) + new_pages next.entry)) (three (pages_if (is_some next.directory) s) (replaced_pages next.entry s) (goes_pages next.gone s))
+    ∙ (λ i. pages_bytes (pages_if (plan.written i) (changed_by change now s) + plan.added i) (pages_if (plan.written i) s + plan.removed i))
     ∙ sym (bytes-put change now s other)
     ∙ sym (ap (λ (o : Option Refusal). cond (is_some o) 0 (bytes_of change now s)) none) where
       three : (a b c : ℕ) → a + b + c ≡ a + (b + c)

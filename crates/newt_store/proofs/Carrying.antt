@@ -7,7 +7,7 @@ use Rattle.newt_host.proofs.Moments.{Leaves-start, Leaves-weaken}
 use Rattle.newt_spec_image.specs.Objects.{Extent, Table, Objects}
 use Rattle.newt_spec_image.specs.Pages.{cap}
 use Rattle.newt_objects.specs.Held.{held}
-use Rattle.newt_objects.specs.Changing.{HoldsObjects, total_pages}
+use Rattle.newt_objects.specs.Changing.{total_pages}
 use Rattle.newt_spec_store.specs.Store.{Store}
 use Rattle.newt_spec_store.specs.Cost.{cost}
 use Rattle.newt_spec_store.specs.Lies.{Places}
@@ -25,7 +25,7 @@ use Rattle.newt_objects_commit.proofs.Planning.{odd_even}
 use Rattle.newt_store.specs.declared.next.Gone.{Gone}
 use Rattle.newt_store.specs.declared.next.Gone.TheVariants.{Nothing, OneEntry, AllOf}
 use Rattle.newt_store.specs.declared.next.Next.{Next}
-use Rattle.newt_store.specs.Next.{Goes, GoesAt, LosesNames, IsGoing, IsNew, IsNextOf, AreNext, ArePlacesNext, AreNamesNext, Turns, WritesNext, HoldsEither, IsEitherStore, names_replaced, all_gone}
+use Rattle.newt_store.specs.Next.{Goes, GoesAt, LosesNames, IsGoing, IsNew, IsNextOf, AreNext, ArePlacesNext, AreNamesNext, Turns, WritesNext, HoldsEither, IsEitherStore, directory_after, names_replaced, all_gone}
 use Rattle.newt_store_catalog.specs.Readable.{readable}
 use Rattle.newt_store_catalog.specs.Stands.{Describes, StandsFor}
 use Rattle.newt_store.proofs.Reading.{read-back, total-cost, same-cap, keeps-same, keeps-all}
@@ -489,15 +489,15 @@ module _ (catalog : Catalog) (next : Next) (records : List ℕ) (places : AreSou
 
   -- the other store, wherever what the change writes is
   pub described-by : (place : Places) (new-names : Names) (after : Objects) → ArePlacesNext next (place_of catalog.places) place → AreNamesNext next (place_of catalog.places) (names_of catalog.names) new-names
-      → WritesNext next ids stands.texts after → Describes next.directory place new-names after t
+      → WritesNext next ids stands.texts after → Describes (directory_after catalog.directory next.directory) place new-names after t
   described-by place new-names after places-next names-next wrote =
       turns.described stands.texts after place new-names stands.describes (next-are next (place_of catalog.places) (names_of catalog.names) records are stands.texts after wrote) places-next names-next
 
-  described-after : (after : Objects) → WritesNext next ids stands.texts after → Describes next.directory (placed next (place_of catalog.places)) (renamed catalog next records places names is are) after t
+  described-after : (after : Objects) → WritesNext next ids stands.texts after → Describes (directory_after catalog.directory next.directory) (placed next (place_of catalog.places)) (renamed catalog next records places names is are) after t
   described-after after wrote = described-by (placed next (place_of catalog.places)) (renamed catalog next records places names is are) after (placed-next next (place_of catalog.places) stays) (renamed-next catalog next records places names is are) wrote
 
   pub cost-after : (after : Objects) → WritesNext next ids stands.texts after → total_pages after ≡ cost t
-  cost-after after wrote = total-cost next.directory (placed next (place_of catalog.places)) (renamed catalog next records places names is are) after t (described-after after wrote)
+  cost-after after wrote = total-cost (directory_after catalog.directory next.directory) (placed next (place_of catalog.places)) (renamed catalog next records places names is are) after t (described-after after wrote)
 
   either-store : (left : List ℕ) → HoldsEither now next ids stands.texts left → IsEitherStore now s t left
   either-store left e = ⊎_elim
@@ -505,7 +505,7 @@ module _ (catalog : Catalog) (next : Next) (records : List ℕ) (places : AreSou
       (keeps-same now left s was.1 stands.keeps)))
       (λ w.
       let low : cost t ≤ cap (blocks_of now) = subst (λ (n : ℕ). n ≤ cap (blocks_of now)) (cost-after w.0 w.2) w.3 in
-      inr (low, read-back next.directory (placed next (place_of catalog.places)) (renamed catalog next records places names is are) w.0 t left w.1 (described-after w.0 w.2) (same-cap now left (cost t) e.size low) (keeps-all left t w.4)))
+      inr (low, read-back (directory_after catalog.directory next.directory) (placed next (place_of catalog.places)) (renamed catalog next records places names is are) w.0 t left w.1 (described-after w.0 w.2) (same-cap now left (cost t) e.size low) (keeps-all left t w.4)))
       e.holds
 
   pub leaves-store : (unit : ℕ) (old new : Moment) → Leaves unit (HoldsEither now next ids stands.texts) old new → Leaves unit (IsEitherStore now s t) old new

@@ -168,14 +168,15 @@ module _ (catalog : Catalog) (texts : Objects) (s : Store) (d : Describes catalo
   unindex-no-soup paths none = first-holds NoSoup (is_none (soup_of sig s)) [] (ap not (some-as ∙ none))
 
   pub unindex-planned : (paths : List Path) (now : ℕ) (dir : Directory) → is_some (soup_of sig (bare_store catalog.directory)) ≡ true → bare_store dir ≡ change_soup_of sig (without_index paths) (bare_store catalog.directory)
-      → IsPlanOf catalog (DropIndex sig paths) now s (record { directory = dir; entry = None; gone = Nothing; answer = 0 })
+      → IsPlanOf catalog (DropIndex sig paths) now s (record { directory = Some dir; entry = None; gone = Nothing; answer = 0 })
   unindex-planned paths now dir some made =
       let w = the_some (soup_of sig s) (some-as ∙ some) in
       record {
         accepted = first-not NoSoup (is_none (soup_of sig s)) [] (ap not (some-as ∙ some));
         answer = refl;
-        turns = subst (λ (t : Store). Turns catalog (record { directory = dir; entry = None; gone = Nothing; answer = 0 }) s t) (ap (λ (o : Option Soup). changed_soup o (without_index paths) s) (sym w.1))
+        turns = subst (λ (t : Store). Turns catalog (record { directory = Some dir; entry = None; gone = Nothing; answer = 0 }) s t) (ap (λ (o : Option Soup). changed_soup o (without_index paths) s) (sym w.1))
             (turns-declared catalog s sig w.0 w.1 (without_index paths) (drops-index paths) (without-index paths w.0) (λ old. old) dir made);
+        written = refl;
         added = refl;
         removed = none-over _;
       }
@@ -186,14 +187,15 @@ module _ (catalog : Catalog) (texts : Objects) (s : Store) (d : Describes catalo
   tags-no-soup table none = first-holds NoSoup (is_none (soup_of sig s)) [] (ap not (some-as ∙ none))
 
   pub tags-planned : (table : TagTable) (now : ℕ) (dir : Directory) → valid_tags (Some table) ≡ true → is_some (soup_of sig (bare_store catalog.directory)) ≡ true
-      → bare_store dir ≡ change_soup_of sig (with_tags (Some table)) (bare_store catalog.directory) → IsPlanOf catalog (SetTags sig table) now s (record { directory = dir; entry = None; gone = Nothing; answer = 0 })
+      → bare_store dir ≡ change_soup_of sig (with_tags (Some table)) (bare_store catalog.directory) → IsPlanOf catalog (SetTags sig table) now s (record { directory = Some dir; entry = None; gone = Nothing; answer = 0 })
   tags-planned table now dir fits some made =
       let w = the_some (soup_of sig s) (some-as ∙ some) in
       record {
         accepted = first-not NoSoup (is_none (soup_of sig s)) [] (ap not (some-as ∙ some));
         answer = refl;
-        turns = subst (λ (t : Store). Turns catalog (record { directory = dir; entry = None; gone = Nothing; answer = 0 }) s t) (ap (λ (o : Option Soup). changed_soup o (with_tags (Some table)) s) (sym w.1))
+        turns = subst (λ (t : Store). Turns catalog (record { directory = Some dir; entry = None; gone = Nothing; answer = 0 }) s t) (ap (λ (o : Option Soup). changed_soup o (with_tags (Some table)) s) (sym w.1))
             (turns-declared catalog s sig w.0 w.1 (with_tags (Some table)) (sets-tags (Some table)) (with-tags (Some table) w.0 fits) (λ old. old) dir made);
+        written = refl;
         added = refl;
         removed = none-over _;
       }
@@ -219,15 +221,16 @@ module _ (catalog : Catalog) (texts : Objects) (s : Store) (d : Describes catalo
         info-large large = with-soup-there ∙ first-not BadInfo (is_bad_info info) ((Size, is_large_info info) ∷ []) good ∙ first-holds Size (is_large_info info) [] large
 
         pub info-planned : IfSome info IsGraph → is_large_info info ≡ false → (now : ℕ) (dir : Directory) → bare_store dir ≡ change_soup_of sig (with_info info) (bare_store catalog.directory)
-            → IsPlanOf catalog (SetInfo sig info) now s (record { directory = dir; entry = None; gone = Nothing; answer = 0 })
+            → IsPlanOf catalog (SetInfo sig info) now s (record { directory = Some dir; entry = None; gone = Nothing; answer = 0 })
         info-planned is short now dir made =
             let w = the_some (soup_of sig s) (some-as ∙ some) in
             record {
               accepted = with-soup-there ∙ first-not BadInfo (is_bad_info info) ((Size, is_large_info info) ∷ []) good ∙ first-not Size (is_large_info info) [] short;
               answer = refl;
-              turns = subst (λ (t : Store). Turns catalog (record { directory = dir; entry = None; gone = Nothing; answer = 0 }) s t) (ap (λ (o : Option Soup). changed_soup o (with_info info) s) (sym w.1))
+              turns = subst (λ (t : Store). Turns catalog (record { directory = Some dir; entry = None; gone = Nothing; answer = 0 }) s t) (ap (λ (o : Option Soup). changed_soup o (with_info info) s) (sym w.1))
                   (turns-declared catalog s sig w.0 w.1 (with_info info) (sets-info info) (with-info info w.0 (info-valid info is good short))
                   (λ old g e. subst (λ (o : Option RawGraph). IfSome o IsGraph) e is) dir made);
+              written = refl;
               added = refl;
               removed = none-over _;
             }
@@ -260,7 +263,7 @@ module _ (catalog : Catalog) (texts : Objects) (s : Store) (d : Describes catalo
             ∙ first-holds Limit (nat_le 16 (length row.specs)) [] many
 
         pub index-planned : (now : ℕ) (dir : Directory) → nat_le 16 (length row.specs) ≡ false → valid_spec spec ≡ true → bare_store dir ≡ change_soup_of sig (with_index spec) (bare_store catalog.directory)
-            → IsPlanOf catalog (AddIndex sig spec) now s (record { directory = dir; entry = None; gone = Nothing; answer = 0 })
+            → IsPlanOf catalog (AddIndex sig spec) now s (record { directory = Some dir; entry = None; gone = Nothing; answer = 0 })
         index-planned now dir few fits made =
             let p = the-soup.0 in
             let good : valid_soup p ≡ true → valid_soup (with_index spec p) ≡ true = valid-index spec p fits
@@ -269,8 +272,9 @@ module _ (catalog : Catalog) (texts : Objects) (s : Store) (d : Describes catalo
               accepted = with-a-soup ∙ first-not BadIndex (has_paths (paths_of spec) row.specs) ((Limit, nat_le 16 (length row.specs)) ∷ []) new
                   ∙ first-not Limit (nat_le 16 (length row.specs)) [] few;
               answer = refl;
-              turns = subst (λ (t : Store). Turns catalog (record { directory = dir; entry = None; gone = Nothing; answer = 0 }) s t) (ap (λ (o : Option Soup). changed_soup o (with_index spec) s) (sym the-soup.1))
+              turns = subst (λ (t : Store). Turns catalog (record { directory = Some dir; entry = None; gone = Nothing; answer = 0 }) s t) (ap (λ (o : Option Soup). changed_soup o (with_index spec) s) (sym the-soup.1))
                   (turns-declared catalog s sig p the-soup.1 (with_index spec) (adds-index spec) good (λ old. old) dir made);
+              written = refl;
               added = refl;
               removed = none-over _;
             }

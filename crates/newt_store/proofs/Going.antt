@@ -1,7 +1,7 @@
 -- How many pages the objects have that go.
 use Rattle.std.proofs.Common.{IsTrue, ◌≡◌, inl, inr, ℕ, ◌+◌, ◌*◌, ◌<◌, ◌||◌, Bool, true, false, List, [], ◌∷◌, map as map_list, flat_map, zip, length, sum, sum_by, Option, Some, None, refl, sym, ◌∙◌, ap, subst, arith, ⊎_elim}
 use Rattle.std.specs.List.{IsDistinct, AllByRecursion}
-use Rattle.std.specs.Option.{option_and_then, unwrap_or}
+use Rattle.std.specs.Option.{is_some, option_and_then, unwrap_or}
 use Rattle.std.specs.Set.{is_member}
 use Rattle.std.specs.FinMap as map
 use Rattle.std.proofs.lemmas.List.{length-map}
@@ -15,7 +15,7 @@ use Rattle.newt_objects.specs.Extents.{numbers_of}
 use Rattle.newt_objects.specs.Held.{Held, held}
 use Rattle.newt_spec_graph.specs.Lists.{Each, Pairs, Among}
 use Rattle.newt_spec_graph.proofs.Lists.{each-at, each-from, each-more, rises-pairs, pairs-map}
-use Rattle.newt_spec_store.specs.Cost.{directory_bytes, entry_pages, large_lengths, skeleton_length, directory_pages, pages_bytes}
+use Rattle.newt_spec_store.specs.Cost.{directory_bytes, entry_pages, large_lengths, skeleton_length, pages_bytes}
 use Rattle.newt_spec_store.specs.Image.{entry_bytes, larges}
 use Rattle.newt_spec_store.specs.Laid.{Named}
 use Rattle.newt_spec_store.specs.Lies.{Places, IsIn, AreLarges, HasLarge}
@@ -25,7 +25,8 @@ use Rattle.newt_laws_changes.specs.Written.{Names}
 use Rattle.newt_laws_images.proofs.Chosen.{soup-there, soup-good}
 use Rattle.newt_laws_changes.proofs.Members.{in-one, one-in}
 use Rattle.newt_soupdir.specs.Bare.{bare_store}
-use Rattle.newt_objects_commit.specs.Batch.{AreOnce, large_ids, pages_held, all_pages_held, new_pages, over_pages}
+use Rattle.newt_soupdir.specs.declared.rows.Directory.{Directory}
+use Rattle.newt_objects_commit.specs.Batch.{AreOnce, directory_over, directory_puts, large_ids, pages_held, all_pages_held, new_pages, over_pages}
 use Rattle.newt_objects_commit.specs.Names.{names_of, AreSoundNames}
 use Rattle.newt_objects_commit.specs.Commit.{AreKept}
 use Rattle.newt_objects_commit.specs.declared.batch.NewEntry.{NewEntry}
@@ -34,8 +35,8 @@ use Rattle.newt_store_catalog.specs.declared.catalog.Catalog.{Catalog}
 use Rattle.newt_store.specs.declared.next.Gone.{Gone}
 use Rattle.newt_store.specs.declared.next.Gone.TheVariants.{Nothing, OneEntry, AllOf}
 use Rattle.newt_store.specs.declared.next.Next.{Next}
-use Rattle.newt_store_change.specs.Change.{pages_of_entry, pages_of_soup}
-use Rattle.newt_store.specs.Next.{Goes, IsFree, IsNextOf, Turns, goes_pages, replaced_pages, names_replaced, all_gone, next_bytes, turn_bytes}
+use Rattle.newt_store_change.specs.Change.{pages_if, pages_of_entry, pages_of_soup}
+use Rattle.newt_store.specs.Next.{Goes, IsFree, IsNextOf, Turns, directory_after, goes_pages, replaced_pages, names_replaced, all_gone, next_bytes, turn_bytes, written_bytes}
 use Rattle.newt_store_catalog.specs.Stands.{StandsFor}
 use Rattle.newt_store.proofs.Carrying.{AreGone, no-object}
 use Rattle.newt_store.proofs.Entries.{found-at, no-entry-at}
@@ -279,13 +280,20 @@ module _ (told : Bool) (catalog : Catalog) (numbers : Numbers) (unit : ℕ) (out
       → next_bytes next catalog.objects (all_gone names-now records next.entry) ≡ turn_bytes next s t
   unfolding next_bytes turn_bytes
   bytes-turn next records t once are is turns =
-      let dir : pages_for (length (directory_bytes (bare_store next.directory))) ≡ directory_pages t = ap (λ (l : List ℕ). pages_for (length l)) (bytes-of next.directory t (turns.bare_is stands.texts stands.describes)) in
-      let zero-pages : pages_held catalog.objects 0 ≡ directory_pages s = has-pages 0 (directory_bytes s) stands.describes.lies.directory in
       let rest : all_pages_held catalog.objects (all_gone names-now records next.entry) ≡ goes_pages next.gone s + all_pages_held catalog.objects (names_replaced names-now next.entry) =
       sum_by-append (pages_held catalog.objects) (flat_map (λ r. r ∷ names-now r) records) (names_replaced names-now next.entry)
       ∙ ap (λ (n : ℕ). n + all_pages_held catalog.objects (names_replaced names-now next.entry)) (flat-weights (pages_held catalog.objects) names-now records ∙ gone-pages next.gone records once are) in
       let over = over-replaced next t is turns in
-      (λ i. pages_bytes (dir i + new_pages next.entry) (zero-pages i + over_pages catalog.objects next.entry + rest i))
-      ∙ ap (pages_bytes (directory_pages t + new_pages next.entry)) (turned (directory_pages s) _ _ _ _ over) where
+      (λ i. pages_bytes (puts next.directory refl i + new_pages next.entry) (lets next.directory i + over_pages catalog.objects next.entry + rest i))
+      ∙ ap (pages_bytes (pages_if (is_some next.directory) t + new_pages next.entry)) (turned (pages_if (is_some next.directory) s) _ _ _ _ over) where
         turned : (z o n g r : ℕ) → o + n ≡ r → z + o + (g + n) ≡ z + r + g
         turned z o n g r same = omega (arith, same)
+
+        puts : (o : Option Directory) → next.directory ≡ o → directory_puts (written_bytes o) ≡ pages_if (is_some o) t
+        puts None e = refl
+        puts (Some d) e = ap (λ (l : List ℕ). pages_for (length l))
+            (bytes-of d t (turns.bare_is stands.texts stands.describes ∙ ap (λ (o : Option Directory). bare_store (directory_after catalog.directory o)) e))
+
+        lets : (o : Option Directory) → directory_over catalog.objects (written_bytes o) ≡ pages_if (is_some o) s
+        lets None = refl
+        lets (Some d) = has-pages 0 (directory_bytes s) stands.describes.lies.directory

@@ -1,5 +1,6 @@
 -- An entry that is moved.
 use Rattle.std.proofs.Common.{◌≡◌, ◌≢◌, ◌⊎◌, inl, inr, ℕ, ◌+◌, ◌<◌, ◌||◌, Bool, true, false, not, [], ◌∷◌, Option, Some, None, refl, sym, ◌∙◌, ap, subst, arith}
+use Rattle.std.specs.FinMap as map
 use Rattle.std.specs.Option.{is_some, is_none, option_map}
 use Rattle.newt_base.specs.Refusals.{Checks, first_of}
 use Rattle.newt_base.specs.declared.Refusal.TheVariants.{Soup as NoSoup, Entry as NoEntry, Ids}
@@ -11,6 +12,7 @@ use Rattle.newt_spec_store.specs.Store.{Soup, Store, Entry, add_entry, remove_en
 use Rattle.newt_spec_store.specs.Laid.{bare}
 use Rattle.newt_spec_store.specs.Lies.{Places, IsIn}
 use Rattle.newt_soupdir.specs.Bare.{bare_soup, bare_store}
+use Rattle.newt_soupdir.specs.declared.rows.Directory.{Directory}
 use Rattle.newt_soupdir.specs.declared.rows.SoupRow.{SoupRow}
 use Rattle.newt_laws_changes.specs.Written.{Names}
 use Rattle.newt_laws_changes.proofs.Bare.{added_bare, removed_bare}
@@ -18,7 +20,7 @@ use Rattle.newt_laws_changes.proofs.Fresh.{moved_formed, in_valid}
 use Rattle.newt_laws_changes.proofs.Members.{in-below}
 use Rattle.newt_laws_changes.proofs.Moved.{moved_lies}
 use Rattle.newt_laws_changes.proofs.Places.{above-is-not, odd-is-not}
-use Rattle.newt_objects_commit.specs.Batch.{large_ids}
+use Rattle.newt_objects_commit.specs.Batch.{put_or, large_ids}
 use Rattle.newt_objects_commit.specs.declared.batch.NewEntry.{NewEntry}
 use Rattle.newt_objects_commit.specs.Names.{names_of, AreSoundNames}
 use Rattle.newt_objects_commit.specs.Places.{place_of, AreSoundPlaces}
@@ -28,7 +30,7 @@ use Rattle.newt_store.specs.declared.next.Next.{Next}
 use Rattle.newt_store.specs.declared.next.Gone.{Gone}
 use Rattle.newt_store.specs.declared.next.Gone.TheVariants.{OneEntry}
 use Rattle.newt_store_change.specs.Change.{first_checks, has_no_ids, moved_entry, pages_of_entry}
-use Rattle.newt_store.specs.Next.{Goes, GoesAt, IsNew, LosesNames, IsGoing, Turns, IsAdding, IsPlanOf, goes_pages}
+use Rattle.newt_store.specs.Next.{directory_after, written_bytes, Goes, GoesAt, IsNew, LosesNames, IsGoing, Turns, IsAdding, IsPlanOf, goes_pages}
 use Rattle.newt_store_catalog.specs.Stands.{Describes}
 use Rattle.newt_store.proofs.Found.{soup-some}
 use Rattle.newt_store.proofs.Ids.{free-in, free-names, are-larges}
@@ -78,16 +80,16 @@ module _ (catalog : Catalog) (s : Store) (places-sound : AreSoundPlaces (held ca
   pub turns-moved : Turns catalog next s moved
   turns-moved = record {
     described = λ old new place names d are places named.
-        let is : bare moved ≡ bare_store next.directory = removed_bare p.name uid (change_soup q.name (add_entry now e.graph) s) ∙ added_bare s target q d.formed goal now e.graph ∙ ap (take_uid_of target) d.bare_is ∙ sym adds.directory in
+        let is : bare moved ≡ bare_store adds.directory = removed_bare p.name uid (change_soup q.name (add_entry now e.graph) s) ∙ added_bare s target q d.formed goal now e.graph ∙ ap (take_uid_of target) d.bare_is ∙ sym adds.taken in
         let of = adds.of_graph in
-        describes next.directory new place names moved
+        subst (λ (o : Option Directory). Describes (directory_after catalog.directory o) place names new moved) (sym adds.is_directory) (describes adds.directory new place names moved
         (moved_lies source uid old-id target adds.entry.id now (large_ids adds.entry) e.graph old new place-now place names s p q d.lies d.formed found goal (d.lies.skeletons source e is_in) time room
         (in_valid s source e d.formed is_in q.next_uid now) (record {
           odd = of.ids.odd;
           is_new = free-in catalog s places-sound names-sound old adds.entry.id d (odd-is-not adds.entry.id of.ids.odd) adds.free;
           are_new = λ o m. free-in catalog s places-sound names-sound old o d (above-is-not o (of.ids.even o m).1) (adds.larges_free o m);
           was_placed = at;
-          head_is = are.directory ∙ ap Some (bytes-of next.directory moved is);
+          head_is = are.directory ∙ ap (λ (o : Option Directory). put_or (written_bytes o) (map.get old 0)) adds.is_directory ∙ ap Some (bytes-of adds.directory moved is);
           record_is = are.entry adds.entry adds.is_entry ∙ ap Some of.bytes;
           larges_are = are-larges new target q.next_uid now e.graph adds.entry of (λ l m. are.larges adds.entry l adds.is_entry m);
           is_gone = are.gone old-id (inl (source, uid, goes-so, at));
@@ -101,7 +103,7 @@ module _ (catalog : Catalog) (s : Store) (places-sound : AreSoundPlaces (held ca
           names_none = named.gone old-id (source, uid, goes-so, at);
           other_names = λ r new stays. named.others r (λ loses. elim (move-loses r loses) [ inl k ↦ stays k | inr k ↦ new k ]) ∙ d.names_are r;
         }))
-        (moved_formed source target uid s p q e now d.formed goal room is_in) is;
+        (moved_formed source target uid s p q e now d.formed goal room is_in) is);
     fresh = λ texts d x is.
         let same : x ≡ adds.entry = same-entry x is in
         inl (ap (λ (y : NewEntry). place-now y.sig y.uid) same ∙ ap (λ (n : ℕ). place-now n adds.entry.uid) adds.of_graph.of_sig ∙ ap (place-now target) adds.of_graph.of_uid ∙ not-yet catalog s target q goal texts d);
@@ -112,7 +114,8 @@ module _ (catalog : Catalog) (s : Store) (places-sound : AreSoundPlaces (held ca
         let here : uid ≡ q.next_uid = w.1 ∙ ap (λ (y : NewEntry). y.uid) same ∙ adds.of_graph.of_uid in
         let low : e.uid < q.next_uid = in-below s target q d.formed goal e (subst (λ (n : ℕ). IsIn s n e) there is_in) in
         absurd (omega (arith, low, of_uid, here));
-    bare_is = λ texts d. removed_bare p.name uid (change_soup q.name (add_entry now e.graph) s) ∙ added_bare s target q d.formed goal now e.graph ∙ ap (take_uid_of target) d.bare_is ∙ sym adds.directory;
+    bare_is = λ texts d. removed_bare p.name uid (change_soup q.name (add_entry now e.graph) s) ∙ added_bare s target q d.formed goal now e.graph ∙ ap (take_uid_of target) d.bare_is ∙ sym adds.taken
+        ∙ ap (λ (o : Option Directory). bare_store (directory_after catalog.directory o)) (sym adds.is_directory);
   }
 
 -- ---- refused, or planned
@@ -173,6 +176,7 @@ move-planned catalog texts s source uid target old-id now e row next places-soun
           (sym (ap (λ (o : Option Entry). moved_entry o (soup_of source s) (soup_of target s) now s) there ∙ ap (λ (o : Option Soup). moved_entry (Some e) o (soup_of target s) now s) p.1 ∙ ap (λ (o : Option Soup). moved_entry (Some e) (Some p.0) o now s) q.1
           ∙ ap (λ (n : ℕ). change_soup p.0.name (remove_entry n) (change_soup q.0.name (add_entry now e.graph) s)) of_uid))
           (turns-moved catalog s places-sound names-sound source uid target p.0 q.0 p.1 q.1 e is_in of_uid old-id at now time room' next adds');
+      written = ap is_some adds.is_directory;
       added = added-pages catalog row.sig row.next_uid now e.graph (OneEntry source uid) next adds
           ∙ sym (ap (λ (o : Option Entry). pages_of_entry (option_map (λ (e : Entry). let x : Entry = record { uid = next_uid_of (soup_of target s); time = now; graph = e.graph } in x) o)) there);
       removed = ap (λ (n : ℕ). n + goes_pages next.gone s) (none-replaced catalog texts s target q.0.next_uid now e.graph (OneEntry source uid) next d adds' (not-yet catalog s target q.0 q.1 texts d))

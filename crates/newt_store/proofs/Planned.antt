@@ -30,7 +30,7 @@ use Rattle.newt_objects_commit.specs.Places.{place_of}
 use Rattle.newt_store_catalog.specs.declared.catalog.Catalog.{Catalog}
 use Rattle.newt_store_change.specs.declared.change.Change.TheVariants.{MakeSoup, DropSoup, Remove}
 use Rattle.newt_store_change.specs.Change.{first_checks, dropped_soup, changed_soup}
-use Rattle.newt_store.specs.Next.{IsNextOf, IsPlanOf, Turns}
+use Rattle.newt_store.specs.Next.{IsNextOf, IsPlanOf, Turns, directory_after}
 use Rattle.newt_store_catalog.specs.Stands.{Describes}
 use Rattle.newt_store.proofs.Found.{named-some, soup-some, as-many, next-same, placed-entry, entry-placed}
 use Rattle.newt_store.proofs.Turning.{turns-made, turns-dropped, turns-removed, next-dropped, next-removed}
@@ -60,7 +60,7 @@ pub bare-bare : (d : Directory) → bare (bare_store d) ≡ bare_store d
 bare-bare d = ap (λ (soups : List Soup). let t : Store = record { name = d.name; sig = d.sig; next_soup = d.next_soup; soups = soups } in t) (bare-rows d.soups)
 
 -- what writes no entry
-pub next-plain : (catalog : Catalog) (dir : Directory) (gone : Gone) (a : ℕ) → IsTrue (well_formed (bare_store dir)) → IsNextOf catalog (record { directory = dir; entry = None; gone = gone; answer = a })
+pub next-plain : (catalog : Catalog) (dir : Option Directory) (gone : Gone) (a : ℕ) → IsTrue (well_formed (bare_store (directory_after catalog.directory dir))) → IsNextOf catalog (record { directory = dir; entry = None; gone = gone; answer = a })
 next-plain catalog dir gone a formed = record { formed = formed; ids = λ e isnt. absurd (none-some isnt); free = λ e isnt. absurd (none-some isnt); larges_free = λ e o isnt. absurd (none-some isnt) }
 
 -- and reads none
@@ -80,7 +80,7 @@ pub drop-refused : (catalog : Catalog) (texts : Objects) (s : Store) (sig : ℕ)
 drop-refused catalog texts s sig d none = first-holds NoSoup (is_none (soup_of sig s)) [] (ap not (soup-some catalog.directory (place_of catalog.places) (names_of catalog.names) texts s d sig ∙ none))
 
 pub drop-planned : (catalog : Catalog) (texts : Objects) (s : Store) (sig now : ℕ) (dir : Directory) → Describes catalog.directory (place_of catalog.places) (names_of catalog.names) texts s → is_some (soup_of sig (bare_store catalog.directory)) ≡ true
-    → bare_store dir ≡ without_soup sig (bare_store catalog.directory) → IsPlanOf catalog (DropSoup sig) now s (record { directory = dir; entry = None; gone = AllOf sig; answer = 0 })
+    → bare_store dir ≡ without_soup sig (bare_store catalog.directory) → IsPlanOf catalog (DropSoup sig) now s (record { directory = Some dir; entry = None; gone = AllOf sig; answer = 0 })
 drop-planned catalog texts s sig now dir d some dropped =
     let is : is_some (soup_of sig s) ≡ true = soup-some catalog.directory (place_of catalog.places) (names_of catalog.names) texts s d sig ∙ some in
     let w = the_some (soup_of sig s) is in
@@ -88,6 +88,7 @@ drop-planned catalog texts s sig now dir d some dropped =
       accepted = first-not NoSoup (is_none (soup_of sig s)) [] (ap not is);
       answer = refl;
       turns = subst (λ (t : Store). Turns catalog (next-dropped catalog s sig w.0 w.1 dir 0 dropped) s t) (ap (λ (o : Option Soup). dropped_soup o s) (sym w.1)) (turns-dropped catalog s sig w.0 w.1 dir 0 dropped);
+      written = refl;
       added = refl;
       removed = none-over _;
     }
@@ -116,10 +117,10 @@ remove-no-entry catalog texts s sig uid d some none =
     first-not NoSoup (is_none (soup_of sig s)) ((NoEntry, is_none (entry_at sig uid s)) ∷ []) (ap not (soup-some catalog.directory (place_of catalog.places) (names_of catalog.names) texts s d sig ∙ some))
     ∙ first-holds NoEntry (is_none (entry_at sig uid s)) [] (ap not (no-entry catalog.directory (place_of catalog.places) (names_of catalog.names) texts s sig uid d none))
 
-pub remove-planned : (catalog : Catalog) (texts : Objects) (s : Store) (sig uid now : ℕ) (dir : Directory) → Describes catalog.directory (place_of catalog.places) (names_of catalog.names) texts s → is_some (soup_of sig (bare_store catalog.directory)) ≡ true
-    → is_some (place_of catalog.places sig uid) ≡ true → bare_store dir ≡ bare_store catalog.directory
-    → IsPlanOf catalog (Remove sig uid) now s (record { directory = dir; entry = None; gone = OneEntry sig uid; answer = 0 })
-remove-planned catalog texts s sig uid now dir d some placed same =
+pub remove-planned : (catalog : Catalog) (texts : Objects) (s : Store) (sig uid now : ℕ) → Describes catalog.directory (place_of catalog.places) (names_of catalog.names) texts s → is_some (soup_of sig (bare_store catalog.directory)) ≡ true
+    → is_some (place_of catalog.places sig uid) ≡ true
+    → IsPlanOf catalog (Remove sig uid) now s (record { directory = None; entry = None; gone = OneEntry sig uid; answer = 0 })
+remove-planned catalog texts s sig uid now d some placed =
     let is : is_some (soup_of sig s) ≡ true = soup-some catalog.directory (place_of catalog.places) (names_of catalog.names) texts s d sig ∙ some in
     let w = the_some (soup_of sig s) is in
     let at = the_some (place_of catalog.places sig uid) placed in
@@ -127,7 +128,8 @@ remove-planned catalog texts s sig uid now dir d some placed same =
       accepted = first-not NoSoup (is_none (soup_of sig s)) ((NoEntry, is_none (entry_at sig uid s)) ∷ []) (ap not is)
           ∙ first-not NoEntry (is_none (entry_at sig uid s)) [] (ap not (an-entry catalog.directory (place_of catalog.places) (names_of catalog.names) texts s sig uid d placed));
       answer = refl;
-      turns = subst (λ (t : Store). Turns catalog (next-removed catalog s sig w.0 w.1 uid at.0 dir 0 same at.1) s t) (ap (λ (o : Option Soup). changed_soup o (remove_entry uid) s) (sym w.1)) (turns-removed catalog s sig w.0 w.1 uid at.0 dir 0 same at.1);
+      turns = subst (λ (t : Store). Turns catalog (next-removed catalog s sig w.0 w.1 uid at.0 0 at.1) s t) (ap (λ (o : Option Soup). changed_soup o (remove_entry uid) s) (sym w.1)) (turns-removed catalog s sig w.0 w.1 uid at.0 0 at.1);
+      written = refl;
       added = refl;
       removed = none-over _;
     }
@@ -162,7 +164,7 @@ below-last s w e = let r = is-store s w in omega (arith, r.next, e)
 
 pub make-planned : (catalog : Catalog) (texts : Objects) (s : Store) (name : List ℕ) (now a : ℕ) (dir : Directory) → Describes catalog.directory (place_of catalog.places) (names_of catalog.names) texts s → IsTrue (is_name name)
     → is_some (soup_named name (bare_store catalog.directory)) ≡ false → nat_le 250 (length catalog.directory.soups) ≡ false → catalog.directory.next_soup ≢ 65535 → bare_store dir ≡ make_soup name (bare_store catalog.directory) → a ≡ catalog.directory.next_soup
-    → IsPlanOf catalog (MakeSoup name) now s (record { directory = dir; entry = None; gone = Nothing; answer = a })
+    → IsPlanOf catalog (MakeSoup name) now s (record { directory = Some dir; entry = None; gone = Nothing; answer = a })
 make-planned catalog texts s name now a dir d good none few last made answer =
     let p = place_of catalog.places in
     let new : soup_named name s ≡ None = none_is (soup_named name s) (named-some catalog.directory p (names_of catalog.names) texts s d name ∙ none) in
@@ -174,6 +176,7 @@ make-planned catalog texts s name now a dir d good none few last made answer =
           ∙ first-not Ids (s.next_soup == 65_535) [] (not-last s.next_soup next);
       answer = answer ∙ sym (next-same catalog.directory p (names_of catalog.names) texts s d);
       turns = turns-made catalog s name dir a made good new room (below-last s d.formed next);
+      written = refl;
       added = refl;
       removed = none-over _;
     }

@@ -20,7 +20,6 @@ use Rattle.newt_spec_store.specs.Lies.{Places}
 use Rattle.newt_spec_store.specs.Store.{Soup, Store, Entry, entry_of, change_soup, change_entry, soup_of, entry_at, with_graph}
 use Rattle.newt_spec_store.specs.Valid.{well_formed, valid_entry}
 use Rattle.newt_soupdir.specs.Bare.{bare_store}
-use Rattle.newt_soupdir.specs.declared.rows.Directory.{Directory}
 use Rattle.newt_laws_images.proofs.Skeletons.{skeleton-graph}
 use Rattle.newt_laws_changes.specs.Written.{Names}
 use Rattle.newt_laws_changes.proofs.Lying.{either-way}
@@ -43,7 +42,7 @@ use Rattle.newt_store.proofs.Adding.{is-valid-graph, small-is}
 use Rattle.newt_store.proofs.Found.{soup-some, placed-entry, entry-placed}
 use Rattle.newt_store.proofs.Ids.{free-in, are-larges, entry-pages}
 use Rattle.newt_store.proofs.Planned.{first-holds, first-not, no-entry, an-entry}
-use Rattle.newt_store.proofs.Turning.{bytes-of, describes, is-named, named-is, lies-over}
+use Rattle.newt_store.proofs.Turning.{describes, is-named, named-is, lies-over}
 
 -- ---- the store with another graph in the entry's place
 
@@ -65,7 +64,7 @@ kept-place place e sig uid id of_sig of_uid of_id at = ap (λ (n : ℕ). place n
 module _ (catalog : Catalog) (s : Store) (places-sound : AreSoundPlaces (held catalog.objects) (place_of catalog.places)) (names-sound : AreSoundNames (held catalog.objects) (names_of catalog.names))
     (sig uid : ℕ) (p : Soup) (found : soup_of sig s ≡ Some p) (old : Entry) (here : entry_of uid p ≡ Some old) (id : ℕ) (at : place_of catalog.places sig uid ≡ Some id)
     (now : ℕ) (g : RawGraph) (graph : IsGraph (skeleton g)) (time : now < 4294967296) (valid : valid_entry (record { uid = uid; time = now; graph = g }) ≡ true)
-    (dir : Directory) (same : bare_store dir ≡ bare_store catalog.directory) (e : NewEntry) (of : IsEntryOf sig uid now g e) (of_id : e.id ≡ id) (free : (o : ℕ) → Among (large_ids e) o → held catalog.objects o ≡ None) where
+    (e : NewEntry) (of : IsEntryOf sig uid now g e) (of_id : e.id ≡ id) (free : (o : ℕ) → Among (large_ids e) o → held catalog.objects o ≡ None) where
   abbrev place-now : Places
   place-now = place_of catalog.places
 
@@ -73,7 +72,7 @@ module _ (catalog : Catalog) (s : Store) (places-sound : AreSoundPlaces (held ca
   names-now = names_of catalog.names
 
   abbrev pub next-replaced : Next
-  next-replaced = record { directory = dir; entry = Some e; gone = Nothing; answer = 0 }
+  next-replaced = record { directory = None; entry = Some e; gone = Nothing; answer = 0 }
 
   abbrev then : Store
   then = replaced p.name uid now g s
@@ -100,10 +99,10 @@ module _ (catalog : Catalog) (s : Store) (places-sound : AreSoundPlaces (held ca
   replace-goes before d o unnamed (inr (r, loses, m)) = unnamed (subst (λ (n : ℕ). Among (d.lies.named n) o) (replace-loses r loses) (named-is catalog.directory place-now names-now before s d r o m))
 
   -- and no other object
-  others : (before after : Objects) (d : Describes catalog.directory place-now names-now before s) → AreNext next-replaced place-now names-now before after → map.get after 0 ≡ map.get before 0
+  others : (before after : Objects) (d : Describes catalog.directory place-now names-now before s) → AreNext next-replaced place-now names-now before after
       → (o : ℕ) → o ≢ id → (Among (large_ids e) o → ⊥) → (Among (d.lies.named id) o → ⊥) → map.get after o ≡ map.get before o
-  others before after d are head o ne new unnamed = ⊎_elim
-      (λ (z : o ≡ 0). ap (map.get after) z ∙ head ∙ ap (map.get before) (sym z))
+  others before after d are o ne new unnamed = ⊎_elim
+      (λ (z : o ≡ 0). ap (map.get after) z ∙ are.directory ∙ ap (map.get before) (sym z))
       (λ (nz : o ≢ 0). are.others o nz (λ x is eq. ne (sym eq ∙ ap (λ (y : NewEntry). y.id) (sym (some_inj e x is)) ∙ of_id))
       (λ x is m. new (subst (λ (y : NewEntry). Among (large_ids y) o) (sym (some_inj e x is)) m)) (replace-goes before d o unnamed))
       (cases_eq o 0)
@@ -114,9 +113,7 @@ module _ (catalog : Catalog) (s : Store) (places-sound : AreSoundPlaces (held ca
   pub turns-replaced : Turns catalog next-replaced s then
   turns-replaced = record {
     described = λ before after place names d are places named.
-        let is : bare then ≡ bare_store dir = replaced-bare p.name uid now g s ∙ d.bare_is ∙ sym same in
-        let head : map.get after 0 ≡ map.get before 0 = are.directory ∙ ap Some (bytes-of dir s (d.bare_is ∙ sym same)) ∙ sym d.lies.directory in
-        describes dir after place names then
+        describes catalog.directory after place names then
         (lies-over after place-now place names then (same-places place places)
         (replaced_lies sig uid id (large_ids e) (with_graph now g) before after place-now names s p old d.lies d.formed found here refl graph time (record {
           is_placed = at;
@@ -124,16 +121,16 @@ module _ (catalog : Catalog) (s : Store) (places-sound : AreSoundPlaces (held ca
           record_is = ap (map.get after) (sym of_id) ∙ are.entry e refl ∙ ap Some (of.bytes ∙ text-of);
           larges_are = are-larges after sig uid now g e of (λ l m. are.larges e l refl m);
           are_gone = λ o m. are.gone o (inr (id, inr (e, refl, of_id), is-named catalog.directory place-now names-now before s d id o m));
-          others = others before after d are head;
+          others = others before after d are;
           names_are = record {
             names_it = ap names (sym of_id) ∙ named.entry e refl;
             other_names = λ r ne. named.others r (λ loses. ne (replace-loses r loses)) ∙ d.names_are r;
           };
         })))
-        (replaced-formed p.name uid now g s d.formed valid) is;
+        (replaced-formed p.name uid now g s d.formed valid) (replaced-bare p.name uid now g s ∙ d.bare_is);
     fresh = λ texts d x is. inr (subst (λ (y : NewEntry). place-now y.sig y.uid ≡ Some y.id) (some_inj e x is) its-place);
     stays = λ texts d x is goes. goes;
-    bare_is = λ texts d. replaced-bare p.name uid now g s ∙ d.bare_is ∙ sym same;
+    bare_is = λ texts d. replaced-bare p.name uid now g s ∙ d.bare_is;
   }
 
 -- ---- refused, or planned
@@ -175,22 +172,23 @@ module _ (catalog : Catalog) (texts : Objects) (s : Store) (d : Describes catalo
 no-more : (n : ℕ) → n + 0 ≡ n
 no-more n = omega arith
 
-pub replace-planned : (catalog : Catalog) (texts : Objects) (s : Store) (sig uid id now : ℕ) (g : RawGraph) (dir : Directory) (e : NewEntry) → AreSoundPlaces (held catalog.objects) (place_of catalog.places)
+pub replace-planned : (catalog : Catalog) (texts : Objects) (s : Store) (sig uid id now : ℕ) (g : RawGraph) (e : NewEntry) → AreSoundPlaces (held catalog.objects) (place_of catalog.places)
     → AreSoundNames (held catalog.objects) (names_of catalog.names) → Describes catalog.directory (place_of catalog.places) (names_of catalog.names) texts s
-    → is_some (soup_of sig (bare_store catalog.directory)) ≡ true → place_of catalog.places sig uid ≡ Some id → bare_store dir ≡ bare_store catalog.directory → IsEntryOf sig uid now g e → e.id ≡ id
+    → is_some (soup_of sig (bare_store catalog.directory)) ≡ true → place_of catalog.places sig uid ≡ Some id → IsEntryOf sig uid now g e → e.id ≡ id
     → ((o : ℕ) → Among (large_ids e) o → held catalog.objects o ≡ None) → IsGraph g → now < 4294967296 → is_frame (object g.nodes g.root) ≡ true → is_too_large g ≡ false
-    → IsPlanOf catalog (Replace sig uid g) now s (record { directory = dir; entry = Some e; gone = Nothing; answer = 0 })
-replace-planned catalog texts s sig uid id now g dir e places-sound names-sound d some at same of of_id free graph time frame fits =
+    → IsPlanOf catalog (Replace sig uid g) now s (record { directory = None; entry = Some e; gone = Nothing; answer = 0 })
+replace-planned catalog texts s sig uid id now g e places-sound names-sound d some at of of_id free graph time frame fits =
     let place = place_of catalog.places in
     let there = placed-entry catalog.directory place (names_of catalog.names) texts s d sig uid id at in
     let in_soup = entry-placed catalog.directory place (names_of catalog.names) texts s d sig uid there.0 there.1 in
     let valid = is-valid-graph uid now g graph frame (small-is g fits) in
-    let turns = turns-replaced catalog s places-sound names-sound sig uid in_soup.0 in_soup.1 there.0 in_soup.2 id at now g (skeleton-graph g graph) time valid dir same e of of_id free in
+    let turns = turns-replaced catalog s places-sound names-sound sig uid in_soup.0 in_soup.1 there.0 in_soup.2 id at now g (skeleton-graph g graph) time valid e of of_id free in
     record {
       accepted = replace-accepted catalog texts s d sig uid g some (ap is_some at) frame fits;
       answer = refl;
-      turns = subst (λ (t : Store). Turns catalog (record { directory = dir; entry = Some e; gone = Nothing; answer = 0 }) s t)
+      turns = subst (λ (t : Store). Turns catalog (record { directory = None; entry = Some e; gone = Nothing; answer = 0 }) s t)
           (ap (λ (o : Option Soup). changed_soup o (change_entry uid (with_graph now g)) s) (sym in_soup.1)) turns;
+      written = refl;
       added = entry-pages sig uid now g e of
           ∙ ap (λ (n : ℕ). let x : Entry = record { uid = n; time = now; graph = g } in entry_pages x) (sym there.3)
           ∙ sym (ap (λ (o : Option Entry). pages_of_entry (option_map (with_graph now g) o)) there.1);

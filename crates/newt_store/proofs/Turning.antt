@@ -52,7 +52,7 @@ module _ (directory : Directory) (place : Places) (names : Names) (old : Objects
 -- ---- other words in the directory alone
 
 abbrev pub next-alone : Directory → ℕ → Next
-next-alone dir a = record { directory = dir; entry = None; gone = Nothing; answer = a }
+next-alone dir a = record { directory = Some dir; entry = None; gone = Nothing; answer = a }
 
 loses-nothing : (dir : Directory) (a : ℕ) (place : Places) (r : ℕ) → LosesNames (next-alone dir a) place r → ⊥
 loses-nothing dir a place r (inl (t, u, goes, at)) = goes
@@ -116,7 +116,7 @@ module _ (catalog : Catalog) (s : Store) where
 
     module _ (dir : Directory) (a : ℕ) (dropped : bare_store dir ≡ without_soup sig (bare_store catalog.directory)) where
       abbrev pub next-dropped : Next
-      next-dropped = record { directory = dir; entry = None; gone = AllOf sig; answer = a }
+      next-dropped = record { directory = Some dir; entry = None; gone = AllOf sig; answer = a }
 
       drop-loses : (r : ℕ) → ((u : ℕ) → old-place sig u ≡ Some r → ⊥) → LosesNames next-dropped old-place r → ⊥
       drop-loses r away (inl (t, u, goes, at)) = away u (ap (λ (n : ℕ). old-place n u) goes ∙ at)
@@ -151,9 +151,9 @@ module _ (catalog : Catalog) (s : Store) where
 
     -- ---- an entry less
 
-    module _ (uid id : ℕ) (dir : Directory) (a : ℕ) (same : bare_store dir ≡ bare_store catalog.directory) (at : old-place sig uid ≡ Some id) where
+    module _ (uid id a : ℕ) (at : old-place sig uid ≡ Some id) where
       abbrev pub next-removed : Next
-      next-removed = record { directory = dir; entry = None; gone = OneEntry sig uid; answer = a }
+      next-removed = record { directory = None; entry = None; gone = OneEntry sig uid; answer = a }
 
       remove-loses : (r : ℕ) → r ≢ id → LosesNames next-removed old-place r → ⊥
       remove-loses r ne (inl (t, u, goes, there)) = ne (some_inj r id (sym there ∙ ap (λ (n : ℕ). old-place n u) (sym goes.0) ∙ ap (old-place sig) (sym goes.1) ∙ at))
@@ -168,14 +168,12 @@ module _ (catalog : Catalog) (s : Store) where
       turns-removed = record {
         described = λ old now place names d are places named.
             let t : Store = change_soup p.name (remove_entry uid) s in
-            let is : bare t ≡ bare_store dir = removed_bare p.name uid s ∙ d.bare_is ∙ sym same in
-            let head : map.get now 0 ≡ map.get old 0 = are.directory ∙ ap Some (bytes-of dir s (d.bare_is ∙ sym same)) ∙ sym d.lies.directory in
-            describes dir now place names t
+            describes catalog.directory now place names t
             (removed_lies sig uid id old now old-place place names s p d.lies d.formed found (record {
               was_placed = at;
               is_gone = are.gone id (inl (sig, uid, (refl, refl), at));
               are_gone = λ o m. are.gone o (inr (id, inl (sig, uid, (refl, refl), at), is-named catalog.directory old-place old-names old s d id o m));
-              others = λ o ne unnamed. others old now d are head o ne unnamed;
+              others = λ o ne unnamed. others old now d are o ne unnamed;
               not_placed = places.gone sig uid (refl, refl);
               other_places = λ t u apart. places.others t u (λ isnt. isnt) (λ goes. apart (sym goes.0) (sym goes.1));
               names_are = record {
@@ -183,14 +181,14 @@ module _ (catalog : Catalog) (s : Store) where
                 other_names = λ r ne. named.others r (remove-loses r ne) ∙ d.names_are r;
               };
             }))
-            (removed_formed p.name uid s d.formed) is;
+            (removed_formed p.name uid s d.formed) (removed_bare p.name uid s ∙ d.bare_is);
         fresh = λ texts d e isnt. absurd (none-some e isnt);
         stays = λ texts d e isnt. absurd (none-some e isnt);
-        bare_is = λ texts d. removed_bare p.name uid s ∙ d.bare_is ∙ sym same;
+        bare_is = λ texts d. removed_bare p.name uid s ∙ d.bare_is;
       } where
-        others : (old now : Objects) (d : Describes catalog.directory old-place old-names old s) → AreNext next-removed old-place old-names old now → map.get now 0 ≡ map.get old 0
+        others : (old now : Objects) (d : Describes catalog.directory old-place old-names old s) → AreNext next-removed old-place old-names old now
             → (o : ℕ) → o ≢ id → (Among (d.lies.named id) o → ⊥) → map.get now o ≡ map.get old o
-        others old now d are head o ne unnamed = ⊎_elim
-            (λ (z : o ≡ 0). ap (map.get now) z ∙ head ∙ ap (map.get old) (sym z))
+        others old now d are o ne unnamed = ⊎_elim
+            (λ (z : o ≡ 0). ap (map.get now) z ∙ are.directory ∙ ap (map.get old) (sym z))
             (λ (nz : o ≢ 0). are.others o nz (λ e isnt. absurd (none-some e isnt)) (λ e isnt. absurd (none-some e isnt)) (remove-goes old d o ne unnamed))
             (cases_eq o 0)

@@ -9,11 +9,10 @@ use Rattle.newt_base.specs.declared.Refusal.TheVariants.{Full}
 use Rattle.newt_host.specs.Moments.{Moment, image, IsDurable, Leaves}
 use Rattle.newt_host.specs.Outside.{Outside, Spends}
 use Rattle.newt_host.proofs.Outside.{NoFault-refl, Spends-refl, Spends-widen, Touches-refl, Wears-refl}
-use Rattle.newt_spec_store.specs.Cost.{directory_bytes, pages_bytes}
-use Rattle.newt_soupdir.specs.Bare.{bare_store}
+use Rattle.newt_spec_store.specs.Cost.{pages_bytes}
 use Rattle.newt_host.proofs.Moments.{Leaves-start, Leaves-weaken}
 use Rattle.newt_spec_image.specs.Pages.{Pages, Change}
-use Rattle.newt_spec_image.specs.Objects.{AreObjectsOf, joined, pages_for, Objects}
+use Rattle.newt_spec_image.specs.Objects.{AreObjectsOf, joined, Objects}
 use Rattle.newt_pagebook.specs.Batch.{no_change}
 use Rattle.newt_pagebook.specs.Book.{Numbers, batch_bytes}
 use Rattle.newt_pagebook.proofs.Tests.{some_inj}
@@ -27,12 +26,12 @@ use Rattle.newt_objects_commit.specs.declared.batch.NewEntry.{NewEntry}
 use Rattle.newt_objects_commit.specs.declared.batch.NewLarge.{NewLarge}
 use Rattle.newt_store_change.specs.declared.fault.StoreFault.{StoreFault}
 use Rattle.newt_store_change.specs.declared.fault.StoreFault.TheVariants.{Refused, Stop}
-use Rattle.newt_objects_commit.specs.Batch.{AreWritten, AddsPages, LeadsTo, large_ids, new_pages, over_pages, pages_held, all_pages_held}
+use Rattle.newt_objects_commit.specs.Batch.{AreWritten, AddsPages, LeadsTo, directory_over, directory_puts, large_ids, new_pages, over_pages, all_pages_held, put_or}
 use Rattle.newt_objects_commit.specs.Calls.{CommitsObjects}
 use Rattle.newt_objects_commit.specs.Commit.{AreKept, IsPlanned, IsEither, MakesPlanned}
 use Rattle.newt_objects_commit.specs.Faults.{RefusesOnly}
 use Rattle.newt_store.specs.declared.next.Next.{Next}
-use Rattle.newt_store.specs.Next.{WritesNext, HoldsEither, next_bytes}
+use Rattle.newt_store.specs.Next.{WritesNext, HoldsEither, next_bytes, written_bytes}
 use Rattle.newt_store.specs.Writes.{WritesObjects}
 use Rattle.newt_store_change.specs.Faults.{FaultsAt, GoesOn, IsRefused}
 use Rattle.newt_store_catalog.proofs.Kept.{held-are}
@@ -87,7 +86,7 @@ is-some : {A : Type 0} (o : Option A) (x : A) → o ≡ Some x → IsSome o
 is-some o x is = subst (λ (o : Option _). IsSome o) (sym is) refl
 
 -- what lies where, once the plans are taken over
-module _ (objects now : Held) (batch : Change) (live : Pages) (before after : Objects) (directory : List ℕ) (entry : Option NewEntry) (gone : List ℕ)
+module _ (objects now : Held) (batch : Change) (live : Pages) (before after : Objects) (directory : Option (List ℕ)) (entry : Option NewEntry) (gone : List ℕ)
     (start : IsUnderWay objects no_change live before) (were : AreObjectsOf live before) (way : IsUnderWay now batch live after) (wrote : AreWritten directory entry gone before after) where
   in-after : (id : ℕ) → IsSome (map.get after id) → IsSome (planned now id)
   in-after id some = map-some (joined _) (planned now id) (subst (λ (o : Option (List ℕ)). IsSome o) (way.would.each id) some)
@@ -102,9 +101,13 @@ module _ (objects now : Held) (batch : Change) (live : Pages) (before after : Ob
 
   pub planned-there : (id : ℕ) → IsSome (held objects id) → (Among gone id → ⊥) → IsSome (planned now id)
   planned-there id there stays = ⊎_elim
-      (λ (zero : id ≡ 0). in-after id (is-some (map.get after id) directory (ap (map.get after) zero ∙ wrote.directory_is)))
+      (λ (zero : id ≡ 0). in-after id (subst (λ (n : ℕ). IsSome (map.get after n)) (sym zero) (directory-there directory wrote.directory_is (subst (λ (n : ℕ). IsSome (held objects n)) zero there))))
       (λ (other : id ≢ 0). with-entry other entry refl)
       (cases_eq id 0) where
+        directory-there : (d : Option (List ℕ)) → map.get after 0 ≡ put_or d (map.get before 0) → IsSome (held objects 0) → IsSome (map.get after 0)
+        directory-there (Some bytes) is was = is-some (map.get after 0) bytes is
+        directory-there None is was = subst (λ (o : Option (List ℕ)). IsSome o) (sym (is ∙ texts_by live (held objects) before were start.is_table 0)) (some-map (joined live) (held objects 0) was)
+
         untouched : id ≢ 0 → ((e : NewEntry) → entry ≡ Some e → e.id ≢ id) → ((e : NewEntry) → entry ≡ Some e → Among (large_ids e) id → ⊥) → IsSome (planned now id)
         untouched other new larges = in-after id (subst (λ (o : Option (List ℕ)). IsSome o)
             (sym (wrote.others id other new larges stays ∙ texts_by live (held objects) before were start.is_table id)) (some-map (joined live) (held objects id) there))
@@ -148,14 +151,15 @@ in-all : (x first a d p e : ℕ) → x ≡ first + (a + p) → first ≡ 0 → a
 in-all x first a d p e is none same also = omega (arith, is, none, same, also)
 
 -- the batch has the bytes that are said
-pub bytes-planned : (next : Next) (objects : Held) (gone bytes : List ℕ) (first batch : Change) → first ≡ no_change → bytes ≡ directory_bytes (bare_store next.directory)
-    → AddsPages (pages_for (length bytes) + new_pages next.entry) (pages_held objects 0 + over_pages objects next.entry + all_pages_held objects gone) first batch → batch_bytes batch ≡ next_bytes next objects gone
+pub bytes-planned : (next : Next) (objects : Held) (gone : List ℕ) (bytes : Option (List ℕ)) (first batch : Change) → first ≡ no_change → bytes ≡ written_bytes next.directory
+    → AddsPages (directory_puts bytes + new_pages next.entry) (directory_over objects bytes + over_pages objects next.entry + all_pages_held objects gone) first batch → batch_bytes batch ≡ next_bytes next objects gone
 unfolding next_bytes
 bytes-planned next objects gone bytes first batch none is adds =
     let a : length first.puts ≡ 0 = ap (λ (c : Change). length c.puts) none in
     let b : length first.deletes ≡ 0 = ap (λ (c : Change). length c.deletes) none in
-    let p : length batch.puts ≡ pages_for (length (directory_bytes (bare_store next.directory))) + new_pages next.entry = in-all _ _ _ _ _ _ adds.more_puts a (ap (λ (l : List ℕ). pages_for (length l)) is) refl in
-    let q : length batch.deletes ≡ pages_held objects 0 + over_pages objects next.entry + all_pages_held objects gone = in-all _ _ _ _ _ _ adds.more_deletes b refl refl in
+    let p : length batch.puts ≡ directory_puts (written_bytes next.directory) + new_pages next.entry = in-all _ _ _ _ _ _ adds.more_puts a (ap directory_puts is) refl in
+    let q : length batch.deletes ≡ directory_over objects (written_bytes next.directory) + over_pages objects next.entry + all_pages_held objects gone =
+    in-all _ _ _ _ _ _ adds.more_deletes b (ap (λ (d : Option (List ℕ)). directory_over objects d + over_pages objects next.entry) is) refl in
     λ i. pages_bytes (p i) (q i)
 
 -- ---- what is promised of it
@@ -164,10 +168,10 @@ bytes-planned next objects gone bytes first batch none is adds =
 abbrev pub LeadsOn : Next → List ℕ → Held → Held → Change → Type 0
 LeadsOn next gone objects planning batch = LeadsTo (WritesNext next gone) objects no_change planning batch
 
-pub leads-on : (next : Next) (gone bytes : List ℕ) (objects : Held) (first : Change) (planning : Held) (batch : Change) → first ≡ no_change → bytes ≡ directory_bytes (bare_store next.directory)
+pub leads-on : (next : Next) (gone : List ℕ) (bytes : Option (List ℕ)) (objects : Held) (first : Change) (planning : Held) (batch : Change) → first ≡ no_change → bytes ≡ written_bytes next.directory
     → LeadsTo (AreWritten bytes next.entry gone) objects first planning batch → LeadsOn next gone objects planning batch
 leads-on next gone bytes objects first planning batch none is leads =
-    subst (λ (l : List ℕ). LeadsTo (AreWritten l next.entry gone) objects no_change planning batch) is
+    subst (λ (l : Option (List ℕ)). LeadsTo (AreWritten l next.entry gone) objects no_change planning batch) is
     (subst (λ (b : Change). LeadsTo (AreWritten bytes next.entry gone) objects b planning batch) none leads)
 
 on-ok : {T : Type 0} (r : Result T StoreFault) (A B : Type 0) → (A → B) → OnOk r A → OnOk r B

@@ -1,11 +1,11 @@
 -- What a change makes of a store, before it is written.
 use Rattle.newt_spec_image.specs.Records.{version}
-use Rattle.std.specs.Prelude.{◌≡◌, ◌≢◌, ◌⊎◌, ℕ, ◌+◌, ◌<◌, ◌≤◌, IsTrue, List, [], ◌∷◌, ◌++◌, length, flat_map, map as map_list, Option, Some, None}
+use Rattle.std.specs.Prelude.{◌≡◌, ◌≢◌, ◌⊎◌, ℕ, ◌+◌, ◌<◌, ◌≤◌, IsTrue, List, [], ◌∷◌, ◌++◌, length, flat_map, map as map_list, Option, Some, None, is_some}
 use Rattle.std.specs.FinMap as map
 use Rattle.newt_spec_image.specs.Objects.{Objects}
 use Rattle.newt_spec_store.specs.Store.{Store, Entry, take_uid_of, soup_of, entry_at}
 use Rattle.newt_spec_image.specs.Pages.{cap}
-use Rattle.newt_spec_store.specs.Cost.{cost, directory_bytes, directory_pages, pages_bytes}
+use Rattle.newt_spec_store.specs.Cost.{cost, directory_bytes, pages_bytes}
 use Rattle.newt_spec_store.specs.Laid.{bare}
 use Rattle.newt_spec_store.specs.OfImage.{blocks_of}
 use Rattle.newt_spec_store.specs.Lies.{Places}
@@ -14,6 +14,7 @@ use Rattle.newt_graph.specs.Graph.{RawGraph}
 use Rattle.newt_spec_store.specs.Image.{entry_bytes, larges}
 use Rattle.newt_objects.specs.Held.{Held, held}
 use Rattle.newt_soupdir.specs.Bare.{bare_soup, bare_store}
+use Rattle.newt_soupdir.specs.declared.rows.Directory.{Directory}
 use Rattle.newt_soupdir.specs.declared.rows.SoupRow.{SoupRow}
 use Rattle.newt_objects.specs.Changing.{HoldsObjects}
 use Rattle.newt_base.specs.Refusals.{first_of}
@@ -21,9 +22,9 @@ use Rattle.newt_pagebook.specs.declared.book.Stop.TheVariants.{Memory, Device}
 use Rattle.newt_store_change.specs.declared.fault.StoreFault.{StoreFault}
 use Rattle.newt_store_change.specs.declared.fault.StoreFault.TheVariants.{Refused, Stop}
 use Rattle.newt_store_change.specs.declared.change.Change.{Change}
-use Rattle.newt_store_change.specs.Change.{changed_by, answer_of, first_checks, entry_added, pages_of_entry, pages_of_soup, pages_removed}
+use Rattle.newt_store_change.specs.Change.{changed_by, answer_of, first_checks, entry_added, pages_if, pages_of_entry, pages_of_soup, pages_removed, writes_directory}
 use Rattle.newt_objects_commit.specs.Commit.{Fit}
-use Rattle.newt_objects_commit.specs.Batch.{AreWritten, HasIds, large_ids, new_pages, over_pages, pages_held, all_pages_held}
+use Rattle.newt_objects_commit.specs.Batch.{AreWritten, HasIds, directory_over, directory_puts, large_ids, new_pages, over_pages, all_pages_held, put_or}
 use Rattle.newt_objects_commit.specs.Names.{names_of}
 use Rattle.newt_objects_commit.specs.declared.batch.NewLarge.{NewLarge}
 use Rattle.newt_spec_graph.specs.Lists.{Among}
@@ -36,6 +37,16 @@ use Rattle.newt_store.specs.declared.next.Gone.{Gone}
 use Rattle.newt_store.specs.declared.next.Gone.TheVariants.{Nothing, OneEntry, AllOf}
 use Rattle.newt_objects_commit.specs.Places.{place_of}
 use Rattle.newt_store_catalog.specs.Stands.{Describes}
+
+-- the directory after a change: the new one, or the one before where it stays
+abbrev pub directory_after : Directory → Option Directory → Directory
+directory_after old None = old
+directory_after old (Some new) = new
+
+-- the bytes of the directory that is written, none where it stays
+abbrev pub written_bytes : Option Directory → Option (List ℕ)
+written_bytes None = None
+written_bytes (Some new) = Some (directory_bytes (bare_store new))
 
 -- the entry goes
 abbrev pub Goes : Gone → ℕ → ℕ → Type 0
@@ -69,9 +80,9 @@ names_replaced names (Some e) = names e.id
 abbrev pub all_gone : Names → List ℕ → Option NewEntry → List ℕ
 all_gone names records entry = flat_map (λ r. r ∷ names r) records ++ names_replaced names entry
 
--- The objects after a change: the new directory, the record of the new entry and its large binaries, none that goes, and all others as they were.
+-- The objects after a change: the directory, new or as it was, the record of the new entry and its large binaries, none that goes, and all others as they were.
 pub record AreNext (next : Next) (place : Places) (names : Names) (old new : Objects) : Type 0 where
-  pub directory : map.get new 0 ≡ Some (directory_bytes (bare_store next.directory))
+  pub directory : map.get new 0 ≡ put_or (written_bytes next.directory) (map.get old 0)
   pub entry : (e : NewEntry) → next.entry ≡ Some e → map.get new e.id ≡ Some e.bytes.items
   pub larges : (e : NewEntry) (l : NewLarge) → next.entry ≡ Some e → Among e.larges.items l → map.get new l.id ≡ Some l.bytes.items
   pub gone : (o : ℕ) → IsGoing next place names o → map.get new o ≡ None
@@ -96,7 +107,7 @@ IsFree catalog gone e = (held catalog.objects e.id ≡ None) ⊎ ((place_of cata
 
 -- What holds of what a change makes: the directory is one, and the new entry's objects have ids of their kind that no other objects have.
 pub record IsNextOf (catalog : Catalog) (next : Next) : Type 0 where
-  pub formed : IsTrue (well_formed (bare_store next.directory))
+  pub formed : IsTrue (well_formed (bare_store (directory_after catalog.directory next.directory)))
   pub ids : (e : NewEntry) → next.entry ≡ Some e → HasIds e
   pub free : (e : NewEntry) → next.entry ≡ Some e → IsFree catalog next.gone e
   pub larges_free : (e : NewEntry) (id : ℕ) → next.entry ≡ Some e → Among (large_ids e) id → held catalog.objects id ≡ None
@@ -106,11 +117,11 @@ pub record IsNextOf (catalog : Catalog) (next : Next) : Type 0 where
 pub record Turns (catalog : Catalog) (next : Next) (s t : Store) : Type 0 where
   pub described : (old new : Objects) (place : Places) (names : Names) → Describes catalog.directory (place_of catalog.places) (names_of catalog.names) old s
       → AreNext next (place_of catalog.places) (names_of catalog.names) old new → ArePlacesNext next (place_of catalog.places) place
-      → AreNamesNext next (place_of catalog.places) (names_of catalog.names) names → Describes next.directory place names new t
+      → AreNamesNext next (place_of catalog.places) (names_of catalog.names) names → Describes (directory_after catalog.directory next.directory) place names new t
   pub fresh : (texts : Objects) → Describes catalog.directory (place_of catalog.places) (names_of catalog.names) texts s → (e : NewEntry) → next.entry ≡ Some e
       → (place_of catalog.places e.sig e.uid ≡ None) ⊎ (place_of catalog.places e.sig e.uid ≡ Some e.id)
   pub stays : (texts : Objects) → Describes catalog.directory (place_of catalog.places) (names_of catalog.names) texts s → (e : NewEntry) → next.entry ≡ Some e → Goes next.gone e.sig e.uid → ⊥
-  pub bare_is : (texts : Objects) → Describes catalog.directory (place_of catalog.places) (names_of catalog.names) texts s → bare t ≡ bare_store next.directory
+  pub bare_is : (texts : Objects) → Describes catalog.directory (place_of catalog.places) (names_of catalog.names) texts s → bare t ≡ bare_store (directory_after catalog.directory next.directory)
 
 -- the pages of the entries that go
 abbrev pub goes_pages : Gone → Store → ℕ
@@ -123,28 +134,30 @@ abbrev pub replaced_pages : Option NewEntry → Store → ℕ
 replaced_pages None s = 0
 replaced_pages (Some e) s = pages_of_entry (entry_at e.sig e.uid s)
 
--- the bytes of the batch that is written: it puts the pages of the directory and of the new entry's record, and lets go those of the directory before, of the
--- object that the record is put over, and of the objects that go
+-- the bytes of the batch that is written: it puts the pages of the directory, where that is written, and of the new entry's record, and lets go those of the
+-- directory before, then, of the object that the record is put over, and of the objects that go
 unfoldable pub next_bytes : Next → Held → List ℕ → ℕ
 next_bytes next objects gone =
-    pages_bytes (directory_pages (bare_store next.directory) + new_pages next.entry) (pages_held objects 0 + over_pages objects next.entry + all_pages_held objects gone)
+    pages_bytes (directory_puts (written_bytes next.directory) + new_pages next.entry) (directory_over objects (written_bytes next.directory) + over_pages objects next.entry + all_pages_held objects gone)
 
 -- the same, where one store becomes another
 unfoldable pub turn_bytes : Next → Store → Store → ℕ
-turn_bytes next s t = pages_bytes (directory_pages t + new_pages next.entry) (directory_pages s + replaced_pages next.entry s + goes_pages next.gone s)
+turn_bytes next s t =
+    pages_bytes (pages_if (is_some next.directory) t + new_pages next.entry) (pages_if (is_some next.directory) s + replaced_pages next.entry s + goes_pages next.gone s)
 
 -- What a change makes of a store: it is not refused but perhaps for a full unit, it has the change's answer, it leads to the
--- changed store, and as many pages come and go.
+-- changed store, it writes the directory where the change does, and as many pages come and go.
 pub record IsPlanOf (catalog : Catalog) (change : Change) (now : ℕ) (s : Store) (next : Next) : Type 0 where
   pub accepted : first_of (first_checks change s) ≡ None
   pub answer : next.answer ≡ answer_of change s
   pub turns : Turns catalog next s (changed_by change now s)
+  pub written : is_some next.directory ≡ writes_directory change
   pub added : new_pages next.entry ≡ pages_of_entry (entry_added change now s)
   pub removed : replaced_pages next.entry s + goes_pages next.gone s ≡ pages_removed change s
 
--- what a change writes: its directory, its new entry, and none of these objects
+-- what a change writes: its directory, if it has one, its new entry, and none of these objects
 abbrev pub WritesNext : Next → List ℕ → Objects → Objects → Type 0
-WritesNext next gone old new = AreWritten (directory_bytes (bare_store next.directory)) next.entry gone old new
+WritesNext next gone old new = AreWritten (written_bytes next.directory) next.entry gone old new
 
 -- What a crash may leave of an image: as many bytes, which hold the objects before a change, in the version before it, or those after it, where they fit, in
 -- version 2.
@@ -183,7 +196,9 @@ pub record IsAdding (catalog : Catalog) (sig uid now : ℕ) (graph : RawGraph) (
   pub of_graph : IsEntryOf sig uid now graph entry
   pub free : held catalog.objects entry.id ≡ None
   pub larges_free : (id : ℕ) → Among (large_ids entry) id → held catalog.objects id ≡ None
-  pub directory : bare_store next.directory ≡ take_uid_of sig (bare_store catalog.directory)
+  pub directory : Directory
+  pub is_directory : next.directory ≡ Some directory
+  pub taken : bare_store directory ≡ take_uid_of sig (bare_store catalog.directory)
   pub of_gone : next.gone ≡ gone
   pub answer : next.answer ≡ uid
 

@@ -2,9 +2,11 @@
 ghost use Rattle.std.specs.Prelude.{IsTrue, ◌≡◌, ◌≢◌, ◌++◌, [], ℕ, true, false, Some, None, OnOk};
 ghost use Rattle.std.specs.Prelude.{IfOk};
 ghost use Rattle.newt_soupdir.specs.Bare.{bare_store};
+ghost use Rattle.newt_soupdir.specs.declared.rows.Directory.{Directory as Dir};
 ghost use Rattle.newt_spec_graph.specs.Lists.{Among};
 ghost use Rattle.newt_spec_store.specs.Valid.{well_formed};
-ghost use Rattle.newt_objects_commit.specs.Batch.{AreOnce, CanBePlanned, large_ids};
+ghost use Rattle.newt_objects_commit.specs.Batch.{AreOnce, CanBePlanned, bytes_if};
+ghost use Rattle.newt_objects_commit.specs.Batch.{large_ids};
 ghost use Rattle.newt_objects_commit.specs.Calls.{CommitsObjects};
 ghost use Rattle.newt_objects_commit.specs.Commit.{AreKept};
 ghost use Rattle.newt_objects_commit.specs.Names.{names_of, IsReady};
@@ -13,7 +15,7 @@ ghost use Rattle.newt_objects_commit.specs.declared.batch.NewEntry.{NewEntry as 
 ghost use Rattle.newt_store_catalog.specs.Stands.{IsSound};
 ghost use Rattle.newt_store.specs.Calls.{LeavesStore};
 ghost use Rattle.newt_store.specs.Next.{Goes, IsNew, IsNextOf, all_gone, names_replaced};
-ghost use Rattle.newt_store.specs.Next.{next_bytes};
+ghost use Rattle.newt_store.specs.Next.{directory_after, next_bytes, written_bytes};
 ghost use Rattle.newt_store.specs.Writes.{FollowsNames, FollowsPlaces, MakesNext, TurnsUnit};
 ghost use Rattle.newt_store.specs.Writes.{WritesObjects};
 
@@ -249,9 +251,18 @@ fn hint_after(entry: &Option<NewEntry>, was_placed: bool, hint: u32) -> u32 {
     }
 }
 
+// The directory becomes the one that was written, if it does not stay.
+fn follow_directory(directory: &mut Directory, written: Option<Directory>)
+    ensures { directory.new ≡ directory_after directory.old written }
+{
+    if let Some(new) = written {
+        *directory = new;
+    }
+}
+
 // The memory follows what was written: the entries that go have no places, and their records name
-// nothing; the new entry's record names its large binaries; the directory is the new one. Answers
-// the change's answer.
+// nothing; the new entry's record names its large binaries; the directory is the new one, if there
+// is one. Answers the change's answer.
 fn follow(
     names: &mut NameTable,
     places: &mut PlaceTable,
@@ -263,7 +274,7 @@ fn follow(
     requires stays { (e : NewOne) → next.entry ≡ Some e →
         Among gathered.records.items e.id → ⊥ }
     ensures answer { result ≡ next.answer }
-    ensures directory { directory.new ≡ next.directory }
+    ensures directory { directory.new ≡ directory_after directory.old next.directory }
     ensures places { FollowsPlaces next.gone (place_of places.old) (place_of places.new) }
     ensures names { FollowsNames next.entry gathered.records.items gathered.named.items
         (names_of names.old) (names_of names.new) }
@@ -271,12 +282,29 @@ fn follow(
     forget_names(names, &gathered.records);
     name_new(names, &next.entry, gathered.named);
     forget_gone(places, next.gone);
-    *directory = next.directory;
+    follow_directory(directory, next.directory);
     next.answer
 }
 
-// Writes what a change makes, as one batch: the directory, the new entry's record and large
-// binaries, and no object that goes.
+// The bytes of the directory, if it is written.
+fn directory_text(
+    alloc: Global,
+    directory: &Option<Directory>,
+) -> Result<Option<Vec<u8>>, AllocError>
+    requires formed { (d : Dir) → directory.now ≡ Some d → IsTrue (well_formed (bare_store d)) }
+    ensures { IfOk result (λ bytes. bytes_if bytes ≡ written_bytes directory.now) }
+{
+    match directory {
+        Some(written) => {
+            let bytes = write_directory(alloc, written)?;
+            Ok(Some(bytes))
+        }
+        None => Ok(None),
+    }
+}
+
+// Writes what a change makes, as one batch: the directory, if it does not stay, the new entry's
+// record and large binaries, and no object that goes.
 fn write_next<P: PageBook, H: Host>(
     alloc: Global,
     host: &mut H,
@@ -288,7 +316,8 @@ fn write_next<P: PageBook, H: Host>(
     requires stands { P.stands H.told book.old (H.outside host.old) }
     requires kept { AreKept H.told objects.old (P.numbers book.old) (P.place book.old)
         (H.outside host.old) }
-    requires formed { IsTrue (well_formed (bare_store next.now.directory)) }
+    requires formed { (d : Dir) → next.now.directory ≡ Some d
+        → IsTrue (well_formed (bare_store d)) }
     requires can { CanBePlanned objects.old next.now.entry gone.now }
     ensures commits { CommitsObjects P.place P.numbers P.stands H.told objects.new
         (next_bytes next.now objects.old gone.now) 0 book.old book.new
@@ -296,7 +325,7 @@ fn write_next<P: PageBook, H: Host>(
     ensures writes { WritesObjects H.told (P.place book.old) next.now gone.now
         objects.old objects.new (H.outside host.old) (H.outside host.new) result }
 {
-    let bytes = write_directory(alloc, &next.directory)?;
+    let bytes = directory_text(alloc, &next.directory)?;
     let mut batch = Batch::new(alloc);
     plan_objects(objects, &bytes, &next.entry, gone, &mut batch)?;
     match commit_plans(host, book, objects, &batch) {

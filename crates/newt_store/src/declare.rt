@@ -21,6 +21,7 @@ use newt_soupdir::{MOST_INFO, info_len, is_info};
 use newt_store_catalog::Catalog;
 use newt_store_change::{Change, StoreFault};
 use newt_tags::TagTable;
+use std::alloc::AllocError;
 
 /// The most indexes of a soup.
 const MOST_INDEXES: usize = 16;
@@ -47,30 +48,31 @@ fn is_full(specs: &[IndexSpec]) -> bool
 pub(crate) fn plan_add_index(
     catalog: &Catalog,
     sig: Sig,
-    spec: IndexSpec,
+    spec: &IndexSpec,
 ) -> Result<Next, StoreFault>
     requires { IsTrue (well_formed (bare_store catalog.now.directory)) }
     ensures next { IfOk result (IsNextOf catalog.now) }
     ensures planned { (now : ℕ) → ForDescribed catalog.now (λ s.
-        IfOk result (IsPlanOf catalog.now (Change.AddIndex sig spec) now s)) }
+        IfOk result (IsPlanOf catalog.now (Change.AddIndex sig spec.now) now s)) }
     ensures refused { ForDescribed catalog.now (λ s.
-        IfErr result (RefusesWith (first_of (first_checks (Change.AddIndex sig spec) s)))) }
+        IfErr result (RefusesWith (first_of (first_checks (Change.AddIndex sig spec.now) s)))) }
     ensures cause { IfErr result IsNoDevice }
 {
     let Some(row) = catalog.directory.soup_of(sig) else {
         return Err(StoreFault::Refused(Refusal::Soup));
     };
     let specs = row.specs.list();
-    if has_paths_of(specs, &spec) {
+    if has_paths_of(specs, spec) {
         return Err(StoreFault::Refused(Refusal::Index));
     }
     if is_full(specs) {
         return Err(StoreFault::Refused(Refusal::Limit));
     }
     let mut directory = catalog.directory.copy()?;
-    directory.add_spec(sig, spec)?;
+    let added = spec.copy()?;
+    directory.add_spec(sig, added)?;
     Ok(Next {
-        directory,
+        directory: Some(directory),
         entry: None,
         gone: Gone::Nothing,
         answer: 0,
@@ -97,7 +99,7 @@ pub(crate) fn plan_drop_index(
     let mut directory = catalog.directory.copy()?;
     directory.drop_spec(sig, paths.list());
     Ok(Next {
-        directory,
+        directory: Some(directory),
         entry: None,
         gone: Gone::Nothing,
         answer: 0,
@@ -108,14 +110,14 @@ pub(crate) fn plan_drop_index(
 pub(crate) fn plan_set_tags(
     catalog: &Catalog,
     sig: Sig,
-    table: TagTable,
+    table: &TagTable,
 ) -> Result<Next, StoreFault>
     requires { IsTrue (well_formed (bare_store catalog.now.directory)) }
     ensures next { IfOk result (IsNextOf catalog.now) }
     ensures planned { (now : ℕ) → ForDescribed catalog.now (λ s.
-        IfOk result (IsPlanOf catalog.now (Change.SetTags sig table) now s)) }
+        IfOk result (IsPlanOf catalog.now (Change.SetTags sig table.now) now s)) }
     ensures refused { ForDescribed catalog.now (λ s.
-        IfErr result (RefusesWith (first_of (first_checks (Change.SetTags sig table) s)))) }
+        IfErr result (RefusesWith (first_of (first_checks (Change.SetTags sig table.now) s)))) }
     ensures cause { IfErr result IsNoDevice }
 {
     if catalog.directory.soup_of(sig).is_none() {
@@ -123,9 +125,10 @@ pub(crate) fn plan_set_tags(
     }
     let _valid = table.symbols();
     let mut directory = catalog.directory.copy()?;
-    directory.set_tags(sig, Some(table));
+    let tags = table.copy()?;
+    directory.set_tags(sig, Some(tags));
     Ok(Next {
-        directory,
+        directory: Some(directory),
         entry: None,
         gone: Gone::Nothing,
         answer: 0,
@@ -155,34 +158,48 @@ fn is_large_info(info: &Option<Graph>) -> bool
     }
 }
 
+// The same info frame, or none.
+fn copied_info(info: &Option<Graph>) -> Result<Option<Graph>, AllocError>
+    ensures { IfOk result (λ copy. copy ≡ info.now) }
+{
+    match info {
+        Some(graph) => {
+            let copy = graph.copy()?;
+            Ok(Some(copy))
+        }
+        None => Ok(None),
+    }
+}
+
 /// A soup gets this info frame in place of its own, or none. Soup where there is no such soup, Info
 /// where the graph is no info frame, Size where its text is too long.
 pub(crate) fn plan_set_info(
     catalog: &Catalog,
     sig: Sig,
-    info: Option<Graph>,
+    info: &Option<Graph>,
 ) -> Result<Next, StoreFault>
     requires { IsTrue (well_formed (bare_store catalog.now.directory)) }
     ensures next { IfOk result (IsNextOf catalog.now) }
     ensures planned { (now : ℕ) → ForDescribed catalog.now (λ s.
-        IfOk result (IsPlanOf catalog.now (Change.SetInfo sig info) now s)) }
+        IfOk result (IsPlanOf catalog.now (Change.SetInfo sig info.now) now s)) }
     ensures refused { ForDescribed catalog.now (λ s.
-        IfErr result (RefusesWith (first_of (first_checks (Change.SetInfo sig info) s)))) }
+        IfErr result (RefusesWith (first_of (first_checks (Change.SetInfo sig info.now) s)))) }
     ensures cause { IfErr result IsNoDevice }
 {
     if catalog.directory.soup_of(sig).is_none() {
         return Err(StoreFault::Refused(Refusal::Soup));
     }
-    if is_bad_info(&info) {
+    if is_bad_info(info) {
         return Err(StoreFault::Refused(Refusal::Info));
     }
-    if is_large_info(&info) {
+    if is_large_info(info) {
         return Err(StoreFault::Refused(Refusal::Size));
     }
     let mut directory = catalog.directory.copy()?;
-    directory.set_info(sig, info);
+    let new = copied_info(info)?;
+    directory.set_info(sig, new);
     Ok(Next {
-        directory,
+        directory: Some(directory),
         entry: None,
         gone: Gone::Nothing,
         answer: 0,

@@ -11,11 +11,11 @@ pub(crate) enum Gone {
     AllOf(Sig),
 }
 
-/// What a change makes of a store: its new directory, an entry that is written, entries that go,
-/// and the change's answer.
+/// What a change makes of a store: its new directory, none where it stays, an entry that is
+/// written, entries that go, and the change's answer.
 #[derive(Drop)]
 pub(crate) struct Next {
-    pub(crate) directory: Directory,
+    pub(crate) directory: Option<Directory>,
     pub(crate) entry: Option<NewEntry>,
     pub(crate) gone: Gone,
     pub(crate) answer: u32,

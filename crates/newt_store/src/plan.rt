@@ -229,7 +229,7 @@ fn plan_make(alloc: Global, catalog: &Catalog, name: &Name) -> Result<Next, Stor
     let mut directory = catalog.directory.copy()?;
     let sig = directory.make_soup(name.copy()?)?;
     Ok(Next {
-        directory,
+        directory: Some(directory),
         entry: None,
         gone: Gone::Nothing,
         answer: sig.0,
@@ -252,7 +252,7 @@ fn plan_drop(catalog: &Catalog, sig: Sig) -> Result<Next, StoreFault>
     let mut directory = catalog.directory.copy()?;
     directory.drop_soup(sig);
     Ok(Next {
-        directory,
+        directory: Some(directory),
         entry: None,
         gone: Gone::AllOf(sig),
         answer: 0,
@@ -283,7 +283,7 @@ fn next_with(
     let mut directory = catalog.directory.copy()?;
     directory.take_uid(row.sig);
     Ok(Next {
-        directory,
+        directory: Some(directory),
         entry: Some(entry),
         gone,
         answer: uid.0,
@@ -340,7 +340,7 @@ fn plan_remove(catalog: &Catalog, sig: Sig, uid: Uid) -> Result<Next, StoreFault
         return Err(StoreFault::Refused(Refusal::Entry));
     }
     Ok(Next {
-        directory: catalog.directory.copy()?,
+        directory: None,
         entry: None,
         gone: Gone::OneEntry(sig, uid),
         answer: 0,
@@ -426,7 +426,7 @@ fn plan_replace(
     }
     let entry = entry_of(alloc, &catalog.objects, sig, uid, now, graph, id)?;
     Ok(Next {
-        directory: catalog.directory.copy()?,
+        directory: None,
         entry: Some(entry),
         gone: Gone::Nothing,
         answer: 0,
@@ -439,34 +439,34 @@ pub(crate) fn plan_change<P: PageBook, H: Host>(
     host: &mut H,
     book: &mut P,
     catalog: &Catalog,
-    change: Change,
+    change: &Change,
     now: u32,
 ) -> Result<Next, StoreFault>
-    requires no_patch { is_patch change ≡ false }
+    requires no_patch { is_patch change.now ≡ false }
     requires is_open { AreOpen P.place P.numbers P.stands H.told book.old catalog.now
         (H.outside host.old) }
-    ensures plans { PlansChange H.told change now catalog.now
+    ensures plans { PlansChange H.told change.now now catalog.now
         (image (P.place book.old) (H.outside host.old).now) result }
     ensures costs { ForStore H.told catalog.now (image (P.place book.old) (H.outside host.old).now)
-        (λ s. Spends (P.place book.old) 0 (512 * pages_of_entry (entry_fetched change s))
+        (λ s. Spends (P.place book.old) 0 (512 * pages_of_entry (entry_fetched change.now s))
         (H.outside host.old) (H.outside host.new)) }
     ensures reads { ReadsOf P.place P.numbers P.stands H.told catalog.now.objects book.old book.new
         (H.outside host.old) (H.outside host.new) }
     ensures ends { CallEnds (P.place book.old) (H.outside host.old) (H.outside host.new) result }
 {
     match change {
-        Change::MakeSoup(name) => plan_make(alloc, catalog, &name),
-        Change::DropSoup(sig) => plan_drop(catalog, sig),
-        Change::Add(sig, graph) => plan_add(alloc, catalog, sig, &graph, now),
-        Change::Remove(sig, uid) => plan_remove(catalog, sig, uid),
+        Change::MakeSoup(name) => plan_make(alloc, catalog, name),
+        Change::DropSoup(sig) => plan_drop(catalog, *sig),
+        Change::Add(sig, graph) => plan_add(alloc, catalog, *sig, graph, now),
+        Change::Remove(sig, uid) => plan_remove(catalog, *sig, *uid),
         Change::Move(source, uid, target) => {
-            plan_move(alloc, host, book, catalog, source, uid, target, now)
+            plan_move(alloc, host, book, catalog, *source, *uid, *target, now)
         }
-        Change::Replace(sig, uid, graph) => plan_replace(alloc, catalog, sig, uid, &graph, now),
+        Change::Replace(sig, uid, graph) => plan_replace(alloc, catalog, *sig, *uid, graph, now),
         Change::Patch(..) => unreachable!(),
-        Change::AddIndex(sig, spec) => plan_add_index(catalog, sig, spec),
-        Change::DropIndex(sig, paths) => plan_drop_index(catalog, sig, &paths),
-        Change::SetTags(sig, table) => plan_set_tags(catalog, sig, table),
-        Change::SetInfo(sig, info) => plan_set_info(catalog, sig, info),
+        Change::AddIndex(sig, spec) => plan_add_index(catalog, *sig, spec),
+        Change::DropIndex(sig, paths) => plan_drop_index(catalog, *sig, paths),
+        Change::SetTags(sig, table) => plan_set_tags(catalog, *sig, table),
+        Change::SetInfo(sig, info) => plan_set_info(catalog, *sig, info),
     }
 }

@@ -124,15 +124,16 @@ impl<P: PageBook> Store<P> {
 
     /// Makes a change at a minute, and answers the new id or soup signature, else 0. After a
     /// refusal the store is as it was; after a stop it is spent, but after want of memory nothing
-    /// has happened to the unit: all of it is taken before anything is written.
+    /// has happened to the unit: all of it is taken before anything is written. The directory is
+    /// written only by a change that can change it.
     pub fn apply<H: Host>(
         &mut self,
         host: &mut H,
-        change: Change,
+        change: &Change,
         now: u32,
     ) -> Result<u32, StoreFault>
         requires { IsOpen P.place P.numbers P.stands H.told self.old (H.outside host.old) }
-        ensures changes { Changes P.place P.numbers P.stands H.told change now self.old self.new
+        ensures changes { Changes P.place P.numbers P.stands H.told change.now now self.old self.new
             (H.outside host.old) (H.outside host.new) result }
         ensures unchanged { IsErrOf result (StoreFault.Stop Stop.Memory) →
             (H.outside host.new).now ≡ (H.outside host.old).now }
@@ -140,11 +141,11 @@ impl<P: PageBook> Store<P> {
         // room for that
         ensures costs { let image = image (unit_of P.place self.old) (H.outside host.old).now in
             ForShown P.place H.told self.old (H.outside host.old) (λ s.
-            let most = most_bytes change (blocks_of image) now s in IsOpenFor most image →
-            Spends (unit_of P.place self.old) most (512 * pages_of_entry (entry_fetched change s))
+            let most = most_bytes change.now (blocks_of image) now s in IsOpenFor most image →
+            Spends (unit_of P.place self.old) most (512 * pages_of_entry (entry_fetched change.now s))
             (H.outside host.old) (H.outside host.new)) }
     {
-        if let Change::Patch(sig, uid, node, at, bytes) = &change {
+        if let Change::Patch(sig, uid, node, at, bytes) = change {
             return patch_entry(
                 self.alloc,
                 host,

@@ -212,13 +212,24 @@ pages_removed (Move source uid target) s = pages_of_entry (entry_at source uid s
 pages_removed (Replace sig uid graph) s = pages_of_entry (entry_at sig uid s)
 pages_removed change s = 0
 
--- the pages that a change writes: those of the directory after it, and of the entry whose record it writes
-abbrev pub pages_put : Change → ℕ → Store → ℕ
-pages_put change now s = directory_pages (changed_by change now s) + pages_of_entry (entry_added change now s)
+-- the change writes the directory: not where an entry goes, or gets another graph or other bytes, since the directory says nothing of these
+abbrev pub writes_directory : Change → Bool
+writes_directory (Remove sig uid) = false
+writes_directory (Replace sig uid graph) = false
+writes_directory (Patch sig uid node at bytes) = false
+writes_directory change = true
 
--- the pages that a change lets go: those of the directory before it, and of the entries that it removes or puts another in the place of
+-- the pages of the directory of a store, none where it is not written
+abbrev pub pages_if : Bool → Store → ℕ
+pages_if written s = cond written (directory_pages s) 0
+
+-- the pages that a change writes: those of the directory after it, where it writes that, and of the entry whose record it writes
+abbrev pub pages_put : Change → ℕ → Store → ℕ
+pages_put change now s = pages_if (writes_directory change) (changed_by change now s) + pages_of_entry (entry_added change now s)
+
+-- the pages that a change lets go: those of the directory before it, where it writes that, and of the entries that it removes or puts another in the place of
 abbrev pub pages_gone : Change → Store → ℕ
-pages_gone change s = directory_pages s + pages_removed change s
+pages_gone change s = pages_if (writes_directory change) s + pages_removed change s
 
 -- the bytes of the batch of a change
 abbrev pub bytes_of : Change → ℕ → Store → ℕ

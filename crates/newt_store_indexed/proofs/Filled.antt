@@ -61,14 +61,14 @@ module _ (s : Store) (sig : ℕ) where
       (λ old new m h is. masks_of_same table old new m h is) formed found (is_no_masks table (nothing sig) (λ w. refl))
 
   -- so it is what a new declaration is to the ranges
-  pub is-declaring : (spec : IndexSpec) (v : Sorted) → well_formed s ≡ true → v ≡ with_all with_entry sig s (uids_in (soup_of sig s)) (no_pairs (Some spec)) → IsDeclaring sig spec s (step.Declared sig v)
+  pub is-declaring : (spec : IndexSpec) (v : Sorted) → well_formed s ≡ true → v ≡ with_all with_entry sig s (uids_in (soup_of sig s)) (no_pairs (Some spec)) → IsDeclaring sig spec s (step.Declared v)
   is-declaring spec v formed is = record {
     range = v;
     is = refl;
     of_soup = λ p found. subst (λ (v : Sorted). IsRange (Some spec) (graphs_of p) v) (sym is) (filled-range spec p formed found);
   }
 
-  pub is-tagging : (table : TagTable) (m : Masks) → well_formed s ≡ true → m ≡ with_all with_mask sig s (uids_in (soup_of sig s)) (no_masks table) → IsTagging sig table s (step.Tagged sig m)
+  pub is-tagging : (table : TagTable) (m : Masks) → well_formed s ≡ true → m ≡ with_all with_mask sig s (uids_in (soup_of sig s)) (no_masks table) → IsTagging sig table s (step.Tagged m)
   is-tagging table m formed is = record {
     masks = m;
     is = refl;
@@ -76,7 +76,7 @@ module _ (s : Store) (sig : ℕ) where
   }
 
 -- what is said of each entry is said of the step
-pub moved-step : (result : Result Step Stop) (source uid target : ℕ) (s : Store) → ((e : Entry) → entry_at source uid s ≡ Some e → IfOk result (λ made. made ≡ step.Moved source uid target e.graph))
-    → IfOk result (IsStepOf (change.Move source uid target) s)
-moved-step (Ok made) source uid target s h = h
-moved-step (Err stop) source uid target s h = tt
+pub moved-step : (result : Result Step Stop) (source uid : ℕ) (s : Store) → ((e : Entry) → entry_at source uid s ≡ Some e → IfOk result (λ made. made ≡ step.Moved e.graph))
+    → IfOk result (λ made. (e : Entry) → entry_at source uid s ≡ Some e → made ≡ step.Moved e.graph)
+moved-step (Ok made) source uid s h = h
+moved-step (Err stop) source uid s h = tt

@@ -57,32 +57,32 @@ module _ (s : Store) (rows : List SoupRanges) (formed : well_formed s ≡ true) 
   changed-as : (sig : ℕ) (p : Soup) (f : Soup → Soup) (after : List SoupRanges) → soup_of sig s ≡ Some p → AreRangesOf (change_soup p.name f s) after → AreRangesOf (changed_soup (soup_of sig s) f s) after
   changed-as sig p f after found is = subst (λ (t : Store). AreRangesOf t after) (sym (ap (λ (o : Option Soup). changed_soup o f s) found)) is
 
-  follows-dropped : (sig blocks now : ℕ) → refusal_of (change.DropSoup sig) blocks now s ≡ None → AreRangesOf (changed_by (change.DropSoup sig) now s) (rows_after (step.Dropped sig) 0 rows)
-  follows-dropped sig blocks now none =
+  follows-dropped : (st : Step) (sig blocks now : ℕ) → refusal_of (change.DropSoup sig) blocks now s ≡ None → AreRangesOf (changed_by (change.DropSoup sig) now s) (rows_after (change.DropSoup sig) st 0 rows)
+  follows-dropped st sig blocks now none =
       let there = is-there (soup_of sig s) (none-first NoSoup (is_none (soup_of sig s)) [] none).0 in
-      subst (λ (t : Store). AreRangesOf t (rows_after (step.Dropped sig) 0 rows)) (sym (ap (λ (o : Option Soup). dropped_soup o s) there.1)) (laws.dropped s rows sig there.0 formed there.1 are)
+      subst (λ (t : Store). AreRangesOf t (rows_after (change.DropSoup sig) st 0 rows)) (sym (ap (λ (o : Option Soup). dropped_soup o s) there.1)) (laws.dropped s rows sig there.0 formed there.1 are)
 
-  follows-added : (sig blocks now : ℕ) (g : RawGraph) → refusal_of (change.Add sig g) blocks now s ≡ None
-      → AreRangesOf (changed_by (change.Add sig g) now s) (rows_after (step.Added sig g) (answer_of (change.Add sig g) s) rows)
-  follows-added sig blocks now g none =
+  follows-added : (st : Step) (sig blocks now : ℕ) (g : RawGraph) → refusal_of (change.Add sig g) blocks now s ≡ None
+      → AreRangesOf (changed_by (change.Add sig g) now s) (rows_after (change.Add sig g) st (answer_of (change.Add sig g) s) rows)
+  follows-added st sig blocks now g none =
       let there = is-there (soup_of sig s) (none-first NoSoup (is_none (soup_of sig s)) (later-checks (refusals (change.Add sig g) blocks now s)) none).0 in
       let p = there.0 in
-      subst (λ (n : ℕ). AreRangesOf (changed_by (change.Add sig g) now s) (rows_after (step.Added sig g) n rows)) (sym (ap next_uid_of there.1))
-      (changed-as sig p (add_entry now g) (rows_after (step.Added sig g) p.next_uid rows) there.1 (laws.entry_added s rows sig p formed there.1 are now g (no-next s sig p formed there.1)))
+      subst (λ (n : ℕ). AreRangesOf (changed_by (change.Add sig g) now s) (rows_after (change.Add sig g) st n rows)) (sym (ap next_uid_of there.1))
+      (changed-as sig p (add_entry now g) (rows_after (change.Add sig g) st p.next_uid rows) there.1 (laws.entry_added s rows sig p formed there.1 are now g (no-next s sig p formed there.1)))
 
-  follows-removed : (sig uid blocks now : ℕ) → refusal_of (change.Remove sig uid) blocks now s ≡ None → AreRangesOf (changed_by (change.Remove sig uid) now s) (rows_after (step.Removed sig uid) 0 rows)
-  follows-removed sig uid blocks now none =
+  follows-removed : (st : Step) (sig uid blocks now : ℕ) → refusal_of (change.Remove sig uid) blocks now s ≡ None → AreRangesOf (changed_by (change.Remove sig uid) now s) (rows_after (change.Remove sig uid) st 0 rows)
+  follows-removed st sig uid blocks now none =
       let there = is-there (soup_of sig s) (none-first NoSoup (is_none (soup_of sig s)) (later-checks (refusals (change.Remove sig uid) blocks now s)) none).0 in
-      changed-as sig there.0 (remove_entry uid) (rows_after (step.Removed sig uid) 0 rows) there.1 (laws.entry_removed s rows sig there.0 formed there.1 are uid)
+      changed-as sig there.0 (remove_entry uid) (rows_after (change.Remove sig uid) st 0 rows) there.1 (laws.entry_removed s rows sig there.0 formed there.1 are uid)
 
-  follows-replaced : (sig uid blocks now : ℕ) (g : RawGraph) → refusal_of (change.Replace sig uid g) blocks now s ≡ None
-      → AreRangesOf (changed_by (change.Replace sig uid g) now s) (rows_after (step.Replaced sig uid g) 0 rows)
-  follows-replaced sig uid blocks now g none =
+  follows-replaced : (st : Step) (sig uid blocks now : ℕ) (g : RawGraph) → refusal_of (change.Replace sig uid g) blocks now s ≡ None
+      → AreRangesOf (changed_by (change.Replace sig uid g) now s) (rows_after (change.Replace sig uid g) st 0 rows)
+  follows-replaced st sig uid blocks now g none =
       let two = none-two NoSoup NoEntry (is_none (soup_of sig s)) (is_none (entry_at sig uid s)) (later-checks (later-checks (refusals (change.Replace sig uid g) blocks now s))) none in
       let there = is-there (soup_of sig s) two.0 in
       let entry = is-there (entry_at sig uid s) two.1 in
       let at : entry_of uid there.0 ≡ Some entry.0 = sym (ap (option_and_then (entry_of uid)) there.1) ∙ entry.1 in
-      changed-as sig there.0 (change_entry uid (with_graph now g)) (rows_after (step.Replaced sig uid g) 0 rows) there.1
+      changed-as sig there.0 (change_entry uid (with_graph now g)) (rows_after (change.Replace sig uid g) st 0 rows) there.1
       (laws.entry_replaced s rows sig there.0 formed there.1 are uid (with_graph now g) g entry.0 (λ d. refl) at refl)
 
   -- no bytes of a large binary are in a range
@@ -115,23 +115,23 @@ module _ (s : Store) (rows : List SoupRanges) (formed : well_formed s ≡ true) 
       go (Some p) = informed-soups (λ q. equal_text q.name p.name) s.soups rows are
 
   follows-declared : (sig blocks now : ℕ) (spec : IndexSpec) (st : Step) → refusal_of (change.AddIndex sig spec) blocks now s ≡ None → IsDeclaring sig spec s st
-      → AreRangesOf (changed_by (change.AddIndex sig spec) now s) (rows_after st 0 rows)
+      → AreRangesOf (changed_by (change.AddIndex sig spec) now s) (rows_after (change.AddIndex sig spec) st 0 rows)
   follows-declared sig blocks now spec st none is =
       let there = is-there (soup_of sig s) (none-first NoSoup (is_none (soup_of sig s)) (later-checks (refusals (change.AddIndex sig spec) blocks now s)) none).0 in
-      subst (λ (x : Step). AreRangesOf (changed_by (change.AddIndex sig spec) now s) (rows_after x 0 rows)) (sym is.is)
+      subst (λ (x : Step). AreRangesOf (changed_by (change.AddIndex sig spec) now s) (rows_after (change.AddIndex sig spec) x 0 rows)) (sym is.is)
       (changed-as sig there.0 (with_index spec) (change_ranges sig (with_range is.range) rows) there.1 (laws.declared s rows sig there.0 formed there.1 are spec is.range (is.of_soup there.0 there.1)))
 
-  follows-undeclared : (sig blocks now : ℕ) (paths : List Path) → refusal_of (change.DropIndex sig paths) blocks now s ≡ None
-      → AreRangesOf (changed_by (change.DropIndex sig paths) now s) (rows_after (step.Undeclared sig paths) 0 rows)
-  follows-undeclared sig blocks now paths none =
+  follows-undeclared : (st : Step) (sig blocks now : ℕ) (paths : List Path) → refusal_of (change.DropIndex sig paths) blocks now s ≡ None
+      → AreRangesOf (changed_by (change.DropIndex sig paths) now s) (rows_after (change.DropIndex sig paths) st 0 rows)
+  follows-undeclared st sig blocks now paths none =
       let there = is-there (soup_of sig s) (none-first NoSoup (is_none (soup_of sig s)) [] none).0 in
-      changed-as sig there.0 (without_index paths) (rows_after (step.Undeclared sig paths) 0 rows) there.1 (laws.undeclared s rows sig there.0 formed there.1 are paths)
+      changed-as sig there.0 (without_index paths) (rows_after (change.DropIndex sig paths) st 0 rows) there.1 (laws.undeclared s rows sig there.0 formed there.1 are paths)
 
   follows-tagged : (sig blocks now : ℕ) (table : TagTable) (st : Step) → refusal_of (change.SetTags sig table) blocks now s ≡ None → IsTagging sig table s st
-      → AreRangesOf (changed_by (change.SetTags sig table) now s) (rows_after st 0 rows)
+      → AreRangesOf (changed_by (change.SetTags sig table) now s) (rows_after (change.SetTags sig table) st 0 rows)
   follows-tagged sig blocks now table st none is =
       let there = is-there (soup_of sig s) (none-first NoSoup (is_none (soup_of sig s)) (later-checks (refusals (change.SetTags sig table) blocks now s)) none).0 in
-      subst (λ (x : Step). AreRangesOf (changed_by (change.SetTags sig table) now s) (rows_after x 0 rows)) (sym is.is)
+      subst (λ (x : Step). AreRangesOf (changed_by (change.SetTags sig table) now s) (rows_after (change.SetTags sig table) x 0 rows)) (sym is.is)
       (changed-as sig there.0 (with_tags (Some table)) (change_ranges sig (with_masks is.masks) rows) there.1 (laws.tagged s rows sig there.0 formed there.1 are table is.masks (is.of_soup there.0 there.1)))
 
   -- an entry is added to the one soup, and then goes from the other
@@ -168,14 +168,14 @@ module _ (s : Store) (rows : List SoupRanges) (formed : well_formed s ≡ true) 
         ∙ ap (λ (o : Option Soup). changed_soup (soup_of source s) (remove_entry e.uid) (changed_soup o (add_entry now e.graph) s)) (sym into)
         ∙ ap (λ (o : Option Entry). moved_entry o (soup_of source s) (soup_of target s) now s) (sym entry)
 
-    moved-so : (st : Step) → st ≡ step.Moved source uid target e.graph → AreRangesOf (changed_by (change.Move source uid target) now s) (rows_after st (answer_of (change.Move source uid target) s) rows)
+    moved-so : (st : Step) → st ≡ step.Moved e.graph → AreRangesOf (changed_by (change.Move source uid target) now s) (rows_after (change.Move source uid target) st (answer_of (change.Move source uid target) s) rows)
     moved-so st is =
-        subst (λ (x : Step). AreRangesOf (changed_by (change.Move source uid target) now s) (rows_after x (answer_of (change.Move source uid target) s) rows)) (sym is)
-        (subst (λ (n : ℕ). AreRangesOf (changed_by (change.Move source uid target) now s) (rows_after (step.Moved source uid target e.graph) n rows)) (sym (ap next_uid_of into))
+        subst (λ (x : Step). AreRangesOf (changed_by (change.Move source uid target) now s) (rows_after (change.Move source uid target) x (answer_of (change.Move source uid target) s) rows)) (sym is)
+        (subst (λ (n : ℕ). AreRangesOf (changed_by (change.Move source uid target) now s) (rows_after (change.Move source uid target) (step.Moved e.graph) n rows)) (sym (ap next_uid_of into))
         (subst (λ (t : Store). AreRangesOf t (change_ranges source (entry_forgotten uid) rows-between)) is-moved removed))
 
   follows-moved : (source uid target blocks now : ℕ) (st : Step) → refusal_of (change.Move source uid target) blocks now s ≡ None → IsStepOf (change.Move source uid target) s st
-      → AreRangesOf (changed_by (change.Move source uid target) now s) (rows_after st (answer_of (change.Move source uid target) s) rows)
+      → AreRangesOf (changed_by (change.Move source uid target) now s) (rows_after (change.Move source uid target) st (answer_of (change.Move source uid target) s) rows)
   follows-moved source uid target blocks now st none is =
       let rest : Checks = (Ids, has_no_ids (soup_of target s)) ∷ full_check (change.Move source uid target) blocks now s in
       let two = none-two NoSoup NoEntry (is_none (soup_of source s) || is_none (soup_of target s)) (is_none (entry_at source uid s)) rest none in
@@ -186,24 +186,16 @@ module _ (s : Store) (rows : List SoupRanges) (formed : well_formed s ≡ true) 
       let ids : (into.0.next_uid == 536_870_911) ≡ false = sym (ap has_no_ids into.1) ∙ (none-first Ids (has_no_ids (soup_of target s)) (full_check (change.Move source uid target) blocks now s) two.2).0 in
       moved-so source uid target blocks now from.0 into.0 entry.0 from.1 into.1 entry.1 ids st (is entry.0 entry.1)
 
-  -- the step of any change
-  pub follows : (change : Change) (blocks now : ℕ) (st : Step) → refusal_of change blocks now s ≡ None → IsStepOf change s st → AreRangesOf (changed_by change now s) (rows_after st (answer_of change s) rows)
-  follows (change.MakeSoup name) blocks now st none is =
-      subst (λ (x : Step). AreRangesOf (changed_by (change.MakeSoup name) now s) (rows_after x (answer_of (change.MakeSoup name) s) rows)) (sym is) (laws.made s rows name are)
-  follows (change.DropSoup sig) blocks now st none is =
-      subst (λ (x : Step). AreRangesOf (changed_by (change.DropSoup sig) now s) (rows_after x 0 rows)) (sym is) (follows-dropped sig blocks now none)
-  follows (change.Add sig g) blocks now st none is =
-      subst (λ (x : Step). AreRangesOf (changed_by (change.Add sig g) now s) (rows_after x (answer_of (change.Add sig g) s) rows)) (sym is) (follows-added sig blocks now g none)
-  follows (change.Remove sig uid) blocks now st none is =
-      subst (λ (x : Step). AreRangesOf (changed_by (change.Remove sig uid) now s) (rows_after x 0 rows)) (sym is) (follows-removed sig uid blocks now none)
+  -- what any change is to the ranges
+  pub follows : (change : Change) (blocks now : ℕ) (st : Step) → refusal_of change blocks now s ≡ None → IsStepOf change s st → AreRangesOf (changed_by change now s) (rows_after change st (answer_of change s) rows)
+  follows (change.MakeSoup name) blocks now st none is = laws.made s rows name are
+  follows (change.DropSoup sig) blocks now st none is = follows-dropped st sig blocks now none
+  follows (change.Add sig g) blocks now st none is = follows-added st sig blocks now g none
+  follows (change.Remove sig uid) blocks now st none is = follows-removed st sig uid blocks now none
   follows (change.Move source uid target) blocks now st none is = follows-moved source uid target blocks now st none is
-  follows (change.Replace sig uid g) blocks now st none is =
-      subst (λ (x : Step). AreRangesOf (changed_by (change.Replace sig uid g) now s) (rows_after x 0 rows)) (sym is) (follows-replaced sig uid blocks now g none)
-  follows (change.Patch sig uid node at bytes) blocks now st none is =
-      subst (λ (x : Step). AreRangesOf (changed_by (change.Patch sig uid node at bytes) now s) (rows_after x 0 rows)) (sym is) (follows-patched sig uid node at now bytes)
+  follows (change.Replace sig uid g) blocks now st none is = follows-replaced st sig uid blocks now g none
+  follows (change.Patch sig uid node at bytes) blocks now st none is = follows-patched sig uid node at now bytes
   follows (change.AddIndex sig spec) blocks now st none is = follows-declared sig blocks now spec st none is
-  follows (change.DropIndex sig paths) blocks now st none is =
-      subst (λ (x : Step). AreRangesOf (changed_by (change.DropIndex sig paths) now s) (rows_after x 0 rows)) (sym is) (follows-undeclared sig blocks now paths none)
+  follows (change.DropIndex sig paths) blocks now st none is = follows-undeclared st sig blocks now paths none
   follows (change.SetTags sig table) blocks now st none is = follows-tagged sig blocks now table st none is
-  follows (change.SetInfo sig info) blocks now st none is =
-      subst (λ (x : Step). AreRangesOf (changed_by (change.SetInfo sig info) now s) (rows_after x 0 rows)) (sym is) (follows-informed sig now info)
+  follows (change.SetInfo sig info) blocks now st none is = follows-informed sig now info

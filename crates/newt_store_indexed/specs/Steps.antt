@@ -9,43 +9,52 @@ use Rattle.newt_index_ranges.specs.Stands.{graphs_of, IsRange}
 use Rattle.newt_store_change.specs.declared.change.Change.{Change}
 use Rattle.newt_store_change.specs.declared.change.Change.TheVariants.{MakeSoup, DropSoup, Add, Remove, Move, Replace, Patch, AddIndex, DropIndex, SetTags, SetInfo}
 use Rattle.newt_store_indexed.specs.declared.step.Step.{Step}
-use Rattle.newt_store_indexed.specs.declared.step.Step.TheVariants.{Untouched, Made, Dropped, Added, Removed, Moved, Replaced, Declared, Undeclared, Tagged}
+use Rattle.newt_store_indexed.specs.declared.step.Step.TheVariants.{Moved, Declared, Tagged}
 
--- The ranges after a step, where the change answered this number. (this project's own)
-abbrev pub rows_after : Step → ℕ → List SoupRanges → List SoupRanges
-rows_after Untouched answer rows = rows
-rows_after Made answer rows = rows ++ no_ranges answer [] None ∷ []
-rows_after (Dropped sig) answer rows = drop_ranges sig rows
-rows_after (Added sig graph) answer rows = change_ranges sig (entry_kept answer graph) rows
-rows_after (Removed sig uid) answer rows = change_ranges sig (entry_forgotten uid) rows
-rows_after (Moved source uid target graph) answer rows = change_ranges source (entry_forgotten uid) (change_ranges target (entry_kept answer graph) rows)
-rows_after (Replaced sig uid graph) answer rows = change_ranges sig (entry_renewed uid graph) rows
-rows_after (Declared sig v) answer rows = change_ranges sig (with_range v) rows
-rows_after (Undeclared sig paths) answer rows = change_ranges sig (without_range paths) rows
-rows_after (Tagged sig m) answer rows = change_ranges sig (with_masks m) rows
+-- the ranges after an entry was moved that got this id (this project's own)
+abbrev pub rows_moved : (source uid target answer : ℕ) → Step → List SoupRanges → List SoupRanges
+rows_moved source uid target answer (Moved graph) rows = change_ranges source (entry_forgotten uid) (change_ranges target (entry_kept answer graph) rows)
+rows_moved source uid target answer step rows = rows
 
--- the step is to put this range of a soup behind its others, and the range is by the declaration and of the soup's entries (this project's own)
+-- the ranges after a soup got one more (this project's own)
+abbrev pub rows_declared : ℕ → Step → List SoupRanges → List SoupRanges
+rows_declared sig (Declared v) rows = change_ranges sig (with_range v) rows
+rows_declared sig step rows = rows
+
+-- the ranges after a soup got other masks (this project's own)
+abbrev pub rows_tagged : ℕ → Step → List SoupRanges → List SoupRanges
+rows_tagged sig (Tagged m) rows = change_ranges sig (with_masks m) rows
+rows_tagged sig step rows = rows
+
+-- The ranges after a change that answered this number, by what was read before it. (this project's own)
+abbrev pub rows_after : Change → Step → ℕ → List SoupRanges → List SoupRanges
+rows_after (MakeSoup name) step answer rows = rows ++ no_ranges answer [] None ∷ []
+rows_after (DropSoup sig) step answer rows = drop_ranges sig rows
+rows_after (Add sig graph) step answer rows = change_ranges sig (entry_kept answer graph) rows
+rows_after (Remove sig uid) step answer rows = change_ranges sig (entry_forgotten uid) rows
+rows_after (Move source uid target) step answer rows = rows_moved source uid target answer step rows
+rows_after (Replace sig uid graph) step answer rows = change_ranges sig (entry_renewed uid graph) rows
+rows_after (Patch sig uid node at bytes) step answer rows = rows
+rows_after (AddIndex sig spec) step answer rows = rows_declared sig step rows
+rows_after (DropIndex sig paths) step answer rows = change_ranges sig (without_range paths) rows
+rows_after (SetTags sig table) step answer rows = rows_tagged sig step rows
+rows_after (SetInfo sig info) step answer rows = rows
+
+-- this range was read, and it is by the declaration and of the soup's entries (this project's own)
 pub record IsDeclaring (sig : ℕ) (spec : Rattle.newt_spec_store.specs.Keys.IndexSpec) (s : Store) (step : Step) : Type 0 where
   pub range : Sorted
-  pub is : step ≡ Declared sig range
+  pub is : step ≡ Declared range
   pub of_soup : (p : Soup) → soup_of sig s ≡ Some p → IsRange (Some spec) (graphs_of p) range
 
--- the step is to keep these masks of a soup, and they are by the declaration and of the soup's entries (this project's own)
+-- these masks were read, and they are by the declaration and of the soup's entries (this project's own)
 pub record IsTagging (sig : ℕ) (table : TagTable) (s : Store) (step : Step) : Type 0 where
   pub masks : Masks
-  pub is : step ≡ Tagged sig masks
+  pub is : step ≡ Tagged masks
   pub of_soup : (p : Soup) → soup_of sig s ≡ Some p → IsMasks table (graphs_of p) masks
 
--- The step is what a change of a store is to its ranges. (this project's own)
+-- What was read is what a change of a store needs for its ranges. (this project's own)
 abbrev pub IsStepOf : Change → Store → Step → Type 0
-IsStepOf (MakeSoup name) s step = step ≡ Made
-IsStepOf (DropSoup sig) s step = step ≡ Dropped sig
-IsStepOf (Add sig graph) s step = step ≡ Added sig graph
-IsStepOf (Remove sig uid) s step = step ≡ Removed sig uid
-IsStepOf (Move source uid target) s step = (e : Entry) → entry_at source uid s ≡ Some e → step ≡ Moved source uid target e.graph
-IsStepOf (Replace sig uid graph) s step = step ≡ Replaced sig uid graph
-IsStepOf (Patch sig uid node at bytes) s step = step ≡ Untouched
+IsStepOf (Move source uid target) s step = (e : Entry) → entry_at source uid s ≡ Some e → step ≡ Moved e.graph
 IsStepOf (AddIndex sig spec) s step = IsDeclaring sig spec s step
-IsStepOf (DropIndex sig paths) s step = step ≡ Undeclared sig paths
 IsStepOf (SetTags sig table) s step = IsTagging sig table s step
-IsStepOf (SetInfo sig info) s step = step ≡ Untouched
+IsStepOf change s step = Unit {0}

@@ -1,5 +1,4 @@
-//! What a change of the store will be to its ranges. All that has to be read or copied for that is
-//! read and copied before the change.
+//! What is read of the store before a change for the sake of its ranges.
 ghost use Rattle.std.specs.Prelude.{◌≡◌, ◌*◌, IsTrue, IfOk, Some};
 ghost use Rattle.newt_host.specs.Outside.{Spends};
 ghost use Rattle.newt_store_catalog.specs.Reading.{ReadEnds};
@@ -22,19 +21,18 @@ use newt_store::Store;
 use newt_store_change::Change;
 use newt_tags::TagTable;
 
-/// The step of an entry that is moved. Where it is not there the change is refused, and nothing is
-/// to be done.
+// The graph of an entry that is moved. Where it is not there the change is refused, and nothing is
+// needed.
 fn moving<P: PageBook, H: Host>(
     store: &mut Store<P>,
     host: &mut H,
     source: Sig,
     uid: Uid,
-    target: Sig,
 ) -> Result<Step, Stop>
     requires { IsOpen P.place P.numbers P.stands H.told store.old (H.outside host.old) }
     ensures moved { IsTrue H.told → (s : PlainStore) (e : PlainEntry)
         → Shows P.place store.old (H.outside host.old) s → entry_at source uid s ≡ Some e
-        → IfOk result (λ made. made ≡ step.Moved source uid target e.graph) }
+        → IfOk result (λ made. made ≡ step.Moved e.graph) }
     ensures reads { Reads P.place P.numbers P.stands H.told store.old store.new
         (H.outside host.old) (H.outside host.new) }
     ensures costs { IsTrue H.told → (s : PlainStore) →
@@ -44,13 +42,13 @@ fn moving<P: PageBook, H: Host>(
         (H.outside host.old) (H.outside host.new) result }
 {
     match store.entry(host, source, uid) {
-        Ok(Some(entry)) => Ok(Step::Moved(source, uid, target, entry.graph)),
-        Ok(None) => Ok(Step::Untouched),
+        Ok(Some(entry)) => Ok(Step::Moved(entry.graph)),
+        Ok(None) => Ok(Step::Known),
         Err(stop) => Err(stop),
     }
 }
 
-/// The step of a new declaration, with its range.
+// The range by a new declaration.
 fn declaring<P: PageBook, H: Host>(
     store: &mut Store<P>,
     host: &mut H,
@@ -70,12 +68,12 @@ fn declaring<P: PageBook, H: Host>(
         (H.outside host.old) (H.outside host.new) result }
 {
     match filled_range(store, host, soup, spec) {
-        Ok(range) => Ok(Step::Declared(soup, range)),
+        Ok(range) => Ok(Step::Declared(range)),
         Err(stop) => Err(stop),
     }
 }
 
-/// The step of another tags declaration, with its masks.
+// The masks by another tags declaration.
 fn tagging<P: PageBook, H: Host>(
     store: &mut Store<P>,
     host: &mut H,
@@ -95,12 +93,12 @@ fn tagging<P: PageBook, H: Host>(
         (H.outside host.old) (H.outside host.new) result }
 {
     match filled_masks(store, host, soup, table) {
-        Ok(masks) => Ok(Step::Tagged(soup, masks)),
+        Ok(masks) => Ok(Step::Tagged(masks)),
         Err(stop) => Err(stop),
     }
 }
 
-/// What a change will be to the ranges.
+/// What a change needs for the ranges beside what it says itself.
 pub(crate) fn step_of<P: PageBook, H: Host>(
     store: &mut Store<P>,
     host: &mut H,
@@ -118,16 +116,16 @@ pub(crate) fn step_of<P: PageBook, H: Host>(
         (H.outside host.old) (H.outside host.new) result }
 {
     match change {
-        Change::MakeSoup(_) => Ok(Step::Made),
-        Change::DropSoup(soup) => Ok(Step::Dropped(*soup)),
-        Change::Add(soup, graph) => Ok(Step::Added(*soup, graph.copy()?)),
-        Change::Remove(soup, uid) => Ok(Step::Removed(*soup, *uid)),
-        Change::Move(source, uid, target) => moving(store, host, *source, *uid, *target),
-        Change::Replace(soup, uid, graph) => Ok(Step::Replaced(*soup, *uid, graph.copy()?)),
-        Change::Patch(..) => Ok(Step::Untouched),
+        Change::MakeSoup(_) => Ok(Step::Known),
+        Change::DropSoup(_) => Ok(Step::Known),
+        Change::Add(_, _) => Ok(Step::Known),
+        Change::Remove(_, _) => Ok(Step::Known),
+        Change::Move(source, uid, _) => moving(store, host, *source, *uid),
+        Change::Replace(_, _, _) => Ok(Step::Known),
+        Change::Patch(..) => Ok(Step::Known),
         Change::AddIndex(soup, spec) => declaring(store, host, *soup, spec),
-        Change::DropIndex(soup, paths) => Ok(Step::Undeclared(*soup, paths.copy()?)),
+        Change::DropIndex(_, _) => Ok(Step::Known),
         Change::SetTags(soup, table) => tagging(store, host, *soup, table),
-        Change::SetInfo(..) => Ok(Step::Untouched),
+        Change::SetInfo(..) => Ok(Step::Known),
     }
 }

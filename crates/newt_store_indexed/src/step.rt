@@ -2,84 +2,128 @@
 ghost use Rattle.std.specs.Prelude.{◌≡◌, IfOk, OnOk, IfErr};
 ghost use Rattle.newt_pagebook.specs.declared.book.Stop.TheVariants.{Memory};
 ghost use Rattle.newt_store_change.specs.declared.fault.StoreFault.TheVariants as fault;
-ghost use Rattle.newt_store_indexed.specs.Steps.{rows_after};
+ghost use Rattle.newt_store_indexed.specs.Steps.{rows_after, rows_declared, rows_moved};
+ghost use Rattle.newt_store_indexed.specs.Steps.{rows_tagged};
 
 use newt_base::{Sig, Uid};
 use newt_graph::Graph;
 use newt_index::Index;
 use newt_index_ranges::{Masks, Ranges};
 use newt_pagebook::Stop;
-use newt_path::Paths;
-use newt_store_change::StoreFault;
+use newt_store_change::{Change, StoreFault};
 use std::alloc::AllocError;
 
-/// What is made of the ranges after a change.
+/// What was read of the store before a change, for what the change is to the ranges beside what it
+/// says itself.
 #[derive(Drop)]
 pub(crate) enum Step {
-    /// They stay.
-    Untouched,
-    /// A soup more, of the signature that the change answers.
-    Made,
-    /// A soup gone.
-    Dropped(Sig),
-    /// An entry more, of the id that the change answers.
-    Added(Sig, Graph),
-    /// An entry gone.
-    Removed(Sig, Uid),
-    /// An entry gone from the first soup, and its graph added to the second under the id that the
-    /// change answers.
-    Moved(Sig, Uid, Sig, Graph),
-    /// An entry with another graph.
-    Replaced(Sig, Uid, Graph),
-    /// A range more, behind the others.
-    Declared(Sig, Index),
-    /// The range by the declaration of these paths gone.
-    Undeclared(Sig, Paths),
-    /// Other masks.
-    Tagged(Sig, Masks),
+    /// Nothing is needed.
+    Known,
+    /// The graph of the entry that is moved.
+    Moved(Graph),
+    /// The range by a new declaration.
+    Declared(Index),
+    /// The masks by another tags declaration.
+    Tagged(Masks),
 }
 
-/// Makes the step. After an error the ranges are spent.
-fn take_step(ranges: &mut Ranges, step: Step, answer: u32) -> Result<(), AllocError>
-    ensures { OnOk result (ranges.new ≡ rows_after step answer ranges.old) }
+// An entry goes from the first soup, and its graph is added to the second under this id.
+fn take_move(
+    ranges: &mut Ranges,
+    source: Sig,
+    uid: Uid,
+    target: Sig,
+    step: Step,
+    answer: u32,
+) -> Result<(), AllocError>
+    ensures { OnOk result (ranges.new ≡ rows_moved source uid target answer step ranges.old) }
 {
     match step {
-        Step::Untouched => Ok(()),
-        Step::Made => ranges.make_soup(Sig(answer), &[], None),
-        Step::Dropped(soup) => {
-            ranges.drop_soup(soup);
-            Ok(())
-        }
-        Step::Added(soup, graph) => ranges.add(soup, Uid(answer), &graph),
-        Step::Removed(soup, uid) => {
-            ranges.remove(soup, uid);
-            Ok(())
-        }
-        Step::Moved(source, uid, target, graph) => {
+        Step::Moved(graph) => {
             ranges.add(target, Uid(answer), &graph)?;
             ranges.remove(source, uid);
             Ok(())
         }
-        Step::Replaced(soup, uid, graph) => ranges.replace(soup, uid, &graph),
-        Step::Declared(soup, range) => ranges.declare(soup, range),
-        Step::Undeclared(soup, paths) => {
-            ranges.undeclare(soup, paths.list());
-            Ok(())
-        }
-        Step::Tagged(soup, masks) => {
-            ranges.set_masks(soup, masks);
-            Ok(())
-        }
+        Step::Known => Ok(()),
+        Step::Declared(_) => Ok(()),
+        Step::Tagged(_) => Ok(()),
     }
 }
 
-/// Makes the step after a change that answered this number, and answers it.
-pub(crate) fn follow(ranges: &mut Ranges, step: Step, answer: u32) -> Result<u32, StoreFault>
-    ensures rows { OnOk result (ranges.new ≡ rows_after step answer ranges.old) }
+// A soup gets a range behind its others.
+fn take_range(ranges: &mut Ranges, soup: Sig, step: Step) -> Result<(), AllocError>
+    ensures { OnOk result (ranges.new ≡ rows_declared soup step ranges.old) }
+{
+    match step {
+        Step::Declared(range) => ranges.declare(soup, range),
+        Step::Known => Ok(()),
+        Step::Moved(_) => Ok(()),
+        Step::Tagged(_) => Ok(()),
+    }
+}
+
+// A soup gets other masks.
+fn take_masks(ranges: &mut Ranges, soup: Sig, step: Step)
+    ensures { ranges.new ≡ rows_tagged soup step ranges.old }
+{
+    match step {
+        Step::Tagged(masks) => ranges.set_masks(soup, masks),
+        Step::Known => {}
+        Step::Moved(_) => {}
+        Step::Declared(_) => {}
+    }
+}
+
+// Makes of the ranges what the change is to them. After an error they are spent.
+fn take_step(
+    ranges: &mut Ranges,
+    change: &Change,
+    step: Step,
+    answer: u32,
+) -> Result<(), AllocError>
+    ensures { OnOk result (ranges.new ≡ rows_after change.now step answer ranges.old) }
+{
+    match change {
+        Change::MakeSoup(_) => ranges.make_soup(Sig(answer), &[], None),
+        Change::DropSoup(soup) => {
+            ranges.drop_soup(*soup);
+            Ok(())
+        }
+        Change::Add(soup, graph) => ranges.add(*soup, Uid(answer), graph),
+        Change::Remove(soup, uid) => {
+            ranges.remove(*soup, *uid);
+            Ok(())
+        }
+        Change::Move(source, uid, target) => {
+            take_move(ranges, *source, *uid, *target, step, answer)
+        }
+        Change::Replace(soup, uid, graph) => ranges.replace(*soup, *uid, graph),
+        Change::Patch(..) => Ok(()),
+        Change::AddIndex(soup, _) => take_range(ranges, *soup, step),
+        Change::DropIndex(soup, paths) => {
+            ranges.undeclare(*soup, paths.list());
+            Ok(())
+        }
+        Change::SetTags(soup, _) => {
+            take_masks(ranges, *soup, step);
+            Ok(())
+        }
+        Change::SetInfo(..) => Ok(()),
+    }
+}
+
+/// Makes of the ranges what a change is to them that answered this number, and answers it.
+pub(crate) fn follow(
+    ranges: &mut Ranges,
+    change: &Change,
+    step: Step,
+    answer: u32,
+) -> Result<u32, StoreFault>
+    ensures rows { OnOk result (ranges.new ≡ rows_after change.now step answer ranges.old) }
     ensures answer { IfOk result (λ n. n ≡ answer) }
     ensures memory { IfErr result (λ f. f ≡ fault.Stop Memory) }
 {
-    match take_step(ranges, step, answer) {
+    match take_step(ranges, change, step, answer) {
         Ok(()) => Ok(answer),
         Err(_) => Err(StoreFault::Stop(Stop::Memory)),
     }

@@ -88,10 +88,10 @@ impl<P: PageBook> Card for IndexedStore<P> {
     fn apply<H: Host>(
         &mut self,
         host: &mut H,
-        change: Change,
+        change: &Change,
         now: u32,
     ) -> Result<u32, StoreFault> {
-        match step_of(&mut self.store, host, &change) {
+        match step_of(&mut self.store, host, change) {
             Ok(step) => change_with(&mut self.store, &mut self.ranges, host, change, now, step),
             Err(stop) => Err(StoreFault::Stop(stop)),
         }
@@ -187,34 +187,34 @@ impl<P: PageBook> Card for IndexedStore<P> {
     }
 }
 
-/// Makes a change of the store, and then its step of the ranges.
+/// Makes a change of the store, and then what it is to the ranges.
 fn change_with<P: PageBook, H: Host>(
     store: &mut Store<P>,
     ranges: &mut Ranges,
     host: &mut H,
-    change: Change,
+    change: &Change,
     now: u32,
     step: Step,
 ) -> Result<u32, StoreFault>
     requires { IsOpen P.place P.numbers P.stands H.told store.old (H.outside host.old) }
-    ensures changes { Changes P.place P.numbers P.stands H.told change now store.old store.new
+    ensures changes { Changes P.place P.numbers P.stands H.told change.now now store.old store.new
         (H.outside host.old) (H.outside host.new) result }
     ensures ranges { IsTrue H.told → (s : PlainStore)
-        → Shows P.place store.old (H.outside host.old) s → IsStepOf change s step
-        → AreRangesOf s ranges.old → OnOk result (AreRangesOf (changed_by change now s)
+        → Shows P.place store.old (H.outside host.old) s → IsStepOf change.now s step
+        → AreRangesOf s ranges.old → OnOk result (AreRangesOf (changed_by change.now now s)
         ranges.new) }
     ensures same_ranges { IsRefused result → ranges.new ≡ ranges.old }
     ensures costs { IsTrue H.told → (s : PlainStore)
         → Shows P.place store.old (H.outside host.old) s
-        → IsOpenFor (most_bytes change (blocks_of (image (unit_of P.place store.old)
+        → IsOpenFor (most_bytes change.now (blocks_of (image (unit_of P.place store.old)
         (H.outside host.old).now)) now s)
         (image (unit_of P.place store.old) (H.outside host.old).now)
-        → Spends (unit_of P.place store.old) (most_bytes change
+        → Spends (unit_of P.place store.old) (most_bytes change.now
         (blocks_of (image (unit_of P.place store.old) (H.outside host.old).now)) now s)
-        (512 * pages_of_entry (entry_fetched change s)) (H.outside host.old) (H.outside host.new) }
+        (512 * pages_of_entry (entry_fetched change.now s)) (H.outside host.old) (H.outside host.new) }
 {
     match store.apply(host, change, now) {
-        Ok(answer) => follow(ranges, step, answer),
+        Ok(answer) => follow(ranges, change, step, answer),
         Err(fault) => Err(fault),
     }
 }

@@ -110,10 +110,12 @@ fn assert_bytes(rt: &impl Abort, bytes: &[u8]) {
     }
 }
 
-// One host changes the card, and another one reads it.
+// One host changes the card, no other attaches it meanwhile, and then another one reads it.
 fn change_and_read(abort: &impl Abort, rt: &HostRuntime) -> Result<(), AllocError> {
     let mut host = FileHost::new(rt.alloc(), rt, rt.stdin(), rt.stdout())?;
     change(abort, &mut host);
+    check(abort, attached(rt, "card")? == None, "a card in use");
+    drop(host);
     let mut other = FileHost::new(rt.alloc(), rt, rt.stdin(), rt.stdout())?;
     read_again(abort, &mut other);
     Ok(())

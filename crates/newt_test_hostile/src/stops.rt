@@ -15,20 +15,20 @@ fn stop_script(alloc: Global, unit: u8, picks: &[Pick]) -> Result<Counts, Fail> 
 
 #[test]
 fn a_stop_leaves_a_store_of_the_first_unit(rt: HostRuntime) -> Result<(), Fail> {
-    stop_script(rt.alloc(), 0, &[Pick::Old, Pick::New])?.expect(950, 214)
+    stop_script(rt.alloc(), 0, &[Pick::Old, Pick::New])?.expect(964, 208)
 }
 
 #[test]
 fn a_torn_stop_leaves_a_store_of_the_first_unit(rt: HostRuntime) -> Result<(), Fail> {
-    stop_script(rt.alloc(), 0, &[Pick::Half, Pick::Fill(0)])?.expect(950, 368)
+    stop_script(rt.alloc(), 0, &[Pick::Half, Pick::Fill(0)])?.expect(964, 356)
 }
 
 #[test]
 fn a_stop_leaves_a_store_of_the_second_unit(rt: HostRuntime) -> Result<(), Fail> {
-    stop_script(rt.alloc(), 1, &[Pick::Old, Pick::New])?.expect(950, 58)
+    stop_script(rt.alloc(), 1, &[Pick::Old, Pick::New])?.expect(964, 58)
 }
 
 #[test]
 fn a_torn_stop_leaves_a_store_of_the_second_unit(rt: HostRuntime) -> Result<(), Fail> {
-    stop_script(rt.alloc(), 1, &[Pick::Half, Pick::Fill(0)])?.expect(950, 90)
+    stop_script(rt.alloc(), 1, &[Pick::Half, Pick::Fill(0)])?.expect(964, 90)
 }

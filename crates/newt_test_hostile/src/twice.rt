@@ -95,5 +95,5 @@ fn a_stop_within_recovery_leaves_a_store(rt: HostRuntime) -> Result<(), Fail> {
     if stops != 94 {
         return Err(Fail::new(format_args!("{stops} stops")));
     }
-    counts.expect(13_369, 2_672)
+    counts.expect(15_328, 3_134)
 }

@@ -106,6 +106,8 @@ add 1 Notes {n: 14} => ok 14
 add 1 Notes {n: 15} => ok 15
 add 1 Notes {n: 16} => ok 16
 add 1 Notes {n: 17} => ok 17
+add 1 Notes {n: 18} => ok 18
+add 1 Notes {n: 19} => ok 19
 ";
 
 #[test]

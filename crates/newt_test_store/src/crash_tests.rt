@@ -61,8 +61,20 @@ add 0 020600 => 10
 remove 0 10 => 0
 add 0 020600 => 11
 remove 0 11 => 0
+add 0 020600 => 12
+remove 0 12 => 0
+add 0 020600 => 13
+remove 0 13 => 0
+add 0 020600 => 14
+remove 0 14 => 0
+add 0 020600 => 15
+remove 0 15 => 0
+add 0 020600 => 16
+remove 0 16 => 0
+add 0 020600 => 17
+remove 0 17 => 0
 vote => 00
-resume add 0 020600 @1 => 12
+resume add 0 020600 @1 => 18
 vote => 01
 ";
 

@@ -42,7 +42,7 @@ pub(crate) fn accept<P: PageBook>(
     ensures { OnOk result (StandsOn P.place P.numbers P.stands true store.new
         (outside_of host.new)) }
 {
-    match store.apply(host, change, 0) {
+    match store.apply(host, &change, 0) {
         Ok(_) => Ok(()),
         Err(fault) => Err(Fail::from(fault)),
     }

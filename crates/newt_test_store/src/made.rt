@@ -43,7 +43,7 @@ fn outcome_of<P: PageBook>(
     ensures is_open { OnOk result (IsOpen P.place P.numbers P.stands true store.new
         (outside_of host.new)) }
 {
-    match store.apply(host, change, minute) {
+    match store.apply(host, &change, minute) {
         Ok(answer) => Ok(Outcome::Done(answer)),
         Err(StoreFault::Refused(refusal)) => Ok(Outcome::Refused(refusal)),
         Err(fault) => Err(Fail::from(fault)),

@@ -40,8 +40,15 @@ const BANK: usize = 3 * 4096;
 
 const BANK_END: usize = 8 * 4096;
 
-// From the beginning of a record to the object's id of the second page that it puts.
-const SECOND: usize = 9 + 516 + 4;
+// From the beginning of a record to the number of pages that it puts, and to the first of them.
+const PUTS: usize = 5;
+
+const FIRST: usize = 9;
+
+// The bytes of a page that is put; from their beginning to the object's id.
+const PUT: usize = 516;
+
+const OBJECT: usize = 4;
 
 // How many bytes of bank 0 are used.
 fn used_of(alloc: Global, host: &MemHost) -> Result<usize, Fail> {
@@ -70,8 +77,21 @@ fn reply_of(alloc: Global, outcome: Outcome) -> Result<Vec<u8>, AllocError> {
     }
 }
 
-// Appends how many bytes of bank 0 are used more than before, and the object of the second page
-// that they put.
+// Where in bank 0 the object's id of the last page stands that the record puts which begins there.
+fn last_object(alloc: Global, host: &MemHost, record: usize) -> Result<usize, Fail> {
+    let counted = record.saturating_add(PUTS);
+    let count = part(alloc, host, counted, counted.saturating_add(2))?;
+    let mut puts = 0_usize;
+    for byte in &count {
+        puts = puts.saturating_mul(256).saturating_add(usize::from(*byte));
+    }
+    let pages = PUT.saturating_mul(puts.saturating_sub(1));
+    let first = record.saturating_add(FIRST);
+    Ok(first.saturating_add(pages).saturating_add(OBJECT))
+}
+
+// Appends how many bytes of bank 0 are used more than before, and the object of the last page that
+// they put.
 fn push_record(
     alloc: Global,
     host: &MemHost,
@@ -80,7 +100,7 @@ fn push_record(
 ) -> Result<(), Fail> {
     let size = used_of(alloc, host)?.saturating_sub(before);
     reply.extend_from_slice(format!(in alloc; " {size} ")?.as_bytes())?;
-    let at = BANK.saturating_add(before).saturating_add(SECOND);
+    let at = last_object(alloc, host, BANK.saturating_add(before))?;
     let object = part(alloc, host, at, at.saturating_add(4))?;
     reply.extend_from_slice(&hex_text(alloc, &object)?)?;
     Ok(())

@@ -5,22 +5,22 @@ use std::test::Fail;
 
 /// An entry gets texts at minutes, each by one record of the journal over its own object: a longer
 /// one of one page, one of the same length, one of three pages, one of the same length, and, in
-/// another run, one of one page. A record has 9 bytes, 516 for each page that it puts, the
-/// directory's among them, and 4 for each that it lets go.
+/// another run, one of one page. A record has 9 bytes, 516 for each page that it puts, and 4 for each
+/// that it lets go: the directory is not among them, since it stays.
 const REPLACED: &str = "
 make S => 0
 make T => 1
 add 0 020600 @5 => 0
-record replace 0 0 0206010701610004 @10 => 0 1049 00000001
+record replace 0 0 0206010701610004 @10 => 0 529 00000001
 rows => Internal 7 2; S 0 1; T 1 0; 0 0 10 0206010701610004
-record replace 0 0 0206010701610008 @11 => 0 1049 00000001
+record replace 0 0 0206010701610008 @11 => 0 529 00000001
 rows => Internal 7 2; S 0 1; T 1 0; 0 0 11 0206010701610008
-record replace 0 0 02060107017308FF000004B0 00*1200 @12 => 0 2081 00000001
+record replace 0 0 02060107017308FF000004B0 00*1200 @12 => 0 1561 00000001
 rows => Internal 7 2; S 0 1; T 1 0; 0 0 12 02060107017308FF000004B0 00*1200
-record replace 0 0 02060107017308FF000004B0 00*1200 @13 => 0 2089 00000001
+record replace 0 0 02060107017308FF000004B0 00*1200 @13 => 0 1569 00000001
 rows => Internal 7 2; S 0 1; T 1 0; 0 0 13 02060107017308FF000004B0 00*1200
 reopen
-record replace 0 0 020600 @14 => 0 1057 00000001
+record replace 0 0 020600 @14 => 0 537 00000001
 rows => Internal 7 2; S 0 1; T 1 0; 0 0 14 020600
 ";
 

@@ -11,7 +11,7 @@
 //! A change behind `cut` changes something, and a crash within each of its calls leaves the store
 //! before it or after it; behind `resume` that store also takes an entry. Behind `record` the reply
 //! goes on with the length of its record in the journal of bank 0, and the object of the record's
-//! second page.
+//! last page.
 //!
 //! The other lines are `fill SOUP UID COUNT`, which adds so many empty frames, the first with this
 //! id, `reopen`, behind which another run goes on, and those that ask: `rows` for all that the

@@ -1,11 +1,12 @@
 -- Why a conversion halts, and a run of a script.
-use Rattle.std.proofs.Common.{◌≡◌, ◌≢◌, inl, ℕ, ◌<◌, List, [], length, Option, Some, None, Err, refl, sym, ◌∙◌, append-nil}
+use Rattle.std.proofs.Common.{◌≡◌, ◌≢◌, inl, ℕ, ◌<◌, false, List, [], length, Option, Some, None, Err, refl, sym, ◌∙◌, append-nil}
 use Rattle.newt_host.specs.Meanings.{since}
 use Rattle.newt_host.specs.Outside.{Outside, Rose}
 use Rattle.newt_script_session.specs.Calls.{Faults}
 use Rattle.newt_script_session.specs.Causes.{HasCause, HasSinkCause, NeverLess, NoStreamFault}
 use Rattle.newt_script_session.specs.Named.{CountedNamed}
 use Rattle.newt_script_session.specs.Script.{script_items}
+use Rattle.newt_script_session.proofs.Acting.{acts_start}
 use Rattle.newt_script_session.proofs.Throwing.{threw_none}
 use Rattle.newt_script_session.specs.declared.halt.Halt.{Halt}
 use Rattle.newt_script_session.specs.declared.halt.Halt.TheVariants.{Memory, Source, Sink, TooLong}
@@ -71,5 +72,6 @@ counted_nothing script names old never = record {
   halted = inl refl;
   threw = threw_none old.dev_faults old.dev_faults (λ unit. refl);
   failed = λ unit none. refl;
+  acts = acts_start false [] old.now;
   crash = λ unit t left out at some. let apart : None ≡ Some t = sym (never unit) ∙ at in absurd (cc);
 }

@@ -4,6 +4,7 @@ ghost use Rattle.newt_host.specs.Meanings.{device_on};
 ghost use Rattle.newt_host.specs.Moments.{IsDurable};
 ghost use Rattle.newt_host.specs.Outside.{OnlyReads};
 ghost use Rattle.newt_store_catalog.specs.Reading.{ReadEnds};
+ghost use Rattle.newt_script_session.specs.Named.{HasNamed};
 ghost use Rattle.newt_top.specs.Calls.{MayRun, RunEnds};
 ghost use Rattle.newt_top.specs.Reading.{IsSaid, OnlyReadsDevices, RanReading};
 
@@ -48,6 +49,7 @@ pub fn run_reading<H: Host>(
     requires may { MayRun (map string_bytes names.now) (H.outside host.old) }
     ensures ran { IsTrue H.told → RanReading reading (map string_bytes names.now) result
         (H.outside host.old) (H.outside host.new) }
+    ensures named { HasNamed (map string_bytes names.now) (H.outside host.new) }
     ensures devices { OnlyReadsDevices (H.outside host.old) (H.outside host.new) }
     ensures ends { RunEnds (Mode.Read reading) result (H.outside host.old) (H.outside host.new) }
 {

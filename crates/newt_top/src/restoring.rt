@@ -1,5 +1,6 @@
 //! A store made on a device, from the stream of its backup.
 ghost use Rattle.std.specs.Prelude.{◌≡◌, IsTrue, map, string_bytes};
+ghost use Rattle.newt_script_session.specs.Named.{HasNamed};
 ghost use Rattle.newt_top.specs.Calls.{MayRun, RunEnds};
 ghost use Rattle.newt_top.specs.Restoring.{RanRestored, RanRestoring, WritesOneDevice};
 
@@ -20,6 +21,7 @@ fn restore_input<H: Host>(alloc: Global, names: &[String], host: &mut H, input: 
     ensures ran { IsTrue H.told → RanRestored (map string_bytes names.now) input.items result
         (H.outside host.old) (H.outside host.new) }
     ensures left { (H.outside host.new).input ≡ (H.outside host.old).input }
+    ensures named { HasNamed (map string_bytes names.now) (H.outside host.new) }
     ensures one { WritesOneDevice (H.outside host.old) (H.outside host.new) }
     ensures ends { RunEnds Mode.Restore result (H.outside host.old) (H.outside host.new) }
 {
@@ -42,6 +44,7 @@ pub fn run_restore<H: Host>(alloc: Global, names: &[String], host: &mut H, limit
     requires may { MayRun (map string_bytes names.now) (H.outside host.old) }
     ensures ran { IsTrue H.told → RanRestoring (map string_bytes names.now) limit result
         (H.outside host.old) (H.outside host.new) }
+    ensures named { HasNamed (map string_bytes names.now) (H.outside host.new) }
     ensures one { WritesOneDevice (H.outside host.old) (H.outside host.new) }
     ensures ends { RunEnds Mode.Restore result (H.outside host.old) (H.outside host.new) }
 {

@@ -26,6 +26,8 @@ returns-in_err-count_hits g c =
     (λ t apart settled d. d)
     (λ t apart settled un. (λ u. let z = (c.in_err-count_hits.ensures.reading.unread
     (unread-open (flat (slice_get c.args.desk.now c.args.cursor)) (query_of c.in-Some.query.now) (ap (option_map (λ q. query_of q.now)) (sym c.in-Some.is) ∙ c.query.ensures.query) un)) u in omega (arith, z)))
+    (λ un nothing. (λ u. let z = (c.in_err-count_hits.ensures.reading.unread
+    (unread-open (flat (slice_get c.args.desk.now c.args.cursor)) (query_of c.in-Some.query.now) (ap (option_map (λ q. query_of q.now)) (sym c.in-Some.is) ∙ c.query.ensures.query) un)) u in omega (arith, z)))
 
 pub returns : goal.returns
 returns g c =
@@ -37,3 +39,4 @@ returns g c =
     (same ∙ sym settled)
     (count-said w (flat (slice_get c.args.desk.now c.args.cursor)) (query_of c.in-Some.query.now) c.in_ok-count_hits.field-0 is (c.in_ok-count_hits.ensures.count t apart)))
     (λ t apart settled un. (λ u. let z = (c.in_ok-count_hits.ensures.reading.unread (unread-open (flat (slice_get c.args.desk.now c.args.cursor)) (query_of c.in-Some.query.now) is un)) u in omega (arith, z)))
+    (λ un nothing. (λ u. let z = (c.in_ok-count_hits.ensures.reading.unread (unread-open (flat (slice_get c.args.desk.now c.args.cursor)) (query_of c.in-Some.query.now) is un)) u in omega (arith, z)))

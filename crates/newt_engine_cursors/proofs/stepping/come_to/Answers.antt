@@ -86,3 +86,9 @@ returns-clause-fetches g c t apart among un u =
     let is = ap (λ (r : Reply). 512 * pages_shown r u) (ap (or_nil (current base)) (put-there (place_of c.args.place) c.args.desk.now c.args.cursor k c.in-Some.ensures)) in
     let more = c.in_ok-shown.ensures.fetches t apart (λ found. among found k (sym c.in-Some.ensures)) (unread-query (flat (slice_get c.args.desk.now c.args.cursor)) k c.in-Some.ensures un) u in
     omega (arith, is, more)
+
+pub returns-in_default-clause-idle : goal.returns-in_default-clause-idle
+returns-in_default-clause-idle g c nothing u = omega arith
+
+pub returns-clause-idle : goal.returns-clause-idle
+returns-clause-idle g c = c.in_ok-shown.ensures.idle

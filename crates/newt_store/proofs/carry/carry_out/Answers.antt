@@ -16,7 +16,7 @@ use Rattle.newt_objects_commit.specs.Names.{names_of}
 use Rattle.newt_objects_commit.specs.Places.{place_of}
 use Rattle.newt_store_catalog.specs.Stands.{Describes}
 use Rattle.newt_store_change.specs.declared.fault.StoreFault.{StoreFault}
-use Rattle.newt_store.specs.Next.{WritesNext, all_gone}
+use Rattle.newt_store.specs.Next.{WritesNext, all_gone, directory_after}
 use Rattle.newt_store.proofs.Unanswered.{IsMemory, memory-as, memory-none}
 use Rattle.newt_store.proofs.Writing.{full-refused, goes-refused, the-fault}
 use Rattle.newt_store.proofs.Reading.{same-cap, keeps-all}
@@ -70,6 +70,9 @@ write_next-requires-clause-can g c =
     let records : List ℕ = c.in_ok-gathered.gathered.records.items in
     let are : AreGone (place_of c.args.catalog.now.places) c.args.next.gone records = record { real = e.real; all = e.all } in
     can-planned g.H.Host.told c.args.catalog.now c.args.next records c.deref.result.now p.place p.numbers p.stands c.args.book.now (g.H.Host.outside c.args.host.now) c.requires.sound c.requires.next are e.once (c.deref.ensures.value ∙ e.gone)
+
+pub write_next-requires-clause-formed : goal.write_next-requires-clause-formed
+write_next-requires-clause-formed g c = λ d is. subst (λ (o : Option Directory). well_formed (bare_store (directory_after c.args.catalog.now.directory o)) ≡ true) is c.requires.next.formed
 
 pub follow-answer-requires : goal.follow-answer-requires
 follow-answer-requires g c =

@@ -1,9 +1,10 @@
-use Rattle.std.proofs.Common.{◌≡◌, ℕ, Result, Ok, Err, sym, ◌∙◌, subst}
+use Rattle.std.proofs.Common.{◌≡◌, ℕ, Result, Ok, Err, sym, subst}
 use Rattle.newt_pagebook.specs.Book.{batch_bytes}
 use Rattle.newt_spec_image.specs.Pages.{Change}
 use Rattle.newt_objects.specs.Changing.{IsUnderWay}
 use Rattle.newt_objects.specs.Held.{held}
 use Rattle.newt_objects.proofs.TextsOf.{texts_of}
+use Rattle.newt_objects_commit.specs.Batch.{bytes_if}
 use Rattle.newt_objects_commit.specs.Calls.{CommitsObjects}
 use Rattle.newt_store_change.specs.declared.fault.StoreFault.{StoreFault}
 use Rattle.newt_store.specs.Next.{next_bytes}
@@ -66,10 +67,10 @@ returns-in-Ok g c =
     let was = c.args.objects.now in
     let next = c.args.next.now in
     let gone = c.args.gone.now in
-    let directory-is = c.deref.ensures.value ∙ c.in_ok-bytes.ensures in
+    let directory-is = c.in_ok-bytes.ensures in
     let size : batch_bytes c.plan_objects.new.batch ≡ next_bytes next was gone =
-    bytes-planned next was gone c.deref.result.now c.new-batch.result c.plan_objects.new.batch c.new-batch.ensures directory-is c.in_ok-plan_objects.ensures.pages in
-    let leads = leads-on next gone c.deref.result.now was c.new-batch.result c.plan_objects.new.objects c.plan_objects.new.batch c.new-batch.ensures directory-is c.in_ok-plan_objects.ensures.way in
+    bytes-planned next was gone (bytes_if c.in_ok-bytes.bytes) c.new-batch.result c.plan_objects.new.batch c.new-batch.ensures directory-is c.in_ok-plan_objects.ensures.pages in
+    let leads = leads-on next gone (bytes_if c.in_ok-bytes.bytes) was c.new-batch.result c.plan_objects.new.objects c.plan_objects.new.batch c.new-batch.ensures directory-is c.in_ok-plan_objects.ensures.way in
     record {
       commits = subst (λ (b : ℕ). CommitsObjects p.place p.numbers p.stands told c.commit_plans.new.objects b 0 c.args.book.now c.commit_plans.new.book (o c.args.host.now) (o c.commit_plans.new.host) (Ok tt)) size c.in-Ok.ensures.commits;
       writes = writes-objects told was n (p.place c.args.book.now) (o c.args.host.now) c.requires.kept next gone c.plan_objects.new.objects c.commit_plans.new.objects c.plan_objects.new.batch (o c.commit_plans.new.host) (Ok tt) leads c.plan_objects.ensures.held c.in-Ok.ensures.makes;
@@ -84,10 +85,10 @@ returns g c =
     let was = c.args.objects.now in
     let next = c.args.next.now in
     let gone = c.args.gone.now in
-    let directory-is = c.deref.ensures.value ∙ c.in_ok-bytes.ensures in
+    let directory-is = c.in_ok-bytes.ensures in
     let size : batch_bytes c.plan_objects.new.batch ≡ next_bytes next was gone =
-    bytes-planned next was gone c.deref.result.now c.new-batch.result c.plan_objects.new.batch c.new-batch.ensures directory-is c.in_ok-plan_objects.ensures.pages in
-    let leads = leads-on next gone c.deref.result.now was c.new-batch.result c.plan_objects.new.objects c.plan_objects.new.batch c.new-batch.ensures directory-is c.in_ok-plan_objects.ensures.way in
+    bytes-planned next was gone (bytes_if c.in_ok-bytes.bytes) c.new-batch.result c.plan_objects.new.batch c.new-batch.ensures directory-is c.in_ok-plan_objects.ensures.pages in
+    let leads = leads-on next gone (bytes_if c.in_ok-bytes.bytes) was c.new-batch.result c.plan_objects.new.objects c.plan_objects.new.batch c.new-batch.ensures directory-is c.in_ok-plan_objects.ensures.way in
     record {
       commits = subst (λ (b : ℕ). CommitsObjects p.place p.numbers p.stands told c.commit_plans.new.objects b 0 c.args.book.now c.commit_plans.new.book (o c.args.host.now) (o c.commit_plans.new.host) (Err c.in-Err.fault)) size c.in-Err.ensures.commits;
       writes = writes-objects told was n (p.place c.args.book.now) (o c.args.host.now) c.requires.kept next gone c.plan_objects.new.objects c.commit_plans.new.objects c.plan_objects.new.batch (o c.commit_plans.new.host) (Err c.in-Err.fault) leads c.plan_objects.ensures.held c.in-Err.ensures.makes;

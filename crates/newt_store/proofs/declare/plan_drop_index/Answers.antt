@@ -1,4 +1,4 @@
-use Rattle.std.proofs.Common.{◌≡◌, List, true, not, ◌∙◌, ap}
+use Rattle.std.proofs.Common.{Some, ◌≡◌, List, true, not, ◌∙◌, ap}
 use Rattle.std.specs.Option.{is_some}
 use Rattle.newt_pagebook.proofs.Tests.{the_some}
 use Rattle.newt_spec_store.specs.Keys.{Path}
@@ -22,7 +22,7 @@ returns-clause-next c =
     c.drop_spec.ensures ∙ ap (λ (x : Directory). change_soup_of c.args.sig (without_index c.list.result.now) (bare_store x)) c.in_ok-directory.ensures
     ∙ ap (λ (paths : List Path). change_soup_of c.args.sig (without_index paths) (bare_store c.args.catalog.now.directory)) c.list.ensures in
     let p = the_some (soup_of c.args.sig (bare_store c.args.catalog.now.directory)) some in
-    next-plain c.args.catalog.now c.drop_spec.new.self Nothing 0 (formed-declared c.args.catalog.now.directory c.drop_spec.new.self c.args.sig p.0 (without_index c.args.paths.now) (drops-index c.args.paths.now) c.requires p.1 (without-index c.args.paths.now p.0) is)
+    next-plain c.args.catalog.now (Some c.drop_spec.new.self) Nothing 0 (formed-declared c.args.catalog.now.directory c.drop_spec.new.self c.args.sig p.0 (without_index c.args.paths.now) (drops-index c.args.paths.now) c.requires p.1 (without-index c.args.paths.now p.0) is)
 
 pub returns-clause-planned : goal.returns-clause-planned
 returns-clause-planned c = λ now texts s d.

@@ -33,7 +33,9 @@ returns-clause-adds c =
       of_graph = e.entry;
       free = ap (held c.args.catalog.now.objects) e.id ∙ c.in-Some.ensures.free;
       larges_free = e.free;
-      directory = c.take_uid.ensures.taken ∙ ap (λ (x : Directory). take_uid_of c.args.row.now.sig (bare_store x)) c.in_ok-directory.ensures;
+      directory = c.take_uid.new.self;
+      is_directory = refl;
+      taken = c.take_uid.ensures.taken ∙ ap (λ (x : Directory). take_uid_of c.args.row.now.sig (bare_store x)) c.in_ok-directory.ensures;
       of_gone = refl;
       answer = c.uid.view_is;
     }

@@ -19,19 +19,19 @@ pub plan_replace-requires : goal.plan_replace-requires
 plan_replace-requires g c = keeps-store c.requires.is_open.sound
 
 pub returns-in-MakeSoup-clause-costs : goal.returns-in-MakeSoup-clause-costs
-returns-in-MakeSoup-clause-costs g c = λ tells s stands. reads-nothing (g.P.PageBook.place c.args.book.now) (512 * pages_of_entry (entry_fetched c.args.change s)) (g.H.Host.outside c.args.host.now)
+returns-in-MakeSoup-clause-costs g c = λ tells s stands. reads-nothing (g.P.PageBook.place c.args.book.now) (512 * pages_of_entry (entry_fetched c.args.change.now s)) (g.H.Host.outside c.args.host.now)
 
 pub returns-in-DropSoup-clause-costs : goal.returns-in-DropSoup-clause-costs
-returns-in-DropSoup-clause-costs g c = λ tells s stands. reads-nothing (g.P.PageBook.place c.args.book.now) (512 * pages_of_entry (entry_fetched c.args.change s)) (g.H.Host.outside c.args.host.now)
+returns-in-DropSoup-clause-costs g c = λ tells s stands. reads-nothing (g.P.PageBook.place c.args.book.now) (512 * pages_of_entry (entry_fetched c.args.change.now s)) (g.H.Host.outside c.args.host.now)
 
 pub returns-in-Add-clause-costs : goal.returns-in-Add-clause-costs
-returns-in-Add-clause-costs g c = λ tells s stands. reads-nothing (g.P.PageBook.place c.args.book.now) (512 * pages_of_entry (entry_fetched c.args.change s)) (g.H.Host.outside c.args.host.now)
+returns-in-Add-clause-costs g c = λ tells s stands. reads-nothing (g.P.PageBook.place c.args.book.now) (512 * pages_of_entry (entry_fetched c.args.change.now s)) (g.H.Host.outside c.args.host.now)
 
 pub returns-in-Remove-clause-costs : goal.returns-in-Remove-clause-costs
-returns-in-Remove-clause-costs g c = λ tells s stands. reads-nothing (g.P.PageBook.place c.args.book.now) (512 * pages_of_entry (entry_fetched c.args.change s)) (g.H.Host.outside c.args.host.now)
+returns-in-Remove-clause-costs g c = λ tells s stands. reads-nothing (g.P.PageBook.place c.args.book.now) (512 * pages_of_entry (entry_fetched c.args.change.now s)) (g.H.Host.outside c.args.host.now)
 
 pub returns-in-Replace-clause-costs : goal.returns-in-Replace-clause-costs
-returns-in-Replace-clause-costs g c = λ tells s stands. reads-nothing (g.P.PageBook.place c.args.book.now) (512 * pages_of_entry (entry_fetched c.args.change s)) (g.H.Host.outside c.args.host.now)
+returns-in-Replace-clause-costs g c = λ tells s stands. reads-nothing (g.P.PageBook.place c.args.book.now) (512 * pages_of_entry (entry_fetched c.args.change.now s)) (g.H.Host.outside c.args.host.now)
 
 pub returns-in-Move-clause-costs : goal.returns-in-Move-clause-costs
 returns-in-Move-clause-costs g c = λ tells s stands.
@@ -39,16 +39,16 @@ returns-in-Move-clause-costs g c = λ tells s stands.
     subst (λ (ch : Change). Spends (g.P.PageBook.place c.args.book.now) 0 (512 * pages_of_entry (entry_fetched ch s)) (o c.args.host.now) (o c.plan_move.new.host)) (sym c.in-Move.is) (c.plan_move.ensures.costs tells s stands)
 
 pub returns-in-AddIndex-clause-costs : goal.returns-in-AddIndex-clause-costs
-returns-in-AddIndex-clause-costs g c = λ tells s stands. reads-nothing (g.P.PageBook.place c.args.book.now) (512 * pages_of_entry (entry_fetched c.args.change s)) (g.H.Host.outside c.args.host.now)
+returns-in-AddIndex-clause-costs g c = λ tells s stands. reads-nothing (g.P.PageBook.place c.args.book.now) (512 * pages_of_entry (entry_fetched c.args.change.now s)) (g.H.Host.outside c.args.host.now)
 
 pub returns-in-DropIndex-clause-costs : goal.returns-in-DropIndex-clause-costs
-returns-in-DropIndex-clause-costs g c = λ tells s stands. reads-nothing (g.P.PageBook.place c.args.book.now) (512 * pages_of_entry (entry_fetched c.args.change s)) (g.H.Host.outside c.args.host.now)
+returns-in-DropIndex-clause-costs g c = λ tells s stands. reads-nothing (g.P.PageBook.place c.args.book.now) (512 * pages_of_entry (entry_fetched c.args.change.now s)) (g.H.Host.outside c.args.host.now)
 
 pub returns-in-SetTags-clause-costs : goal.returns-in-SetTags-clause-costs
-returns-in-SetTags-clause-costs g c = λ tells s stands. reads-nothing (g.P.PageBook.place c.args.book.now) (512 * pages_of_entry (entry_fetched c.args.change s)) (g.H.Host.outside c.args.host.now)
+returns-in-SetTags-clause-costs g c = λ tells s stands. reads-nothing (g.P.PageBook.place c.args.book.now) (512 * pages_of_entry (entry_fetched c.args.change.now s)) (g.H.Host.outside c.args.host.now)
 
 pub returns-in-SetInfo-clause-costs : goal.returns-in-SetInfo-clause-costs
-returns-in-SetInfo-clause-costs g c = λ tells s stands. reads-nothing (g.P.PageBook.place c.args.book.now) (512 * pages_of_entry (entry_fetched c.args.change s)) (g.H.Host.outside c.args.host.now)
+returns-in-SetInfo-clause-costs g c = λ tells s stands. reads-nothing (g.P.PageBook.place c.args.book.now) (512 * pages_of_entry (entry_fetched c.args.change.now s)) (g.H.Host.outside c.args.host.now)
 
 pub returns-in-MakeSoup-clause-reads : goal.returns-in-MakeSoup-clause-reads
 returns-in-MakeSoup-clause-reads g c = reads-none g.P.PageBook.place g.P.PageBook.numbers g.P.PageBook.stands g.H.Host.told c.args.catalog.now.objects c.args.book.now (g.H.Host.outside c.args.host.now) (can-open c.requires.is_open)

@@ -1,4 +1,4 @@
-use Rattle.std.proofs.Common.{◌≡◌, true, not, ◌∙◌, ap}
+use Rattle.std.proofs.Common.{Some, ◌≡◌, true, not, ◌∙◌, ap}
 use Rattle.std.specs.Option.{is_some}
 use Rattle.newt_soupdir.specs.Bare.{bare_store}
 use Rattle.newt_spec_store.specs.Store.{soup_of, without_soup}
@@ -15,7 +15,7 @@ pub returns-clause-next : goal.returns-clause-next
 returns-clause-next c =
     let some : is_some (soup_of c.args.sig (bare_store c.args.catalog.now.directory)) ≡ true = seen-some _ c.soup_of.result (soup_of c.args.sig (bare_store c.args.catalog.now.directory)) c.soup_of.ensures ∙ c.is_none.ensures ∙ ap not c.if-is_none.false in
     let is : bare_store c.drop_soup.new.self ≡ without_soup c.args.sig (bare_store c.args.catalog.now.directory) = c.drop_soup.ensures ∙ ap (λ (x : Directory). without_soup c.args.sig (bare_store x)) c.in_ok-directory.ensures in
-    next-plain c.args.catalog.now c.drop_soup.new.self (AllOf c.args.sig) 0 (formed-dropped c.args.catalog.now.directory c.drop_soup.new.self c.args.sig c.requires some is)
+    next-plain c.args.catalog.now (Some c.drop_soup.new.self) (AllOf c.args.sig) 0 (formed-dropped c.args.catalog.now.directory c.drop_soup.new.self c.args.sig c.requires some is)
 
 pub returns-clause-planned : goal.returns-clause-planned
 returns-clause-planned c = λ now texts s d.

@@ -1,4 +1,4 @@
-use Rattle.std.proofs.Common.{◌≡◌, ℕ, false, List, sym, ◌∙◌, ap}
+use Rattle.std.proofs.Common.{Some, ◌≡◌, ℕ, false, List, sym, ◌∙◌, ap}
 use Rattle.std.specs.Option.{is_some}
 use Rattle.newt_spec_store.specs.Store.{soup_named}
 use Rattle.newt_soupdir.specs.Bare.{bare_store}
@@ -27,7 +27,7 @@ returns-then-catalog-eq-LAST_SIGNATURE-clause-refused c = λ texts s d.
 pub returns-clause-next : goal.returns-clause-next
 returns-clause-next c =
     let none : is_some (soup_named c.args.name.now (bare_store c.args.catalog.now.directory)) ≡ false = ap (λ (n : List ℕ). is_some (soup_named n (bare_store c.args.catalog.now.directory))) (sym c.list.ensures.bytes) ∙ seen-some _ c.soup_named.result (soup_named c.list.result.now (bare_store c.args.catalog.now.directory)) c.soup_named.ensures ∙ sym c.is_some.ensures ∙ c.if-is_some.false in
-    next-plain c.args.catalog.now c.make_soup.new.self Nothing c.sig.inside.0 (formed-made c.args.catalog.now.directory c.make_soup.new.self c.args.name.now c.requires c.list.ensures.named none (sym c.is_full.ensures ∙ c.if-is_full.false) c.if-catalog-eq-LAST_SIGNATURE.false
+    next-plain c.args.catalog.now (Some c.make_soup.new.self) Nothing c.sig.inside.0 (formed-made c.args.catalog.now.directory c.make_soup.new.self c.args.name.now c.requires c.list.ensures.named none (sym c.is_full.ensures ∙ c.if-is_full.false) c.if-catalog-eq-LAST_SIGNATURE.false
     (made-is c.args.catalog.now.directory c.in_ok-directory.directory c.make_soup.new.self c.args.name.now c.in_ok-copy.field-0 c.in_ok-sig.ensures.made c.in_ok-copy.ensures c.in_ok-directory.ensures))
 
 pub returns-clause-planned : goal.returns-clause-planned

@@ -1,8 +1,9 @@
-use Rattle.std.proofs.Common.{not, sym, ◌∙◌, ap}
+use Rattle.std.proofs.Common.{None, not, sym, ◌∙◌, ap}
 use Rattle.std.specs.Option.{is_some}
 use Rattle.newt_soupdir.specs.Bare.{bare_store}
 use Rattle.newt_spec_store.specs.Store.{soup_of}
-use Rattle.newt_store.proofs.Planned.{seen-some, remove-no-soup, remove-no-entry, remove-planned}
+use Rattle.newt_store.proofs.Planned.{seen-some, remove-no-soup, remove-no-entry, remove-planned, next-plain}
+use Rattle.newt_store.specs.declared.next.Gone.TheVariants.{OneEntry}
 use Rattle.newt_store.proofs.plan.plan_remove.Goals as goal
 
 pub returns-then-is_none-clause-refused : goal.returns-then-is_none-clause-refused
@@ -17,7 +18,9 @@ returns-then-is_none-2-clause-refused c = λ texts s d.
 
 pub returns-clause-planned : goal.returns-clause-planned
 returns-clause-planned c = λ now texts s d.
-    remove-planned c.args.catalog.now texts s c.args.sig c.args.uid now c.in_ok-copy.field-0 d
+    remove-planned c.args.catalog.now texts s c.args.sig c.args.uid now d
     (seen-some _ c.soup_of.result (soup_of c.args.sig (bare_store c.args.catalog.now.directory)) c.soup_of.ensures ∙ c.is_none.ensures ∙ ap not c.if-is_none.false)
     (ap is_some (sym c.get.ensures) ∙ c.is_none-2.ensures ∙ ap not c.if-is_none-2.false)
-    (ap bare_store c.in_ok-copy.ensures)
+
+pub returns-clause-next : goal.returns-clause-next
+returns-clause-next c = next-plain c.args.catalog.now None (OneEntry c.args.sig c.args.uid) 0 c.requires

@@ -2,13 +2,11 @@ use Rattle.std.proofs.Common.{◌<◌, inr, not, sym, ◌∙◌, ap, subst, arit
 use Rattle.std.specs.Option.{is_some}
 use Rattle.newt_pagebook.proofs.Tests.{some_inj, the_some}
 use Rattle.newt_spec_graph.specs.Lists.{Among}
-use Rattle.newt_spec_store.specs.Valid.{well_formed}
 use Rattle.newt_objects_commit.specs.Batch.{HasIds, large_ids}
 use Rattle.newt_objects_commit.specs.Places.{place_of}
 use Rattle.newt_objects_commit.specs.declared.batch.NewEntry.{NewEntry}
 use Rattle.newt_soupdir.specs.Bare.{bare_store}
 use Rattle.newt_spec_store.specs.Store.{soup_of}
-use Rattle.newt_soupdir.specs.declared.rows.Directory.{Directory}
 use Rattle.newt_store.specs.declared.next.Gone.TheVariants.{Nothing}
 use Rattle.newt_store.specs.Next.{IsFree}
 use Rattle.newt_store.proofs.Adding.{soup-small}
@@ -47,7 +45,7 @@ pub returns-clause-next : goal.returns-clause-next
 returns-clause-next c =
     let e = c.in_ok-entry.ensures in
     record {
-      formed = ap (λ (x : Directory). well_formed (bare_store x)) c.in_ok-copy.ensures ∙ c.requires.formed;
+      formed = c.requires.formed;
       ids = λ x is. subst HasIds (some_inj _ x is) e.entry.ids;
       free = λ x is. subst (IsFree c.args.catalog.now Nothing) (some_inj _ x is) (inr (kept-place (place_of c.args.catalog.now.places) c.in_ok-entry.entry c.args.sig c.args.uid c.in-Some.id e.entry.of_sig e.entry.of_uid e.id (sym c.get.ensures ∙ c.in-Some.is), λ goes. goes));
       larges_free = λ x o is m. e.free o (subst (λ (y : NewEntry). Among (large_ids y) o) (sym (some_inj _ x is)) m);
@@ -57,7 +55,7 @@ pub returns-clause-planned : goal.returns-clause-planned
 returns-clause-planned c = λ texts s d.
     let time : c.args.now < 4294967296 = omega (arith, c.ranges.now.fits) in
     let e = c.in_ok-entry.ensures in
-    replace-planned c.args.catalog.now texts s c.args.sig c.args.uid c.in-Some.id c.args.now c.args.graph.now c.in_ok-copy.field-0 c.in_ok-entry.entry c.requires.places c.requires.names d
+    replace-planned c.args.catalog.now texts s c.args.sig c.args.uid c.in-Some.id c.args.now c.args.graph.now c.in_ok-entry.entry c.requires.places c.requires.names d
     (seen-some _ c.soup_of.result (soup_of c.args.sig (bare_store c.args.catalog.now.directory)) c.soup_of.ensures ∙ c.is_none.ensures ∙ ap not c.if-is_none.false)
-    (sym c.get.ensures ∙ c.in-Some.is) (ap bare_store c.in_ok-copy.ensures) e.entry e.id e.free c.is_frame.ensures.graph time
+    (sym c.get.ensures ∙ c.in-Some.is) e.entry e.id e.free c.is_frame.ensures.graph time
     (sym c.is_frame.ensures.frame ∙ c.if-not-is_frame.false) (sym c.is_too_large.ensures ∙ c.if-is_too_large.false)

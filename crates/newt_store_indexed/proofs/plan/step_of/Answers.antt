@@ -9,7 +9,7 @@ use Rattle.newt_store_indexed.proofs.plan.step_of.Goals as goal
 
 pub returns-in-Move-clause-step : goal.returns-in-Move-clause-step
 returns-in-Move-clause-step g c = λ tells s shows. subst (λ (change : Change). IfOk c.moving.result (IsStepOf change s)) (sym c.in-Move.is)
-    (moved-step c.moving.result c.in-Move.source c.in-Move.uid c.in-Move.target s (λ e found. c.moving.ensures.moved tells s e shows found))
+    (moved-step c.moving.result c.in-Move.source c.in-Move.uid s (λ e found. c.moving.ensures.moved tells s e shows found))
 
 pub returns-in-Move-clause-costs : goal.returns-in-Move-clause-costs
 returns-in-Move-clause-costs g c = λ tells s shows.

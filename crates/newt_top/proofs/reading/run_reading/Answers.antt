@@ -136,3 +136,19 @@ returns-clause-ends g c =
     let mid = o c.attach_names-attached.new.host in
     let free = free-read (o c.args.host.now) mid (o c.said.new.host) (attached_faultless _ _ _ _ c.attach_names-attached.ensures.attached) c.said.ensures.looks in
     (ends-put c.args.reading g.H.Host.told c.write_all.result (o c.args.host.now) (o c.said.new.host) (o c.write_all.new.host) free (NoFault-append (none-attached _ _ _ _ c.attach_names-attached.ensures.attached) c.in-Ok.ensures.ends.no_fault) c.write_all.ensures.call).1 (sym c.is_err.ensures.value ∙ c.if-is_err.false)
+
+-- ---- what is attached
+
+pub returns-in-Err-Memory-clause-named : goal.returns-in-Err-Memory-clause-named
+returns-in-Err-Memory-clause-named g c unit name is = c.attach_names-attached.ensures.attached.own unit name (sym (c.said.ensures.looks.alone.cards.card unit) ∙ is)
+
+pub returns-in-Err-Device-clause-named : goal.returns-in-Err-Device-clause-named
+returns-in-Err-Device-clause-named g c unit name is = c.attach_names-attached.ensures.attached.own unit name (sym (c.said.ensures.looks.alone.cards.card unit) ∙ is)
+
+pub returns-then-is_err-clause-named : goal.returns-then-is_err-clause-named
+returns-then-is_err-clause-named g c unit name is =
+    c.attach_names-attached.ensures.attached.own unit name (sym (c.write_all.ensures.call.devices.cards.card unit ∙ c.said.ensures.looks.alone.cards.card unit) ∙ is)
+
+pub returns-clause-named : goal.returns-clause-named
+returns-clause-named g c unit name is =
+    c.attach_names-attached.ensures.attached.own unit name (sym (c.write_all.ensures.call.devices.cards.card unit ∙ c.said.ensures.looks.alone.cards.card unit) ∙ is)

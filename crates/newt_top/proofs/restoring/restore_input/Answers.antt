@@ -105,3 +105,19 @@ returns-clause-one g c =
     let done = o c.restore_text.new.host in
     let made = writes-restored g.H.Host.told c.args.input.items mid done c.restore_text.result c.restore_text.ensures.restores in
     writes-before (o c.args.host.now) done (o c.write_all.new.host) (writes-after (o c.args.host.now) mid done c.attach_names-attached.ensures.attached.counts made) c.write_all.ensures.call.devices
+
+-- ---- what is attached
+
+pub returns-in-Err-Memory-clause-named : goal.returns-in-Err-Memory-clause-named
+returns-in-Err-Memory-clause-named g c unit name is = c.attach_names-attached.ensures.attached.own unit name (sym (c.restore_text.ensures.restores.alone.cards.card unit) ∙ is)
+
+pub returns-in-Err-Device-clause-named : goal.returns-in-Err-Device-clause-named
+returns-in-Err-Device-clause-named g c unit name is = c.attach_names-attached.ensures.attached.own unit name (sym (c.restore_text.ensures.restores.alone.cards.card unit) ∙ is)
+
+pub returns-then-is_err-clause-named : goal.returns-then-is_err-clause-named
+returns-then-is_err-clause-named g c unit name is =
+    c.attach_names-attached.ensures.attached.own unit name (sym (c.write_all.ensures.call.devices.cards.card unit ∙ c.restore_text.ensures.restores.alone.cards.card unit) ∙ is)
+
+pub returns-clause-named : goal.returns-clause-named
+returns-clause-named g c unit name is =
+    c.attach_names-attached.ensures.attached.own unit name (sym (c.write_all.ensures.call.devices.cards.card unit ∙ c.restore_text.ensures.restores.alone.cards.card unit) ∙ is)

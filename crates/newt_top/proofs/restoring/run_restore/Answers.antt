@@ -38,3 +38,8 @@ pub returns-in-Ok-clause-one : goal.returns-in-Ok-clause-one
 returns-in-Ok-clause-one g c =
     let o = g.H.Host.outside in
     writes-after (o c.args.host.now) (o c.whole_input.new.host) (o c.restore_input.new.host) c.in-Ok.ensures.call.devices.counts c.restore_input.ensures.one
+
+-- ---- what is attached
+
+pub returns-in-Err-clause-named : goal.returns-in-Err-clause-named
+returns-in-Err-clause-named g c unit name is = let none = c.in-Err.ensures.call.devices.cards.card unit ∙ c.requires.may.free unit in absurd (cc)

@@ -1,4 +1,4 @@
-use Rattle.std.proofs.Common.{Ok, Err, map, Global, string_bytes, refl, arith}
+use Rattle.std.proofs.Common.{inl, Ok, Err, map, Global, string_bytes, refl, arith}
 use Rattle.std.proofs.lemmas.List.{length-map}
 use Rattle.newt_top.proofs.Halting.{ends_counting, ends_ok}
 use Rattle.newt_top.proofs.Naming.{few_names, distinct_names}
@@ -13,10 +13,10 @@ pub tally_named-requires-clause-distinct : goal.tally_named-requires-clause-dist
 tally_named-requires-clause-distinct g c = distinct_names (map (string_bytes {Z = Global}) c.args.names.now) c.requires.may.names
 
 pub returns-in-Ok-clause-ran : goal.returns-in-Ok-clause-ran
-returns-in-Ok-clause-ran g c = λ told. record { result = Ok tt; ends = refl; ran = c.in-Ok.ensures.counted told }
+returns-in-Ok-clause-ran g c = λ told. record { result = Ok tt; ends = refl; attached = inl (c.in-Ok.ensures.attached told); ran = c.in-Ok.ensures.counted told }
 
 pub returns-in-Err-clause-ran : goal.returns-in-Err-clause-ran
-returns-in-Err-clause-ran g c = λ told. record { result = Err c.in-Err.halt; ends = c.halted.ensures; ran = c.in-Err.ensures.counted told }
+returns-in-Err-clause-ran g c = λ told. record { result = Err c.in-Err.halt; ends = c.halted.ensures; attached = inl (c.in-Err.ensures.attached told); ran = c.in-Err.ensures.counted told }
 
 pub returns-in-Ok-clause-ends : goal.returns-in-Ok-clause-ends
 returns-in-Ok-clause-ends g c = λ seed count. ends_ok _ _ _ c.in-Ok.ensures.faults.no_fault c.in-Ok.ensures.faults.later

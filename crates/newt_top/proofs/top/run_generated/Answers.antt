@@ -1,4 +1,4 @@
-use Rattle.std.proofs.Common.{◌≡◌, ℕ, List, Err, map, Global, string_bytes, refl, subst, arith}
+use Rattle.std.proofs.Common.{◌≡◌, inr, ℕ, List, Err, map, Global, string_bytes, refl, subst, arith}
 use Rattle.std.proofs.lemmas.Grind.{common_steps}
 use Rattle.newt_host.proofs.Histories.{untouched-attached}
 use Rattle.newt_script_session.specs.declared.halt.Halt.TheVariants as halts
@@ -17,6 +17,7 @@ returns-in_default-clause-ran g c = λ told.
     record {
       result = Err halts.Memory;
       ends = refl;
+      attached = inr (refl, refl);
       ran = counted_nothing (gen_script c.args.seed c.args.count) (map (string_bytes {Z = Global}) c.args.names.now) before
           (λ unit. untouched-attached unit before.now (g.met.H.Host.untouched c.args.host.now unit told (c.requires.may.free unit)));
     }
@@ -35,3 +36,8 @@ returns-clause-ran g c = λ told.
 
 pub returns-clause-ends : goal.returns-clause-ends
 returns-clause-ends g c = c.run_counted.ensures.ends c.args.seed c.args.count
+
+-- ---- what is attached
+
+pub returns-in_default-clause-named : goal.returns-in_default-clause-named
+returns-in_default-clause-named g c unit name is = let none = c.requires.may.free unit in absurd (cc)

@@ -1,4 +1,4 @@
-use Rattle.std.proofs.Common.{Some, Global, map, string_bytes, sym, subst}
+use Rattle.std.proofs.Common.{Some, Global, map, string_bytes, sym, ◌∙◌, subst}
 use Rattle.newt_spec_script.specs.Generator.{gen_script}
 use Rattle.newt_top.specs.Calls.{RunEnds}
 use Rattle.newt_top.specs.Modes.{IsPlain, LeavesDevices, Ran, RanCounted, RanScript}
@@ -101,3 +101,8 @@ pub returns-in-Read-clause-ends : goal.returns-in-Read-clause-ends
 returns-in-Read-clause-ends g c =
     let P : Mode → Type 0 = λ mode. RunEnds mode c.run_reading.result (g.H.Host.outside c.args.host.now) (g.H.Host.outside c.run_reading.new.host) in
     subst P (sym c.in-Read.is) c.run_reading.ensures.ends
+
+-- ---- what is attached
+
+pub returns-in-Convert-clause-named : goal.returns-in-Convert-clause-named
+returns-in-Convert-clause-named g c unit name is = let none = c.run_conversion.ensures.devices.cards.card unit ∙ c.requires.may.free unit in absurd (cc)

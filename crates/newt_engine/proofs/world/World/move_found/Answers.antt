@@ -33,7 +33,7 @@ use Rattle.newt_engine_cursors.specs.World.{world_with}
 use Rattle.newt_engine_cursors.specs.declared.reach.Aim.{Aim}
 use Rattle.newt_engine.specs.Laws.{laws_of}
 use Rattle.newt_engine.proofs.Between.{Carried, added-costs, added-fails, added-moments, added-untorn, mid-apart, moved-answers, moved-costs, moved-moments, new_pages, removal-ends, settled-costs, source-fails, target-fails, with-moments}
-use Rattle.newt_engine.proofs.Costing.{unread_uses_cursor}
+use Rattle.newt_engine.proofs.Costing.{unread_uses_cursor, walks_steps}
 use Rattle.newt_engine.proofs.Handed.{told_stands}
 use Rattle.newt_engine.proofs.Moving.{move_no_cursor}
 use Rattle.newt_engine.proofs.Failing.{told-device}
@@ -245,6 +245,7 @@ returns g c name target both =
       moments = λ t. moved-moments (b t) first s.read (few t) second;
       costs = λ t. moved-costs (b t) first s.read (few t) second (λ goes. tt);
       step = λ t unread. absurd (unread_uses_cursor (with_cursors start.desk w) cmd none unread);
+      idle = λ walks nothing. absurd (unread_uses_cursor (with_cursors start.desk w) cmd none (walks_steps (with_cursors start.desk w) cmd walks));
       alone = ends.alone;
       broke = tt;
       ends = record {

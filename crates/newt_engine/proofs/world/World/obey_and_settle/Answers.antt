@@ -25,7 +25,7 @@ use Rattle.newt_engine_units.proofs.Obeying.{cause-after}
 use Rattle.newt_engine.specs.Calls.{Fails, FailsHalfway}
 use Rattle.newt_engine.specs.Laws.{laws_of}
 use Rattle.newt_engine.specs.Standing.{stood_for}
-use Rattle.newt_engine.proofs.Costing.{alone_few, settled_costs, settled_few, unread_uses_cursor}
+use Rattle.newt_engine.proofs.Costing.{alone_few, settled_costs, settled_few, unread_uses_cursor, walks_steps}
 use Rattle.newt_engine.proofs.Failing.{means-unlooked, seen-same, settling-fails, told-device}
 use Rattle.newt_engine.proofs.Handed.{told_stands}
 use Rattle.newt_engine.proofs.Reaching.{reaches-one}
@@ -81,6 +81,7 @@ returns-then-settles g c =
           (let k = seen-whole laws told a.units a.desk o c.requires.stands t command in
           reached_within a.desk sees k.0 k.1 k.2 k.3 command c.requires.no_cursor v (said c.in-Ok.reply) reached (done.unrefused t moves) (done.answered t) (is t) c.requires.form means u)));
       step = λ t unread. absurd (unread_uses_cursor (stood_for reads a o) command c.requires.no_cursor unread);
+      idle = λ walks nothing. absurd (unread_uses_cursor (stood_for reads a o) command c.requires.no_cursor (walks_steps (stood_for reads a o) command walks));
       alone = OnDevices-append e.alone s.read.alone;
       broke = err-device-both (λ u. FailsAlone m p u × (c.settled.new.self.desk ≡ c.obey.new.self.desk)) (λ u. IsTrue told → in_reach reached (mounted_store v u) ≡ true)
           (λ u. Fails reads g.C.Card.place g.C.Card.stands told command a c.settled.new.self o p u ⊎ FailsHalfway reads g.C.Card.place g.C.Card.stands told command a c.settled.new.self o p u) c.settled.result
@@ -126,6 +127,7 @@ returns-else-settles g c =
       costs = λ t. settled_costs a.desk c.requires.no_cursor (done.costs t) (λ goes. tt) refl (λ u. alone-refl u _)
           (λ means. alone_few a.desk w command o m (whole_known laws told a o c.requires.stands t command c.requires.no_cursor) ((done.costs t).fetched means));
       step = λ t unread. absurd (unread_uses_cursor (stood_for reads a o) command c.requires.no_cursor unread);
+      idle = λ walks nothing. absurd (unread_uses_cursor (stood_for reads a o) command c.requires.no_cursor (walks_steps (stood_for reads a o) command walks));
       alone = e.alone;
       broke = tt;
       ends = done.ends;

@@ -55,5 +55,5 @@ returns-in-Some g c =
       no_fault = c.apply.ensures.no_fault;
     }
 
-pub returns-in-None : goal.returns-in-None
-returns-in-None g c = absurd (not-there _ c.args.unit _ _ (sym c.unit.view_is) c.index_mut.ensures.value c.requires.mounted c.in-None.is)
+pub returns : goal.returns
+returns g c = absurd (not-there _ c.args.unit _ _ (sym c.unit.view_is) c.index_mut.ensures.value c.requires.mounted c.in-None.is)

@@ -38,15 +38,15 @@ returns-in_err-next-clause-changes g c =
       accepted = λ tells s stands. no-value c.from_residual.result _ c.from_residual.ensures.0;
       answer = λ tells s stands. no-value c.from_residual.result _ c.from_residual.ensures.0;
       changed = λ tells s stands. no-value c.from_residual.result _ c.from_residual.ensures.0;
-      refused = λ tells s stands. from-err (RefusesWith (refusal_of c.args.change (blocks_of (image (g.P.PageBook.place c.args.self.now.book) (g.H.Host.outside c.args.host.now).now)) c.args.now s)) c.from_residual.result c.in_err-next.field-0.0 c.from_residual.ensures.1
-          (refuses-first c.args.change (blocks_of (image (g.P.PageBook.place c.args.self.now.book) (g.H.Host.outside c.args.host.now).now)) c.args.now s c.in_err-next.field-0.0 (c.in_err-next.ensures.plans.refused tells s stands));
+      refused = λ tells s stands. from-err (RefusesWith (refusal_of c.args.change.now (blocks_of (image (g.P.PageBook.place c.args.self.now.book) (g.H.Host.outside c.args.host.now).now)) c.args.now s)) c.from_residual.result c.in_err-next.field-0.0 c.from_residual.ensures.1
+          (refuses-first c.args.change.now (blocks_of (image (g.P.PageBook.place c.args.self.now.book) (g.H.Host.outside c.args.host.now).now)) c.args.now s c.in_err-next.field-0.0 (c.in_err-next.ensures.plans.refused tells s stands));
       still = λ tells s stands is. stands;
       nothing_done = λ is. c.plan_change.ensures.reads.looks.moment;
       idle = λ tells s stands due. c.plan_change.ensures.reads.looks.moment;
       any_moment = λ tells s stands.
           let o = g.H.Host.outside in
           let u : ℕ = g.P.PageBook.place c.args.self.now.book in
-          leaves-before c.args.self.now.catalog c.args.change c.args.now (blocks_of (image u (o c.args.host.now).now)) s u (o c.args.host.now).now (o c.plan_change.new.host).now c.plan_change.ensures.reads.looks.moment stands
+          leaves-before c.args.self.now.catalog c.args.change.now c.args.now (blocks_of (image u (o c.args.host.now).now)) s u (o c.args.host.now).now (o c.plan_change.new.host).now c.plan_change.ensures.reads.looks.moment stands
           (g.met.P.PageBook.tells g.H.Host.told c.args.self.now.book (o c.args.host.now) c.requires.book tells).1;
       open_after = λ tells. no-value c.from_residual.result _ c.from_residual.ensures.0;
       alone = c.plan_change.ensures.reads.looks.alone;
@@ -59,7 +59,7 @@ pub returns-in-Ok-clause-changes : goal.returns-in-Ok-clause-changes
 returns-in-Ok-clause-changes g c =
     let ends = ends-after _ c.plan_change.ensures.reads.same_place c.plan_change.ensures.reads.looks (c.in_ok-next.ensures.ends.no_fault tt) c.in-Ok.ensures.leaves.ends in
     let changed : IsTrue g.H.Host.told → (s : PlainStore) → StandsFor c.args.self.now.catalog s (image (g.P.PageBook.place c.args.self.now.book) (g.H.Host.outside c.args.host.now).now)
-    → StandsFor c.carry_out.new.catalog (changed_by c.args.change c.args.now s) (image (g.P.PageBook.place c.args.self.now.book) (g.H.Host.outside c.carry_out.new.host).now) = λ tells s stands.
+    → StandsFor c.carry_out.new.catalog (changed_by c.args.change.now c.args.now s) (image (g.P.PageBook.place c.args.self.now.book) (g.H.Host.outside c.carry_out.new.host).now) = λ tells s stands.
     let o = g.H.Host.outside in
     let u : ℕ = g.P.PageBook.place c.args.self.now.book in
     let u' : ℕ = g.P.PageBook.place c.plan_change.new.book in
@@ -68,14 +68,14 @@ returns-in-Ok-clause-changes g c =
     let e : image u' m' ≡ image u m = same-image u u' m m' c.plan_change.ensures.reads.same_place c.plan_change.ensures.reads.looks.moment in
     let cat = c.args.self.now.catalog in
     let stands' : StandsFor cat s (image u' m') = subst (λ (b : List ℕ). StandsFor cat s b) (sym e) stands in
-    let t : PlainStore = changed_by c.args.change c.args.now s in
+    let t : PlainStore = changed_by c.args.change.now c.args.now s in
     let plan = c.in_ok-next.ensures.plans.planned tells s stands in
     subst (λ (v : ℕ). StandsFor c.carry_out.new.catalog t (image v (o c.carry_out.new.host).now)) c.plan_change.ensures.reads.same_place (c.in-Ok.ensures.makes.changed tells s t stands' plan.turns) in
     record {
       is_open = λ goes. record {
         book = c.in-Ok.ensures.leaves.book tt;
         sound = c.in-Ok.ensures.leaves.sound tt;
-        shows = shows-made c.requires (λ s. changed_by c.args.change c.args.now s) c.carry_out.new.catalog (g.P.PageBook.place c.carry_out.new.book) (g.H.Host.outside c.carry_out.new.host)
+        shows = shows-made c.requires (λ s. changed_by c.args.change.now c.args.now s) c.carry_out.new.catalog (g.P.PageBook.place c.carry_out.new.book) (g.H.Host.outside c.carry_out.new.host)
             (c.carry_out.ensures.leaves.same_place ∙ c.plan_change.ensures.reads.same_place) (λ s tells stands. changed tells s stands);
       };
       same_place = c.carry_out.ensures.leaves.same_place ∙ c.plan_change.ensures.reads.same_place;
@@ -88,9 +88,9 @@ returns-in-Ok-clause-changes g c =
           let e : image u' m' ≡ image u m = same-image u u' m m' c.plan_change.ensures.reads.same_place c.plan_change.ensures.reads.looks.moment in
           let cat = c.args.self.now.catalog in
           let stands' : StandsFor cat s (image u' m') = subst (λ (b : List ℕ). StandsFor cat s b) (sym e) stands in
-          let t : PlainStore = changed_by c.args.change c.args.now s in
+          let t : PlainStore = changed_by c.args.change.now c.args.now s in
           let plan = c.in_ok-next.ensures.plans.planned tells s stands in
-          none-due c.args.change (blocks_of (image u m)) c.args.now s plan.accepted (subst (λ (b : List ℕ). cost t ≤ cap (blocks_of b)) e (c.in-Ok.ensures.makes.fits tells s t stands' plan.turns));
+          none-due c.args.change.now (blocks_of (image u m)) c.args.now s plan.accepted (subst (λ (b : List ℕ). cost t ≤ cap (blocks_of b)) e (c.in-Ok.ensures.makes.fits tells s t stands' plan.turns));
       answer = λ tells s stands. c.in-Ok.ensures.makes.answer ∙ (c.in_ok-next.ensures.plans.planned tells s stands).answer;
       changed = changed;
       refused = λ tells s stands. tt;
@@ -105,9 +105,9 @@ returns-in-Ok-clause-changes g c =
           let e : image u' m' ≡ image u m = same-image u u' m m' c.plan_change.ensures.reads.same_place c.plan_change.ensures.reads.looks.moment in
           let cat = c.args.self.now.catalog in
           let stands' : StandsFor cat s (image u' m') = subst (λ (b : List ℕ). StandsFor cat s b) (sym e) stands in
-          let t : PlainStore = changed_by c.args.change c.args.now s in
+          let t : PlainStore = changed_by c.args.change.now c.args.now s in
           let plan = c.in_ok-next.ensures.plans.planned tells s stands in
-          leaves-changed c.args.change c.args.now s u (image u m) m (o c.carry_out.new.host).now plan.accepted
+          leaves-changed c.args.change.now c.args.now s u (image u m) m (o c.carry_out.new.host).now plan.accepted
           (subst (λ (k : Moment). Leaves u (IsEitherStore (image u m) s t) k (o c.carry_out.new.host).now) c.plan_change.ensures.reads.looks.moment
           (subst (λ (v : ℕ). Leaves v (IsEitherStore (image u m) s t) m' (o c.carry_out.new.host).now) c.plan_change.ensures.reads.same_place
           (subst (λ (b : List ℕ). Leaves u' (IsEitherStore b s t) m' (o c.carry_out.new.host).now) e (c.carry_out.ensures.unit.any_moment tells s t stands' plan.turns))));
@@ -122,9 +122,9 @@ returns-in-Ok-clause-changes g c =
           let e : image u' m' ≡ image u m = same-image u u' m m' c.plan_change.ensures.reads.same_place c.plan_change.ensures.reads.looks.moment in
           let cat = c.args.self.now.catalog in
           let stands' : StandsFor cat s (image u' m') = subst (λ (b : List ℕ). StandsFor cat s b) (sym e) stands in
-          let t : PlainStore = changed_by c.args.change c.args.now s in
+          let t : PlainStore = changed_by c.args.change.now c.args.now s in
           let plan = c.in_ok-next.ensures.plans.planned tells s stands in
-          refused-idle c.args.change (blocks_of (image u m)) c.args.now s plan.accepted
+          refused-idle c.args.change.now (blocks_of (image u m)) c.args.now s plan.accepted
           (λ more. c.carry_out.ensures.unit.idle tells s t stands' plan.turns (subst (λ (b : List ℕ). cap (blocks_of b) < cost t) (sym e) more) ∙ c.plan_change.ensures.reads.looks.moment);
       wears = λ tells s stands room.
           let o = g.H.Host.outside in
@@ -135,9 +135,9 @@ returns-in-Ok-clause-changes g c =
           let e : image u' m' ≡ image u m = same-image u u' m m' c.plan_change.ensures.reads.same_place c.plan_change.ensures.reads.looks.moment in
           let cat = c.args.self.now.catalog in
           let stands' : StandsFor cat s (image u' m') = subst (λ (b : List ℕ). StandsFor cat s b) (sym e) stands in
-          let t : PlainStore = changed_by c.args.change c.args.now s in
+          let t : PlainStore = changed_by c.args.change.now c.args.now s in
           let plan = c.in_ok-next.ensures.plans.planned tells s stands in
-          wears-both cat c.args.change c.args.now s c.in_ok-next.next (image u m) u (o c.args.host.now) (o c.carry_out.new.host) (no-patch c.args.change c.in_default.not-Patch) plan
+          wears-both cat c.args.change.now c.args.now s c.in_ok-next.next (image u m) u (o c.args.host.now) (o c.carry_out.new.host) (no-patch c.args.change.now c.in_default.not-Patch) plan
           (λ room-for. wears-after c.plan_change.ensures.reads.same_place c.plan_change.ensures.reads.looks
           (c.carry_out.ensures.unit.wears tells s t stands' plan.turns (subst (λ (b : List ℕ). IsOpenFor (turn_bytes c.in_ok-next.next s t) b) (sym e) room-for)))
           (λ more. wears-after c.plan_change.ensures.reads.same_place c.plan_change.ensures.reads.looks
@@ -160,7 +160,7 @@ returns-in-Err-clause-changes g c =
     let e : image u' m' ≡ image u m = same-image u u' m m' c.plan_change.ensures.reads.same_place c.plan_change.ensures.reads.looks.moment in
     let cat = c.args.self.now.catalog in
     let stands' : StandsFor cat s (image u' m') = subst (λ (b : List ℕ). StandsFor cat s b) (sym e) stands in
-    let t : PlainStore = changed_by c.args.change c.args.now s in
+    let t : PlainStore = changed_by c.args.change.now c.args.now s in
     let plan = c.in_ok-next.ensures.plans.planned tells s stands in
     subst (λ (b : List ℕ). StandsFor c.carry_out.new.catalog s b) e (c.in-Err.ensures.makes.still is tells s t stands' plan.turns) in
     record {
@@ -185,9 +185,9 @@ returns-in-Err-clause-changes g c =
           let e : image u' m' ≡ image u m = same-image u u' m m' c.plan_change.ensures.reads.same_place c.plan_change.ensures.reads.looks.moment in
           let cat = c.args.self.now.catalog in
           let stands' : StandsFor cat s (image u' m') = subst (λ (b : List ℕ). StandsFor cat s b) (sym e) stands in
-          let t : PlainStore = changed_by c.args.change c.args.now s in
+          let t : PlainStore = changed_by c.args.change.now c.args.now s in
           let plan = c.in_ok-next.ensures.plans.planned tells s stands in
-          refuses-full c.in-Err.fault c.in-Err.ensures.makes.only (λ is. full-due c.args.change (blocks_of (image u m)) c.args.now s (no-patch c.args.change c.in_default.not-Patch) plan.accepted stands.fits
+          refuses-full c.in-Err.fault c.in-Err.ensures.makes.only (λ is. full-due c.args.change.now (blocks_of (image u m)) c.args.now s (no-patch c.args.change.now c.in_default.not-Patch) plan.accepted stands.fits
           (subst (λ (b : List ℕ). cap (blocks_of b) < cost t) e (c.in-Err.ensures.makes.full is tells s t stands' plan.turns)));
       still = still;
       nothing_done = λ is. c.in-Err.ensures.leaves.nothing_done is ∙ c.plan_change.ensures.reads.looks.moment;
@@ -200,9 +200,9 @@ returns-in-Err-clause-changes g c =
           let e : image u' m' ≡ image u m = same-image u u' m m' c.plan_change.ensures.reads.same_place c.plan_change.ensures.reads.looks.moment in
           let cat = c.args.self.now.catalog in
           let stands' : StandsFor cat s (image u' m') = subst (λ (b : List ℕ). StandsFor cat s b) (sym e) stands in
-          let t : PlainStore = changed_by c.args.change c.args.now s in
+          let t : PlainStore = changed_by c.args.change.now c.args.now s in
           let plan = c.in_ok-next.ensures.plans.planned tells s stands in
-          leaves-changed c.args.change c.args.now s u (image u m) m (o c.carry_out.new.host).now plan.accepted
+          leaves-changed c.args.change.now c.args.now s u (image u m) m (o c.carry_out.new.host).now plan.accepted
           (subst (λ (k : Moment). Leaves u (IsEitherStore (image u m) s t) k (o c.carry_out.new.host).now) c.plan_change.ensures.reads.looks.moment
           (subst (λ (v : ℕ). Leaves v (IsEitherStore (image u m) s t) m' (o c.carry_out.new.host).now) c.plan_change.ensures.reads.same_place
           (subst (λ (b : List ℕ). Leaves u' (IsEitherStore b s t) m' (o c.carry_out.new.host).now) e (c.carry_out.ensures.unit.any_moment tells s t stands' plan.turns))));
@@ -217,9 +217,9 @@ returns-in-Err-clause-changes g c =
           let e : image u' m' ≡ image u m = same-image u u' m m' c.plan_change.ensures.reads.same_place c.plan_change.ensures.reads.looks.moment in
           let cat = c.args.self.now.catalog in
           let stands' : StandsFor cat s (image u' m') = subst (λ (b : List ℕ). StandsFor cat s b) (sym e) stands in
-          let t : PlainStore = changed_by c.args.change c.args.now s in
+          let t : PlainStore = changed_by c.args.change.now c.args.now s in
           let plan = c.in_ok-next.ensures.plans.planned tells s stands in
-          refused-idle c.args.change (blocks_of (image u m)) c.args.now s plan.accepted
+          refused-idle c.args.change.now (blocks_of (image u m)) c.args.now s plan.accepted
           (λ more. c.carry_out.ensures.unit.idle tells s t stands' plan.turns (subst (λ (b : List ℕ). cap (blocks_of b) < cost t) (sym e) more) ∙ c.plan_change.ensures.reads.looks.moment);
       wears = λ tells s stands room.
           let o = g.H.Host.outside in
@@ -230,9 +230,9 @@ returns-in-Err-clause-changes g c =
           let e : image u' m' ≡ image u m = same-image u u' m m' c.plan_change.ensures.reads.same_place c.plan_change.ensures.reads.looks.moment in
           let cat = c.args.self.now.catalog in
           let stands' : StandsFor cat s (image u' m') = subst (λ (b : List ℕ). StandsFor cat s b) (sym e) stands in
-          let t : PlainStore = changed_by c.args.change c.args.now s in
+          let t : PlainStore = changed_by c.args.change.now c.args.now s in
           let plan = c.in_ok-next.ensures.plans.planned tells s stands in
-          wears-both cat c.args.change c.args.now s c.in_ok-next.next (image u m) u (o c.args.host.now) (o c.carry_out.new.host) (no-patch c.args.change c.in_default.not-Patch) plan
+          wears-both cat c.args.change.now c.args.now s c.in_ok-next.next (image u m) u (o c.args.host.now) (o c.carry_out.new.host) (no-patch c.args.change.now c.in_default.not-Patch) plan
           (λ room-for. wears-after c.plan_change.ensures.reads.same_place c.plan_change.ensures.reads.looks
           (c.carry_out.ensures.unit.wears tells s t stands' plan.turns (subst (λ (b : List ℕ). IsOpenFor (turn_bytes c.in_ok-next.next s t) b) (sym e) room-for)))
           (λ more. wears-after c.plan_change.ensures.reads.same_place c.plan_change.ensures.reads.looks
@@ -246,7 +246,7 @@ pub returns-in_err-next-clause-costs : goal.returns-in_err-next-clause-costs
 returns-in_err-next-clause-costs g c = λ tells s stands room.
     let o = g.H.Host.outside in
     let u : ℕ = g.P.PageBook.place c.args.self.now.book in
-    spends-more u (most_bytes c.args.change (blocks_of (image u (o c.args.host.now).now)) c.args.now s) (512 * pages_of_entry (entry_fetched c.args.change s)) (o c.args.host.now) (o c.plan_change.new.host) (c.plan_change.ensures.costs tells s stands)
+    spends-more u (most_bytes c.args.change.now (blocks_of (image u (o c.args.host.now).now)) c.args.now s) (512 * pages_of_entry (entry_fetched c.args.change.now s)) (o c.args.host.now) (o c.plan_change.new.host) (c.plan_change.ensures.costs tells s stands)
 
 pub returns-in-Ok-clause-costs : goal.returns-in-Ok-clause-costs
 returns-in-Ok-clause-costs g c = λ tells s stands room.
@@ -258,9 +258,9 @@ returns-in-Ok-clause-costs g c = λ tells s stands room.
     let e : image u' m' ≡ image u m = same-image u u' m m' c.plan_change.ensures.reads.same_place c.plan_change.ensures.reads.looks.moment in
     let cat = c.args.self.now.catalog in
     let stands' : StandsFor cat s (image u' m') = subst (λ (b : List ℕ). StandsFor cat s b) (sym e) stands in
-    let t : PlainStore = changed_by c.args.change c.args.now s in
+    let t : PlainStore = changed_by c.args.change.now c.args.now s in
     let plan = c.in_ok-next.ensures.plans.planned tells s stands in
-    spends-both cat c.args.change c.args.now s c.in_ok-next.next (image u m) u (512 * pages_of_entry (entry_fetched c.args.change s)) (o c.args.host.now) (o c.plan_change.new.host) (o c.carry_out.new.host) (no-patch c.args.change c.in_default.not-Patch) plan (c.plan_change.ensures.costs tells s stands)
+    spends-both cat c.args.change.now c.args.now s c.in_ok-next.next (image u m) u (512 * pages_of_entry (entry_fetched c.args.change.now s)) (o c.args.host.now) (o c.plan_change.new.host) (o c.carry_out.new.host) (no-patch c.args.change.now c.in_default.not-Patch) plan (c.plan_change.ensures.costs tells s stands)
     (λ room-for. subst (λ (v : ℕ). Spends v (turn_bytes c.in_ok-next.next s t) 0 (o c.plan_change.new.host) (o c.carry_out.new.host)) c.plan_change.ensures.reads.same_place
     (c.carry_out.ensures.unit.bound tells s t stands' plan.turns (subst (λ (b : List ℕ). IsOpenFor (turn_bytes c.in_ok-next.next s t) b) (sym e) room-for)))
     (λ more. subst (λ (v : ℕ). Spends v 0 0 (o c.plan_change.new.host) (o c.carry_out.new.host)) c.plan_change.ensures.reads.same_place
@@ -277,9 +277,9 @@ returns-in-Err-clause-costs g c = λ tells s stands room.
     let e : image u' m' ≡ image u m = same-image u u' m m' c.plan_change.ensures.reads.same_place c.plan_change.ensures.reads.looks.moment in
     let cat = c.args.self.now.catalog in
     let stands' : StandsFor cat s (image u' m') = subst (λ (b : List ℕ). StandsFor cat s b) (sym e) stands in
-    let t : PlainStore = changed_by c.args.change c.args.now s in
+    let t : PlainStore = changed_by c.args.change.now c.args.now s in
     let plan = c.in_ok-next.ensures.plans.planned tells s stands in
-    spends-both cat c.args.change c.args.now s c.in_ok-next.next (image u m) u (512 * pages_of_entry (entry_fetched c.args.change s)) (o c.args.host.now) (o c.plan_change.new.host) (o c.carry_out.new.host) (no-patch c.args.change c.in_default.not-Patch) plan (c.plan_change.ensures.costs tells s stands)
+    spends-both cat c.args.change.now c.args.now s c.in_ok-next.next (image u m) u (512 * pages_of_entry (entry_fetched c.args.change.now s)) (o c.args.host.now) (o c.plan_change.new.host) (o c.carry_out.new.host) (no-patch c.args.change.now c.in_default.not-Patch) plan (c.plan_change.ensures.costs tells s stands)
     (λ room-for. subst (λ (v : ℕ). Spends v (turn_bytes c.in_ok-next.next s t) 0 (o c.plan_change.new.host) (o c.carry_out.new.host)) c.plan_change.ensures.reads.same_place
     (c.carry_out.ensures.unit.bound tells s t stands' plan.turns (subst (λ (b : List ℕ). IsOpenFor (turn_bytes c.in_ok-next.next s t) b) (sym e) room-for)))
     (λ more. subst (λ (v : ℕ). Spends v 0 0 (o c.plan_change.new.host) (o c.carry_out.new.host)) c.plan_change.ensures.reads.same_place
