@@ -2,6 +2,7 @@
 
 import re
 from dataclasses import replace
+from typing import Iterable, Iterator
 
 import lines
 from graphs import NIL, Array, Frame, Large, Ref, Walk, copied, integer, is_same_name, value_at, with_value
@@ -643,12 +644,11 @@ def answer(world: World, line: bytes):
     return " ".join(["ok", *[it for it in fields if it]])
 
 
-def run(world: World, script: bytes) -> list[str]:
-    """The replies to a script, up to the one to a `quit`."""
-    replies = []
-    for line in script.split(b"\n"):
+def run(world: World, script: Iterable[bytes]) -> Iterator[str]:
+    """The replies to the lines of a script as they come, up to the one to a `quit`."""
+    for line in script:
         reply = answer(world, line)
-        replies += [] if reply is None else [reply]
+        if reply is not None:
+            yield reply
         if reply == "ok" and line.split() == [b"quit"]:
-            break
-    return replies
+            return

@@ -298,7 +298,7 @@ def compare_script(bench: Bench, seed: int) -> None:
         lines = [*script[: random.choice((0, 6, len(script)))], any_bytes(random)]
     given = b"\n".join(lines) + random.choice((b"", b"\n"))
     units = [Unit(it) for it in blocks]
-    wanted = run(World(units), given)
+    wanted = list(run(World(units), given.split(b"\n")))
     files = bench.files([bytes(BLOCK * it) for it in blocks])
     bench.answers(given, wanted, files)
     bench.leaves(units, files)
