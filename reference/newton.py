@@ -1,3 +1,4 @@
+#!/usr/bin/env python3
 """The program once more: the modes of `newton` over files, answered by this reference.
 
 usage: python3 reference/newton.py MODE [WORD..]
