@@ -146,7 +146,7 @@ def played(step: Step, folder: Path) -> list[str]:
         stdout=subprocess.PIPE,
         stderr=subprocess.STDOUT,
         cwd=folder / "at",
-        env={**os.environ, "PATH": f"{folder / 'bin'}:{os.environ['PATH']}"},
+        env={**os.environ, "LC_ALL": "C", "PATH": f"{folder / 'bin'}:{os.environ['PATH']}"},
     )
     found = ran.stdout.decode(errors="replace").splitlines()
     both = zip_longest(step.shown[::2], found, fillvalue="nothing")
