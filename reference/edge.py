@@ -32,6 +32,8 @@ FRESH = bytes.fromhex("020602" "07096469726563746F7279" "0707656E7472696573" "05
 )
 FORMAT, MOUNT, ADD = b"format 0 Card 9\n", b"mount 0\n", b"add 0 Notes {}\n"
 BEGIN = FORMAT + MOUNT + b"soup 0 Notes\n"
+# An entry of 60,000 bytes.
+LARGE_ADD = b'add 0 Notes {a: "%s"}\n' % (b"x" * 30_000)
 # What each mode of a card is asked, and whether it reads an input.
 ASKED = {"run": MOUNT, "check": b"", "backup": b"", "restore": FRESH}
 
@@ -123,7 +125,7 @@ class Session:
 
 
 def closed_streams(edge: Edge) -> None:
-    """Standard streams that are closed, in each mode: the exit number, its line, and the card as where they are open."""
+    """Standard streams that are closed, in each mode: the exit number, its line, and what is left of the card."""
     card = edge.card("closed")
     before = card.read_bytes()
     modes = {"run closed": b"nsof 020A\n", "show": b"\2\12", "pack": b"nil", "restore closed": FRESH,
@@ -176,7 +178,8 @@ def no_cards(edge: Edge) -> None:
     with socket.socket(socket.AF_UNIX) as listening:
         listening.bind(str(edge.folder / "socket"))
     reader = os.open(fifo, os.O_RDONLY | os.O_NONBLOCK)
-    for name in ("", "missing", "nowhere", "folder", "socket", "fifo", "closed/below"):
+    below = edge.card("plain") / "below"
+    for name in ("", "missing", "nowhere", "folder", "socket", "fifo", below):
         edge.no_unit(name)
     for name in ("null", "zero", "full", "tty", "ptmx"):
         edge.no_unit(f"/dev/{name}")
@@ -220,13 +223,21 @@ def lengths(edge: Edge) -> None:
         edge.want("what was cut off", shorter.stat().st_size, size)
 
 
+def asked_of_system(*command: Word) -> Optional[str]:
+    """What a command of the system prints, and none where it is not there or there is no leave for it."""
+    try:
+        ran = subprocess.run(command, capture_output=True, text=True)
+    except FileNotFoundError:
+        return None
+    return ran.stdout if ran.returncode == 0 else None
+
+
 @contextmanager
 def mounted(edge: Edge, what: str, *words: str) -> Iterator[Optional[Path]]:
     """A file system in a folder, and none where there is no leave to mount it."""
     place = edge.folder / what.replace(" ", "-")
     place.mkdir()
-    tried = subprocess.run(["mount", *words, place], capture_output=True)
-    if tried.returncode != 0:
+    if asked_of_system("mount", *words, place) is None:
         edge.left_out.append(what)
         yield None
         return
@@ -246,6 +257,16 @@ def fills(edge: Edge, name: Word, before: Optional[Callable[[], None]] = None) -
     edge.want(f"{name}, its entries", edge.entries(name) in (answered, answered + 1), True)
 
 
+def fill_up(other: Path) -> None:
+    """A file that takes what room the disk has."""
+    with other.open("wb", buffering=0) as file:
+        try:
+            while True:
+                file.write(bytes(BLOCK))
+        except OSError:
+            pass
+
+
 def full_disks(edge: Edge) -> None:
     """A disk that is full under a card whose blocks were never written, and a file that may not grow."""
 
@@ -255,17 +276,14 @@ def full_disks(edge: Edge) -> None:
 
     edge.card("limited")
     fills(edge, "limited", little)
-    with mounted(edge, "a small disk", "-t", "tmpfs", "-o", f"size={10 * BLOCK}", "none") as disk:
+    with mounted(edge, "a small disk", "-t", "tmpfs", "-o", f"size={16 * BLOCK}", "none") as disk:
         if disk:
-            edge.ends("run", edge.blank("a-small-disk/sparse"), given=BEGIN, told=b"ok\n" + MOUNTED + b"ok 0\n")
-            (disk / "other").write_bytes(bytes(BLOCK))
-            with (disk / "other").open("ab", buffering=0) as other:
-                try:
-                    while True:
-                        other.write(bytes(BLOCK))
-                except OSError:
-                    pass
+            sparse = edge.card("a-small-disk/sparse")
+            fill_up(disk / "other")
+            fills(edge, sparse)
             edge.ends("run", edge.blank("a-small-disk/second"), given=FORMAT, told=b"error 50 device 0\n")
+            (disk / "other").unlink()
+            Session(edge, sparse, MOUNT, ADD).end()
 
 
 def read_only(edge: Edge) -> None:
@@ -295,13 +313,12 @@ def stopped_scripts(edge: Edge) -> None:
         run.stdin.flush()
         for _ in range(30):
             run.stdout.readline()
+        answered = 29
         if how:
             run.send_signal(how)
-            answered = 29 + len(run.stdout.read().splitlines())
-            run.wait()
+            answered += len(run.stdout.read().splitlines())
         else:
             run.stdout.close()
-            answered = 29
         ended = (run.wait(), run.stderr.read())
         found = edge.entries("stopped")
         edge.want(f"stopped by {how}", ended, (-how, b"") if how else (6, b"newton: sink\n"))
@@ -310,14 +327,13 @@ def stopped_scripts(edge: Edge) -> None:
         run.stdin.close()
 
 
-def large_cards(edge: Edge) -> bytes:
-    """Cards of 16 MB: filled over more than a bank, checked, backed up and restored; and one block more. Answers the backup."""
-    add = b'add 0 Notes {a: "%s"}\n' % (b"x" * 30_000)
+def large_cards(edge: Edge) -> None:
+    """Cards of 16 MB: filled over more than a bank, checked, backed up and restored; and one block more."""
     removes = b"".join(b"remove 0 Notes %d\n" % uid for uid in range(20))
     large = edge.card("large", MOST)
     with large.open("ab") as behind:
         behind.write(b"x" * (BLOCK - 1))
-    told = edge.run("run", "large", given=MOUNT + 130 * add + removes + 20 * add).told.splitlines()
+    told = edge.run("run", "large", given=MOUNT + 130 * LARGE_ADD + removes + 20 * LARGE_ADD).told.splitlines()
     edge.want("a large card", told, [b"ok 9 Card", *(b"ok %d" % uid for uid in range(130)), *[b"ok"] * 20,
                                      *(b"ok %d" % uid for uid in range(130, 150))])
     edge.want("its entries", edge.entries("large"), 130)
@@ -328,43 +344,52 @@ def large_cards(edge: Edge) -> bytes:
     edge.blank("larger", MOST + 1)
     for mode, given in {**ASKED, "run": FORMAT, "restore": kept}.items():
         edge.ends(mode, "larger", given=given, told=b"error 27 blocks\n")
-    return kept
 
 
-def stopped_restores(edge: Edge, kept: bytes) -> None:
-    """A signal within a restore: the card has no store, or the very one of the backup. So too where nobody reads the reply."""
-    (edge.folder / "kept").write_bytes(kept)
+def stopped_restores(edge: Edge) -> None:
+    """A signal within a restore: the card has no store, or the very one of the backup."""
+    edge.card("kept", MOST)
+    edge.run("run", "kept", given=MOUNT + 20 * LARGE_ADD)
+    kept = edge.run("backup", "kept").told
+    source = edge.folder / "stream"
+    source.write_bytes(kept)
 
-    def restore(seconds: Optional[float], how: signal.Signals) -> bool:
+    def restored(seconds: Optional[float], how: signal.Signals) -> bytes:
+        """What a restore to a blank card tells that gets a signal after so many seconds, or none."""
         edge.blank("again", MOST)
-        with (edge.folder / "kept").open("rb") as stdin:
+        with source.open("rb") as stdin:
             run = edge.start("restore", "again", stdin=stdin, stdout=subprocess.PIPE)
         if seconds is not None:
             time.sleep(seconds)
             run.send_signal(how)
-        else:
-            run.wait()
-        return run.communicate()[0] == MOUNTED
+        return run.communicate()[0]
 
     began = time.monotonic()
-    restore(None, signal.SIGTERM)
+    edge.want("a restore", restored(None, signal.SIGTERM), MOUNTED)
     whole = time.monotonic() - began
-    for part, how in product(range(1, 8), (signal.SIGINT, signal.SIGTERM)):
-        is_told = restore(whole * part / 8, how)
-        is_there = edge.entries("again") is not None
-        edge.want(f"restored by {part} parts of 8", is_there or not is_told, True)
-        edge.ends("restore", "again", given=kept, told=b"error 26 store\n" if is_there else MOUNTED)
+    for part, how in product((2, 3, 4, 5), (signal.SIGINT, signal.SIGTERM)):
+        told = restored(whole * part / 6, how)
+        has_store = edge.entries("again") is not None
+        edge.want(f"a restore that is stopped: {told!r}, and a store: {has_store}", has_store or told == b"", True)
+        edge.ends("restore", "again", given=kept, told=b"error 26 store\n" if has_store else MOUNTED)
         edge.want("its backup", edge.run("backup", "again").told == kept, True)
-    edge.blank("again", MOST)
+
+
+def broken_restores(edge: Edge) -> None:
+    """A reply that nobody reads, and a stream that ends too early."""
+    source = edge.folder / "stream"
+    kept = source.read_bytes()
+    edge.blank("unread", MOST)
     reading, writing = os.pipe()
     os.close(reading)
-    with (edge.folder / "kept").open("rb") as stdin:
-        unread = edge.start("restore", "again", stdin=stdin, stdout=writing)
+    with source.open("rb") as stdin:
+        run = edge.start("restore", "unread", stdin=stdin, stdout=writing)
     os.close(writing)
-    edge.want("a reply that nobody reads", (unread.wait(), edge.run("backup", "again").told == kept), (6, True))
-    before = edge.card("cut").read_bytes()
+    ended = (run.wait(), run.stderr.read(), edge.run("backup", "unread").told == kept)
+    edge.want("a reply that nobody reads", ended, (6, b"newton: sink\n", True))
+    blank = edge.blank("cut")
     edge.ends("restore", "cut", given=kept[: len(kept) // 2], told=b"error 1 malformed\n")
-    edge.want("a card that is not restored", (edge.folder / "cut").read_bytes() == before, True)
+    edge.want("a card that is not restored", blank.read_bytes() == bytes(LEAST * BLOCK), True)
 
 
 def own_input(edge: Edge) -> None:
@@ -380,13 +405,13 @@ def own_input(edge: Edge) -> None:
 
 
 def block_devices(edge: Edge) -> None:
-    """A block device is a card of its length, and not of what its folder says."""
+    """A block device is a card of its length."""
     image = edge.blank("image")
-    made = subprocess.run(["losetup", "--find", "--show", image], capture_output=True, text=True)
-    if made.returncode != 0:
+    made = asked_of_system("losetup", "--find", "--show", image)
+    if made is None:
         edge.left_out.append("a block device")
         return
-    device = made.stdout.strip()
+    device = made.strip()
     try:
         edge.ends("run", device, given=BEGIN + ADD, told=b"ok\n" + MOUNTED + b"ok 0\nok 0\n")
         session = Session(edge, device, MOUNT)
@@ -398,13 +423,15 @@ def block_devices(edge: Edge) -> None:
     edge.want("the file of a block device", edge.entries("image"), 2)
 
 
+CHECKS = (closed_streams, cards_in_use, no_cards, names, lengths, full_disks, read_only, stopped_scripts, large_cards,
+          stopped_restores, broken_restores, own_input, block_devices)
+
+
 def main() -> int:
     with tempfile.TemporaryDirectory() as folder:
         edge = Edge(Path(sys.argv[1]).resolve(), Path(folder))
-        for check in (closed_streams, cards_in_use, no_cards, names, lengths, full_disks, read_only, stopped_scripts,
-                      own_input, block_devices):
+        for check in CHECKS:
             check(edge)
-        stopped_restores(edge, large_cards(edge))
     for what in edge.left_out:
         print(f"left out: {what}")
     for line in edge.wrong:

@@ -3,7 +3,7 @@ use Rattle.std.proofs.Common.{◌≡◌, ◌≢◌, ℕ, zero, suc, ◌+◌, ◌
 use Rattle.std.proofs.lemmas.Bool.{false≢true}
 use Rattle.std.proofs.lemmas.Option.{get_or_from_slice_get}
 use Rattle.std.proofs.Math.ListN.{length-set}
-use Rattle.newt_host.specs.Outside.{AttachCall, Attaches, Counted, SameCards, SameCounts, Touches, UnitCall, Work}
+use Rattle.newt_host.specs.Outside.{AttachCall, Attaches, Counted, SameCards, Touches, UnitCall, Work}
 use Rattle.newt_host_files.specs.Cards.{HasFile, OnCard, SameCard, name_of, blocks_of, faults_of, programmed_of, fetched_of, erased_of, synced_of}
 use Rattle.newt_host_files.specs.Laws.{untold}
 use Rattle.newt_host_files.specs.Outside.{told_by}
@@ -33,7 +33,7 @@ same-field f b c same (x ∷ cards) (suc i) is zero = refl
 same-field f b c same (x ∷ cards) (suc i) is (suc u) = same-field f b c same cards i is u
 
 -- a unit that has a file has a card
-pub card-there : (cards : List Card) (u : ℕ) → IsSome (name_of (slice_get cards u)) → (b : Card) × (slice_get cards u ≡ Some b)
+card-there : (cards : List Card) (u : ℕ) → IsSome (name_of (slice_get cards u)) → (b : Card) × (slice_get cards u ≡ Some b)
 card-there [] u some = absurd (false≢true some)
 card-there (x ∷ cards) zero some = (x, refl)
 card-there (x ∷ cards) (suc u) some = card-there cards u some
