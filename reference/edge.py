@@ -253,7 +253,8 @@ def fills(edge: Edge, name: Word, before: Optional[Callable[[], None]] = None) -
     ended = edge.run("run", name, given=MOUNT + 40 * add + b"nsof 020A\n", before=before)
     lines = ended.told.splitlines()
     answered = sum(line.startswith(b"ok ") for line in lines[1:-1])
-    edge.want(f"{name} filled", (ended.status, lines[answered + 1], lines[-1]), (0, b"error 50 device 0", b"ok 020A"))
+    told = (ended.status, lines[answered + 1 : answered + 2], lines[-1])
+    edge.want(f"{name} filled", told, (0, [b"error 50 device 0"], b"ok 020A"))
     edge.want(f"{name}, its entries", edge.entries(name) in (answered, answered + 1), True)
 
 
@@ -346,13 +347,20 @@ def large_cards(edge: Edge) -> None:
         edge.ends(mode, "larger", given=given, told=b"error 27 blocks\n")
 
 
+def kept_stream(edge: Edge) -> Path:
+    """The backup of a card with 20 large entries."""
+    stream = edge.folder / "stream"
+    if not stream.exists():
+        edge.card("kept", MOST)
+        edge.run("run", "kept", given=MOUNT + 20 * LARGE_ADD)
+        stream.write_bytes(edge.run("backup", "kept").told)
+    return stream
+
+
 def stopped_restores(edge: Edge) -> None:
     """A signal within a restore: the card has no store, or the very one of the backup."""
-    edge.card("kept", MOST)
-    edge.run("run", "kept", given=MOUNT + 20 * LARGE_ADD)
-    kept = edge.run("backup", "kept").told
-    source = edge.folder / "stream"
-    source.write_bytes(kept)
+    source = kept_stream(edge)
+    kept = source.read_bytes()
 
     def restored(seconds: Optional[float], how: signal.Signals) -> bytes:
         """What a restore to a blank card tells that gets a signal after so many seconds, or none."""
@@ -377,7 +385,7 @@ def stopped_restores(edge: Edge) -> None:
 
 def broken_restores(edge: Edge) -> None:
     """A reply that nobody reads, and a stream that ends too early."""
-    source = edge.folder / "stream"
+    source = kept_stream(edge)
     kept = source.read_bytes()
     edge.blank("unread", MOST)
     reading, writing = os.pipe()
