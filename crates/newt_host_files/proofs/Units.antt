@@ -1,10 +1,10 @@
 -- One unit of several changes.
-use Rattle.std.proofs.Common.{◌≡◌, ◌≢◌, ℕ, zero, suc, ◌+◌, ◌<◌, ◌≤◌, Bool, true, false, cond, List, [], ◌∷◌, length, get_or, Option, Some, None, IsSome, Result, slice_get, slice_set, refl, sym, ◌∙◌, ap, subst, arith}
+use Rattle.std.proofs.Common.{◌≡◌, ◌≢◌, ℕ, zero, suc, ◌+◌, ◌<◌, ◌≤◌, false, List, [], ◌∷◌, length, get_or, Option, Some, None, IsSome, option_map, Result, slice_get, slice_set, refl, sym, ◌∙◌, ap, subst, arith}
 use Rattle.std.proofs.lemmas.Bool.{false≢true}
 use Rattle.std.proofs.lemmas.Option.{get_or_from_slice_get}
 use Rattle.std.proofs.Math.ListN.{length-set}
-use Rattle.newt_host.specs.Outside.{AttachCall, Attaches, Counted, SameCards, SameCounts, Touches, UnitCall, Work}
-use Rattle.newt_host_files.specs.Cards.{OnCard, SameCard, name_of, blocks_of, faults_of, programmed_of, fetched_of, erased_of, synced_of}
+use Rattle.newt_host.specs.Outside.{AttachCall, Attaches, Counted, SameCards, Touches, UnitCall, Work}
+use Rattle.newt_host_files.specs.Cards.{HasFile, OnCard, SameCard, name_of, blocks_of, faults_of, programmed_of, fetched_of, erased_of, synced_of}
 use Rattle.newt_host_files.specs.Laws.{untold}
 use Rattle.newt_host_files.specs.Outside.{told_by}
 use Rattle.newt_host_files.specs.declared.card.Card.{Card}
@@ -33,22 +33,18 @@ same-field f b c same (x ∷ cards) (suc i) is zero = refl
 same-field f b c same (x ∷ cards) (suc i) is (suc u) = same-field f b c same cards i is u
 
 -- a unit that has a file has a card
-card-there : (cards : List Card) (u : ℕ) → IsSome (name_of (slice_get cards u)) → (b : Card) × (slice_get cards u ≡ Some b) × (b.attached ≡ true)
+card-there : (cards : List Card) (u : ℕ) → IsSome (name_of (slice_get cards u)) → (b : Card) × (slice_get cards u ≡ Some b)
 card-there [] u some = absurd (false≢true some)
-card-there (x ∷ cards) zero some = (x, refl, held x.attached x.name.items some)
-  where
-    held : {A : Type 0} (t : Bool) (y : A) → IsSome (cond t (Some y) None) → t ≡ true
-    held true y some = refl
-    held false y some = some
+card-there (x ∷ cards) zero some = (x, refl)
 card-there (x ∷ cards) (suc u) some = card-there cards u some
 
 -- the card that was read there
-pub read-there : (cards : List Card) (i u : ℕ) (d : Card) → i ≡ u → IsSome (name_of (slice_get cards u)) → (slice_get cards i ≡ Some (get_or cards i d)) × ((get_or cards i d).attached ≡ true)
+pub read-there : (cards : List Card) (i u : ℕ) (d : Card) → i ≡ u → IsSome (name_of (slice_get cards u)) → slice_get cards i ≡ Some (get_or cards i d)
 read-there cards i u d same some =
     let there = card-there cards u some in
     let at_i : slice_get cards i ≡ Some there.0 = ap (λ (k : ℕ). slice_get cards k) same ∙ there.1 in
     let is : get_or cards i d ≡ there.0 = get_or_from_slice_get cards i there.0 d at_i in
-    (at_i ∙ ap Some (sym is), ap (λ (y : Card). y.attached) is ∙ there.2)
+    at_i ∙ ap Some (sym is)
 
 -- it is one of the cards
 pub card-inside : (cards : List Card) (i u : ℕ) → i ≡ u → IsSome (name_of (slice_get cards u)) → i < length cards
@@ -58,6 +54,14 @@ card-inside cards i u same some = subst (λ (k : ℕ). k < length cards) (sym sa
     inside [] u some = absurd (false≢true some)
     inside (x ∷ cards) zero some = omega arith
     inside (x ∷ cards) (suc u) some = let less = inside cards u some in omega (arith, less)
+
+-- a name goes with an open file
+named-by : {F A : Type 0} (file : Option F) (x : A) → IsSome file → option_map (λ (f : F). x) file ≡ Some x
+named-by None x some = absurd (false≢true some)
+named-by (Some f) x some = refl
+
+same-name : (b c : Card) → c.file ≡ b.file → c.name.items ≡ b.name.items → name_of (Some c) ≡ name_of (Some b)
+same-name b c file name = ap (λ o. option_map (λ f. c.name.items) o) file ∙ ap (λ (l : List ℕ). option_map (λ f. l) b.file) name
 
 module _ (cards : List Card) (i unit : ℕ) (b c : Card) (same : i ≡ unit) (is : slice_get cards i ≡ Some b) where
   at-old : slice_get cards unit ≡ Some b
@@ -86,7 +90,7 @@ module _ (cards : List Card) (i unit : ℕ) (b c : Card) (same : i ≡ unit) (is
       input = refl;
       cards = record {
         devices = λ name. refl;
-        card = λ u. same-field name_of b c (ap (λ (t : Bool). cond t (Some c.name.items) None) on.attached ∙ ap (λ (l : List ℕ). cond b.attached (Some l) None) on.name) cards i is u;
+        card = λ u. same-field name_of b c (same-name b c on.file on.name) cards i is u;
         blocks = λ u. same-field blocks_of b c on.blocks cards i is u;
       };
       in_faults = refl;
@@ -122,35 +126,37 @@ module _ (cards : List Card) (i unit : ℕ) (b c : Card) (same : i ≡ unit) (is
       faults = faults-at r counted;
     }
 
-  module _ (name : List ℕ) (attached : c.attached ≡ true) (named : c.name.items ≡ name) (in_faults out_faults : ℕ) where
+  module _ (name : List ℕ) (has : HasFile name c) (in_faults out_faults : ℕ) where
     pub attaches : Attaches false unit name (told_by cards in_faults out_faults) (told_by (slice_set cards i c) in_faults out_faults)
     attaches = record {
       devices = λ n. refl;
-      card = ap name_of at-new ∙ ap (λ (t : Bool). cond t (Some c.name.items) None) attached ∙ ap Some named;
+      card = ap name_of at-new ∙ named-by c.file c.name.items has.file ∙ ap Some has.name;
       other_cards = λ u other. elsewhere name_of u other;
       other_blocks = λ u other. elsewhere blocks_of u other;
       moment = λ told. untold told;
     }
 
-    pub attach_call : SameCard b c → AttachCall (told_by cards in_faults out_faults) (told_by (slice_set cards i c) in_faults out_faults)
-    attach_call same = record {
-      input = refl;
-      counts = record {
-        dev_faults = λ u. same-field faults_of b c same.faults cards i is u;
-        work = λ u. record {
-          programmed = same-field programmed_of b c same.programmed cards i is u;
-          fetched = same-field fetched_of b c same.fetched cards i is u;
-          erased = same-field erased_of b c same.erased cards i is u;
-          synced = same-field synced_of b c same.synced cards i is u;
-        };
+  -- what every attach promises
+  pub attach-call : SameCard b c → (in_faults out_faults : ℕ) → AttachCall (told_by cards in_faults out_faults) (told_by (slice_set cards i c) in_faults out_faults)
+  attach-call same in_faults out_faults = record {
+    input = refl;
+    counts = record {
+      dev_faults = λ u. same-field faults_of b c same.faults cards i is u;
+      work = λ u. record {
+        programmed = same-field programmed_of b c same.programmed cards i is u;
+        fetched = same-field fetched_of b c same.fetched cards i is u;
+        erased = same-field erased_of b c same.erased cards i is u;
+        synced = same-field synced_of b c same.synced cards i is u;
       };
-      in_faults = refl;
-      out_faults = refl;
-    }
+    };
+    in_faults = refl;
+    out_faults = refl;
+  }
 
--- where no card changes
-pub same-cards : (cards : List Card) {i j o p : ℕ} → SameCards (told_by cards i o) (told_by cards j p)
-same-cards cards = record { devices = λ name. refl; card = λ u. refl; blocks = λ u. refl }
-
-pub same-counts : (cards : List Card) {i j o p : ℕ} → SameCounts (told_by cards i o) (told_by cards j p)
-same-counts cards = record { dev_faults = λ u. refl; work = λ u. record { programmed = refl; fetched = refl; erased = refl; synced = refl } }
+  -- one that changed nothing of its unit
+  pub not-attached : c ≡ b → (in_faults out_faults : ℕ) → SameCards (told_by cards in_faults out_faults) (told_by (slice_set cards i c) in_faults out_faults)
+  not-attached same in_faults out_faults = record {
+    devices = λ name. refl;
+    card = λ u. same-field name_of b c (ap (λ (x : Card). name_of (Some x)) same) cards i is u;
+    blocks = λ u. same-field blocks_of b c (ap (λ (x : Card). blocks_of (Some x)) same) cards i is u;
+  }

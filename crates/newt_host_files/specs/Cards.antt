@@ -1,12 +1,12 @@
 -- What the units tell.
-use Rattle.std.specs.Prelude.{◌≡◌, ℕ, ◌+◌, ◌≤◌, cond, List, Option, Some, None}
+use Rattle.std.specs.Prelude.{◌≡◌, ℕ, ◌+◌, ◌≤◌, List, Option, Some, None, IsSome, option_map}
 use Rattle.newt_host.specs.Outside.{Work}
 use Rattle.newt_host_files.specs.declared.card.Card.{Card}
 
 -- the name of the file of a unit, where it has one
 abbrev pub name_of : Option Card → Option (List ℕ)
 name_of None = None
-name_of (Some c) = cond c.attached (Some c.name.items) None
+name_of (Some c) = option_map (λ file. c.name.items) c.file
 
 -- the number of its whole blocks, 0 where there is no unit
 abbrev pub blocks_of : Option Card → ℕ
@@ -38,10 +38,10 @@ abbrev pub synced_of : Option Card → ℕ
 synced_of None = 0
 synced_of (Some c) = c.synced
 
--- A call on a unit leaves its file. No count falls, and none rises by more than what was to be
+-- A call on a unit leaves its file open. No count falls, and none rises by more than what was to be
 -- done.
 pub record OnCard (work : Work) (old new : Card) : Type 0 where
-  pub attached : new.attached ≡ old.attached
+  pub file : new.file ≡ old.file
   pub name : new.name.items ≡ old.name.items
   pub blocks : new.blocks ≡ old.blocks
   pub faults : old.faults ≤ new.faults
@@ -53,6 +53,11 @@ pub record OnCard (work : Work) (old new : Card) : Type 0 where
   pub erased_most : new.erased ≤ old.erased + work.erases
   pub synced : old.synced ≤ new.synced
   pub synced_most : new.synced ≤ old.synced + work.syncs
+
+-- the unit has an open file, which has this name
+pub record HasFile (named : List ℕ) (card : Card) : Type 0 where
+  pub file : IsSome card.file
+  pub name : card.name.items ≡ named
 
 -- the counts are as they were
 pub record SameCard (old new : Card) : Type 0 where

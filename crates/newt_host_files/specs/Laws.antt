@@ -1,5 +1,5 @@
 -- The laws of the host over files.
-use Rattle.std.specs.Prelude.{◌≡◌, ℕ, ◌≤◌, ◌<◌, ◌^◌, Bool, true, false, cond, List, length, Option, Some, None, is_some, slice_get, refl}
+use Rattle.std.specs.Prelude.{◌≡◌, ℕ, ◌≤◌, ◌<◌, ◌^◌, true, false, List, length, Option, Some, None, is_some, option_map, slice_get, refl}
 use Rattle.std.proofs.Common.{ap, sym, subst, lit<}
 use Rattle.std.proofs.lemmas.Bool.{false≢true}
 use Rattle.std.proofs.lemmas.Option.{slice_get_past}
@@ -13,14 +13,14 @@ untold told = absurd (false≢true told)
 pub eight_of : (cards : List Card) (unit : ℕ) → length cards ≡ 8 → 8 ≤ unit → name_of (slice_get cards unit) ≡ None
 eight_of cards unit eight past = ap name_of (slice_get_past cards unit (subst (λ (n : ℕ). n ≤ unit) (sym eight) past))
 
-not_attached : {A : Type 0} (b : Bool) (x : A) → cond b (Some x) None ≡ None → b ≡ false
-not_attached true x free = absurd (false≢true (sym (ap is_some free)))
-not_attached false x free = refl
+no_file : {F A : Type 0} (file : Option F) (x : A) → option_map (λ (f : F). x) file ≡ None → file ≡ None
+no_file None x free = refl
+no_file (Some f) x free = absurd (false≢true (sym (ap is_some free)))
 
 -- a unit without a file has no blocks
 pub none_of : (o : Option Card) → name_of o ≡ None → blocks_of o ≡ 0
 none_of None free = refl
-none_of (Some c) free = c.free (not_attached c.attached c.name.items free)
+none_of (Some c) free = c.free (no_file c.file c.name.items free)
 
 pub few_of : (o : Option Card) → blocks_of o < 2 ^ 32
 few_of None = lit< tt

@@ -1,18 +1,20 @@
-//! What is kept of a unit beside its file.
-ghost use Rattle.std.specs.Prelude.{◌≡◌, ◌≤◌, ◌+◌, ◌<◌, ◌^◌, false, IfOk, vec_capacity};
+//! What is kept of a unit.
+ghost use Rattle.std.specs.Prelude.{◌≡◌, ◌≤◌, ◌+◌, ◌<◌, ◌^◌, None, IfOk, vec_capacity};
 ghost use Rattle.newt_host.specs.Outside.{Rose};
 
 use std::alloc::{AllocError, Global};
+use std::fs::File;
 
 /// The most bytes that the name of a file has: the system opens none of a longer name.
 pub(crate) const MOST_NAME: usize = 4095;
 
-/// A unit: the name of its file, its whole blocks of 4,096 bytes, and its counts: of faults, of
-/// bytes that it was to program and to fetch, of blocks that it was to erase, and of syncs. Without
-/// a file it has no blocks. It has room for any name, so that an attach takes no memory.
+/// A unit: its open file, which it has while it is attached, the name of it, its whole blocks of
+/// 4,096 bytes, and its counts: of faults, of bytes that it was to program and to fetch, of blocks
+/// that it was to erase, and of syncs. Without a file it has no blocks. It has room for any name,
+/// so that an attach takes no memory.
 #[derive(Drop)]
 pub(crate) struct Card {
-    pub attached: bool,
+    pub file: Option<File>,
     pub name: Vec<u8>,
     pub blocks: u32,
     pub faults: u64,
@@ -20,7 +22,7 @@ pub(crate) struct Card {
     pub fetched: u64,
     pub erased: u64,
     pub synced: u64,
-    ghost free: { attached ≡ false → blocks ≡ 0 },
+    ghost free: { file ≡ None → blocks ≡ 0 },
     ghost few: { blocks < 2 ^ 32 },
     ghost room: { 4095 ≤ vec_capacity name },
 }
@@ -28,10 +30,10 @@ pub(crate) struct Card {
 impl Card {
     /// A unit without a file.
     pub(crate) fn new(alloc: Global) -> Result<Self, AllocError>
-        ensures { IfOk result (λ card. card.attached ≡ false) }
+        ensures { IfOk result (λ card. card.file ≡ None) }
     {
         Ok(Card {
-            attached: false,
+            file: None,
             name: Vec::with_capacity(alloc, MOST_NAME)?,
             blocks: 0,
             faults: 0,

@@ -2,7 +2,7 @@
 ghost use Rattle.std.specs.Prelude.{◌≡◌, ℕ, IfOk, None, length, slice_get};
 ghost use Rattle.newt_host_files.specs.Cards.{name_of};
 
-use crate::card::{Card, MOST_NAME, count};
+use crate::card::{Card, count};
 use crate::{counts, device, edge};
 use newt_host::{Failed, Host, Unit};
 use std::alloc::{AllocError, Global};
@@ -17,8 +17,6 @@ pub struct FileHost<S: Files<File = File> + Drop, R: Read + Drop, W: Write + Dro
     input: R,
     output: W,
     cards: [Card; 8],
-    // The open file of each unit, by its number.
-    files: Vec<Option<File>>,
     in_faults: u64,
     out_faults: u64,
     ghost eight: { length cards ≡ 8 },
@@ -34,7 +32,6 @@ impl<S: Files<File = File> + Drop, R: Read + Drop, W: Write + Drop> FileHost<S, 
             input,
             output,
             cards: blank_cards(alloc)?,
-            files: device::places(alloc)?,
             in_faults: 0,
             out_faults: 0,
         })
@@ -79,18 +76,8 @@ impl<S: Files<File = File> + Drop, R: Read + Drop, W: Write + Drop> Host for Fil
     ghost history = { λ s unit told some. untold told };
 
     fn attach(&mut self, unit: Unit, name: &str) -> bool {
-        if name.len() > MOST_NAME {
-            return false;
-        }
-        let Some((file, blocks)) = device::open(&self.system, name) else {
-            return false;
-        };
-        if !device::keep(&mut self.files, unit, file) {
-            return false;
-        }
         let card = &mut self.cards[unit.0 as usize];
-        device::attach(card, name.as_bytes(), blocks);
-        true
+        device::attach(card, &self.system, name)
     }
 
     fn read_in(&mut self, buf: &mut [u8]) -> Result<usize, Failed> {
@@ -125,26 +112,26 @@ impl<S: Files<File = File> + Drop, R: Read + Drop, W: Write + Drop> Host for Fil
 
     fn read(&mut self, unit: Unit, at: u32, buf: &mut [u8]) -> Result<(), Failed> {
         let bytes = buf.len() as u64;
-        let done = device::get(&self.files, unit, at as u64, buf);
         let card = &mut self.cards[unit.0 as usize];
+        let done = device::get(card, at as u64, buf);
         counts::fetched(card, bytes, done)
     }
 
     fn program(&mut self, unit: Unit, at: u32, bytes: &[u8]) -> Result<(), Failed> {
-        let done = device::put(&self.files, unit, at as u64, bytes);
         let card = &mut self.cards[unit.0 as usize];
+        let done = device::put(card, at as u64, bytes);
         counts::programmed(card, bytes.len() as u64, done)
     }
 
     fn erase(&mut self, unit: Unit, block: u32) -> Result<(), Failed> {
-        let done = device::put(&self.files, unit, 4096 * block as u64, &[255; 4096]);
         let card = &mut self.cards[unit.0 as usize];
+        let done = device::put(card, 4096 * block as u64, &[255; 4096]);
         counts::erased(card, done)
     }
 
     fn sync(&mut self, unit: Unit) -> Result<(), Failed> {
-        let done = device::sync(&self.files, unit);
         let card = &mut self.cards[unit.0 as usize];
+        let done = device::sync(card);
         counts::synced(card, done)
     }
 }

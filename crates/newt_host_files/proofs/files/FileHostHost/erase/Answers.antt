@@ -15,5 +15,5 @@ returns g c =
     let there = read-there cards _ c.args.unit c.index-self-unit.result c.unit.view_is c.requires.attached in
     record {
       wrote = λ tells. untold tells;
-      call = unit-call cards _ c.args.unit _ _ c.unit.view_is there.0 c.erased.ensures.card _ _ c.erased.result c.erased.ensures.faults;
+      call = unit-call cards _ c.args.unit _ _ c.unit.view_is there c.erased.ensures.card _ _ c.erased.result c.erased.ensures.faults;
     }

@@ -15,5 +15,5 @@ returns g c =
     let there = read-there cards _ c.args.unit c.index-self-unit.result c.unit.view_is c.requires.attached in
     record {
       wrote = λ tells. untold tells;
-      call = unit-call cards _ c.args.unit _ _ c.unit.view_is there.0 c.programmed.ensures.card _ _ c.programmed.result c.programmed.ensures.faults;
+      call = unit-call cards _ c.args.unit _ _ c.unit.view_is there c.programmed.ensures.card _ _ c.programmed.result c.programmed.ensures.faults;
     }

@@ -16,5 +16,5 @@ returns g c =
     record {
       bytes = λ tells. untold tells;
       moment = refl;
-      call = unit-call cards _ c.args.unit _ _ c.unit.view_is there.0 c.fetched.ensures.card _ _ c.fetched.result c.fetched.ensures.faults;
+      call = unit-call cards _ c.args.unit _ _ c.unit.view_is there c.fetched.ensures.card _ _ c.fetched.result c.fetched.ensures.faults;
     }

@@ -15,5 +15,5 @@ returns g c =
     let there = read-there cards _ c.args.unit c.index-self-unit.result c.unit.view_is c.requires in
     record {
       synced = λ tells. untold tells;
-      call = unit-call cards _ c.args.unit _ _ c.unit.view_is there.0 c.synced.ensures.card _ _ c.synced.result c.synced.ensures.faults;
+      call = unit-call cards _ c.args.unit _ _ c.unit.view_is there c.synced.ensures.card _ _ c.synced.result c.synced.ensures.faults;
     }
