@@ -112,6 +112,11 @@ def shells() -> list[list[Step]]:
     return [steps_of(it) for it in (tour, modes, *parts)]
 
 
+def has_limits(steps: list[Step]) -> bool:
+    """Whether a file can't be written in a part: this reference knows no such file."""
+    return any("ulimit" in it.command for it in steps)
+
+
 def steps_of(text: str) -> list[Step]:
     steps: list[Step] = []
     for line in re.findall(r"^    (.*)$", text, re.MULTILINE):
@@ -161,7 +166,7 @@ def main(program: str = "") -> int:
         if program:
             wrong += differing(examples, by_program(Path(program).resolve(), units)(examples))
     for steps in shells():
-        if not any("ulimit" in it.command for it in steps):
+        if not has_limits(steps):
             wrong += differing_steps(steps, f"'{sys.executable}' '{REFERENCE / 'newton.py'}'")
         if program:
             wrong += differing_steps(steps, f"'{Path(program).resolve()}'")

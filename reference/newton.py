@@ -10,7 +10,7 @@ import re
 import struct
 import sys
 from pathlib import Path
-from typing import Optional
+from typing import Callable, Optional
 
 from backups import backed, restored
 from check import report
@@ -137,15 +137,15 @@ def restore(name: str, stream: bytes) -> bytes:
     return of_lines([reply])
 
 
-def output(words: list[str]) -> Optional[bytes]:
-    """What is written where the words name a mode."""
+def standard_input() -> bytes:
+    read = sys.stdin.buffer.read(MOST_INPUT + 1)
+    if len(read) > MOST_INPUT:
+        sys.exit(TOO_LONG)
+    return read
 
-    def given() -> bytes:
-        read = sys.stdin.buffer.read(MOST_INPUT + 1)
-        if len(read) > MOST_INPUT:
-            sys.exit(TOO_LONG)
-        return read
 
+def output(words: list[str], given: Callable[[], bytes] = standard_input) -> Optional[bytes]:
+    """What is written where the words name a mode, which asks for its input if it has one."""
     mode, names = (words[0], words[1:]) if words else ("", [])
     if mode == "run" and len(names) <= 8 and len(set(names)) == len(names):
         return of_lines(replies(names, given()))
