@@ -7,11 +7,13 @@ import os
 import pickle
 import sys
 import tempfile
+from itertools import chain, count
 from pathlib import Path
 from random import Random
 from typing import Iterator, NamedTuple
 
 from backups import backup
+from check import report
 from commands import answer
 from compare import BLOCKS, random_units
 from edges import EDGES
@@ -21,6 +23,7 @@ from images import BLOCK, store_of_image
 from newton import USAGE, image_of, of_lines, output
 from restores import bent_streams, devices
 from scripts import written
+from stores import Store
 from streams import encode
 from values import Values
 from world import UNITS, Unit, World
@@ -28,6 +31,12 @@ from world import UNITS, Unit, World
 # Scripts at the limits that take a program with checks of each access too long, or want a card of megabytes.
 LONG = ("nodes", "larges", "blocks", "lines")
 TEXTS = 300
+# How often each of some images is damaged anew, so that each layer is damaged in one of them.
+ROUNDS = 24
+
+
+class DocumentDiffers(Exception):
+    """The reference does not show what a document says: which line."""
 
 
 class Case(NamedTuple):
@@ -70,13 +79,15 @@ def sessions() -> Iterator[Case]:
 
 def typed() -> Iterator[Case]:
     """What is typed at a shell in the documents: each run of `newton`, over the files that the reference left."""
-    for number, steps in enumerate(it for it in shells() if not has_limits(it)):
+    for name, steps in zip(chain(("readme", "modes"), map("example-{}".format, count(1))), shells()):
+        if has_limits(steps):
+            continue
         with tempfile.TemporaryDirectory() as folder:
             for wrong in differing_steps(steps, f"'{sys.executable}' '{REFERENCE / 'recorded.py'}' '{folder}'"):
-                raise ValueError(f"the reference differs from a document: {wrong}")
+                raise DocumentDiffers(f"the reference differs from a document:\n{wrong}")
             for at, file in enumerate(sorted(Path(folder).iterdir())):
-                kept = pickle.loads(file.read_bytes())
-                yield kept._replace(name=f"shell-{number}-{at:02}-{kept.words[0]}")
+                run = pickle.loads(file.read_bytes())
+                yield run._replace(name=f"{name}-{at:02}-{run.words[0]}")
 
 
 # Scripts.
@@ -85,7 +96,8 @@ def typed() -> Iterator[Case]:
 def limits() -> Iterator[Case]:
     for lines, blocks in EDGES:
         if lines.__name__ not in LONG:
-            yield script(f"limit-{lines.__name__}", [it.encode() for it in lines()], [bytes(BLOCK * it) for it in blocks])
+            given = [it.encode() for it in lines()]
+            yield script(f"limit-{lines.__name__}", given, [bytes(BLOCK * it) for it in blocks])
 
 
 def kept(units: list[Unit]) -> list[str]:
@@ -102,8 +114,8 @@ def random_scripts(seed: int) -> Case:
     units = random_units(random)
     images = [bytes(BLOCK * it.blocks) for it in units]
     world, lines = World(units), []
-    for count in (60, random.choice((60, 150))):
-        lines += written(random, world, len(units), count)[0]
+    for length in (60, random.choice((60, 150))):
+        lines += written(random, world, len(units), length)[0]
         ends = [it.encode() for it in kept(units)]
         lines += ends
         for line in ends:
@@ -134,26 +146,41 @@ def unit_of_script(random: Random) -> Unit:
             return unit
 
 
+def by_report(images: list[bytes]) -> dict[str, bytes]:
+    """The first of these images of which `check` tells each layer as damaged, or that it is clean."""
+    found: dict[str, bytes] = {}
+    for image in images:
+        _, word, layer, *_ = report(image).split()
+        found.setdefault(layer if word == "damaged" else word, image)
+    return found
+
+
 def images(seed: int) -> Iterator[Case]:
-    """Images that the reference wrote, and the same damaged: all of these in one run, and each in the other modes."""
+    """Images that the reference wrote, and such with damage: some of these in one run, and each in the other modes."""
     random = Random(seed)
     units = [unit_of_script(random) for _ in range(UNITS)]
     wholes = [image_of(it.store, it.blocks) for it in units]
-    damaged = damaged_images(random, units, wholes)
-    lines = [line.encode() for number, it in enumerate(damaged) for line in reading(number, store_of_image(it))]
-    yield script("image-run", lines, damaged)
+    damaged = [it for _ in range(ROUNDS) for it in damaged_images(random, units, wholes)]
+    for layer, image in by_report([*wholes, *damaged, b"\xff" * (BLOCK * 13)]).items():
+        yield case(f"image-check-{layer}", ["check", "card"], b"", {"card": image})
+    lines = [line.encode() for number, it in enumerate(damaged[:UNITS]) for line in reading(number, store_of_image(it))]
+    yield script("image-run", lines, damaged[:UNITS])
     for number, (unit, whole, other) in enumerate(zip(units, wholes, damaged)):
-        stream, is_odd = encode(backup(unit.store)), number % 2 == 1
-        bent = random.choice(bent_streams(random, unit.store, stream, 1))
-        device = random.choice([it for it in devices(random, unit.store, whole) if it is not None])
-        yield case(f"image-{number}-check", ["check", "card"], b"", {"card": other})
-        yield case(f"image-{number}-backup", ["backup", "card"], b"", {"card": other if is_odd else whole})
-        given, image = (bent, bytes(len(whole))) if is_odd else (stream, device)
-        yield case(f"image-{number}-restore", ["restore", "card"], given, {"card": image})
+        yield from backups(random, f"image-{number}", unit.store, whole, other)
 
 
-def all_cases(seed: int, count: int) -> Iterator[Case]:
-    """The cases in the order in which they tell most, with so many random scripts from a seed on."""
+def backups(random: Random, name: str, store: Store, whole: bytes, damaged: bytes) -> Iterator[Case]:
+    """The backup of one of two images, and a restore of it, whole to any device, or bent to a blank one."""
+    stream, is_bent = encode(backup(store)), random.random() < 0.5
+    bent = random.choice(bent_streams(random, store, stream, 1))
+    device = random.choice([it for it in devices(random, store, whole) if it is not None])
+    yield case(f"{name}-backup", ["backup", "card"], b"", {"card": random.choice((whole, damaged))})
+    given, image = (bent, bytes(len(whole))) if is_bent else (stream, device)
+    yield case(f"{name}-restore", ["restore", "card"], given, {"card": image})
+
+
+def all_cases(seed: int, runs: int) -> Iterator[Case]:
+    """All cases, with so many runs of random scripts, from a seed on."""
     yield from sessions()
     yield from typed()
     yield from limits()
@@ -161,4 +188,4 @@ def all_cases(seed: int, count: int) -> Iterator[Case]:
     yield case("usage", ["run", "card", "card"], b"", {"card": bytes(BLOCK * 13)})
     yield case("generated", ["gen", "1", "40", "card"], b"", {"card": bytes(BLOCK * 40)})
     yield from images(seed)
-    yield from map(random_scripts, range(seed, seed + count))
+    yield from map(random_scripts, range(seed, seed + runs))

@@ -14,7 +14,7 @@ from itertools import zip_longest
 from pathlib import Path
 from typing import Iterable, Iterator, NamedTuple
 
-from cases import Case, all_cases
+from cases import Case, DocumentDiffers, all_cases
 from commands import asked
 
 TOP = Path(__file__).resolve().parent.parent
@@ -27,7 +27,7 @@ ENDED = re.compile(rb"^case=(\S+) run=(.*) proved=no$")
 
 
 class NotPlayed(Exception):
-    """The program was not built, or not played to the end: what `rt try` said."""
+    """No case, no program, or one that was not played to the end: why."""
 
 
 class Played(NamedTuple):
@@ -70,9 +70,7 @@ class Files(NamedTuple):
 def kept(folder: Path, cases: list[Case]) -> Files:
     files, images = Files(folder), {}
     for it in (files.cases(), files.data()):
-        it.mkdir(parents=True, exist_ok=True)
-        for old in it.iterdir():
-            old.unlink()
+        it.mkdir(parents=True)
     for case in cases:
         files.keep(case, images)
     return files
@@ -95,17 +93,17 @@ def by_try(cases: list[Case], files: Files) -> Iterator[Played]:
             else:
                 said.append(line)
     if by_name:
-        raise NotPlayed(f"{b''.join(said).decode(errors='replace')}{len(by_name)} of {len(cases)} cases were not played")
+        why = b"".join(said).decode(errors="replace")
+        raise NotPlayed(f"{why}{len(by_name)} of {len(cases)} cases were not played")
 
 
 def played(case: Case, ended: str, said: bytes) -> Played:
     """What `rt try` says of a case: how it ended, and where its output begins to differ."""
-    differs = FOUND.search(said)
-    if differs:
-        found = case.wanted[: int(differs[1])] + ast.literal_eval(f"b{differs[2].decode()}")
-        return Played(case, found, "")
-    is_well = ended.startswith(f"ended status={case.status} ") and "output=expected" in ended
-    return Played(case, case.wanted, "" if is_well else f"{ended}\n{said.decode(errors='replace')}")
+    differs, is_well = FOUND.search(said), ended.startswith(f"ended status={case.status} ")
+    wrong = "" if is_well and (differs or "output=expected" in ended) else f"{said.decode(errors='replace')}{ended}"
+    if not differs:
+        return Played(case, case.wanted, wrong)
+    return Played(case, case.wanted[: int(differs[1])] + ast.literal_eval(f"b{differs[2].decode()}"), wrong)
 
 
 def by_program(cases: list[Case], program: Path) -> Iterator[Played]:
@@ -134,8 +132,8 @@ def first_difference(items: Iterable, others: Iterable) -> int:
 
 
 def told(it: Played) -> str:
-    """The first line whose reply differs, with what is wanted and what is found; of other modes the words and the input."""
-    if it.wrong:
+    """The first line whose reply differs, with what is wanted and what is found; in other modes the words and input."""
+    if it.found == it.case.wanted:
         return f"  {it.wrong}"
     lines = asked(it.case.given) if it.case.words[0] == "run" else []
     wanted, found = it.case.wanted.splitlines(keepends=True), it.found.splitlines(keepends=True)
@@ -143,12 +141,12 @@ def told(it: Played) -> str:
     line = lines[at] if at < len(lines) else " ".join(it.case.words).encode() + b" < " + it.case.given
     replies = [b"".join(replies[at : at + 1]) for replies in (wanted, found)]
     place = first_difference(*replies)
-    return f"  line    {readable(line)}\n  wanted  {readable(replies[0], place)}\n  found   {readable(replies[1], place)}"
+    shown = {"line": readable(line), "wanted": readable(replies[0], place), "found": readable(replies[1], place)}
+    return "\n".join([f"  {word:6}  {text}" for word, text in shown.items()] + ([it.wrong] if it.wrong else []))
 
 
 def again(case: Case, options: argparse.Namespace) -> str:
     words = [".ci/quick", f"--seed {options.seed}", f"--count {options.count}", f"--only {case.name}"]
-    words += [f"--keep {options.keep}"] if options.keep else []
     return " ".join(words + ([str(options.program)] if options.program else []))
 
 
@@ -160,8 +158,7 @@ def compared(cases: list[Case], options: argparse.Namespace, files: Files) -> in
         if it.differs() and not names:
             print(f"{told(it)}\nonce more:  {again(it.case, options)}", flush=True)
         names += [it.case.name] if it.differs() else []
-    proved = "" if options.program else " The program was built by rt try: nothing was proved."
-    print(f"{len(cases)} cases were played, {len(names)} differ.{proved}", *names)
+    print(f"{len(cases)} cases were played, {len(names)} differ, and nothing was proved.", *names)
     return len(names)
 
 
@@ -170,31 +167,42 @@ def chosen(cases: list[Case], word: str) -> list[Case]:
     return [it for it in cases if it.name == word] or [it for it in cases if word in it.name]
 
 
+def absolute(name: str) -> Path:
+    return Path(name).resolve()
+
+
 def options_of(words: list[str]) -> argparse.Namespace:
     parser = argparse.ArgumentParser(".ci/quick", description=__doc__)
-    parser.add_argument("program", nargs="?", type=Path, help="a program that is built, to play them to")
+    parser.add_argument("program", nargs="?", type=absolute, help="a program that is built, in place of rt try")
     parser.add_argument("--seed", type=int, default=0, help="the first seed of what is random: 0 if left out")
-    parser.add_argument("--count", type=int, default=SCRIPTS, help=f"how many runs of two random scripts: {SCRIPTS} if left out")
+    parser.add_argument("--count", type=int, default=SCRIPTS, help=f"runs of two random scripts: {SCRIPTS} if left out")
     parser.add_argument("--only", metavar="WORD", default="", help="the cases alone whose names have this word")
-    parser.add_argument("--keep", metavar="FOLDER", type=Path, help="where the files of the cases stay")
+    parser.add_argument("--keep", metavar="FOLDER", type=absolute, help="a new folder, where their files stay")
     return parser.parse_args(words)
 
 
-def main(words: list[str]) -> int:
-    options = options_of(words)
+def played_with(options: argparse.Namespace) -> int:
+    """The status of playing the cases that the options ask for."""
     cases = chosen(list(all_cases(options.seed, options.count)), options.only)
     if not cases:
-        print(f"no case has {options.only} in its name")
-        return 2
+        raise NotPlayed(f"no case has {options.only} in its name")
     with tempfile.TemporaryDirectory() as folder:
         files = kept(options.keep or Path(folder), cases)
         if not options.program:
             print(f"rt try builds the program, in a minute or two, and plays {len(cases)} cases", flush=True)
-        try:
-            return 1 if compared(cases, options, files) else 0
-        except NotPlayed as fault:
-            print(fault)
-            return 1
+        return 1 if compared(cases, options, files) else 0
+
+
+def main(words: list[str]) -> int:
+    options = options_of(words)
+    if options.keep and options.keep.exists():
+        print(f"{options.keep} is there already")
+        return 2
+    try:
+        return played_with(options)
+    except (NotPlayed, DocumentDiffers) as fault:
+        print(fault)
+        return 1
 
 
 if __name__ == "__main__":
