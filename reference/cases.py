@@ -109,12 +109,12 @@ def kept(units: list[Unit]) -> list[str]:
 
 
 def random_scripts(seed: int) -> Case:
-    """A run of two random scripts over blank units, each with what it leaves."""
+    """A run of three random scripts over the same units, blank at first, each with what it leaves."""
     random = Random(seed)
     units = random_units(random)
     images = [bytes(BLOCK * it.blocks) for it in units]
     world, lines = World(units), []
-    for length in (60, random.choice((60, 150))):
+    for length in (60, 60, random.choice((60, 150))):
         lines += written(random, world, len(units), length)[0]
         ends = [it.encode() for it in kept(units)]
         lines += ends

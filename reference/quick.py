@@ -18,7 +18,8 @@ from cases import Case, DocumentDiffers, all_cases
 from commands import asked
 
 TOP = Path(__file__).resolve().parent.parent
-SCRIPTS = 30
+# Each run takes rt try half a second before the program begins, so few runs have several scripts each.
+RUNS = 20
 MOST_SHOWN = 160
 FOUND = re.compile(
     rb'differs from `[^`]*`: at byte (\d+), expected "(?:[^"\\]|\\.)*"(?: \([^)]*\))?, found ("(?:[^"\\]|\\.)*")'
@@ -175,7 +176,7 @@ def options_of(words: list[str]) -> argparse.Namespace:
     parser = argparse.ArgumentParser(".ci/quick", description=__doc__)
     parser.add_argument("program", nargs="?", type=absolute, help="a program that is built, in place of rt try")
     parser.add_argument("--seed", type=int, default=0, help="the first seed of what is random: 0 if left out")
-    parser.add_argument("--count", type=int, default=SCRIPTS, help=f"runs of two random scripts: {SCRIPTS} if left out")
+    parser.add_argument("--count", type=int, default=RUNS, help=f"runs of three random scripts: {RUNS} if left out")
     parser.add_argument("--only", metavar="WORD", default="", help="the cases alone whose names have this word")
     parser.add_argument("--keep", metavar="FOLDER", type=absolute, help="a new folder, where their files stay")
     return parser.parse_args(words)
