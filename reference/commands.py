@@ -629,10 +629,20 @@ def fields_of(world: World, line: bytes) -> list:
     return body(world, *given)
 
 
+def is_command(line: bytes) -> bool:
+    """Whether a line without its line end gets a reply: others are blank, or comments."""
+    return line.removesuffix(b"\r").lstrip(b" \t")[:1] not in (b"", b"%")
+
+
+def asked(script: bytes) -> list[bytes]:
+    """The lines of a script that get a reply each."""
+    return list(filter(is_command, script.split(b"\n")))
+
+
 def answer(world: World, line: bytes):
     """The reply to a line without its line end, or nothing where it is no command."""
     line = line.removesuffix(b"\r")
-    if line.lstrip(b" \t")[:1] in (b"", b"%"):
+    if not is_command(line):
         return None
     world.events = []
     try:

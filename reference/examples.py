@@ -4,10 +4,10 @@ usage: python3 reference/examples.py [PROGRAM]
 
 The examples: each line and reply of docs/COMMANDS.md, those from the heading "Units and stores" to "When a card fails"
 as one session over two units of 13 blocks; the streams, literals and the fresh image of docs/FORMATS.md; and what is
-typed at a shell in each part of README.md, docs/COMMANDS.md, docs/FORMATS.md and docs/EXAMPLES.md and in the examples of
-docs/newton.1, where `newton` is reference/newton.py or the program. Each part begins in an empty folder. A part in which a
-file can't be written (`ulimit`), or in which single bytes of an image are changed (`bs=1`), is played to the program
-alone. It ends with 0 where all agree.
+typed at a shell in each part of README.md, docs/COMMANDS.md, docs/FORMATS.md and docs/EXAMPLES.md and in the examples
+of docs/newton.1, where `newton` is reference/newton.py or the program. Each part begins in an empty folder. A part in
+which a file can't be written (`ulimit`), or in which single bytes of an image are changed (`bs=1`), is played to the
+program alone. It ends with 0 where all agree.
 """
 
 import os
@@ -124,6 +124,11 @@ def of_manual() -> str:
     return indent("".join(parts), "    ")
 
 
+def is_of_the_program(steps: list[Step]) -> bool:
+    """Whether a part is played to the program alone: this reference writes each file, and lays stores out otherwise."""
+    return any(OF_THE_PROGRAM.search(it.command) for it in steps)
+
+
 def steps_of(text: str) -> list[Step]:
     """The commands of a part. Each begins with `$`, and goes on in lines that begin with `>`."""
     steps: list[Step] = []
@@ -176,7 +181,7 @@ def main(program: str = "") -> int:
         if program:
             wrong += differing(examples, by_program(Path(program).resolve(), units)(examples))
     for steps in shells():
-        if not any(OF_THE_PROGRAM.search(it.command) for it in steps):
+        if not is_of_the_program(steps):
             wrong += differing_steps(steps, f"'{sys.executable}' '{REFERENCE / 'newton.py'}'")
         if program:
             wrong += differing_steps(steps, f"'{Path(program).resolve()}'")

@@ -4,15 +4,15 @@
 usage: python3 reference/newton.py MODE [WORD..]
 
 It ends with 0, or with 2 where the words name no mode and 7 where the input is too long; other faults are Python's own.
-A script is answered line by line as it comes. Only behind it are its stores written: a file whose store has changed gets
-one record with all of its pages, in bank 0.
+A script is answered line by line as it comes. Only behind it are its stores written: a file whose store has changed
+gets one record with all of its pages, in bank 0.
 """
 
 import re
 import struct
 import sys
 from pathlib import Path
-from typing import Iterable, Iterator, Optional
+from typing import BinaryIO, Iterable, Iterator, Optional
 
 from backups import backed, restored
 from check import report
@@ -140,34 +140,34 @@ def restore(name: str, stream: bytes) -> bytes:
     return of_lines([reply])
 
 
-def given() -> bytes:
-    read = sys.stdin.buffer.read(MOST_INPUT + 1)
+def whole_input(source: BinaryIO) -> bytes:
+    read = source.read(MOST_INPUT + 1)
     if len(read) > MOST_INPUT:
         sys.exit(TOO_LONG)
     return read
 
 
-def given_lines() -> Iterator[bytes]:
-    """The lines of the input as they come, but for one that does not end within the longest input."""
+def lines_of(source: BinaryIO) -> Iterator[bytes]:
+    """The lines of an input as they come, but for one that does not end within the longest input."""
     left = MOST_INPUT + 1
-    while line := sys.stdin.buffer.readline(left):
+    while line := source.readline(left):
         left -= len(line)
         if left == 0:
             sys.exit(TOO_LONG)
         yield line.removesuffix(b"\n")
 
 
-def output(words: list[str]) -> Optional[Iterable[bytes]]:
-    """What is written, piece by piece, where the words name a mode."""
+def output(words: list[str], source: BinaryIO) -> Optional[Iterable[bytes]]:
+    """What is written, piece by piece, where the words name a mode; its input is taken from the source."""
     mode, names = (words[0], words[1:]) if words else ("", [])
     if mode == "run" and len(names) <= 8 and len(set(names)) == len(names):
-        return (of_lines([reply]) for reply in replies(names, given_lines()))
+        return (of_lines([reply]) for reply in replies(names, lines_of(source)))
     if mode == "gen" and len(names) == 3:
         seed, count = decimal(names[0], 2**32 - 1), decimal(names[1], MOST_NAMES)
         return None if seed is None or count is None else [summary(seed, count, names[2])]
     reading = {"backup": lambda: backed(image(names[0])), "check": lambda: of_lines([checked(names[0])])}
-    reading["restore"] = lambda: restore(names[0], given())
-    whole = {"show": lambda: shown_answer(given()), "pack": lambda: packed_answer(given())}
+    reading["restore"] = lambda: restore(names[0], whole_input(source))
+    whole = {"show": lambda: shown_answer(whole_input(source)), "pack": lambda: packed_answer(whole_input(source))}
     table = whole if not names else reading if len(names) == 1 else {}
     return [table[mode]()] if mode in table else None
 
@@ -178,7 +178,7 @@ def checked(name: str) -> str:
 
 
 def main(words: list[str]) -> int:
-    written = output(words)
+    written = output(words, sys.stdin.buffer)
     if written is None:
         print("newton: usage", file=sys.stderr)
         return USAGE
