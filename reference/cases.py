@@ -37,7 +37,6 @@ TEXTS, BACKUPS = 300, 4
 ROUNDS = 24
 
 
-
 class DocumentDiffers(Exception):
     """The reference does not show what a document says: which line."""
 
