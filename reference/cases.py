@@ -19,7 +19,7 @@ from commands import answer
 from compare import BLOCKS, random_units
 from edges import EDGES
 from examples import REFERENCE, differing_steps, is_of_the_program, of_commands, of_formats, shells
-from hostile import bent_literal, bent_stream, damaged_images, literal_text, reading, shown, stream_bytes, text_line
+from hostile import bent_literal, bent_stream, damaged_images, reading, shown, text_line
 from images import BLOCK, store_of_image
 from newton import USAGE, image_of, of_lines, output
 from restores import bent_streams, devices
@@ -31,7 +31,9 @@ from world import UNITS, Unit, World
 
 # Scripts at the limits that take a program with checks of each access too long, or want a card of megabytes.
 LONG = ("nodes", "larges", "blocks", "lines")
-TEXTS = 300
+# How many random scripts a run has, since it takes rt try more than half a second to begin one, and their lines.
+SCRIPTS, LINES = 5, 60
+TEXTS, BACKUPS = 300, 4
 # How often each of some images is damaged anew, so that each layer is damaged in one of them.
 ROUNDS = 24
 
@@ -80,16 +82,16 @@ def sessions() -> Iterator[Case]:
 
 
 def typed() -> Iterator[Case]:
-    """What is typed at a shell in the documents: each run of `newton`, over the files that the reference left."""
+    """What is typed at a shell in the documents: each run of `newton` that has no card of an earlier run."""
     for name, steps in zip(map("typed-{:02}".format, count(1)), shells()):
         if is_of_the_program(steps):
             continue
         with tempfile.TemporaryDirectory() as folder:
             for wrong in differing_steps(steps, f"'{sys.executable}' '{REFERENCE / 'recorded.py'}' '{folder}'"):
                 raise DocumentDiffers(f"the reference differs from a document:\n{wrong}")
-            for at, file in enumerate(sorted(Path(folder).iterdir())):
-                run = pickle.loads(file.read_bytes())
-                yield run._replace(name=f"{name}-{at:02}-{run.words[0]}")
+            runs = [pickle.loads(it.read_bytes()) for it in sorted(Path(folder).iterdir())]
+            for at, run in enumerate(it for it in runs if not any(map(any, it.files.values()))):
+                yield run._replace(name=f"{name}-{at}-{run.words[0]}")
 
 
 # Scripts.
@@ -111,13 +113,13 @@ def kept(units: list[Unit]) -> list[str]:
 
 
 def random_scripts(seed: int) -> Case:
-    """A run of three random scripts over the same units, blank at first, each with what it leaves."""
+    """A run of some random scripts over the same units, blank at first, each with what it leaves."""
     random = Random(seed)
     units = random_units(random)
     images = [bytes(BLOCK * it.blocks) for it in units]
     world, lines = World(units), []
-    for length in (60, 60, random.choice((60, 150))):
-        lines += written(random, world, len(units), length)[0]
+    for _ in range(SCRIPTS):
+        lines += written(random, world, len(units), LINES)[0]
         ends = [it.encode() for it in kept(units)]
         lines += ends
         for line in ends:
@@ -129,14 +131,12 @@ def random_scripts(seed: int) -> Case:
 
 
 def texts(seed: int) -> Iterator[Case]:
-    """Streams and literals, whole and bent, as lines and as the input of `show` and `pack`."""
+    """Streams and literals, most of them bent, as lines and as the input of `show` and `pack`."""
     random = Random(seed)
     values = Values(random)
     yield script("text-lines", [text_line(random, values) for _ in range(TEXTS)], [])
-    yield case("text-show", ["show"], stream_bytes(random, values), {})
-    yield case("text-show-bent", ["show"], bent_stream(random, values), {})
-    yield case("text-pack", ["pack"], literal_text(random, values), {})
-    yield case("text-pack-bent", ["pack"], bent_literal(random, values), {})
+    yield case("text-show", ["show"], bent_stream(random, values), {})
+    yield case("text-pack", ["pack"], bent_literal(random, values), {})
 
 
 def unit_of_script(random: Random) -> Unit:
@@ -167,7 +167,7 @@ def images(seed: int) -> Iterator[Case]:
         yield case(f"image-check-{layer}", ["check", "card"], b"", {"card": image})
     lines = [line.encode() for number, it in enumerate(damaged[:UNITS]) for line in reading(number, store_of_image(it))]
     yield script("image-run", lines, damaged[:UNITS])
-    for number, (unit, whole, other) in enumerate(zip(units, wholes, damaged)):
+    for number, (unit, whole, other) in enumerate(zip(units[:BACKUPS], wholes, damaged)):
         yield from backups(random, f"image-{number}", unit.store, whole, other)
 
 

@@ -14,12 +14,11 @@ from itertools import zip_longest
 from pathlib import Path
 from typing import Iterable, Iterator, NamedTuple
 
-from cases import Case, DocumentDiffers, all_cases
+from cases import SCRIPTS, Case, DocumentDiffers, all_cases
 from commands import asked
 
 TOP = Path(__file__).resolve().parent.parent
-# Each run takes rt try half a second before the program begins, so few runs have several scripts each.
-RUNS = 20
+RUNS = 12
 MOST_SHOWN = 160
 FOUND = re.compile(
     rb'differs from `[^`]*`: at byte (\d+), expected "(?:[^"\\]|\\.)*"(?: \([^)]*\))?, found ("(?:[^"\\]|\\.)*")'
@@ -176,7 +175,7 @@ def options_of(words: list[str]) -> argparse.Namespace:
     parser = argparse.ArgumentParser(".ci/quick", description=__doc__)
     parser.add_argument("program", nargs="?", type=absolute, help="a program that is built, in place of rt try")
     parser.add_argument("--seed", type=int, default=0, help="the first seed of what is random: 0 if left out")
-    parser.add_argument("--count", type=int, default=RUNS, help=f"runs of three random scripts: {RUNS} if left out")
+    parser.add_argument("--count", type=int, default=RUNS, help=f"runs of {SCRIPTS} random scripts: {RUNS} if left out")
     parser.add_argument("--only", metavar="WORD", default="", help="the cases alone whose names have this word")
     parser.add_argument("--keep", metavar="FOLDER", type=absolute, help="a new folder, where their files stay")
     return parser.parse_args(words)
