@@ -81,7 +81,7 @@ fn whole(card: &Card) -> Option<&File> {
 
 /// Fills a buffer from a place of the file, and answers whether that was done.
 pub(crate) fn get(card: &Card, at: u64, buf: &mut [u8]) -> bool {
-    match whole(card) {
+    match &card.file {
         Some(file) => file.read_exact_at(buf, at).is_ok(),
         None => false,
     }
