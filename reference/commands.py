@@ -2,6 +2,7 @@
 
 import re
 from dataclasses import replace
+from typing import Iterable, Iterator
 
 import lines
 from graphs import NIL, Array, Frame, Large, Ref, Walk, copied, integer, is_same_name, value_at, with_value
@@ -628,10 +629,20 @@ def fields_of(world: World, line: bytes) -> list:
     return body(world, *given)
 
 
+def is_command(line: bytes) -> bool:
+    """Whether a line without its line end gets a reply: others are blank, or comments."""
+    return line.removesuffix(b"\r").lstrip(b" \t")[:1] not in (b"", b"%")
+
+
+def asked(script: bytes) -> list[bytes]:
+    """The lines of a script that get a reply each."""
+    return list(filter(is_command, script.split(b"\n")))
+
+
 def answer(world: World, line: bytes):
     """The reply to a line without its line end, or nothing where it is no command."""
     line = line.removesuffix(b"\r")
-    if line.lstrip(b" \t")[:1] in (b"", b"%"):
+    if not is_command(line):
         return None
     world.events = []
     try:
@@ -643,12 +654,11 @@ def answer(world: World, line: bytes):
     return " ".join(["ok", *[it for it in fields if it]])
 
 
-def run(world: World, script: bytes) -> list[str]:
-    """The replies to a script, up to the one to a `quit`."""
-    replies = []
-    for line in script.split(b"\n"):
+def run(world: World, script: Iterable[bytes]) -> Iterator[str]:
+    """The replies to the lines of a script as they come, up to the one to a `quit`."""
+    for line in script:
         reply = answer(world, line)
-        replies += [] if reply is None else [reply]
+        if reply is not None:
+            yield reply
         if reply == "ok" and line.split() == [b"quit"]:
-            break
-    return replies
+            return

@@ -17,7 +17,7 @@ from pathlib import Path
 from random import Random
 from typing import Iterator, Optional
 
-from commands import answer
+from commands import answer, asked
 from edges import EDGES
 from images import is_same_store, store_of_image
 from layouts import random_image
@@ -38,11 +38,11 @@ def is_same_run(program: Path, script: list[bytes], wanted: list[str], units: li
     """Whether the program answers as is wanted, and leaves the stores that the units have."""
     found = replies_of(program, script, files)
     if found != wanted:
-        asked = [it for it in script if it.lstrip(b" \t")[:1] not in (b"", b"%")]
+        lines = asked(b"\n".join(script))
         at = next(
             (at for at, (one, other) in enumerate(zip(found, wanted)) if one != other), min(len(found), len(wanted))
         )
-        print(f"  {asked[at].decode()}\n  program:   {found[at:][:1]}\n  reference: {wanted[at:][:1]}")
+        print(f"  {lines[at].decode()}\n  program:   {found[at:][:1]}\n  reference: {wanted[at:][:1]}")
         return False
     for unit, file in zip(units, files):
         store = store_of_image(file.read_bytes())
@@ -69,9 +69,13 @@ def is_same_at_limits(program: Path, lines: list[str], blocks: tuple) -> bool:
         return is_same_run(program, script, [it for it in replies if it is not None], units, files)
 
 
+def random_units(random: Random) -> list[Unit]:
+    return [Unit(random.choice(BLOCKS)) for _ in range(random.choice((1, 2, 3, 3, 5)))]
+
+
 def is_same_at_random(program: Path, seed: int, lines: tuple = (60, 150, 400)) -> bool:
     random = Random(seed)
-    units = [Unit(random.choice(BLOCKS)) for _ in range(random.choice((1, 2, 3, 3, 5)))]
+    units = random_units(random)
     with blank_files(units) as files:
         for _ in range(random.choice((1, 2))):
             script, wanted = written(random, World(units), len(units), random.choice(lines))

@@ -4,9 +4,10 @@ usage: python3 reference/examples.py [PROGRAM]
 
 The examples: each line and reply of docs/COMMANDS.md, those from the heading "Units and stores" to "When a card fails"
 as one session over two units of 13 blocks; the streams, literals and the fresh image of docs/FORMATS.md; and what is
-typed at a shell in README.md, in the last part of docs/COMMANDS.md and in each part of docs/EXAMPLES.md, where
-`newton` is reference/newton.py or the program. A part with `ulimit`, in which a file can't be written, is played to
-the program alone. It ends with 0 where all agree.
+typed at a shell in each part of README.md, docs/COMMANDS.md, docs/FORMATS.md and docs/EXAMPLES.md and in the examples
+of docs/newton.1, where `newton` is reference/newton.py or the program. Each part begins in an empty folder. A part in
+which a file can't be written (`ulimit`), or in which single bytes of an image are changed (`bs=1`), is played to the
+program alone. It ends with 0 where all agree.
 """
 
 import os
@@ -16,6 +17,7 @@ import sys
 import tempfile
 from itertools import zip_longest
 from pathlib import Path
+from textwrap import indent
 from typing import Callable, NamedTuple
 
 from commands import answer
@@ -23,7 +25,8 @@ from images import store_of_image
 from world import Unit, World
 
 REFERENCE = Path(__file__).resolve().parent
-DOCS = REFERENCE.parent / "docs"
+TOP = REFERENCE.parent
+DOCS = TOP / "docs"
 BLOCKS = 13
 MALFORMED, NO_LITERAL = "error 1 malformed", "error 3 literal"
 
@@ -93,6 +96,9 @@ def by_program(program: Path, units: int) -> Callable[[list[Example]], list[str]
 
 # What is typed at a shell.
 
+PAGES = ("README.md", "docs/COMMANDS.md", "docs/FORMATS.md", "docs/EXAMPLES.md")
+OF_THE_PROGRAM = re.compile(r"\bulimit\b|\bbs=1\b")
+
 
 class Step(NamedTuple):
     """A command, and what is shown of it: its output, or where `newton run` asks for a script, its lines and replies."""
@@ -105,18 +111,32 @@ class Step(NamedTuple):
 
 
 def shells() -> list[list[Step]]:
-    """The tour of README.md, the modes of docs/COMMANDS.md, and each part of docs/EXAMPLES.md."""
-    tour = (DOCS.parent / "README.md").read_text().partition("\n## A short tour\n")[2].partition("\n## ")[0]
-    modes = (DOCS / "COMMANDS.md").read_text().partition("\n## Modes\n")[2]
-    parts = (DOCS / "EXAMPLES.md").read_text().split("\n## ")[1:]
-    return [steps_of(it) for it in (tour, modes, *parts)]
+    """The parts of each page in which something is typed, and the examples of the manual page."""
+    parts = [part for page in PAGES for part in (TOP / page).read_text().split("\n## ")]
+    parts.append(of_manual())
+    return [steps for steps in map(steps_of, parts) if steps]
+
+
+def of_manual() -> str:
+    """The examples of the manual page, indented as in the other documents."""
+    shown = (TOP / "docs/newton.1").read_text().partition(".SH EXAMPLES\n")[2].partition(".SH ")[0]
+    parts = re.findall(r"\.RS\n(.*?)\.RE\n", shown.replace("\\e", "\\"), re.DOTALL)
+    return indent("".join(parts), "    ")
+
+
+def is_of_the_program(steps: list[Step]) -> bool:
+    """Whether a part is played to the program alone: this reference writes each file, and lays stores out otherwise."""
+    return any(OF_THE_PROGRAM.search(it.command) for it in steps)
 
 
 def steps_of(text: str) -> list[Step]:
+    """The commands of a part. Each begins with `$`, and goes on in lines that begin with `>`."""
     steps: list[Step] = []
     for line in re.findall(r"^    (.*)$", text, re.MULTILINE):
         if line.startswith("$ "):
             steps.append(Step(line[2:], []))
+        elif steps and not steps[-1].shown and line.startswith("> "):
+            steps[-1] = Step(f"{steps[-1].command}\n{line[2:]}", [])
         elif steps:
             steps[-1].shown.append(line)
     return steps
@@ -131,7 +151,7 @@ def played(step: Step, folder: Path) -> list[str]:
         stdout=subprocess.PIPE,
         stderr=subprocess.STDOUT,
         cwd=folder / "at",
-        env={**os.environ, "PATH": f"{folder / 'bin'}:{os.environ['PATH']}"},
+        env={**os.environ, "LC_ALL": "C", "PATH": f"{folder / 'bin'}:{os.environ['PATH']}"},
     )
     found = ran.stdout.decode(errors="replace").splitlines()
     both = zip_longest(step.shown[::2], found, fillvalue="nothing")
@@ -161,7 +181,7 @@ def main(program: str = "") -> int:
         if program:
             wrong += differing(examples, by_program(Path(program).resolve(), units)(examples))
     for steps in shells():
-        if not any("ulimit" in it.command for it in steps):
+        if not is_of_the_program(steps):
             wrong += differing_steps(steps, f"'{sys.executable}' '{REFERENCE / 'newton.py'}'")
         if program:
             wrong += differing_steps(steps, f"'{Path(program).resolve()}'")

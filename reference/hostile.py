@@ -30,7 +30,7 @@ from random import Random
 from typing import Callable, NamedTuple, Optional
 
 from check import report
-from commands import answer, run
+from commands import answer, asked, run
 from damage import TELLING_BYTES, TELLING_TEXT, bent, hostile_image, struck_anywhere
 from extremes import CASES, DEPTHS, inputs_of_names, other_names
 from images import BLOCK, NoStore, is_same_store, payloads, store_of_image
@@ -127,8 +127,7 @@ class Bench:
             return
         both = enumerate(zip(found, wanted))
         at = next((at for at, (one, other) in both if one != other), min(len(found), len(wanted)))
-        asked = [it for it in script.split(b"\n") if it.removesuffix(b"\r").lstrip(b" \t")[:1] not in (b"", b"%")]
-        raise Differs(f"{asked[at : at + 1]}\n  program:   {found[at : at + 1]}\n  reference: {wanted[at : at + 1]}")
+        raise Differs(f"{asked(script)[at : at + 1]}\n  program:   {found[at : at + 1]}\n  reference: {wanted[at : at + 1]}")
 
     def leaves(self, units: list[Unit], files: list[Path]) -> None:
         """The stores that are left are to be those of the units."""
@@ -298,7 +297,7 @@ def compare_script(bench: Bench, seed: int) -> None:
         lines = [*script[: random.choice((0, 6, len(script)))], any_bytes(random)]
     given = b"\n".join(lines) + random.choice((b"", b"\n"))
     units = [Unit(it) for it in blocks]
-    wanted = run(World(units), given)
+    wanted = list(run(World(units), given.split(b"\n")))
     files = bench.files([bytes(BLOCK * it) for it in blocks])
     bench.answers(given, wanted, files)
     bench.leaves(units, files)

@@ -1,16 +1,18 @@
+#!/usr/bin/env python3
 """The program once more: the modes of `newton` over files, answered by this reference.
 
 usage: python3 reference/newton.py MODE [WORD..]
 
 It ends with 0, or with 2 where the words name no mode and 7 where the input is too long; other faults are Python's own.
-A file of which a store has changed gets one record with all of its pages, in bank 0.
+A script is answered line by line as it comes. Only behind it are its stores written: a file whose store has changed
+gets one record with all of its pages, in bank 0.
 """
 
 import re
 import struct
 import sys
 from pathlib import Path
-from typing import Optional
+from typing import BinaryIO, Iterable, Iterator, Optional
 
 from backups import backed, restored
 from check import report
@@ -69,15 +71,16 @@ def keep(name: str, unit: Unit, before: Optional[Store]) -> None:
         Path(name).write_bytes(image_of(unit.store, unit.blocks) + behind)
 
 
-def replies(names: list[str], script: bytes) -> list[str]:
-    """The replies to a script over files, which have the stores behind it then."""
+def replies(names: list[str], script: Iterable[bytes]) -> Iterator[str]:
+    """The replies to the lines of a script over files as they come. Behind the script the files have its stores."""
     units = units_of(names)
     before = [it and it.store for it in units]
-    found = run(World(units), script)
-    for name, unit, store in zip(names, units, before):
-        if unit is not None:
-            keep(name, unit, store)
-    return found
+    try:
+        yield from run(World(units), script)
+    finally:
+        for name, unit, store in zip(names, units, before):
+            if unit is not None:
+                keep(name, unit, store)
 
 
 def shown_answer(stream: bytes) -> bytes:
@@ -95,8 +98,8 @@ def packed_answer(text: bytes) -> bytes:
         return b"error 3 literal\n"
 
 
-def generated(seed: int, count: int) -> bytes:
-    """The generated script of a seed and a count."""
+def generated(seed: int, count: int) -> list[bytes]:
+    """The lines of the generated script of a seed and a count."""
     drawn = seed % 2**31
     lines = ["format 0 Gen 1", "mount 0", "soup 0 Names", "index 0 Names name.last:string:ascend"]
     lines.append("tags 0 Names labels business personal")
@@ -107,7 +110,7 @@ def generated(seed: int, count: int) -> bytes:
         name = f'{{first: "F{first}", last: "L{last}"}}'
         lines.append(f"add 0 Names {{name: {name}, labels: '{label}, n: {number}}}")
     lines += ["query 0 Names {indexPath: [pathExpr: 'name, 'last]}", "entry 0", *["next 0"] * count]
-    return "\n".join([*lines, "count 0", "unmount 0", "quit", ""]).encode()
+    return [it.encode() for it in (*lines, "count 0", "unmount 0", "quit")]
 
 
 def decimal(word: str, most: int) -> Optional[int]:
@@ -118,12 +121,12 @@ def decimal(word: str, most: int) -> Optional[int]:
     return number if re.fullmatch("[0-9]+", word) and number <= most else None
 
 
-def of_lines(lines: list[str]) -> bytes:
+def of_lines(lines: Iterable[str]) -> bytes:
     return "".join(f"{it}\n" for it in lines).encode()
 
 
 def summary(seed: int, count: int, name: str) -> bytes:
-    found = replies([name], generated(seed, count))
+    found = list(replies([name], generated(seed, count)))
     told = {"commands": len(found), "ok": sum(it.startswith("ok") for it in found)}
     told |= {"errors": len(found) - told["ok"], "bytes": len(of_lines(found))}
     return of_lines([f"{word} {number}" for word, number in told.items()])
@@ -137,26 +140,36 @@ def restore(name: str, stream: bytes) -> bytes:
     return of_lines([reply])
 
 
-def output(words: list[str]) -> Optional[bytes]:
-    """What is written where the words name a mode."""
+def whole_input(source: BinaryIO) -> bytes:
+    read = source.read(MOST_INPUT + 1)
+    if len(read) > MOST_INPUT:
+        sys.exit(TOO_LONG)
+    return read
 
-    def given() -> bytes:
-        read = sys.stdin.buffer.read(MOST_INPUT + 1)
-        if len(read) > MOST_INPUT:
+
+def lines_of(source: BinaryIO) -> Iterator[bytes]:
+    """The lines of an input as they come, but for one that does not end within the longest input."""
+    left = MOST_INPUT + 1
+    while line := source.readline(left):
+        left -= len(line)
+        if left == 0:
             sys.exit(TOO_LONG)
-        return read
+        yield line.removesuffix(b"\n")
 
+
+def output(words: list[str], source: BinaryIO) -> Optional[Iterable[bytes]]:
+    """What is written, piece by piece, where the words name a mode; its input is taken from the source."""
     mode, names = (words[0], words[1:]) if words else ("", [])
     if mode == "run" and len(names) <= 8 and len(set(names)) == len(names):
-        return of_lines(replies(names, given()))
+        return (of_lines([reply]) for reply in replies(names, lines_of(source)))
     if mode == "gen" and len(names) == 3:
         seed, count = decimal(names[0], 2**32 - 1), decimal(names[1], MOST_NAMES)
-        return None if seed is None or count is None else summary(seed, count, names[2])
+        return None if seed is None or count is None else [summary(seed, count, names[2])]
     reading = {"backup": lambda: backed(image(names[0])), "check": lambda: of_lines([checked(names[0])])}
-    reading["restore"] = lambda: restore(names[0], given())
-    whole = {"show": lambda: shown_answer(given()), "pack": lambda: packed_answer(given())}
+    reading["restore"] = lambda: restore(names[0], whole_input(source))
+    whole = {"show": lambda: shown_answer(whole_input(source)), "pack": lambda: packed_answer(whole_input(source))}
     table = whole if not names else reading if len(names) == 1 else {}
-    return table[mode]() if mode in table else None
+    return [table[mode]()] if mode in table else None
 
 
 def checked(name: str) -> str:
@@ -165,11 +178,13 @@ def checked(name: str) -> str:
 
 
 def main(words: list[str]) -> int:
-    written = output(words)
+    written = output(words, sys.stdin.buffer)
     if written is None:
         print("newton: usage", file=sys.stderr)
         return USAGE
-    sys.stdout.buffer.write(written)
+    for piece in written:
+        sys.stdout.buffer.write(piece)
+        sys.stdout.buffer.flush()
     return 0
 
 
