@@ -30,6 +30,7 @@ use Rattle.newt_engine_card.specs.Bounds.{IsOpenOrSame, ProgramsAtMost}
 use Rattle.newt_engine_units.specs.Answers.{Answers}
 use Rattle.newt_engine_units.specs.Breaks.{AtDevice, FailsAlone, HasStoreToFormat, Meanwhile}
 use Rattle.newt_engine_units.specs.Calls.{AreRead, BreaksIn, Ended}
+use Rattle.newt_engine_units.specs.Kept.{KeepsUnits}
 use Rattle.newt_engine_units.specs.Stands.{Eight, Stands, StandsBut, due_in, is_due, world_of}
 use Rattle.newt_engine_cursors.specs.Calls.{ShowsNothing}
 use Rattle.newt_engine_cursors.specs.Fits.{DeskFits}
@@ -40,6 +41,7 @@ use Rattle.newt_engine_cursors.specs.World.{world_with}
 use Rattle.newt_engine.specs.Bounds.{CommandCosts, is_format, most_formatted, most_settled}
 use Rattle.newt_engine.specs.Bounds.{most_stepped}
 use Rattle.newt_engine.specs.Ends.{takes_memory, uses_device}
+use Rattle.newt_engine.specs.Kept.{KeepsWorld, LeavesAll, leaves_all}
 use Rattle.newt_engine.specs.Standing.{Standing, means, stood_for}
 use Rattle.newt_engine.specs.declared.world.World.{World}
 use Rattle.std.specs.declared.alloc.AllocError.{AllocError}
@@ -82,6 +84,9 @@ module _ {C : Type 0} (reads : List ℕ → Option Store) (place : C → ℕ)
     pub alone : OnDevices before after
     pub broke : IfErr result
         (AtDevice (BreaksIn reads place standing told command old.units new.units before after))
+    pub kept : LeavesAll command result → KeepsUnits (looks_at command) old.units new.units
+    pub busy : moves_keys command ≡ true
+        → IfOk result (λ it. leaves_all command (said it) ≡ false)
     pub ends : CommandEnds command before after result
 
   -- A command that uses no device, by the world without cursors, whatever the devices hold: the
@@ -99,6 +104,7 @@ module _ {C : Type 0} (reads : List ℕ → Option Store) (place : C → ℕ)
     pub desk : new.desk ≡ old.desk
     pub device : IfErr result (λ fault. NoDevice fault)
     pub quiet : IfOk result (λ it. IsNotThrown it)
+    pub kept : LeavesAll command result → new.units ≡ old.units
     pub ends : takes_memory command ≡ false → IfErr result (λ fault. IsRefusal fault)
 
   -- The cursors that are reached are settled, and a reply is handed on; or the run ends. Devices
@@ -136,6 +142,7 @@ module _ {C : Type 0} (reads : List ℕ → Option Store) (place : C → ℕ)
         → FetchesAtMost (λ u. 0) before after
     pub failed : IfErr result (AtDevice (FailsAlone before after))
     pub kept : IfErr result (AtDevice (λ u. new.desk ≡ old.desk))
+    pub refused : LeavesAll command result → new.desk ≡ old.desk
     pub ends : CommandEnds command before after result
 
   -- What stands where the device of a unit has failed in a command: but for that unit all is as it
@@ -184,6 +191,7 @@ module _ {C : Type 0} (reads : List ℕ → Option Store) (place : C → ℕ)
     pub alone : OnDevices before after
     pub broke : IfErr result (AtDevice (λ u. Fails told command old new before after u
         ⊎ FailsHalfway told command old new before after u))
+    pub kept : LeavesAll command result → KeepsWorld command old new
     pub ends : CommandEnds command before after result
 
 module _ {C : Type 0} (reads : List ℕ → Option Store) where
@@ -220,7 +228,7 @@ module _ {C : Type 0} (reads : List ℕ → Option Store) (place : C → ℕ)
   -- one that it stands for; at each moment a crash leaves each unit as in the one or in the other;
   -- and for the whole, which asks commands in turn: where no unit was thrown out, the known world is
   -- answered too; nothing has happened to a unit that the command leaves alone; and a refusal leaves
-  -- the world as the command saw it.
+  -- the world as the command saw it; whatever the host tells, what is known in memory stays then.
   pub record Applied (told : Bool) (command : Command) (old new : World C)
       (before after : Outside) (result : Result Reply AllocError) : Type 0 where
     pub stands : OnOk result (Standing reads place standing told new.units new.desk after)
@@ -237,3 +245,5 @@ module _ {C : Type 0} (reads : List ℕ → Option Store) (place : C → ℕ)
     pub refused : IsTrue told → (refusal : Refusal) → result ≡ Ok (reply.Refused refusal)
         → (w : plain.World) → means reads old before w
         → means reads new after (seen reads w before.now command)
+    pub kept : IfOk result
+        (λ it. leaves_all command (said it) ≡ true → KeepsWorld command old new)

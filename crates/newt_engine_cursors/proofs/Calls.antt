@@ -80,6 +80,7 @@ module _ {C : Type 0} {reads : List ℕ → Option Store} {place : C → ℕ} {s
     cause = none-cause result o o (NoFault-refl o) none;
     failed = none-devices _ result none;
     kept = none-devices _ result none;
+    refused = λ no. refl;
     no_fault = λ goes. NoFault-refl o;
   }
 
@@ -94,6 +95,7 @@ module _ {C : Type 0} {reads : List ℕ → Option Store} {place : C → ℕ} {s
     cause = none-cause result o q f none;
     failed = none-devices _ result none;
     kept = none-devices _ result none;
+    refused = λ no. refl;
     no_fault = λ goes. f;
   }
 
@@ -102,7 +104,7 @@ module _ {C : Type 0} {reads : List ℕ → Option Store} {place : C → ℕ} {s
       → Settles reads place stands told one units later was is o q (Ok x)
       → (IsTrue told → let w = world_with reads units was o in let v = world_with reads later is q in MountedApart w → one w v → other w v)
       → Turns reads place stands told other units later was is o q (Ok y)
-  turns-settled a same = record { read = a.read; desk = a.desk; turned = λ t apart. same t apart (a.settled t apart); cause = tt; failed = tt; kept = tt; no_fault = λ goes. a.no_fault }
+  turns-settled a same = record { read = a.read; desk = a.desk; turned = λ t apart. same t apart (a.settled t apart); cause = tt; failed = tt; kept = tt; refused = λ no. absurd no; no_fault = λ goes. a.no_fault }
 
   -- that ends the run where it read
   pub turns-end : {S T : Type 0} {asks : Bool} (becomes : Result T StoreFault → World → World → Type 0) {stop : Stop} {later : Units C} {is : List (Option Cursor)} {q : Outside}
@@ -111,7 +113,7 @@ module _ {C : Type 0} {reads : List ℕ → Option Store} {place : C → ℕ} {s
       → ((w v : World) → becomes (Err (Ends stop)) w v) → Turns reads place stands told (becomes r) units later was is o q r
   turns-end {T = T} becomes {stop} {later} {is} {q} a d kept r e ends =
       subst (λ (r : Result T StoreFault). Turns reads place stands told (becomes r) units later was is o q r) (sym (e.1 ∙ ap {B = Result T StoreFault} (λ e. Err e) e.2))
-      (record { read = a.read; desk = d; turned = λ t apart. ends _ _; cause = a.cause; failed = a.failed; kept = kept; no_fault = λ goes. absurd goes })
+      (record { read = a.read; desk = d; turned = λ t apart. ends _ _; cause = a.cause; failed = a.failed; kept = kept; refused = λ no. absurd no; no_fault = λ goes. absurd goes })
 
   -- ---- a command
 
@@ -130,6 +132,7 @@ module _ {C : Type 0} {reads : List ℕ → Option Store} {place : C → ℕ} {s
     cause = a.cause;
     failed = a.failed;
     kept = a.kept;
+    refused = a.refused;
     no_fault = a.no_fault;
   }
 

@@ -11,7 +11,7 @@ use Rattle.newt_spec_world.specs.World.{World}
 use Rattle.newt_spec_world.specs.declared.command.Command.{Command}
 use Rattle.newt_laws_world.specs.Settled.{IsSettled, MountedApart}
 use Rattle.newt_laws_answers.specs.Fetched.{pages_shown}
-use Rattle.newt_store_change.specs.Faults.{GoesOn, HasFaultCause}
+use Rattle.newt_store_change.specs.Faults.{GoesOn, HasFaultCause, IsRefused}
 use Rattle.newt_store_change.specs.declared.fault.StoreFault.{StoreFault}
 use Rattle.newt_store_change.specs.declared.fault.StoreFault.TheVariants.{Refused, Stop as Ends}
 use Rattle.newt_engine_card.specs.Bounds.{FetchesAtMost}
@@ -51,7 +51,7 @@ module _ {C : Type 0} (reads : List ℕ → Option Store) (place : C → ℕ) (s
     pub no_fault : OnOk result (NoFault before after)
 
   -- A call that turns the world with its cursors into another. The units are read alone and the places fit; an end of the run has its cause; a device that
-  -- fails is the only one, and leaves the cursors as they were; and where the run goes on, no fault was counted.
+  -- fails is the only one, and leaves the cursors as they were, as a refusal does; and where the run goes on, no fault was counted.
   pub record Turns {T : Type 0} (told : Bool) (becomes : World → World → Type 0) (old new : Units C) (was is : List (Option Cursor)) (before after : Outside)
       (result : Result T StoreFault) : Type 0 where
     pub read : AreRead reads place standing told old new before after
@@ -60,12 +60,13 @@ module _ {C : Type 0} (reads : List ℕ → Option Store) (place : C → ℕ) (s
     pub cause : IfErr result (λ fault. HasFaultCause fault before after)
     pub failed : IfErr result (AtDevice (FailsAlone before after))
     pub kept : IfErr result (AtDevice (λ u. is ≡ was))
+    pub refused : IsRefused result → is ≡ was
     pub no_fault : GoesOn result → NoFault before after
 
   -- A command of cursors, in a world whose cursors are settled. It is answered as that world answers it, and the units are read alone; one that opens, shows,
   -- moves or counts a cursor whose query asks for no words or texts fetches the entry that is shown and nothing else, whatever its result is, and where nothing
   -- is shown of an entry it fetches nothing, also where the host tells no bytes; a device that
-  -- fails is the only one, and leaves the cursors as they were.
+  -- fails is the only one, and leaves the cursors as they were, as a refusal does.
   pub record Walks {T : Type 0} (told : Bool) (command : Command) (reply : T → Reply) (old new : Units C) (was is : List (Option Cursor)) (before after : Outside)
       (result : Result T StoreFault) : Type 0 where
     pub read : AreRead reads place standing told old new before after
@@ -77,4 +78,5 @@ module _ {C : Type 0} (reads : List ℕ → Option Store) (place : C → ℕ) (s
     pub cause : IfErr result (λ fault. HasFaultCause fault before after)
     pub failed : IfErr result (AtDevice (FailsAlone before after))
     pub kept : IfErr result (AtDevice (λ u. is ≡ was))
+    pub refused : IsRefused result → is ≡ was
     pub no_fault : GoesOn result → NoFault before after

@@ -24,6 +24,7 @@ use Rattle.newt_engine.specs.Standing.{stood_for}
 use Rattle.newt_engine_whole.specs.Bounds.{ProgramsInTurn, most_put, most_taken}
 use Rattle.newt_engine_whole.specs.Bounds.{whole_means_entries}
 use Rattle.newt_engine_whole.specs.Ends.{whole_takes_memory, whole_uses_device}
+use Rattle.newt_engine_whole.specs.Kept.{KeepsWhole, is_refusal}
 use Rattle.newt_engine_whole.specs.Standing.{AreKept, Means, Standing, known_whole}
 use Rattle.newt_engine_whole.specs.declared.whole.Whole.{Whole}
 
@@ -67,7 +68,8 @@ module _ {C : Type 0} (reads : List ℕ → Option Store) where
     pub never_thrown : whole_uses_device command ≡ false → IfOk result (λ it. IsNotThrown it)
 
   -- A command that asks nothing of the world, whatever the devices hold: it is answered as the
-  -- whole answers it that is stood for, and only what may take memory ends in want of it.
+  -- whole answers it that is stood for, a refusal leaves watches and copies, and only what may take
+  -- memory ends in want of it.
   pub record AnsweredApart (command : Command) (old new : Whole C)
       (result : Result Reply AllocError) : Type 0 where
     pub world : new.world ≡ old.world
@@ -77,13 +79,16 @@ module _ {C : Type 0} (reads : List ℕ → Option Store) where
         (λ it. (next : plain.Whole) × (whole_answer h command ≡ (next, said it))
         × Means reads new outside next)
     pub quiet : IfOk result (λ it. IsNotThrown it)
+    pub kept : IfOk result (λ it. is_refusal (said it) ≡ true
+        → (new.watches ≡ old.watches) × (new.works ≡ old.works))
     pub memory : whole_takes_memory command ≡ false → IsOk result
 
 module _ {C : Type 0} (reads : List ℕ → Option Store) (place : C → ℕ)
     (standing : Bool → C → Outside → Type 0) where
   -- What the whole promises of a command that asks these commands of the world. From each whole
   -- that it stood for it has made a step to one that it stands for, and at each moment a crash
-  -- leaves each unit as in the one or in the other.
+  -- leaves each unit as in the one or in the other. Whatever the host tells, a refusal leaves what is
+  -- known in memory: the units, the cursors, the watches and the working copies.
   pub record AppliedBy (asked : List Command) (told : Bool) (command : Command) (old new : Whole C)
       (before after : Outside) (result : Result Reply AllocError) : Type 0 where
     pub stands : OnOk result (Standing reads place standing told new after)
@@ -91,6 +96,7 @@ module _ {C : Type 0} (reads : List ℕ → Option Store) (place : C → ℕ)
         → Stepped WholeStep reads command result h (Means reads new after) before.now after.now
         before.dev_faults after.dev_faults
     pub ended : Ended reads told command asked old before after result
+    pub kept : IfOk result (λ it. is_refusal (said it) ≡ true → KeepsWhole command old new)
 
   -- any command, by what it asks in the known whole
   abbrev pub Applied : Bool → Command → (old new : Whole C) → (before after : Outside)

@@ -3,6 +3,7 @@ use Rattle.std.proofs.Common.{ap, subst, sym, inl, IsTrue}
 use Rattle.newt_reply.specs.Said.{said}
 use Rattle.newt_spec_world.specs.World.{World}
 use Rattle.newt_engine_units.specs.Answers.{Answers}
+use Rattle.newt_engine_units.proofs.Keeping.{read-keeps}
 use Rattle.newt_engine_cursors.specs.World.{world_with}
 use Rattle.newt_engine.specs.Laws.{laws_of}
 use Rattle.newt_engine.proofs.Costing.{means_no_cursor, still_costs}
@@ -30,5 +31,6 @@ returns g c =
       idle = e.idle;
       alone = e.read.alone;
       broke = err-device-both _ _ _ c.walk.result (λ u failed kept. inl (fails_reading c.args.command.now e.read kept failed)) e.failed e.kept;
+      kept = λ idle. record { units = read-keeps e.read; desk = λ within. e.refused idle };
       ends = e.ends;
     }
