@@ -1,7 +1,8 @@
-"""What the tools share. Graphs, streams, literals and images are those of `reference/`."""
+"""What the tools share. Graphs, streams, literals and directories are read by the modules of `reference/`."""
 
 import sys
 from pathlib import Path
 
-# The folder `reference` stands beside `tools`, here and where they are installed.
-sys.path.append(str(Path(__file__).resolve().parents[2] / "reference"))
+REFERENCE = Path(__file__).resolve().parents[2] / "reference"
+if str(REFERENCE) not in sys.path:
+    sys.path.append(str(REFERENCE))

@@ -22,7 +22,9 @@ class Slot:
     def __init__(self, session: Session, asked: Namespace):
         self.session, self.card = session, asked.card
         try:
-            self.path = path(Words(asked.path.encode()))
+            words = Words(asked.path.encode())
+            self.path = path(words)
+            words.end()
         except NoForm as fault:
             raise Failed(f"{asked.path}: no path, that is 1 to 8 names with points between them") from fault
         self.words = f"0 {name_word(asked.soup)} {asked.uid}"

@@ -165,7 +165,7 @@ class Table:
 
 def columns_from(headings: list) -> list:
     found = [None if it in (ID, TIME) else column_from(it.strip(), at) for at, it in enumerate(headings, 1)]
-    paths = [tuple(name.lower() for name in it.path) for it in found if it is not None]
+    paths = [it.path for it in found if it is not None]
     wants(len(set(paths)) == len(paths), "line 1: two columns have one name")
     return found
 

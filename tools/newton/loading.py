@@ -1,7 +1,7 @@
 """Puts entries into a soup, all of them or none, and plays the script of a whole card."""
 
 import sys
-from datetime import datetime
+from time import time
 from typing import Iterable, Optional
 
 from replies import of_name
@@ -11,12 +11,12 @@ from newton.cards import REASONS, wants_blank
 from newton.run import Failed, Refused, Session, commands, is_command, is_quit
 from newton.scripts import TooLong, addition
 
-FIRST_DAY = datetime(1904, 1, 1)
+SECONDS_BEFORE_1970 = 2_082_844_800
 
 
 def minute_now() -> int:
-    """The minutes since midnight of 1 January 1904, by the clock on the wall."""
-    return int((datetime.now() - FIRST_DAY).total_seconds()) // 60
+    """The minutes since midnight of 1 January 1904, in universal time."""
+    return (int(time()) + SECONDS_BEFORE_1970) // 60
 
 
 def name_word(name: str) -> str:

@@ -48,8 +48,11 @@ def ended(body: Callable[[], int]) -> NoReturn:
     except BrokenPipeError:
         os.dup2(os.open(os.devnull, os.O_WRONLY), sys.stdout.fileno())
         status = FAILED
-    except (Failed, OSError) as fault:
+    except Failed as fault:
         tell(str(fault))
+        status = FAILED
+    except OSError as fault:
+        tell(f"{fault.filename or 'input or output'}: {fault.strerror}")
         status = FAILED
     except KeyboardInterrupt:
         status = 130

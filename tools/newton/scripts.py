@@ -123,7 +123,8 @@ class Script:
     def lines(self) -> Iterator[str]:
         name, count = of_name(self.store.name), sum(len(it.entries) for it in self.store.soups)
         yield f"% The store {name}: {len(self.store.soups)} soups, {count} entries."
-        yield from () if self.keeps_ids else ("% Soups and entries get new ids, from 0 on.",)
+        if not self.keeps_ids:
+            yield "% Soups and entries get new ids, from 0 on, and aliases of before lead elsewhere."
         yield from (f"format 0 {name} {self.store.sig}", "mount 0")
         given = 0
         for soup in self.store.soups:
