@@ -11,7 +11,7 @@ from literals import of_name, print_literal
 from streams import decode
 
 from newton.loading import minute_now, mount, name_word
-from newton.run import Failed, Session
+from newton.run import Failed, Session, several
 from newton.scripts import Zeros, pieces
 from newton.values import Symbols
 
@@ -51,13 +51,14 @@ def put(asked: Namespace) -> str:
         slot = Slot(session, asked)
         held = slot.value()
         if held not in (None, NIL) and not asked.replace:
-            raise Failed(f"{asked.path} holds a value already; with --replace it is replaced, and is gone")
+            raise Failed(f"{asked.path} holds a value already; with --replace it is replaced")
         kind = asked.kind or (held.kind.name.decode() if isinstance(held, Large) else "binary")
         slot.set(Large(Symbols().of(kind), data))
         now = slot.value()
         if not isinstance(now, Large) or now.data != data:
             raise Failed(f"{asked.card}: what was written is read back otherwise")
-    return f"{asked.card}: {len(data)} bytes of the class {of_name(kind.encode())} were put at {asked.path}"
+    size = several(len(data), "byte", "bytes")
+    return f"{asked.card}: {size} of the class {of_name(kind.encode())} put at {asked.path}"
 
 
 def get(asked: Namespace) -> Optional[str]:
@@ -74,4 +75,5 @@ def get(asked: Namespace) -> Optional[str]:
             file.write(held.data)
     except FileExistsError as fault:
         raise Failed(f"{asked.file} is there already; with --force it is overwritten") from fault
-    return f"{asked.file}: {len(held.data)} bytes of the class {of_name(held.kind.name)}"
+    size = several(len(held.data), "byte", "bytes")
+    return f"{asked.file}: {size} of the class {of_name(held.kind.name)}"

@@ -1,6 +1,7 @@
 """Cards as the tools meet them: the store on one, and whether a file is fit to be written to."""
 
 from pathlib import Path
+from typing import Optional
 
 from backups import store_of_backup
 from images import BLOCK
@@ -10,6 +11,7 @@ from streams import Malformed, decode
 from newton.run import Failed, output
 
 STREAM = b"\x02"
+MOST_STREAM = 16_777_216
 LEAST_BLOCKS, MOST_BLOCKS = 13, 4099
 REASONS = {
     "error 20 unit": "it can't be read and written, or another run has it",
@@ -24,18 +26,30 @@ def store_of(name: str) -> Store:
     if not path.is_file():
         raise Failed(f"{name}: there is no such file")
     with path.open("rb") as file:
-        is_backup = file.read(5)[:1] == STREAM and not is_whole_blocks(path)
-    stream = path.read_bytes() if is_backup else output("backup", path)
+        kept = file.read(MOST_STREAM)
+    if kept[:1] == STREAM:
+        # A card may begin so, where its first vote is lost.
+        store = store_of_stream(kept)
+        if store is not None or not is_whole_blocks(path):
+            return wanted(store, name)
+    stream = output("backup", path)
     if stream.startswith(b"e"):
         reply = stream.decode().strip()
         raise Failed(f"{name}: {REASONS.get(reply, reply)}")
+    return wanted(store_of_stream(stream), name)
+
+
+def store_of_stream(stream: bytes) -> Optional[Store]:
     try:
         graph, is_compressed = decode(stream)
-    except Malformed as fault:
-        raise Failed(f"{name}: no card and no backup") from fault
-    store = None if is_compressed else store_of_backup(graph)
+    except Malformed:
+        return None
+    return None if is_compressed else store_of_backup(graph)
+
+
+def wanted(store: Optional[Store], name: str) -> Store:
     if store is None:
-        raise Failed(f"{name}: a stream, but not the backup of a store (`newton show` shows it)")
+        raise Failed(f"{name}: neither a card nor the backup of one")
     return store
 
 

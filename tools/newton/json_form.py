@@ -116,7 +116,7 @@ class Reader:
 
     def labelled(self, label: Optional[int], node: Ref) -> Ref:
         if label is not None:
-            wants(isinstance(label, int) and label not in self.labels, f"the label {label} twice")
+            wants(label not in self.labels, f"the label {label} twice")
             wants(not isinstance(node, (int, Symbol)), f"the label {label} before no object")
             self.labels[label] = node
         return node
@@ -141,6 +141,8 @@ class Reader:
 
     def special(self, form: str, given: dict, label: Optional[int]) -> Ref:
         inner = given[form]
+        if form in ("$label", "$ref"):
+            wants(type(inner) is int, f"{form} wants a number")
         if form == "$label":
             wants(label is None, "a label before a label")
             return self.value(given["value"], inner)
@@ -219,7 +221,7 @@ def values(text: str) -> Iterator[tuple]:
             value, at = decoder.raw_decode(text, at)
         except json.JSONDecodeError as fault:
             raise NoValue(f"line {fault.lineno}, column {fault.colno}: {fault.msg}") from fault
-        except (NoValue, RecursionError) as fault:
+        except (NoValue, ValueError, RecursionError) as fault:
             raise NoValue(f"{place}: {fault}") from fault
         found.append((value, place))
         at = BLANKS.match(text, at).end()

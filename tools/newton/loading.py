@@ -8,7 +8,7 @@ from replies import of_name
 from stores import is_name
 
 from newton.cards import REASONS, wants_blank
-from newton.run import Failed, Refused, Session, commands, is_command, is_quit
+from newton.run import Failed, Refused, Session, commands, is_command, is_quit, several
 from newton.scripts import TooLong, addition
 
 SECONDS_BEFORE_1970 = 2_082_844_800
@@ -71,9 +71,16 @@ class Loading:
             raise Failed(f"{entry.place}: {fault}") from fault
         self.added.append(uid)
 
-    def take_back(self) -> None:
-        for command in reversed(self.undo):
-            self.session.ask(command)
+    def take_back(self) -> str:
+        """Undoes what was done, and says what of it stays."""
+        left = list(self.undo)
+        try:
+            while left:
+                self.session.ask(left[-1])
+                left.pop()
+        except Failed as fault:
+            return f"{fault}; what was added before it is still there: {', '.join(left[:3])} .. would remove it"
+        return f"{several(len(self.added), 'entry', 'entries')} before it taken back"
 
 
 def add_all(card: str, soup: str, entries: list, makes: bool, minute: Optional[int]) -> str:
@@ -87,12 +94,11 @@ def add_all(card: str, soup: str, entries: list, makes: bool, minute: Optional[i
             for entry in entries:
                 loading.add(entry, minute)
         except Failed as fault:
-            count = len(loading.added)
-            loading.take_back()
-            raise Failed(f"{fault}; the {count} entries before it were taken back") from fault
+            raise Failed(f"{fault}; {loading.take_back()}") from fault
     ids = loading.added
     told = f": ids {ids[0]} to {ids[-1]}" if ids else ""
-    return f"{card}: {len(ids)} entries were added to the soup {loading.soup}{told}"
+    added = several(len(ids), "entry was", "entries were")
+    return f"{card}: {added} added to the soup {loading.soup}{told}"
 
 
 def play(card: str, script: Iterable[bytes]) -> str:
@@ -109,10 +115,11 @@ def play(card: str, script: Iterable[bytes]) -> str:
             if not reply.startswith(b"ok"):
                 shown = line.decode(errors="replace")[:70]
                 told = reply.decode().strip() or f"newton ended with {session.end()}"
-                raise Failed(f"line {number}: {shown}: {told}; {card} holds a part now: begin anew with a blank card")
+                part = f"{card} holds a part now: begin anew with a blank card"
+                raise Failed(f"line {number}: {shown}: {told}; {part}")
             if is_quit(line, reply):
                 break
-    return f"{card}: {count} commands were played"
+    return f"{card}: {several(count, 'command was', 'commands were')} played"
 
 
 def text_given(data: bytes) -> str:

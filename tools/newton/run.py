@@ -40,6 +40,10 @@ def tell(message: str) -> None:
     print(f"{NAME}: {message}", file=sys.stderr, flush=True)
 
 
+def several(count: int, one: str, many: str) -> str:
+    return f"{count} {one if count == 1 else many}"
+
+
 def ended(body: Callable[[], int]) -> NoReturn:
     """Ends the tool with the number that its body gives, or with 1 after a message."""
     try:

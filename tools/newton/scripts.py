@@ -11,7 +11,7 @@ from replies import of_name, of_path
 from stores import Entry, Soup, Store
 from streams import encode_flat
 
-from newton.run import Failed
+from newton.run import Failed, several
 
 MOST_INLINE = 500  # A large binary of more bytes is written by lines of its own.
 PIECE = 30_000  # How many bytes one such line has.
@@ -121,8 +121,10 @@ class Script:
             raise Failed(f"{sum(gaps)} ids were given and are free: backup and restore keep them")
 
     def lines(self) -> Iterator[str]:
-        name, count = of_name(self.store.name), sum(len(it.entries) for it in self.store.soups)
-        yield f"% The store {name}: {len(self.store.soups)} soups, {count} entries."
+        name = of_name(self.store.name)
+        soups = several(len(self.store.soups), "soup", "soups")
+        entries = several(sum(len(it.entries) for it in self.store.soups), "entry", "entries")
+        yield f"% The store {name}: {soups}, {entries}."
         if not self.keeps_ids:
             yield "% Soups and entries get new ids, from 0 on, and aliases of before lead elsewhere."
         yield from (f"format 0 {name} {self.store.sig}", "mount 0")

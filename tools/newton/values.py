@@ -4,7 +4,7 @@ import struct
 from math import isfinite
 from typing import Optional
 
-from graphs import NIL, Array, Binary, Frame, Large, Ref, String, Symbol, Walk
+from graphs import Binary, Frame, Large, Ref, String, Symbol, Walk
 
 from newton.run import Failed
 
@@ -68,6 +68,7 @@ class Symbols:
         self.known: dict = {}
 
     def of(self, name: str) -> Symbol:
+        wants(isinstance(name, str), f"{name} is no name")
         encoded = name.encode(errors="replace")
         is_good = name.isascii() and is_slot_name(encoded)
         wants(is_good, f"{name!r} is no name: 1 to 254 characters from the space to the tilde")

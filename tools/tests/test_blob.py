@@ -14,7 +14,8 @@ class Blob(Playing):
             (self.folder / "file").write_bytes(data)
             ended = self.tool("blob", "put", card, "S", 0, path, "file", "--class", "picture")
             self.assertEqual(ended.status, 0, ended.told)
-            self.assertEqual(ended.output, f"{card}: {size} bytes of the class picture were put at {path}\n")
+            counted = "1 byte" if size == 1 else f"{size} bytes"
+            self.assertEqual(ended.output, f"{card}: {counted} of the class picture put at {path}\n")
             self.assertEqual(self.tool("blob", "get", card, "S", 0, path, f"back.{path}").status, 0)
             self.assertEqual((self.folder / f"back.{path}").read_bytes(), data)
         self.assertTrue(self.newton("check", "card").startswith("ok clean 1 1 "))

@@ -130,8 +130,8 @@ class Dump(Playing):
         for name, told in (
             ("none", "there is no such file"),
             ("text", "13 to 4,099 whole blocks"),
-            ("stream", "not the backup of a store"),
-            ("cut", "no card and no backup"),
+            ("stream", "neither a card nor the backup"),
+            ("cut", "neither a card nor the backup"),
             ("blank", "no store that can be read"),
         ):
             ended = self.tool("dump", name)

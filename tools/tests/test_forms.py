@@ -14,18 +14,20 @@ from values import Values
 
 # Literals and the JSON that says them.
 PAIRS = [
-    ('{a: 1, b: -536870912, c: "x\\u00E4\\u0000", d: nil, e: true}', {"a": 1, "b": -536870912, "c": "x\xe4\0", "d": None, "e": True}),
+    ("{a: 1, b: -536870912, d: nil, e: true}", {"a": 1, "b": -536870912, "d": None, "e": True}),
+    ('{c: "x\\u00E4\\u0000", d: "\\uD800"}', {"c": "x\xe4\0", "d": "\ud800"}),
     ("{a: 'work, b: $a, c: $\\FFFF}", {"a": {"$symbol": "work"}, "b": {"$char": "a"}, "c": {"$char": "\uffff"}}),
-    ("{a: <real:3FF8000000000000>, b: <Real:3FF8000000000000>}", {"a": {"$binary": "3FF8000000000000", "class": "real"}}),
     ("{a: <real:3FF8000000000000>, b: <real:00>}", {"a": 1.5, "b": {"$binary": "00", "class": "real"}}),
-    ("{a: <real:7FF0000000000000>, b: &00000003}", {"a": {"$binary": "7FF0000000000000", "class": "real"}, "b": {"$word": "00000003"}}),
-    ("{a: [1, [x: 'y], []], b: [|a b|:]}", {"a": [1, {"$array": [{"$symbol": "y"}], "class": "x"}, []], "b": {"$array": [], "class": "a b"}}),
+    ("{a: <Real:3FF8000000000000>}", {"a": {"$binary": "3FF8000000000000", "class": "Real"}}),
+    ("{a: <real:7FF0000000000000>}", {"a": {"$binary": "7FF0000000000000", "class": "real"}}),
+    ("{b: &00000003}", {"b": {"$word": "00000003"}}),
+    ("{a: [1, [x: 'y], []]}", {"a": [1, {"$array": [{"$symbol": "y"}], "class": "x"}, []]}),
+    ("{b: [|a b|:]}", {"b": {"$array": [], "class": "a b"}}),
     ("{a: <<raw:00FF>>, b: <b:>}", {"a": {"$large": "00FF", "class": "raw"}, "b": {"$binary": "", "class": "b"}}),
     ("#1={me: #1#}", {"$label": 0, "value": {"me": {"$ref": 0}}}),
     ('{a: #1="x", b: #1#}', {"a": {"$label": 0, "value": "x"}, "b": {"$ref": 0}}),
     ("{|$ref|: 1, b: {|$x|: 2}}", {"$frame": {"$ref": 1, "b": {"$frame": {"$x": 2}}}}),
     ("{|a b|: {}}", {"a b": {}}),
-    ('{a: "\\uD800"}', {"a": "\ud800"}),
 ]
 BAD_JSON = [
     ('{"a": 1} {"b":', "line 1, column 15"),
@@ -43,16 +45,31 @@ BAD_JSON = [
     ('{"a": {"$word": "00000001"}}', "no immediate"),
     ('{"a": {"$binary": "0", "class": "b"}}', "hexadecimal"),
     ('{"a": {"$ref": 0}}', "nowhere"),
+    ('{"a": {"$ref": [0]}}', "wants a number"),
+    ('{"a": {"$label": null, "value": {}}}', "wants a number"),
+    ('{"a": {"$binary": "00", "class": 1}}', "1 is no name"),
+    ('{"a": {"$label": 0, "value": {"$label": 1, "value": {}}}}', "a label before a label"),
+    ('{"a": 1' + "0" * 5000 + "}", "line 1"),
     ('{"a": {"$label": 0, "value": 1}}', "before no object"),
     ('[{"a": ' + "[" * 200 + "]" * 200 + "}]", "element 1: it passes a limit"),
     ('{"a": ' + "[" * 100_000, "recursion"),
 ]
 CSV = 'name.first,name.last,age:int,group:symbol,rate:real,done:bool,|a b|,mark:char\r\n'
 ROWS = [
-    ("Ada,Kern,36,work,1.5,true,x,c", "{name: {first: \"Ada\", last: \"Kern\"}, age: 36, group: 'work, rate: <real:3FF8000000000000>, done: true, |a b|: \"x\", mark: $c}"),
+    (
+        "Ada,Kern,36,work,1.5,true,x,c",
+        '{name: {first: "Ada", last: "Kern"}, age: 36, group: \'work, rate: <real:3FF8000000000000>, '
+        'done: true, |a b|: "x", mark: $c}',
+    ),
     (",,,,,,,", "{}"),
-    (",Kern,\\nil,,2,nil,,", "{name: {last: \"Kern\"}, age: nil, rate: <real:4000000000000000>, done: nil}"),
-    ('"a ""b"", c","d\r\ne",,,,,"\\[1, \'x]",', "{name: {first: \"a \\\"b\\\", c\", last: \"d\\u000D\\u000Ae\"}, |a b|: [1, 'x]}"),
+    (
+        ",Kern,\\nil,,2,nil,,",
+        '{name: {last: "Kern"}, age: nil, rate: <real:4000000000000000>, done: nil}',
+    ),
+    (
+        '"a ""b"", c","d\r\ne",,,,,"\\[1, \'x]",',
+        '{name: {first: "a \\"b\\", c", last: "d\\u000D\\u000Ae"}, |a b|: [1, \'x]}',
+    ),
 ]
 BAD_CSV = [
     ("a,b\n1\n", "line 2: 1 cells, and 2 columns"),
@@ -97,8 +114,7 @@ class Json(Playing):
     def test_each_value_has_its_form(self) -> None:
         for text, form in PAIRS:
             line = json_form.of_entry(literal(text))
-            if "<Real:" not in text:
-                self.assertEqual(json.loads(line), form)
+            self.assertEqual(json.loads(line), form)
             (again,) = json_form.entries(line)
             self.assertEqual(print_literal(again.graph), print_literal(literal(text)))
 
@@ -182,7 +198,7 @@ class Cards(Playing):
     def test_entries_are_added_with_the_minute_that_is_asked_for(self) -> None:
         self.card("card", "soup 0 S", "add 0 S {a: 1}")
         ended = self.tool("load", "--json", "--time", 64_000_000, "card", "S", given='{"a": 2}')
-        self.assertEqual(ended, (0, "card: 1 entries were added to the soup S: ids 1 to 1\n", ""))
+        self.assertEqual(ended, (0, "card: 1 entry was added to the soup S: ids 1 to 1\n", ""))
         self.assertIn("ok 64000000 {a: 2}", self.newton("run", "card", given="mount 0\nget 0 S 1\n"))
         self.assertEqual(self.tool("load", "--csv", "card", "S", given="\ufeffa:int\n3\n").status, 0)
         reply = self.newton("run", "card", given="mount 0\nget 0 S 2\n").splitlines()[1]
