@@ -2,11 +2,12 @@
 
 import sys
 from time import time
-from typing import Iterable, Optional
+from typing import Optional
 
 from replies import of_name
 from stores import is_name
 
+from newton import script_mistakes
 from newton.cards import REASONS, wants_blank
 from newton.run import Failed, Refused, Session, commands, is_command, is_quit, several
 from newton.scripts import TooLong, addition
@@ -101,12 +102,15 @@ def add_all(card: str, soup: str, entries: list, makes: bool, minute: Optional[i
     return f"{card}: {added} added to the soup {loading.soup}{told}"
 
 
-def play(card: str, script: Iterable[bytes]) -> str:
+def play(card: str, script: list) -> str:
     """Plays the script of a store over a blank card, up to the first error."""
     wants_blank(card)
+    found = next(script_mistakes.shown(script), None)
+    if found:
+        raise Failed(f"{card}: nothing was written, for {found}")
     count = 0
     with Session(card) as session:
-        for number, line in enumerate(commands(script), 1):
+        for number, line in enumerate(commands(iter(script)), 1):
             session.send(line)
             if not is_command(line):
                 continue

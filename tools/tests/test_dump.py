@@ -155,6 +155,11 @@ class Dump(Playing):
         ended = self.tool("load", "--script", "other", given=script + "soup 0 S\nsoup 0 T\n")
         self.assertEqual(ended.status, 1)
         self.assertIn("line 4: soup 0 S: error 31 exists", ended.told)
+        self.blank("third")
+        ended = self.tool("load", "--script", "third", given=script + "soup 0\n")
+        self.assertEqual(ended.status, 1)
+        self.assertIn("nothing was written, for 4:7: the form is: soup U NAME", ended.told)
+        self.assertEqual((self.folder / "third").read_bytes(), bytes(53_248))
 
 
 class Images(Playing):
