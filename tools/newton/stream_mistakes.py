@@ -45,6 +45,9 @@ class Pointing(Reader):
             raise Found(len(self.text), f"the stream ends {more} byte{'s' * (more > 1)} too early")
         return super().take(count)
 
+    def byte(self) -> int:
+        return self.take(1)[0]
+
     def count(self, most: int) -> int:
         at = self.at
         return self.told(lambda: super(Pointing, self).count(most), lambda: (at, f"no count from 0 to {most}"))
@@ -86,20 +89,6 @@ class Pointing(Reader):
         at, reason = self.object_at, f"{MOST_OPEN} arrays and frames are open here already"
         return self.told(lambda: super(Pointing, self).container(node, is_open), lambda: (at, reason))
 
-    def frame(self, is_open: int):
-        first = len(self.symbols_at)
-
-        def reason() -> tuple:
-            tags = self.symbols_at[first:]
-            known: list = []
-            for tag, at in tags:
-                if any(it is tag for it in known):
-                    return at, f"the frame has the slot {tag.name.decode()} already"
-                known.append(tag)
-            return self.object_at, "two slots of this frame have one name"
-
-        return self.told(lambda: super(Pointing, self).frame(is_open), reason)
-
     def string(self):
         at, before = self.at, self.nodes
 
@@ -122,8 +111,18 @@ class Pointing(Reader):
         return self.told(super().immediate, lambda: (at, reason))
 
     def object(self, is_open: int):
-        at = self.object_at = self.at
-        return self.told(lambda: super(Pointing, self).object(is_open), lambda: (at, "tags are from 00 to 0C"))
+        at, first = self.at, len(self.symbols_at)
+        self.object_at = at
+
+        def reason() -> tuple:
+            known: list = []
+            for tag, place in self.symbols_at[first:]:
+                if any(it is tag for it in known):
+                    return place, f"the frame has the slot {tag.name.decode()} already"
+                known.append(tag)
+            return at, "tags are from 00 to 0C"
+
+        return self.told(lambda: super(Pointing, self).object(is_open), reason)
 
 
 def mistake_in(stream: bytes) -> Optional[Mistake]:
