@@ -9,7 +9,17 @@ from stores import is_name
 
 from newton import script_mistakes
 from newton.cards import REASONS, wants_blank
-from newton.run import Failed, Refused, Session, commands, is_command, is_quit, several
+from newton.run import (
+    Failed,
+    Refused,
+    Session,
+    commands,
+    is_command,
+    is_quit,
+    several,
+    shown,
+    told_status,
+)
 from newton.scripts import TooLong, addition
 
 SECONDS_BEFORE_1970 = 2_082_844_800
@@ -80,7 +90,7 @@ class Loading:
                 self.session.ask(left[-1])
                 left.pop()
         except Failed as fault:
-            return f"{fault}; what was added before it is still there: {', '.join(left[:3])} .. would remove it"
+            return f"{fault}; {several(len(left), 'command', 'commands')} would take back the rest: {left[-1]} .."
         return f"{several(len(self.added), 'entry', 'entries')} before it taken back"
 
 
@@ -117,10 +127,10 @@ def play(card: str, script: list) -> str:
             reply = session.reply()
             count += 1
             if not reply.startswith(b"ok"):
-                shown = line.decode(errors="replace")[:70]
-                told = reply.decode().strip() or f"newton ended with {session.end()}"
+                command = shown(line.decode(errors="replace"))
+                told = reply.decode().strip() or told_status(session.end())
                 part = f"{card} holds a part now: begin anew with a blank card"
-                raise Failed(f"line {number}: {shown}: {told}; {part}")
+                raise Failed(f"line {number}: {command}: {told}; {part}")
             if is_quit(line, reply):
                 break
     return f"{card}: {several(count, 'command was', 'commands were')} played"

@@ -9,7 +9,8 @@ from typing import Callable, Iterator, NoReturn, Union
 
 BUILT = Path(__file__).resolve().parents[2] / "crates/newton/out/newton"
 NAME = Path(sys.argv[0]).name
-FAILED, USAGE = 1, 2
+FAILED = 1
+MOST_SHOWN = 70
 STATUSES = {
     2: "usage",
     3: "memory was refused",
@@ -22,6 +23,11 @@ STATUSES = {
 Word = Union[str, Path]
 
 
+def shown(line: str) -> str:
+    """A line, of which no more is told than a person reads."""
+    return line if len(line) <= MOST_SHOWN else line[: MOST_SHOWN - 3] + "..."
+
+
 class Failed(Exception):
     """What a tool was asked for can't be done; the message says why."""
 
@@ -30,8 +36,7 @@ class Refused(Failed):
     """`newton` answers a command with an error."""
 
     def __init__(self, command: str, reply: str):
-        shown = command if len(command) <= 70 else command[:67] + "..."
-        super().__init__(f"newton answers `{shown}` with `{reply}`")
+        super().__init__(f"newton answers `{shown(command)}` with `{reply}`")
         self.reply = reply
 
 
@@ -72,11 +77,16 @@ def program() -> str:
 
 
 def started(*words: Word) -> subprocess.Popen:
+    """A run, with the signals that this tool ignores: where a file can't grow, the reply says so."""
+    pipe, command = subprocess.PIPE, [program(), *map(str, words)]
     try:
-        pipe = subprocess.PIPE
-        return subprocess.Popen([program(), *map(str, words)], stdin=pipe, stdout=pipe)
+        return subprocess.Popen(command, stdin=pipe, stdout=pipe, restore_signals=False)
     except OSError as fault:
         raise Failed(f"newton can't be started: {fault}") from fault
+
+
+def told_status(status: int) -> str:
+    return f"newton ended with {status}: {STATUSES.get(status, 'it was killed, or is no newton')}"
 
 
 def output(*words: Word, given: bytes = b"") -> bytes:
@@ -84,7 +94,7 @@ def output(*words: Word, given: bytes = b"") -> bytes:
     ran = started(*words)
     written, _ = ran.communicate(given)
     if ran.returncode != 0:
-        raise Failed(f"newton ended with {ran.returncode}: {STATUSES.get(ran.returncode, 'killed')}")
+        raise Failed(told_status(ran.returncode))
     return written
 
 
@@ -104,20 +114,19 @@ class Session:
         try:
             self.process.stdin.write(line + b"\n")
             self.process.stdin.flush()
-        except BrokenPipeError:
-            pass  # It has ended: there is no reply, and its number says why.
+        except (BrokenPipeError, ValueError):
+            pass  # It has ended, or was: there is no reply, and its number says why.
 
     def reply(self) -> bytes:
         """The next reply with its line end, or nothing where the run has ended."""
-        return self.process.stdout.readline()
+        return b"" if self.process.stdout.closed else self.process.stdout.readline()
 
     def ask(self, command: str) -> str:
         """The fields of the reply to a command."""
         self.send(command.encode())
-        reply = self.reply().decode().rstrip("\n")
-        if not reply:
-            status = self.end()
-            raise Failed(f"newton ended with {status}: {STATUSES.get(status, 'killed')}")
+        reply = self.reply().decode(errors="replace").rstrip("\n")
+        if not reply.startswith(("ok", "error")):
+            raise Failed(told_status(self.end()))
         if reply.startswith("error"):
             raise Refused(command, reply)
         return reply[3:]

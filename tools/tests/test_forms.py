@@ -1,13 +1,14 @@
 """JSON and CSV: entries there and back, on cards and at random, and what is told where a form can't say one."""
 
 import json
+import sys
 from random import Random
 
 from graphs import Frame
 from literals import NoLiteral, print_literal, read_literal
 from newton import csv_form, json_form
 from newton.run import Failed
-from playing import Playing
+from playing import TOOLS, Playing
 from stores import Entry
 from streams import encode_flat
 from values import Values
@@ -217,6 +218,16 @@ class Cards(Playing):
         self.assertEqual(ended.status, 1)
         self.assertIn("has no soup T", self.tool("dump", "--json", "T", "card").told)
         self.assertTrue(self.newton("check", "card").startswith("ok clean 1 1 "))
+
+    def test_where_the_card_fails_it_is_told_what_stays(self) -> None:
+        self.card("card", "soup 0 S")
+        many = "\n".join(f'{{"a": {number}, "b": "{"x" * 900}"}}' for number in range(8))
+        load = f"{sys.executable} {TOOLS / 'load'} --json card S"
+        ended = self.ran(["bash", "-c", f"trap '' XFSZ; ulimit -f 20; {load}"], many)
+        self.assertEqual((ended.status, ended.output), (1, ""))
+        count = len(self.soup("S").splitlines())
+        self.assertIn("error 50 device 0", ended.told)
+        self.assertIn(f"{count} commands would take back the rest", ended.told)
 
     def test_nothing_is_written_where_something_is_wrong(self) -> None:
         card = self.card("card", "soup 0 S")

@@ -26,7 +26,6 @@ class Strict(Playing):
         self.blank("card")
         ended = self.tool("strict", "--stop", "card", given=SCRIPT)
         self.assertEqual((ended.status, ended.output), (1, "ok\nok 9 Card\nerror 3 literal\n"))
-        self.assertIn("error 22 nostore", self.tool("strict", "other", given="mount 0").output + "error 22 nostore")
 
     def test_it_ends_with_the_number_of_newton(self) -> None:
         self.assertEqual(self.tool("strict", "a", "a").status, 2)
@@ -42,6 +41,15 @@ class Strict(Playing):
                 self.assertEqual(running.stdout.readline(), reply)
             running.communicate()
             self.assertEqual(running.returncode, 1)
+
+    def test_a_card_that_fails_costs_its_own_command_alone(self) -> None:
+        self.card("card", "soup 0 S")
+        script = f"trap '' XFSZ; ulimit -f 16; {sys.executable} {TOOLS / 'strict'} card"
+        given = 'mount 0\nadd 0 S {a: "' + "x" * 5000 + '"}\nadd 0 S {}\nmount 0\n'
+        ended = self.ran(["bash", "-c", script], given)
+        self.assertEqual(ended.status, 1)
+        replies = ["ok 9 Card", "error 50 device 0", "error 25 notmounted", "ok 9 Card"]
+        self.assertEqual(ended.output.splitlines(), replies)
 
     def test_without_a_program_it_says_so(self) -> None:
         before = os.environ["NEWTON"]
