@@ -167,6 +167,12 @@ class Csv(Playing):
                 csv_form.entries(text)
             self.assertIn(reason, str(told.exception), text)
 
+    def test_no_more_is_told_than_a_person_reads(self) -> None:
+        entries = ["add 0 S {a: 1, b: 2}"] + ["add 0 S {b: 2, a: 1}"] * 23
+        self.card("card", "soup 0 S", *entries, blocks=20)
+        told = self.tool("dump", "--csv", "S", "card").told.splitlines()
+        self.assertEqual((len(told), told[-1]), (21, "dump: left out: and 3 more"))
+
     def test_headings_of_other_programs_are_names(self) -> None:
         (found,) = csv_form.entries("First Name,a:b,E-mail\nAda,1,x@y\n")
         self.assertEqual(print_literal(found.graph), '{|First Name|: "Ada", |a:b|: "1", |E-mail|: "x@y"}')
