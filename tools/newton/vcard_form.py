@@ -80,7 +80,8 @@ class Reading:
         if line.name == "CATEGORIES":
             return self.takes_categories([plain(it) for it in cut(line.value, ",")])
         slot = TEXTS.get(line.name)
-        if slot is None or slot in self.slots or escaped(plain(line.value)) != line.value:
+        is_list = line.name == "NICKNAME" and len(cut(line.value, ",")) > 1
+        if slot is None or slot in self.slots or is_list:
             return False
         self.slots[slot] = plain(line.value)
         return True
@@ -95,7 +96,7 @@ class Reading:
     def takes_one_of(self, line: Line, slot: str, names: tuple) -> bool:
         types = line.types()
         parts = parts_of(line.value, names) if len(names) > 1 else {names[0]: plain(line.value)}
-        if types is None or not parts or line.name != "ADR" and escaped(plain(line.value)) != line.value:
+        if types is None or not parts:
             return False
         symbols = [{"$symbol": it} for it in types]
         kind = {"kind": symbols if len(symbols) > 1 else symbols[0]} if symbols else {}
@@ -162,10 +163,9 @@ class Writing:
         others = self.strings(OTHERS)
         version = next((it for it in others if it.upper().startswith("VERSION:")), "VERSION:3.0")
         self.is_new = version.endswith("4.0")
-        name = texts(self.slots.get("name", 0), NAME_PARTS) or {}
-        full = self.text("fullName")
-        self.lines += [version, "N:" + value_of_parts(name, NAME_PARTS)]
-        self.lines.append("FN:" + escaped(full_name(name) if full is None else full))
+        self.lines.append(version)
+        kept = {it.partition(":")[0].partition(";")[0].upper() for it in others}
+        self.write_name(kept)
         self.write_texts()
         self.write_lists()
         self.lines += [it for it in others if it != version]
@@ -178,6 +178,15 @@ class Writing:
         value = self.slots.get(slot)
         values = value.values if isinstance(value, Array) and value.kind is None else []
         return [text_of(it) for it in values if isinstance(it, String)]
+
+    def write_name(self, kept: set) -> None:
+        """Both lines that each card has, but for such as are kept as they stood."""
+        name = texts(self.slots.get("name", 0), NAME_PARTS) or {}
+        full = self.text("fullName")
+        if "N" not in kept:
+            self.lines.append("N:" + value_of_parts(name, NAME_PARTS))
+        if "FN" not in kept or full is not None:
+            self.lines.append("FN:" + escaped(full_name(name) if full is None else full))
 
     def write_texts(self) -> None:
         organisation = {it: self.text(it) for it in ORGANISATION_PARTS if self.text(it) is not None}

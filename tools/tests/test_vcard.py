@@ -92,6 +92,26 @@ class Vcards(Playing):
         self.assertEqual(texts.left_out, [])
         self.assertEqual([print_literal(it.graph) for it in again], [print_literal(it.graph) for it in found])
 
+    def test_lines_as_others_write_them_come_back(self) -> None:
+        text = (
+            "BEGIN:VCARD\r\nVERSION:3.0\r\nN;CHARSET=UTF-8:Kern;Ada\r\nFN:Kern, Ada\r\nTEL;type=CELL;type=pref:1\r\n"
+            "URL:http\\://a.b\r\nNICKNAME:a,b\r\nADR:;;a,b;;;;\r\nORG:Mill;\r\n"
+            "PHOTO;VALUE=uri:http://a\r\nEND:VCARD\r\n"
+        )
+        (found,) = self.read(text)
+        wanted = {
+            "fullName": "Kern, Ada",
+            "company": "Mill",
+            "phones": [{"kind": [{"$symbol": "cell"}, {"$symbol": "pref"}], "number": "1"}],
+            "url": "http://a.b",
+            "vCard": ["N;CHARSET=UTF-8:Kern;Ada", "NICKNAME:a,b", "ADR:;;a,b;;;;", "PHOTO;VALUE=uri:http://a"],
+        }
+        self.assertEqual(found, wanted)
+        (entry,) = vcard_form.entries(text)
+        card, unsaid = vcard_form.of_entry(entry.graph)
+        self.assertEqual((self.read(card), unsaid), ([wanted], []))
+        self.assertEqual([card.count(it) for it in ("\nN:", "\nN;", "\nFN:")], [0, 1, 1])
+
     def test_a_line_is_folded_between_characters(self) -> None:
         text = "NOTE:" + "\u65e5\u672c" * 60 + "\U0001f600" * 30
         pieces = folded(text)
