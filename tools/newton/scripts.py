@@ -15,6 +15,7 @@ from newton.run import Failed, several
 
 MOST_INLINE = 500  # A large binary of more bytes is written by lines of its own.
 PIECE = 30_000  # How many bytes one such line has.
+ROOM = MOST_LINE - 120  # What a command, a unit, a soup's name in quotes and an id leave of a line.
 MOST_PATH = 8
 MOST_FILLERS = 10_000
 
@@ -80,16 +81,14 @@ def addition(root: Frame) -> Addition:
             path = of_path(paths[id(large)])
             rest += [("vwrite", f"{path} {at} {data.hex().upper()}") for at, data in pieces(large)]
             large.data = Zeros(len(large.data))
-    room = MOST_LINE - 2 * 64 - 16
     literal = print_literal(graph)
-    if len(literal) <= room:
+    if len(literal) <= ROOM:
         return Addition(literal, rest=rest)
-    if 2 * len(encode_flat(root)) <= room:
-        return Addition(encode_flat(root).hex().upper(), "addx")
-    return in_steps(root, graph, paths, rest, room)
+    stream = encode_flat(root).hex().upper()
+    return Addition(stream, "addx") if len(stream) <= ROOM else in_steps(root, graph, paths, rest)
 
 
-def in_steps(root: Frame, graph: Frame, paths: dict, rest: list, room: int) -> Addition:
+def in_steps(root: Frame, graph: Frame, paths: dict, rest: list) -> Addition:
     """An entry that is added without its large binaries, which are put into their slots afterwards."""
     larges = Walk(graph).larges()
     put = [("set", f"{of_path(paths[id(it)])} {print_literal(it)}") for it in larges if id(it) in paths]
@@ -98,7 +97,7 @@ def in_steps(root: Frame, graph: Frame, paths: dict, rest: list, room: int) -> A
         node.renew(lambda it: NIL if isinstance(it, Large) else it)
     text = encode_flat(bare).hex().upper()
     is_apart = len(put) == len(larges) and not shared_larges(root)
-    if not is_apart or len(text) > room or any(len(words) > room for _, words in put):
+    if not is_apart or len(text) > ROOM or any(len(words) > ROOM for _, words in put):
         raise TooLong
     return Addition(text, "addx", put + rest)
 

@@ -4,12 +4,14 @@ from dataclasses import replace
 from pathlib import Path
 from random import Random
 
+from commands import MOST_LINE
 from graphs import Large, Symbol
 from images import is_same_store, store_of_image
 from layouts import random_image
 from literals import print_literal, read_literal
 from newton import scripts
 from playing import Playing
+from replies import of_name
 from scripts import written
 from stores import Store, Tags
 from world import Unit, World
@@ -99,6 +101,10 @@ class Dump(Playing):
             large = Large(Symbol(b"raw"), b"\x07" * size)
             graph.values[-1] = large if graph is graphs[1] else [large]
         self.assertEqual(scripts.addition(graphs[0]).verb, "addx")
+        longest = scripts.addition(read_literal(f'{{a: "{"a" * (scripts.ROOM - 7)}"}}'.encode()))
+        self.assertEqual((longest.verb, len(longest.words)), ("add", scripts.ROOM))
+        name = of_name(b'"' * 39)
+        self.assertLessEqual(len(f"vwrite 7 {name} 4294967295 "), MOST_LINE - scripts.ROOM)
         steps = scripts.addition(graphs[1])
         self.assertEqual([steps.verb, *[verb for verb, _ in steps.rest]], ["addx", "set", *["vwrite"] * 3])
         script = ["format 0 A 1", "mount 0", "soup 0 S", steps.first(0, "S"), *steps.others(0, "S", 0)]
