@@ -10,9 +10,9 @@ from graphs import NIL, TRUE, Binary, Frame, Ref, String, Symbol, Walk, characte
 from literals import NoLiteral, of_name, print_literal, read_literal
 from streams import encode_flat
 
-from newton.json_form import Given
 from newton.values import (
     REAL,
+    Given,
     NoValue,
     Symbols,
     integer_word,
@@ -33,6 +33,8 @@ ID, TIME = "$id", "$time"
 LITERAL = "\\"
 PLAIN_CONTROLS = "\t\r\n"
 MOST_CELL = 5_000_000
+
+Row = list[tuple[tuple, Ref]]  # the values of an entry with their paths
 
 
 @dataclass
@@ -77,7 +79,7 @@ def cell_of(value: Ref, kind: str) -> str:
     return chr(character(value)) if kind == "char" else print_literal(value)
 
 
-def leaves(root: Frame) -> list:
+def leaves(root: Frame) -> Row:
     """The values of an entry with their paths: frames that one slot alone leads to are spread."""
     shared, found = Walk(root).shared, []
 
@@ -93,10 +95,10 @@ def leaves(root: Frame) -> list:
     return found
 
 
-def columns_of(rows: list) -> list:
+def columns_of(rows: list[Row]) -> list[Column]:
     """A column for each path, in an order that most entries have."""
-    paths: list = []
-    votes: dict = {}
+    paths: list[tuple] = []
+    votes: dict[tuple, list] = {}
     for row in rows:
         at = -1
         for path, value in row:
@@ -110,14 +112,14 @@ def columns_of(rows: list) -> list:
     return [Column(path, most_frequent(votes[path])) for path in paths]
 
 
-def most_frequent(kinds: list) -> str:
+def most_frequent(kinds: list[Optional[str]]) -> str:
     if not kinds:
         return "bool"
     counts = [kinds.count(it) for it in KINDS]
     return KINDS[counts.index(max(counts))]
 
 
-def row_text(cells: list) -> str:
+def row_text(cells: list[str]) -> str:
     """A row with a newline at its end; cells with ends of lines in them are quoted."""
     text = io.StringIO()
     csv.writer(text, lineterminator="\r\n").writerow(cells)
@@ -131,7 +133,7 @@ class Table:
         self.entries, self.with_ids = entries, with_ids
         self.rows = [leaves(it.graph) for it in entries]
         self.columns = columns_of(self.rows)
-        self.left_out: list = []
+        self.left_out: list[str] = []
 
     def lines(self) -> Iterator[str]:
         if self.entries:
@@ -145,7 +147,7 @@ class Table:
             else:
                 yield row_text([str(entry.uid), str(entry.time)] * self.with_ids + cells)
 
-    def unsaid(self, graph: Frame, row: list, cells: list) -> Optional[str]:
+    def unsaid(self, graph: Frame, row: Row, cells: list[str]) -> Optional[str]:
         """Why a row does not say an entry, where it does not."""
         if not self.columns:
             return "there is no column, since no entry has a slot"
@@ -163,7 +165,7 @@ class Table:
 # The way back.
 
 
-def columns_from(headings: list) -> list:
+def columns_from(headings: list[str]) -> list[Optional[Column]]:
     found = [None if it in (ID, TIME) else column_from(it.strip(), at) for at, it in enumerate(headings, 1)]
     paths = [it.path for it in found if it is not None]
     wants(len(set(paths)) == len(paths), "line 1: two columns have one name")
@@ -208,7 +210,7 @@ def value_of(text: str, kind: str) -> Ref:
     return Binary(Symbols().of(REAL.decode()), real_data(float(word)))
 
 
-def graph_of(columns: list, cells: list) -> Frame:
+def graph_of(columns: list[Column], cells: list[str]) -> Frame:
     """The entry of a row: an empty cell is a slot that is missing."""
     root = Frame()
     for column, cell in zip(columns, cells):
@@ -233,7 +235,7 @@ def inner_frame(frame: Frame, name: bytes) -> Frame:
     return frame.values[place]
 
 
-def entry_of(headings: list, columns: list, row: list, place: str) -> Given:
+def entry_of(headings: list[str], columns: list[Optional[Column]], row: list[str], place: str) -> Given:
     try:
         wants(len(row) == len(columns), f"{len(row)} cells, and {len(columns)} columns")
         slots = [(it, cell) for it, cell in zip(columns, row) if it is not None]
@@ -245,11 +247,11 @@ def entry_of(headings: list, columns: list, row: list, place: str) -> Given:
         raise NoValue(f"{place}: {fault}") from fault
 
 
-def entries(text: str) -> list:
+def entries(text: str) -> list[Given]:
     """The entries that the rows of a text say."""
     csv.field_size_limit(MOST_CELL)
     reader = csv.reader(io.StringIO(text, newline=""), strict=True)
-    found: list = []
+    found: list[Given] = []
     headings, columns = None, None
     try:
         for row in reader:

@@ -2,7 +2,7 @@
 
 import json
 import re
-from typing import Iterator, NamedTuple, Optional
+from typing import Iterator, Optional
 
 from graphs import (
     NIL,
@@ -21,6 +21,7 @@ from graphs import (
 
 from newton.values import (
     REAL,
+    Given,
     NoValue,
     Symbols,
     integer_word,
@@ -48,14 +49,6 @@ ENTRY = {"$entry", "time", "frame"}
 BLANKS = re.compile(r"[ \t\r\n]*")
 
 
-class Given(NamedTuple):
-    """An entry that is to be added, its minute where one is given, and where it stands."""
-
-    graph: Frame
-    time: Optional[int]
-    place: str
-
-
 class Writer:
     """Writes one graph."""
 
@@ -63,7 +56,7 @@ class Writer:
         walk = Walk(root)
         shared = [it for it in walk.nodes if id(it) in walk.shared and not isinstance(it, Symbol)]
         self.labels = {id(it): label for label, it in enumerate(shared)}
-        self.written: set = set()
+        self.written: set[int] = set()
 
     def value(self, value: Ref) -> object:
         label = None if isinstance(value, int) else self.labels.get(id(value))
@@ -112,7 +105,7 @@ class Reader:
 
     def __init__(self) -> None:
         self.symbols = Symbols()
-        self.labels: dict = {}
+        self.labels: dict[int, Ref] = {}
 
     def labelled(self, label: Optional[int], node: Ref) -> Ref:
         if label is not None:
@@ -211,7 +204,7 @@ def no_constant(word: str) -> None:
     raise NoValue(f"{word} is no finite number")
 
 
-def values(text: str) -> Iterator[tuple]:
+def values(text: str) -> Iterator[tuple[object, str]]:
     """Each value that a text holds, with its place: values one after the other, or one array of them."""
     decoder = json.JSONDecoder(object_pairs_hook=slots, parse_constant=no_constant)
     found, at = [], BLANKS.match(text).end()
@@ -241,6 +234,6 @@ def entry_of(value: object, place: str) -> Given:
         raise NoValue(f"{place}: {fault}") from fault
 
 
-def entries(text: str) -> list:
+def entries(text: str) -> list[Given]:
     """The entries that a text says."""
     return [entry_of(value, place) for value, place in values(text)]

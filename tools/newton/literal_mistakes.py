@@ -7,7 +7,7 @@ for. `docs/FORMATS.md`, section 2, has the grammar.
 import re
 from typing import Optional
 
-from graphs import MOST_BYTES, MOST_BYTES_TOGETHER, MOST_NODES, MOST_OPEN, MOST_SLOTS, Walk
+from graphs import MOST_BYTES, MOST_BYTES_TOGETHER, MOST_NODES, MOST_OPEN, MOST_SLOTS, Node, Walk
 from literals import (
     BARRED,
     IDENTIFIER,
@@ -43,7 +43,7 @@ class Pointing(Reader):
     def __init__(self, text: str):
         super().__init__(text)
         self.value_at = self.name_at = self.name_end = 0
-        self.made: list = []
+        self.made: list[tuple[Node, int]] = []
 
     def here(self, place: int) -> str:
         return repr(self.text[place]) if place < len(self.text) else "the end"
@@ -121,7 +121,7 @@ class Pointing(Reader):
 
     # Why a reader gave up.
 
-    def bad_name(self, start: int) -> tuple:
+    def bad_name(self, start: int) -> tuple[int, str]:
         if BARRED.match(self.text, start) or IDENTIFIER.match(self.text, start):
             return start, "a name has 1 to 254 bytes"
         bars = BARS.match(self.text, start)
@@ -133,7 +133,7 @@ class Pointing(Reader):
             return bars.end(), r"between bars only \| and \\ begin with a backslash"
         return bars.end(), f"between bars stand characters from the space to the tilde, not {self.here(bars.end())}"
 
-    def bad_value(self, start: int) -> tuple:
+    def bad_value(self, start: int) -> tuple[int, str]:
         if label := LABEL.match(self.text, start):
             behind = BLANKS.match(self.text, label.end()).end()
             return behind, "a label stands before a string, a binary, an array or a frame alone"
@@ -158,7 +158,7 @@ class Pointing(Reader):
             return start, f"{name[0][:40]} is no value: nil and true are; a symbol begins with ', a string with \""
         return start, f"a value is wanted, not {self.here(start)}"
 
-    def bad_string(self, start: int) -> tuple:
+    def bad_string(self, start: int) -> tuple[int, str]:
         end = QUOTED.match(self.text, start).end()
         if end == len(self.text):
             return start, "this string is never closed"
@@ -166,7 +166,7 @@ class Pointing(Reader):
             return end, r"after \ in a string stands a quote, a \ or a u with four hexadecimal digits"
         return end, f"in a string this character is written \\u{ord(self.text[end]):04X}"
 
-    def bad_digits(self, start: int, closer: str) -> tuple:
+    def bad_digits(self, start: int, closer: str) -> tuple[int, str]:
         digits = DIGITS.match(self.text, start)
         if not digits:
             return start, f"a colon is wanted after the class, not {self.here(start)}"
@@ -175,7 +175,7 @@ class Pointing(Reader):
             return end, f"hexadecimal digits or {closer} are wanted, not {self.here(end)}"
         return end, "the number of hexadecimal digits is odd"
 
-    def bad_zeros(self, start: int) -> tuple:
+    def bad_zeros(self, start: int) -> tuple[int, str]:
         zeros = ZEROS.match(self.text, start)
         if not zeros:
             return self.bad_digits(start, ">>")
@@ -185,7 +185,7 @@ class Pointing(Reader):
             return start + 2, "a count of bytes has 1 to 7 digits"
         return zeros.end(), f">> is wanted, not {self.here(zeros.end())}"
 
-    def bad_list(self, start: int, closer: str, node) -> tuple:
+    def bad_list(self, start: int, closer: str, node) -> tuple[int, str]:
         if closer == "}" and len(node.tags) > len(node.values):
             return self.at, f"a colon is wanted after the name of a slot, not {self.here(self.at)}"
         if closer == "}" and self.at == self.name_end and self.text[self.name_at - 1] != "'":
@@ -203,7 +203,7 @@ class Pointing(Reader):
             return " (1.5 is written as a binary, <real:3FF8000000000000>)"
         return " (a number has at most 10 digits)" if self.text[place].isdigit() else ""
 
-    def past_a_limit(self) -> tuple:
+    def past_a_limit(self) -> tuple[int, str]:
         """The first object with which a limit is passed."""
         together = 0
         for number, (node, at) in enumerate(self.made, 1):

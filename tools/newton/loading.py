@@ -21,6 +21,7 @@ from newton.run import (
     told_status,
 )
 from newton.scripts import TooLong, addition
+from newton.values import Given
 
 SECONDS_BEFORE_1970 = 2_082_844_800
 
@@ -50,8 +51,8 @@ class Loading:
     def __init__(self, session: Session, soup: str):
         self.session, self.soup = session, name_word(soup)
         self.minute: Optional[int] = None
-        self.undo: list = []
-        self.added: list = []
+        self.undo: list[str] = []
+        self.added: list[int] = []
 
     def find_soup(self, makes: bool) -> None:
         try:
@@ -64,7 +65,7 @@ class Loading:
             self.session.ask(f"soup 0 {self.soup}")
             self.undo.append(f"drop 0 {self.soup}")
 
-    def add(self, entry: object, minute: int) -> None:
+    def add(self, entry: Given, minute: int) -> None:
         try:
             found = addition(entry.graph)
         except TooLong as fault:
@@ -94,7 +95,7 @@ class Loading:
         return f"{several(len(self.added), 'entry', 'entries')} before it taken back"
 
 
-def add_all(card: str, soup: str, entries: list, makes: bool, minute: Optional[int]) -> str:
+def add_all(card: str, soup: str, entries: list[Given], makes: bool, minute: Optional[int]) -> str:
     """Adds entries, and says what was done. Where one is refused, those before it are removed."""
     minute = minute_now() if minute is None else minute
     with Session(card) as session:
@@ -112,7 +113,7 @@ def add_all(card: str, soup: str, entries: list, makes: bool, minute: Optional[i
     return f"{card}: {added} added to the soup {loading.soup}{told}"
 
 
-def play(card: str, script: list) -> str:
+def play(card: str, script: list[bytes]) -> str:
     """Plays the script of a store over a blank card, up to the first error."""
     wants_blank(card)
     found = next(script_mistakes.shown(script), None)

@@ -37,18 +37,18 @@ class Addition:
 
     words: str
     verb: str = "add"
-    rest: list = field(default_factory=list)
+    rest: list[tuple[str, str]] = field(default_factory=list)
 
     def first(self, unit: int, soup: str) -> str:
         return f"{self.verb} {unit} {soup} {self.words}"
 
-    def others(self, unit: int, soup: str, uid: int) -> list:
+    def others(self, unit: int, soup: str, uid: int) -> list[str]:
         return [f"{verb} {unit} {soup} {uid} {words}" for verb, words in self.rest]
 
 
-def paths_to_larges(root: Frame) -> dict:
+def paths_to_larges(root: Frame) -> dict[int, tuple]:
     """For each large binary that a path of names reaches, its shortest path, by its identity."""
-    found: dict = {}
+    found: dict[int, tuple] = {}
     places, seen = [((), root)], {id(root)}
     for path, frame in places:
         for tag, value in zip(frame.tags, frame.values):
@@ -63,7 +63,7 @@ def paths_to_larges(root: Frame) -> dict:
     return found
 
 
-def pieces(large: Large) -> Iterator[tuple]:
+def pieces(large: Large) -> Iterator[tuple[int, bytes]]:
     """Where each piece of a large binary begins, and its bytes, without the zeros at its ends."""
     for at in range(0, len(large.data), PIECE):
         piece = large.data[at : at + PIECE].rstrip(b"\x00")
@@ -88,7 +88,7 @@ def addition(root: Frame) -> Addition:
     return Addition(stream, "addx") if len(stream) <= ROOM else in_steps(root, graph, paths, rest)
 
 
-def in_steps(root: Frame, graph: Frame, paths: dict, rest: list) -> Addition:
+def in_steps(root: Frame, graph: Frame, paths: dict[int, tuple], rest: list) -> Addition:
     """An entry that is added without its large binaries, which are put into their slots afterwards."""
     larges = Walk(graph).larges()
     put = [("set", f"{of_path(paths[id(it)])} {print_literal(it)}") for it in larges if id(it) in paths]
@@ -112,7 +112,7 @@ class Script:
 
     def __init__(self, store: Store, keeps_ids: bool):
         self.store, self.keeps_ids = store, keeps_ids
-        self.left_out: list = []
+        self.left_out: list[str] = []
         self.minute = 0
         gaps = [store.next_soup - len(store.soups)]
         gaps += [it.next_uid - len(it.entries) for it in store.soups]

@@ -28,7 +28,7 @@ class Pointing(Reader):
         super().__init__(stream)
         self.compressed_at: Optional[int] = None
         self.object_at = 0
-        self.symbols_at: list = []
+        self.symbols_at: list[tuple[Symbol, int]] = []
 
     def told(self, reading: Callable, reason: Callable) -> object:
         """What a reading gives; where it gives up without a place, the reason tells place and words."""
@@ -67,7 +67,7 @@ class Pointing(Reader):
         return self.told(super().precedent, lambda: (at, reason))
 
     def named(self, name: bytes, is_numbered: bool) -> Symbol:
-        def reason() -> tuple:
+        def reason() -> tuple[int, str]:
             bad = next((at for at, it in enumerate(name) if not 32 <= it <= 126), None)
             if bad is None:
                 return self.at - len(name), "a name has 1 to 254 bytes"
@@ -92,7 +92,7 @@ class Pointing(Reader):
     def string(self):
         at, before = self.at, self.nodes
 
-        def reason() -> tuple:
+        def reason() -> tuple[int, str]:
             if self.nodes > before:
                 return self.at - 2, "a string ends with two bytes 00"
             return at, "the byte count of a string is even, and at least 2"
@@ -114,7 +114,7 @@ class Pointing(Reader):
         at, first = self.at, len(self.symbols_at)
         self.object_at = at
 
-        def reason() -> tuple:
+        def reason() -> tuple[int, str]:
             known: list = []
             for tag, place in self.symbols_at[first:]:
                 if any(it is tag for it in known):

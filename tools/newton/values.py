@@ -2,7 +2,7 @@
 
 import struct
 from math import isfinite
-from typing import Optional
+from typing import NamedTuple, Optional
 
 from graphs import Binary, Frame, Large, Ref, String, Symbol, Walk
 
@@ -16,6 +16,14 @@ class NoValue(Failed):
     """What was given says no value."""
 
 
+class Given(NamedTuple):
+    """An entry that is to be added, its minute where one is given, and where it stands."""
+
+    graph: Frame
+    time: Optional[int]
+    place: str
+
+
 def wants(holds: object, reason: str) -> None:
     if not holds:
         raise NoValue(reason)
@@ -27,7 +35,7 @@ def text_of(string: String) -> str:
     return data.decode("utf-16-be", "surrogatepass")
 
 
-def units_of(text: str) -> list:
+def units_of(text: str) -> list[int]:
     data = text.encode("utf-16-be", "surrogatepass")
     return [int.from_bytes(data[at : at + 2], "big") for at in range(0, len(data), 2)]
 
@@ -65,7 +73,7 @@ class Symbols:
     """The symbols of one graph: names that are equal without case are one, with the first spelling."""
 
     def __init__(self) -> None:
-        self.known: dict = {}
+        self.known: dict[bytes, Symbol] = {}
 
     def of(self, name: str) -> Symbol:
         wants(isinstance(name, str), f"{name} is no name")

@@ -12,8 +12,8 @@ from typing import Iterator, Optional
 from graphs import Array, Frame, Large, Ref, String, Symbol
 from lines import IDENTIFIER
 
-from newton.json_form import Given, Reader, Writer
-from newton.values import NoValue, is_writable, text_of, wants_entry
+from newton.json_form import Reader, Writer
+from newton.values import Given, NoValue, is_writable, text_of, wants_entry
 from newton.vcard_lines import Card, Line, cards, cut, escaped, folded, plain
 
 NAME_PARTS = ("last", "first", "middle", "prefix", "suffix")
@@ -52,8 +52,8 @@ class Reading:
     """The slots of one card."""
 
     def __init__(self, card: Card):
-        self.slots: dict = {}
-        self.others: list = []
+        self.slots: dict[str, object] = {}
+        self.others: list[str] = []
         for line in card.lines:
             if line.text.upper() != "VERSION:3.0" and not self.takes(line):
                 self.others.append(line.text)
@@ -103,7 +103,7 @@ class Reading:
         self.slots.setdefault(slot, []).append({**kind, **parts})
         return True
 
-    def takes_categories(self, words: list) -> bool:
+    def takes_categories(self, words: list[str]) -> bool:
         if "group" in self.slots or not all(IDENTIFIER.fullmatch(it.encode()) for it in words):
             return False
         symbols = [{"$symbol": it} for it in words]
@@ -123,7 +123,7 @@ class Reading:
         return True
 
 
-def entries(text: str) -> list:
+def entries(text: str) -> list[Given]:
     """The entries that the vCards of a text say."""
     found = []
     for card in cards(text):
@@ -148,7 +148,7 @@ def texts(value: Ref, names: tuple) -> Optional[dict]:
     return {name: text_of(it) for name, it in found.items()}
 
 
-def symbols(value: Ref) -> list:
+def symbols(value: Ref) -> list[str]:
     """The names of a symbol, or of an array of them."""
     values = value.values if isinstance(value, Array) and value.kind is None else [value]
     return [it.name.decode() for it in values if isinstance(it, Symbol)]
@@ -159,7 +159,7 @@ class Writing:
 
     def __init__(self, graph: Frame):
         self.slots = {tag.name.decode(): it for tag, it in zip(graph.tags, graph.values)}
-        self.lines: list = []
+        self.lines: list[str] = []
         others = self.strings(OTHERS)
         version = next((it for it in others if it.upper().startswith("VERSION:")), "VERSION:3.0")
         self.is_new = version.endswith("4.0")
@@ -174,12 +174,12 @@ class Writing:
         value = self.slots.get(slot)
         return text_of(value) if isinstance(value, String) else None
 
-    def strings(self, slot: str) -> list:
+    def strings(self, slot: str) -> list[str]:
         value = self.slots.get(slot)
         values = value.values if isinstance(value, Array) and value.kind is None else []
         return [text_of(it) for it in values if isinstance(it, String)]
 
-    def write_name(self, kept: set) -> None:
+    def write_name(self, kept: set[str]) -> None:
         """Both lines that each card has, but for such as are kept as they stood."""
         name = texts(self.slots.get("name", 0), NAME_PARTS) or {}
         full = self.text("fullName")
@@ -230,7 +230,7 @@ def is_said(value: object, other: object) -> bool:
     return told(value) == told(other)
 
 
-def of_entry(graph: Frame) -> tuple:
+def of_entry(graph: Frame) -> tuple[str, list[str]]:
     """The vCard of an entry, and the slots that it does not say."""
     lines = [it for it in Writing(graph).lines if is_writable(it) and "\n" not in it]
     text = "".join(map(folded, ["BEGIN:VCARD", *lines, "END:VCARD"]))
@@ -249,7 +249,7 @@ class Cards:
 
     def __init__(self, found: tuple):
         self.entries = found
-        self.left_out: list = []
+        self.left_out: list[str] = []
 
     def texts(self) -> Iterator[str]:
         for entry in self.entries:

@@ -22,7 +22,7 @@ class Line(NamedTuple):
     parameters: str
     value: str
 
-    def types(self) -> Optional[list]:
+    def types(self) -> Optional[list[str]]:
         """The words of TYPE in lower case, where the line has no other parameter."""
         if self.group or not self.parameters:
             return None if self.group else []
@@ -33,7 +33,7 @@ class Line(NamedTuple):
 
 
 class Card(NamedTuple):
-    lines: list
+    lines: list[Line]
     place: str
 
 
@@ -43,7 +43,7 @@ def line_of(text: str, place: str) -> Line:
     return Line(text, found[1], found[2].upper(), found[3], found[4])
 
 
-def numbered_lines(text: str) -> Iterator[tuple]:
+def numbered_lines(text: str) -> Iterator[tuple[str, str]]:
     """Each line that is not blank, unfolded, with the number of its first one."""
     at = 0
     number = 1
@@ -102,7 +102,7 @@ def plain(text: str) -> str:
     return re.sub(r"\\(.)", of, text)
 
 
-def cut(text: str, at: str) -> list:
+def cut(text: str, at: str) -> list[str]:
     """A value cut at marks that no backslash stands before."""
     return re.findall(rf"(?:^|{at})((?:\\.|[^\\{at}])*)", text, re.DOTALL)
 

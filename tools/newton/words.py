@@ -92,6 +92,6 @@ def form_of(command: str) -> str:
     return " or ".join(f"{command} {it}".strip() for it in COMMANDS[command])
 
 
-def typed() -> list:
+def typed() -> list[str]:
     """All words that a line of a script may hold, for rlwrap."""
     return sorted({*COMMANDS, *QUERY, *TYPES, *LITERALS}, key=lambda it: (it.lower(), it))
