@@ -7,6 +7,7 @@ prints for each image what the mode `check` says of it. Each row is said of the 
 
 import struct
 import sys
+from collections import Counter
 from pathlib import Path
 
 from images import BLOCK, HEADER, VERSIONS, NoStore, Record, read_entry
@@ -71,7 +72,8 @@ def pages_after(changes: list[tuple[dict, list]]) -> list[bytes]:
     live: dict[int, bytes] = {}
     for put, deleted in changes:
         live.update(put)
-        live = {number: page for number, page in live.items() if number not in deleted}
+        for number in deleted:
+            live.pop(number, None)
     return list(live.values())
 
 
@@ -126,8 +128,8 @@ def report(image: bytes) -> str:
         objects = objects_of(pages_after([change(behind) for _, behind in found]))
         directory = directory_of(objects, version)
         row("entry", bad_entries(objects, directory))
-        named = [it for number, record in objects.items() if number % 2 for it in named_by(record)]
-        row("large", sorted(it for it in objects if it > 0 and it % 2 == 0 and named.count(it) != 1))
+        named = Counter(it for number, record in objects.items() if number % 2 for it in named_by(record))
+        row("large", sorted(it for it in objects if it > 0 and it % 2 == 0 and named[it] != 1))
         cost = sum(pages(len(it)) for it in objects.values())
         row("cost", [cost] if cost > capacity(blocks) else [])
         return f"ok clean {len(directory.soups)} {sum(it % 2 for it in objects)} {cost}"
