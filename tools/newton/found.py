@@ -114,6 +114,8 @@ class Found:
 
     def graph(self, version: Version) -> Frame:
         """The graph of a version, whose large binaries have zeros for what is missing of them."""
+        if not version.larges:
+            return version.skeleton
         graph, _ = decode(version.text)
         for node, large in zip(Walk(graph).larges(), version.larges):
             node.data = self.bytes_of(large)

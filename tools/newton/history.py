@@ -37,6 +37,7 @@ class Version:
     uid: int
     time: int
     text: bytes  # of its skeleton
+    skeleton: Frame
     bank: int
     record: Record
     pages: tuple[Page, ...]
@@ -95,6 +96,7 @@ class Text(NamedTuple):
     uid: int
     time: int
     skeleton: bytes
+    graph: Frame
     named: tuple[tuple[int, int], ...]  # the object and the length of each large binary
 
 
@@ -114,7 +116,7 @@ def read_text(data: bytes) -> Optional[Text]:
     count = len(Walk(graph).larges()) if b"\x0c" in skeleton else 0
     places = data[ENTRY_HEAD.size + stream.at :][: 12 * count]
     named = [(number, length) for _, number, length in PLACE.iter_unpack(places[: len(places) // 12 * 12])]
-    return Text(sig, uid, time, skeleton, tuple(named)) if len(named) == count else None
+    return Text(sig, uid, time, skeleton, graph, tuple(named)) if len(named) == count else None
 
 
 class State:
@@ -215,7 +217,7 @@ class History:
             larges = tuple(self.large(*it) for it in text.named)
             for large in larges:
                 self.owners.setdefault(large.object, set()).add(number)
-            yield Version(*text[:4], bank.number, record, parts, larges)
+            yield Version(*text[:5], bank.number, record, parts, larges)
 
     def note_directory(self, bank: Bank, record: Record) -> None:
         parts = self.state.parts(0)

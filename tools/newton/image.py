@@ -30,6 +30,7 @@ SKELETON = b"\x02\x06"  # the first bytes of the text of a frame
 LIKE_RECORD = re.compile(rb".\x00(?!\x00{3})....(?!\x00{4})..", re.DOTALL)
 LIKE_PAGE = re.compile(rb"(?!\x00{16})\x00\x00..\x00...\x00\x00[\x00-\x0f].\x00[\x00-\x0f]..", re.DOTALL)
 USED = re.compile(rb"[^\xff]")
+BLANK_RUN = re.compile(rb"\xff{64,}")
 
 
 class Kind(Enum):
@@ -78,10 +79,6 @@ class Bank:
     records: list[Record] = field(default_factory=list)
     damage: list[tuple[int, int]] = field(default_factory=list)  # stretches in which nothing is found
     journal_end: int = 0
-
-    def is_whole(self) -> bool:
-        is_read = self.version is not None and not self.damage
-        return is_read and all(it.is_whole() and it.kind is not Kind.PAST for it in self.records)
 
 
 @dataclass
@@ -228,6 +225,16 @@ def records_of(image: bytes, start: int, end: int) -> Iterator[Record]:
         at = record.end
 
 
+def used_parts(image: bytes, begin: int, end: int) -> Iterator[tuple[int, int]]:
+    """The parts of a stretch between what is blank in it."""
+    for blank in BLANK_RUN.finditer(image, begin, end):
+        if blank.start() > begin:
+            yield begin, blank.start()
+        begin = blank.end()
+    if USED.search(image, begin, end):
+        yield begin, end
+
+
 def read_bank(image: bytes, number: int, start: int, end: int) -> Bank:
     bank = Bank(number, start, end, VERSIONS.get(image[start : start + HEADER]))
     bank.records = list(records_of(image, start + HEADER, end))
@@ -235,7 +242,7 @@ def read_bank(image: bytes, number: int, start: int, end: int) -> Bank:
     bank.journal_end = at
     for record in bank.records:
         if record.place > at:
-            bank.damage.append((at, record.place))
+            bank.damage += used_parts(image, at, record.place)
         is_journal &= record.place == at and record.kind is Kind.JOURNAL and image[record.place] == 0
         if is_journal:
             bank.journal_end = record.end
@@ -246,8 +253,8 @@ def read_bank(image: bytes, number: int, start: int, end: int) -> Bank:
     if is_last_open and bank.records[-1].place == bank.journal_end:
         bank.records[-1].kind = Kind.OPEN
     is_fresh = not bank.records and not any(image[start:end])
-    if USED.search(image, at, end) and not is_fresh:
-        bank.damage.append((at, end))
+    if not is_fresh:
+        bank.damage += used_parts(image, at, end)
     return bank
 
 

@@ -9,6 +9,7 @@ from random import Random
 
 TOP = Path(__file__).resolve().parents[2]
 TOOLS = TOP / "tools"
+sys.path.insert(0, str(TOOLS))
 PROGRAM = Path(os.environ.get("NEWTON", TOP / "crates/newton/out/newton")).resolve()
 BLOCK = 4096
 SOUP = re.compile(r'("(?:[^"\\]|\\.)*"|[^\s"]+) (\d+) (\d+)')

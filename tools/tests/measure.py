@@ -15,16 +15,14 @@ from typing import NamedTuple
 
 from cards import BLOCK, made_card
 
-sys.path.insert(0, str(Path(__file__).resolve().parents[1]))
+from newton.found import Found, find
+from newton.history import Version
+from newton.image import read_image
 
-from newton.found import Found, find  # noqa: E402
-from newton.history import Version  # noqa: E402
-from newton.image import read_image  # noqa: E402
-
-from damage import hostile_image, struck_anywhere  # noqa: E402
-from images import payloads, store_of_image  # noqa: E402
-from stores import Store  # noqa: E402
-from streams import encode_flat  # noqa: E402
+from damage import hostile_image, struck_anywhere
+from images import payloads, store_of_image
+from stores import Store
+from streams import encode_flat
 
 CARDS = 6
 
