@@ -35,23 +35,23 @@ def start_of_bank(image: bytes) -> int:
     return BLOCK * (3 + chosen * ((len(image) // BLOCK - 3) // 2))
 
 
-def gates(image: bytes, start: int) -> list[tuple[int, bytes]]:
+def gates(image: bytes, start: int) -> list[tuple[int, memoryview]]:
     """Each gate of 0, with what of its bank stands behind it."""
-    end, found = start + (len(image) // BLOCK - 3) // 2 * BLOCK, []
+    end, found, whole = start + (len(image) // BLOCK - 3) // 2 * BLOCK, [], memoryview(image)
     at = start + len(HEADER)
     while at < end and image[at] == 0:
-        found.append((at, image[at + 1 : end]))
+        found.append((at, whole[at + 1 : end]))
         at += 5 + int.from_bytes(image[at + 1 : min(at + 5, end)], "big")
     return found
 
 
-def is_long(behind: bytes) -> bool:
+def is_long(behind: memoryview) -> bool:
     return len(behind) < 4 or len(behind) - 4 < int.from_bytes(behind[:4], "big")
 
 
-def change(behind: bytes) -> tuple[dict, list]:
+def change(behind: memoryview) -> tuple[dict, list]:
     """What a record puts and what it deletes; NoStore where the payload has not its form."""
-    payload = Record(behind[4 : 4 + int.from_bytes(behind[:4], "big")])
+    payload = Record(bytes(behind[4 : 4 + int.from_bytes(behind[:4], "big")]))
     puts, deletes = payload.number(2), payload.number(2)
     payload.wants(payload.left() == 516 * puts + 4 * deletes)
     put = [(payload.number(4, 65_535), payload.take(512)) for _ in range(puts)]

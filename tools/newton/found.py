@@ -21,7 +21,7 @@ class Fate(Enum):
     LOST = "lost, and this is the newest that can be read"
     EARLIER = "earlier"
     REMOVED = "removed"
-    OPEN = "never finished"
+    OPEN = "unfinished"
 
 
 class Facts(NamedTuple):
@@ -100,9 +100,8 @@ class Found:
         return self.fates[id(version)]
 
     def directory(self) -> Optional[Directory]:
-        """The newest directory, a whole one where there is one that no later one has more soups than."""
-        finished = [it for it in self.history.directories if it.record.kind is not Kind.OPEN]
-        return finished[-1] if finished else None
+        """The newest directory."""
+        return next((it for it in reversed(self.history.directories) if it.record.kind is not Kind.OPEN), None)
 
     def newest(self) -> list[Version]:
         """The version of each entry that is live, or the newest that can be read of one that is lost."""

@@ -237,9 +237,11 @@ def used_parts(image: bytes, begin: int, end: int) -> Iterator[tuple[int, int]]:
 
 def read_bank(image: bytes, number: int, start: int, end: int) -> Bank:
     bank = Bank(number, start, end, VERSIONS.get(image[start : start + HEADER]))
-    bank.records = list(records_of(image, start + HEADER, end))
     at, is_journal = start + HEADER, bank.version is not None
     bank.journal_end = at
+    if image.count(0, start, end) == end - start:
+        return bank  # of a fresh file
+    bank.records = list(records_of(image, at, end))
     for record in bank.records:
         if record.place > at:
             bank.damage += used_parts(image, at, record.place)
@@ -252,9 +254,7 @@ def read_bank(image: bytes, number: int, start: int, end: int) -> Bank:
     is_last_open = bank.records and bank.records[-1].kind is Kind.PAST and image[bank.records[-1].place] == 255
     if is_last_open and bank.records[-1].place == bank.journal_end:
         bank.records[-1].kind = Kind.OPEN
-    is_fresh = not bank.records and not any(image[start:end])
-    if not is_fresh:
-        bank.damage += used_parts(image, at, end)
+    bank.damage += used_parts(image, at, end)
     return bank
 
 

@@ -14,7 +14,8 @@ const FORMS = {
 };
 
 function unescaped(text) {
-  return text.replace(/\\u([0-9A-F]{4})|\\(.)/g, (_, code, plain) => code ? String.fromCharCode(parseInt(code, 16)) : plain);
+  const of = (_, code, plain) => (code ? String.fromCharCode(parseInt(code, 16)) : plain);
+  return text.replace(/\\u([0-9A-F]{4})|\\(.)/g, of);
 }
 
 function nameOf(text) {
@@ -69,7 +70,8 @@ class LiteralReader {
   }
 
   binary(match) {
-    const node = { kind: "binary", class: nameOf(match[2]), bytes: match[3], size: Number(match[4] || match[3].length / 2) };
+    const size = Number(match[4] || match[3].length / 2);
+    const node = { kind: "binary", class: nameOf(match[2]), bytes: match[3], size };
     if (match[1] === "<<") node.large = this.larges++;
     return node;
   }
@@ -96,7 +98,8 @@ function readLiteral(text) {
 function shownArray(node) {
   const values = node.slots.map(([, value]) => value);
   const is = values.length <= 6 && values.every((it) => it.kind === "plain" || it.kind === "string");
-  return `[${node.class ? node.class + ": " : ""}${is ? values.map(shownShortly).join(", ") : values.length + " slots"}]`;
+  const shown = is ? values.map(shownShortly).join(", ") : `${values.length} slots`;
+  return `[${node.class ? node.class + ": " : ""}${shown}]`;
 }
 
 // The value of a slot as a cell shows it.

@@ -130,7 +130,9 @@ class CardMap {
     this.fills = STATES.map((it) => fillOf(this.pen, it));
     for (const bank of this.card.banks) this.drawBank(bank);
     this.pen.strokeStyle = color("line");
-    for (let block = 0; block < this.blocks(); block++) this.pen.strokeRect(...this.corner(block), this.wide, this.high);
+    for (let block = 0; block < this.blocks(); block++) {
+      this.pen.strokeRect(...this.corner(block), this.wide, this.high);
+    }
     this.drawVotes();
     this.drawMarks();
     this.outline(this.block, color("mark"), 2);

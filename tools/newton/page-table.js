@@ -31,8 +31,10 @@ class Table {
     this.current = 0;
     this.layout = columns.map((it) => `minmax(${it.rems}rem, ${it.rems}fr)`).join(" ");
     this.head.style.gridTemplateColumns = this.layout;
-    for (const it of [this.head, this.body]) it.style.minWidth = `${columns.reduce((sum, one) => sum + one.rems, 0)}rem`;
-    this.head.replaceChildren(...columns.map((it) => element("span", { role: "columnheader", class: it.class }, it.name)));
+    const rems = columns.reduce((sum, it) => sum + it.rems, 0);
+    for (const it of [this.head, this.body]) it.style.minWidth = `${rems}rem`;
+    const head = (it) => element("span", { role: "columnheader", class: it.class }, it.name);
+    this.head.replaceChildren(...columns.map(head));
     this.grid.setAttribute("aria-rowcount", rows.length + 1);
     this.grid.setAttribute("aria-colcount", columns.length);
     this.body.style.height = `${Math.min(rows.length * ROW_HEIGHT, MOST_HEIGHT)}px`;
@@ -60,8 +62,9 @@ class Table {
   }
 
   make(at) {
-    const cells = this.columns.map((it) => element("span", { role: "gridcell", class: it.class }, it.text(this.rows[at])));
-    const row = element("div", { role: "row", class: "row", id: `row-${at}`, "aria-rowindex": at + 2, "data-at": at }, ...cells);
+    const cell = (it) => element("span", { role: "gridcell", class: it.class }, it.text(this.rows[at]));
+    const named = { role: "row", class: "row", id: `row-${at}`, "aria-rowindex": at + 2, "data-at": at };
+    const row = element("div", named, ...this.columns.map(cell));
     row.style.top = `${at * ROW_HEIGHT}px`;
     row.style.gridTemplateColumns = this.layout;
     this.made.set(at, row);
@@ -80,7 +83,8 @@ class Table {
 
   key(event) {
     const page = Math.max(1, Math.floor(this.grid.clientHeight / ROW_HEIGHT) - 2);
-    const steps = { ArrowDown: 1, ArrowUp: -1, PageDown: page, PageUp: -page, Home: -Infinity, End: Infinity, Enter: 0, " ": 0 };
+    const far = { PageDown: page, PageUp: -page, Home: -Infinity, End: Infinity };
+    const steps = { ArrowDown: 1, ArrowUp: -1, Enter: 0, " ": 0, ...far };
     if (!(event.key in steps) || event.ctrlKey || event.altKey || event.metaKey) return;
     event.preventDefault();
     this.go(this.current + steps[event.key], steps[event.key] === 0);

@@ -2,6 +2,7 @@
 
 const DATA = JSON.parse(document.getElementById("data").textContent);
 const ROW = { card: 0, uid: 1, time: 2, fate: 3, size: 4, place: 5, kind: 6, literal: 7, larges: 8 };
+const MOST_OPEN = 12;
 const NEWTON_EPOCH = Date.UTC(1904, 0, 1);
 
 function element(name, attributes = {}, ...parts) {
@@ -13,6 +14,14 @@ function element(name, attributes = {}, ...parts) {
 
 function byId(id) {
   return document.getElementById(id);
+}
+
+function span(kind, ...parts) {
+  return element("span", { class: kind }, ...parts);
+}
+
+function listOf(items) {
+  return element("ul", {}, ...items.map((it) => element("li", {}, it)));
 }
 
 function minuteText(time) {
@@ -32,24 +41,30 @@ function rowName(row) {
 
 function factsTable(facts) {
   const table = element("table", { class: "facts" });
-  for (const [name, value] of facts) table.append(element("tr", {}, element("th", { scope: "row" }, name), element("td", {}, value)));
+  for (const [name, value] of facts) {
+    table.append(element("tr", {}, element("th", { scope: "row" }, name), element("td", {}, value)));
+  }
   return table;
 }
 
 // Trees.
 
-function treeOf(node, tag, row) {
+// The root is open, and so is what is short in it.
+function treeOf(node, tag, row, depth = 0) {
   const label = node.label ? `#${node.label}= ` : "";
-  const named = [element("span", { class: "tag" }, tag === null ? "" : `${tag}: `), label];
+  const named = [span("tag", tag === null ? "" : `${tag}: `), label];
   if (node.kind === "frame" || node.kind === "array") {
     const said = node.kind === "frame" ? "frame" : `array${node.class ? " " + node.class : ""}`;
-    const summary = element("summary", {}, ...named, element("span", { class: "kind" }, `${said}, ${counted(node.slots.length, "slot")}`));
-    const details = element("details", tag === null ? { open: "" } : {}, summary);
+    const kind = span("kind", `${said}, ${counted(node.slots.length, "slot")}`);
+    const summary = element("summary", {}, ...named, kind);
+    const isOpen = row !== null && (depth === 0 || (depth === 1 && node.slots.length <= MOST_OPEN));
+    const details = element("details", isOpen ? { open: "" } : {}, summary);
     const fill = () => {
-      if (details.childElementCount === 1) details.append(...node.slots.map(([name, value]) => treeOf(value, name, row)));
+      if (details.childElementCount > 1) return;
+      details.append(...node.slots.map(([name, value]) => treeOf(value, name, row, depth + 1)));
     };
     details.addEventListener("toggle", fill);
-    if (tag === null) fill();
+    if (isOpen) fill();
     return details;
   }
   return element("p", {}, ...named, ...leaf(node, row));
@@ -57,13 +72,15 @@ function treeOf(node, tag, row) {
 
 function leaf(node, row) {
   if (node.kind === "string") return [`\u201C${node.text}\u201D`];
-  if (node.kind === "again") return [element("span", { class: "kind" }, `the same as #${node.of}`)];
+  if (node.kind === "again") return [span("kind", `the same as #${node.of}`)];
   if (node.kind !== "binary") return [node.text];
-  const told = element("span", { class: "kind" }, `${node.large === undefined ? "" : "large "}binary ${node.class}, ${counted(node.size, "byte")} `);
-  const [picture, missing] = row === null || node.large === undefined ? [-1, 0] : DATA.rows[row][ROW.larges][node.large];
+  const isLarge = node.large !== undefined && row !== null;
+  const told = span("kind", `${isLarge ? "large " : ""}binary ${node.class}, ${counted(node.size, "byte")} `);
+  const [picture, missing] = isLarge ? DATA.rows[row][ROW.larges][node.large] : [-1, 0];
   const parts = [told, element("code", {}, node.bytes + (node.bytes.length / 2 < node.size ? "\u2026" : ""))];
-  if (missing) parts.push(element("span", { class: "warning" }, ` ${counted(missing, "page")} are gone and shown as zeros`));
-  if (picture >= 0) parts.push(element("img", { src: DATA.pictures[picture], alt: `the picture that these bytes are` }));
+  if (missing) parts.push(span("warning", ` ${counted(missing, "page")} of it are gone, and are zeros here`));
+  const shown = { src: DATA.pictures[picture], alt: "the picture that these bytes are" };
+  if (picture >= 0) parts.push(element("img", shown));
   return parts;
 }
 
@@ -96,9 +113,12 @@ function openEntry(row) {
 function versionLinks(row) {
   const view = viewOfRow.get(row), own = DATA.rows[row], name = rowName(row);
   const all = new Set(view.orders.flatMap((order) => order.rows));
-  const is = (it) => it !== row && DATA.rows[it][ROW.card] === own[ROW.card] && DATA.rows[it][ROW.uid] === own[ROW.uid];
-  const links = [...all].filter((it) => is(it) && rowName(it) === name).map((it) => rowLink(it, `${DATA.rows[it][ROW.fate]}, minute ${DATA.rows[it][ROW.time]}, byte ${DATA.rows[it][ROW.place]}`));
-  return links.length ? element("div", {}, element("h3", {}, "Other versions"), element("ul", {}, ...links.map((it) => element("li", {}, it)))) : "";
+  const isOther = (it) => it !== row && DATA.rows[it][ROW.card] === own[ROW.card] && rowName(it) === name;
+  const links = [...all].filter(isOther).map((it) => {
+    const told = DATA.rows[it];
+    return rowLink(it, `${told[ROW.fate]}, minute ${told[ROW.time]}, byte ${told[ROW.place]}`);
+  });
+  return links.length ? element("div", {}, element("h3", {}, "Other versions"), listOf(links)) : "";
 }
 
 function rowLink(row, text) {
@@ -126,25 +146,31 @@ function cell(row, column) {
 
 function columnsOf(view, rows) {
   const columns = [{ name: "id", rems: 4, class: "number", text: (row) => String(DATA.rows[row][ROW.uid]) }];
-  if (DATA.cards.length > 1) columns.push({ name: "card", rems: 7, text: (row) => DATA.cards[DATA.rows[row][ROW.card]].file });
+  const cardName = (row) => DATA.cards[DATA.rows[row][ROW.card]].file;
+  if (DATA.cards.length > 1) columns.push({ name: "card", rems: 7, text: cardName });
   columns.push(...view.columns.map((name) => ({ name, rems: 10, text: (row) => cell(row, name) })));
   columns.push({ name: "minute", rems: 7, class: "number", text: (row) => String(DATA.rows[row][ROW.time]) });
   columns.push({ name: "bytes", rems: 5, class: "number", text: (row) => String(DATA.rows[row][ROW.size]) });
   if (rows.some((row) => DATA.rows[row][ROW.fate] !== "live" || DATA.rows[row][ROW.kind] !== "in the journal")) {
-    columns.push({ name: "found", rems: 16, text: (row) => `${DATA.rows[row][ROW.fate]}; ${DATA.rows[row][ROW.kind]}` });
+    const told = (row) => `${DATA.rows[row][ROW.fate]}; ${DATA.rows[row][ROW.kind]}`;
+    columns.push({ name: "found", rems: 16, text: told });
   }
   return columns;
 }
 
 function soupFacts(view) {
   return view.soups.map((soup) => {
-    const facts = [["card", soup.card], ["entries", `${counted(soup.count, "entry").replace("entrys", "entries")}, next id ${soup.next}`]];
+    const facts = [["card", soup.card]];
+    facts.push(["entries", `${soup.count.toLocaleString("en")}, next id ${soup.next}`]);
     facts.push(["indexes", soup.indexes.join("; ") || "none"]);
     if (soup.tags) {
-      const chips = soup.tags.symbols.map(([name, count]) => element("span", { class: "chip" }, `${name} ${count}`));
+      const chips = soup.tags.symbols.map(([name, count]) => span("chip", `${name} ${count}`));
       facts.push(["tags", element("span", {}, `at ${soup.tags.path}: `, ...chips)]);
     }
-    if (soup.info) facts.push(["info", element("div", { class: "info" }, treeOf(readLiteral(soup.info), "info", null))]);
+    if (soup.info) {
+      const tree = treeOf(readLiteral(soup.info), "frame", null);
+      facts.push(["info", element("div", { class: "info" }, tree)]);
+    }
     return factsTable(facts);
   });
 }
@@ -156,7 +182,8 @@ function showView(view) {
   const union = view.soups.length > 1 ? ` on ${view.soups.length} cards` : "";
   byId("soup-name").textContent = view.name + union;
   byId("soup-facts").replaceChildren(...soupFacts(view));
-  byId("order").replaceChildren(...view.orders.map((order, at) => element("option", { value: at }, `${order.label} (${order.rows.length})`)));
+  const option = (order, at) => element("option", { value: at }, `${order.label} (${order.rows.length})`);
+  byId("order").replaceChildren(...view.orders.map(option));
   showRows();
 }
 
@@ -173,16 +200,21 @@ const map = new CardMap(byId("map"), tellBlock);
 
 function tellBlock(block) {
   const begin = block * map.card.block, end = begin + map.card.block;
-  const pages = map.card.banks.flatMap((bank) => bank.pages).filter(([place]) => place + PAGE_BYTES > begin && place < end);
-  const items = pages.map((page) => element("li", {}, page[2] >= 0 ? rowLink(page[2], sayPage(page)) : sayPage(page)));
+  const all = map.card.banks.flatMap((bank) => bank.pages);
+  const pages = all.filter(([place]) => place + PAGE_BYTES > begin && place < end);
+  const items = pages.map((page) => (page[2] >= 0 ? rowLink(page[2], sayPage(page)) : sayPage(page)));
   const { card } = map;
-  const said = block < 3 ? `${sayByte(card, begin)}: ${card.votes[block] ?? "none"}. ` : pages.length ? "" : `${sayByte(card, begin)}. `;
-  const bad = card.place >= begin && card.place < end ? element("span", { class: "warning" }, `check names byte ${card.place} here: ${card.check}`) : "";
-  byId("block").replaceChildren(element("strong", {}, `Block ${block}, bytes ${begin} to ${end - 1}. `), said, bad, element("ul", {}, ...items));
+  const head = element("strong", {}, `Block ${block}, bytes ${begin} to ${end - 1}. `);
+  const said = pages.length ? "" : `${sayByte(card, begin)}${block < 3 ? `: ${card.votes[block] ?? "none"}` : ""}. `;
+  const isBad = card.place >= begin && card.place < end;
+  const bad = isBad ? span("warning", `check names byte ${card.place} here: ${card.check}`) : "";
+  byId("block").replaceChildren(head, said, bad, listOf(items));
 }
 
 function bankFacts(bank) {
-  const told = `Bank ${bank.number}${bank.newer ? ", the newer one" : ""}, from byte ${bank.start}: ${bank.version ? "version " + bank.version : "no header"}, ` +
+  const header = bank.version ? `version ${bank.version}` : "no header";
+  const told =
+    `Bank ${bank.number}${bank.newer ? ", the newer one" : ""}, from byte ${bank.start}: ${header}, ` +
     `${counted(bank.records.length, "record")}; the journal ends at byte ${bank.journal}.`;
   const sizes = STATES.map((state, at) => `${state} ${bank.sizes[at].toLocaleString("en")}`).join(", ");
   return element("div", {}, element("p", {}, told), fullnessBar(bank.sizes), element("p", {}, `${sizes} bytes`));
@@ -195,12 +227,13 @@ function showCard(number, rows = []) {
   byId("card").hidden = false;
   byId("card-name").textContent = card.file;
   const fates = Object.entries(card.fates).filter(([, count]) => count).map(([fate, count]) => `${count} ${fate}`);
-  const check = card.check.startsWith("ok clean") ? card.check : element("span", { class: "warning" }, card.check);
+  const check = card.check.startsWith("ok clean") ? card.check : span("warning", card.check);
+  const votes = card.votes.map((it) => (it < 2 ? it : "none")).join(", ");
   byId("card-facts").replaceChildren(factsTable([
     ["store", card.store === null ? "no directory is found" : `${card.store}, signature ${card.signature}`],
     ["size", `${counted(card.blocks, "block")}, ${counted(card.bytes, "byte")}`],
     ["check", check],
-    ["votes", `${card.votes.map((it) => (it < 2 ? it : "none")).join(", ")}; they choose ${card.chosen === null ? "no bank" : "bank " + card.chosen}`],
+    ["votes", `${votes}; they choose ${card.chosen === null ? "no bank" : `bank ${card.chosen}`}`],
     ["entries", fates.join("; ") || "none is found"],
   ]));
   byId("fullness").replaceChildren(element("div", { class: "bars" }, ...card.banks.map(bankFacts)));
@@ -216,7 +249,7 @@ let passing = null;
 const buttons = [];
 
 function navigate(list, name, count, shown, is) {
-  const told = element("span", { class: "count" });
+  const told = span("count");
   const button = element("button", { type: "button" }, element("span", {}, name), told);
   button.addEventListener("click", shown);
   byId(list).append(element("li", {}, button));
@@ -240,13 +273,17 @@ function search() {
   passing = asked(byId("words").value, byId("how").value);
   const hits = passing ? DATA.views.reduce((sum, view) => sum + view.orders[0].rows.filter(passing).length, 0) : 0;
   byId("status").textContent = passing ? `${hits} found in all soups` : "";
-  if (passing && !shownView && DATA.views.length) showView(DATA.views.find((view) => view.orders[0].rows.some(passing)) ?? DATA.views[0]);
-  else if (shownView) showRows();
+  if (shownView) showRows();
+  else if (passing && DATA.views.length) {
+    showView(DATA.views.find((view) => view.orders[0].rows.some(passing)) ?? DATA.views[0]);
+  }
   mark();
 }
 
 function begin() {
-  for (const view of DATA.views) navigate("soups", view.name, () => found(view), () => showView(view), () => view === shownView);
+  for (const view of DATA.views) {
+    navigate("soups", view.name, () => found(view), () => showView(view), () => view === shownView);
+  }
   DATA.cards.forEach((card, at) => {
     const said = () => (card.check.startsWith("ok clean") ? "clean" : "damaged");
     navigate("cards", card.file, said, () => showCard(at), () => shownView === null && map.card === card);
@@ -262,7 +299,7 @@ function begin() {
   else showCard(0);
 }
 
-// `#card=0`, `#soup=Notes`, `#order=1`, `#find=milk`, `#row=3` and `#how=entire`, with `&` between, open the page at a place.
+// `#card=0`, `#soup=Notes`, `#order=1`, `#find=milk`, `#how=entire` and `#row=3`, with `&` between, open it at a place.
 function go(hash) {
   const asked = new URLSearchParams(hash);
   if (asked.has("card")) showCard(Number(asked.get("card")) || 0);

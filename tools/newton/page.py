@@ -2,6 +2,7 @@
 
 import argparse
 import base64
+import gc
 import hashlib
 import html
 import json
@@ -24,6 +25,7 @@ SHOWN = 32  # so many bytes of a large binary are shown
 MOST_PICTURE, MOST_PICTURES = 2_000_000, 8_000_000
 PICTURES = {b"\x89PNG\r\n\x1a\n": "png", b"\xff\xd8\xff": "jpeg"}
 MOST_CARDS = 8
+MOST_FOLDED = 0x1F000  # no character from here on has a case
 
 
 class Progress:
@@ -70,9 +72,8 @@ def cut(binary: Binary) -> str:
 
 def row(number: int, found: Found, version: Version, graph: Frame, pictures: Pictures) -> list:
     """A version as the page has it: card, id, minute, fate, bytes, place, literal, and what its large binaries are."""
-    larges = [
-        [pictures.of(node.data), at.missing()] for node, at in zip(Walk(graph).larges() if version.larges else [], version.larges)
-    ]
+    nodes = Walk(graph).larges() if version.larges else []
+    larges = [[pictures.of(node.data), at.missing()] for node, at in zip(nodes, version.larges)]
     place = version.pages[0].place
     told = [number, version.uid, version.time, found.fate(version).value, size_of(version), place]
     return [*told, version.record.kind.value, print_literal(graph, cut), larges]
@@ -90,8 +91,8 @@ def read_card(name: str, data: bytes, progress: Progress) -> Card:
 
 def folds() -> dict[str, str]:
     """What each character folds to, where that is not the character itself."""
-    pairs = ((chr(code), chr(code).casefold()) for code in range(0x110000) if not 0xD800 <= code < 0xE000)
-    return {one: folded for one, folded in pairs if one != folded}
+    folded = ((one, one.casefold()) for one in map(chr, range(MOST_FOLDED)))
+    return {one: other for one, other in folded if one != other}
 
 
 def data_of(cards: list[Card], progress: Progress) -> dict:
@@ -135,6 +136,7 @@ def main(words: list) -> int:
     options = parser.parse_args(words)
     if len(options.cards) > MOST_CARDS:
         parser.error("a page shows at most eight cards")
+    gc.disable()  # what is made is kept until the end
     progress = Progress(len(options.cards))
     try:
         cards = [read_card(it, Path(it).read_bytes(), progress) for it in options.cards]

@@ -1,6 +1,8 @@
 """Finds what is left on a card, whatever its damage, and writes the script that puts it on a fresh one."""
 
 import argparse
+import gc
+import signal
 import sys
 from pathlib import Path
 
@@ -49,16 +51,18 @@ def listed(found, choice: Choice) -> list:
     return [f"{names[it.sig]} {it.uid}, minute {it.time}: {told_fate(found, it)}" for it in kept]
 
 
-def written(found, choice: Choice, name: str) -> str:
-    """The script, with what it is told before it."""
+def written(found, choice: Choice, told: list) -> list:
+    """The lines of the script, with what is told of the card before it."""
     blocks = blocks_for(found, choice)
-    lines = [f"% {it}" for it in heading(found, name)]
+    lines = [f"% {it}" for it in told]
     lines.append(f"% a fresh card of {blocks} blocks has room: head -c {blocks * BLOCK} /dev/zero > fresh")
-    return "".join(f"{it}\n" for it in [*lines, *script(found, choice)])
+    return [*lines, *script(found, choice)]
 
 
 def main(words: list) -> int:
     options = read_words(words)
+    gc.disable()  # what is made is kept until the end
+    signal.signal(signal.SIGPIPE, signal.SIG_DFL)
     try:
         data = Path(options.image).read_bytes()
     except OSError as fault:
@@ -66,14 +70,14 @@ def main(words: list) -> int:
         return 2
     found = find(read_image(data, options.blocks), options.bank)
     choice = Choice(options.unit, options.soup, options.all, not options.no_format)
-    for line in heading(found, options.image):
-        print(f"salvage: {line}", file=sys.stderr)
+    told = list(heading(found, options.image))
+    print(f"salvage: {told[-1]}", file=sys.stderr)
     if options.backup:
         sys.stdout.buffer.write(encode(backup(store_of(found))))
     elif options.list:
-        print("\n".join(listed(found, choice)))
+        print("\n".join([*told, *listed(found, choice)]))
     else:
-        text = written(found, choice, options.image)
+        text = "".join(f"{it}\n" for it in written(found, choice, told))
         if len(text) > MOST_SCRIPT:
             print("salvage: the script is too long for one run: take --soup, or --backup", file=sys.stderr)
         sys.stdout.write(text)

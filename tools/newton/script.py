@@ -196,8 +196,8 @@ def counted(found: Found) -> str:
     fates = Counter(found.fate(it) for it in found.all())
     words = {Fate.LIVE: "live", Fate.LOST: "lost", Fate.EARLIER: "earlier", Fate.REMOVED: "removed"}
     told = [f"{fates[fate]} {word}" for fate, word in words.items()]
-    told.append(f"{fates[Fate.OPEN]} never finished")
-    told.append(f"{len(found.unread())} that can't be read")
+    told.append(f"{fates[Fate.OPEN]} unfinished")
+    told.append(f"{len(found.unread())} unreadable")
     return ", ".join(told)
 
 

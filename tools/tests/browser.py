@@ -18,7 +18,8 @@ class Opened(NamedTuple):
 
     def rows(self) -> list[str]:
         """The first cell of each row of the table, from the top."""
-        rows = re.findall(r'<div role="row" class="row".*?data-at="(\d+)".*?<span role="gridcell"[^>]*>([^<]*)', self.dom)
+        form = r'<div role="row" class="row".*?data-at="(\d+)".*?<span role="gridcell"[^>]*>([^<]*)'
+        rows = re.findall(form, self.dom)
         return [html.unescape(text) for _, text in sorted(rows, key=lambda it: int(it[0]))]
 
     def text(self, identity: str) -> str:

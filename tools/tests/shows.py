@@ -17,8 +17,15 @@ WORDS = "bread milk salt street mill maker town river stone paper lamp door boat
 PEOPLE = "Ann Bea Carl Dora Emil Fay Gus Hana Ida Jon Kim Lars Mia Ned Olga Paul Quin Rosa Sam Tove".split()
 TOWNS = "Kent Ely Bath Ghent Łódź Zürich Malmö Vaduz".split()
 HOSTILE = [
-    "<script>document.title='run'</script>", "</script><script>document.title='run'</script>", "<img src=x onerror=alert(1)>",
-    "<!--<script>", "@@DATA@@", "&lt;b&gt;", "javascript:alert(1)", "'\"`${document.title='run'}", "\\u2028\\u2029\\u202E abc",
+    "<script>document.title='run'</script>",
+    "</script><script>document.title='run'</script>",
+    "<img src=x onerror=alert(1)>",
+    "<!--<script>",
+    "@@DATA@@",
+    "&lt;b&gt;",
+    "javascript:alert(1)",
+    "'\"`${document.title='run'}",
+    "\\u2028\\u2029\\u202E abc",
 ]
 
 
@@ -44,8 +51,8 @@ def address_lines(random: Random, count: int, name: str, signature: int) -> list
         first, last = random.choice(PEOPLE), random.choice(WORDS).capitalize() + random.choice(("son", "er", "man", ""))
         label = random.choice(("'business", "'personal", "['family, 'personal]"))
         lines.append(f"time {52_560_000 + 700 * at}")
-        lines.append(f'add 0 Names {{first: "{first}", last: "{last}", town: "{random.choice(TOWNS)}", labels: {label}, '
-                     f'born: {1920 + random.randrange(70)}}}')
+        slots = f'first: "{first}", last: "{last}", town: "{random.choice(TOWNS)}", labels: {label}'
+        lines.append(f"add 0 Names {{{slots}, born: {1920 + random.randrange(70)}}}")
         if at % 4 == 0:
             text = " ".join(random.choices(WORDS, k=random.randrange(5, 60)))
             lines.append(f'add 0 Notes {{title: "{random.choice(WORDS).capitalize()} {at}", text: "{text}"}}')
@@ -86,8 +93,10 @@ def hostile_card(folder: Path, name: str) -> Path:
     for text in HOSTILE:
         quoted = text.replace('"', '\\"').replace("'\\\"", "'\\\"")
         bars = text.replace("\\", "\\\\").replace("|", "\\|")
-        lines.append(f'add 0 Texts {{of: "{quoted}", |{bars}|: \'|{bars}|, t: \'__proto__, __proto__: 1, constructor: $"}}')
-    lines.append("add 0 Texts {of: <<|<svg onload=1>|:" + b"<svg onload='document.title=1'/>".hex() + ">>, n: $|, m: $<}")
+        slots = f"of: \"{quoted}\", |{bars}|: '|{bars}|, t: '__proto__, __proto__: 1, constructor: $\""
+        lines.append(f"add 0 Texts {{{slots}}}")
+    picture = b"<svg onload='document.title=1'/>".hex()
+    lines.append(f"add 0 Texts {{of: <<|<svg onload=1>|:{picture}>>, n: $|, m: $<}}")
     assert all(it.startswith("ok") for it in run(card, "\n".join([*lines, ""])))
     return card
 

@@ -110,7 +110,7 @@ class Salvaged(unittest.TestCase):
         image = bytearray(card.read_bytes())
         image[read_image(bytes(image)).banks[0].records[-1].place] = 255
         damaged = self.damaged(card, bytes(image))
-        self.assertIn("never finished", self.salvaged(damaged, "--list"))
+        self.assertIn("unfinished; ", self.salvaged(damaged, "--list"))
         self.assertEqual(values(damaged), values(self.played(self.salvaged(damaged))))
 
     def large_card(self) -> Path:
