@@ -65,7 +65,8 @@ class CardMap {
     canvas.addEventListener("mousemove", (event) => this.point(event));
     canvas.addEventListener("click", (event) => this.point(event, true));
     canvas.addEventListener("keydown", (event) => this.key(event));
-    new ResizeObserver(() => this.card && this.measure() && this.draw()).observe(canvas.parentElement);
+    const resized = () => this.card && this.measure() && this.draw();
+    new ResizeObserver(() => requestAnimationFrame(resized)).observe(canvas.parentElement);
     matchMedia("(prefers-color-scheme: dark)").addEventListener("change", () => this.card && this.draw());
   }
 

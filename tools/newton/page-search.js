@@ -1,8 +1,10 @@
 // Search: as a query with `words` or `text` finds, with the same folding.
 
+const ASCII = /^[\0-\x7f]*$/;
 const LONE = /[\uD800-\uDBFF](?![\uDC00-\uDFFF])|(?<![\uD800-\uDBFF])[\uDC00-\uDFFF]/g;
 
 function folded(text) {
+  if (ASCII.test(text)) return text.toLowerCase();
   let told = "";
   for (const one of text.replace(LONE, "\uFFFD")) told += Object.hasOwn(DATA.folds, one) ? DATA.folds[one] : one;
   return told;

@@ -19,7 +19,7 @@ class Table {
       const row = event.target.closest(".row");
       if (row) this.go(Number(row.dataset.at), true);
     });
-    new ResizeObserver(() => this.draw()).observe(grid);
+    new ResizeObserver(() => requestAnimationFrame(() => this.draw())).observe(grid);
     addEventListener("beforeprint", () => this.draw(true));
     addEventListener("afterprint", () => this.draw());
   }

@@ -168,8 +168,7 @@ function soupFacts(view) {
       facts.push(["tags", element("span", {}, `at ${soup.tags.path}: `, ...chips)]);
     }
     if (soup.info) {
-      const tree = treeOf(readLiteral(soup.info), "frame", null);
-      facts.push(["info", element("div", { class: "info" }, tree)]);
+      facts.push(["info", element("div", { class: "info" }, treeOf(readLiteral(soup.info), null, null))]);
     }
     return factsTable(facts);
   });
