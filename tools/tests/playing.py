@@ -10,7 +10,7 @@ from typing import NamedTuple, Union
 
 TOOLS = Path(__file__).resolve().parent.parent
 TOP = TOOLS.parent
-LEAST_UNIT = 13 * 4096
+LONGEST_RUN = 600
 
 
 class Ended(NamedTuple):
@@ -30,7 +30,9 @@ class Playing(unittest.TestCase):
     def ran(self, command: list, given: Union[str, bytes]) -> Ended:
         data = given.encode() if isinstance(given, str) else given
         environment = {**os.environ, "PYTHONDONTWRITEBYTECODE": "1", "COLUMNS": "200"}
-        ran = subprocess.run(command, input=data, capture_output=True, cwd=self.folder, env=environment)
+        ran = subprocess.run(
+            command, input=data, capture_output=True, cwd=self.folder, env=environment, timeout=LONGEST_RUN
+        )
         return Ended(ran.returncode, ran.stdout.decode("utf-8", "surrogateescape"), ran.stderr.decode())
 
     def tool(self, name: str, *words: object, given: Union[str, bytes] = b"") -> Ended:

@@ -150,6 +150,14 @@ class Csv(Playing):
         self.assertEqual(table.left_out, [])
         self.assertTrue(all(is_same(one.graph, other.graph) for one, other in zip(rows, again)))
 
+    def test_cells_that_are_no_plain_text_are_literals(self) -> None:
+        rows = ('{a: "x", b: 1}', '{a: "", b: nil}', '{a: "\\\\n", b: -2}', "{a: 'x, b: \"1\"}", "{b: 3}")
+        entries = tuple(Entry(uid, 0, literal(it), 1) for uid, it in enumerate(rows))
+        table = csv_form.Table(entries, False)
+        lines = ["a,b:int", "x,1", '"\\""""",\\nil', '"\\""\\\\n""",-2', '\\\'x,"\\""1"""', ",3"]
+        self.assertEqual("".join(table.lines()).splitlines(), lines)
+        self.assertEqual(table.left_out, [])
+
     def test_random_entries_come_back_or_are_told(self) -> None:
         for seed in range(60):
             frames = random_frames(seed, 6)

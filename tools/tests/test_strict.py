@@ -6,7 +6,7 @@ import sys
 
 from playing import TOOLS, Playing
 
-SCRIPT = "format 0 Card 9\n\n% a remark\nmount 0\nadd 0 Notes {\n  soup 0 Notes\r\nadd 1 Notes {}\n"
+SCRIPT = "format 0 Card 9\n \t\r\n\t% a remark\nmount 0\nadd 0 Notes {\n  soup 0 Notes\r\nadd 1 Notes {}\n"
 
 
 class Strict(Playing):
