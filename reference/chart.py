@@ -64,9 +64,9 @@ def chart(systems: list, measures: list) -> str:
 
 
 def main(words: list) -> int:
-    systems, measures = read_table((DOCS / "PERFORMANCE.md").read_text())
+    systems, measures = read_table((DOCS / "PERFORMANCE.md").read_text(encoding="utf-8"))
     target = Path(words[0]) if words else DOCS / "performance.svg"
-    target.write_text(chart(systems, measures))
+    target.write_text(chart(systems, measures), encoding="utf-8")
     return 0
 
 

@@ -10,8 +10,6 @@ from dataclasses import dataclass, field
 from enum import Enum
 from typing import Iterator, NamedTuple, Optional
 
-from newton import REFERENCE  # noqa: F401  The modules below are found through it.
-
 from images import BLOCK, VERSIONS
 from streams import pages
 

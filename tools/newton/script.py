@@ -90,7 +90,7 @@ def write_lines(target: str, graph: Frame) -> list[str]:
         for at in range(0, len(large.data), PIECE):
             piece = large.data[at : at + PIECE]
             if any(piece) and id(large) not in paths:
-                lines.append(f"% bytes of a large binary have no path to them: salvage --backup has them")
+                lines.append("% no path leads to the bytes of a large binary: salvage --backup has them")
                 break
             if any(piece):
                 lines.append(f"vwrite {target} {paths[id(large)]} {at} {piece.hex().upper()}")
