@@ -95,6 +95,7 @@ class Found:
     entries: dict[tuple[int, int], list[Version]] = field(default_factory=dict)  # by soup and id, the newest last
     fates: dict[int, Fate] = field(default_factory=dict)  # by the identity of a version
     soups: dict[int, Soup] = field(default_factory=dict)
+    bytes_known: dict[LargeAt, bytes] = field(default_factory=dict)
 
     def fate(self, version: Version) -> Fate:
         return self.fates[id(version)]
@@ -121,7 +122,9 @@ class Found:
         return graph
 
     def bytes_of(self, large: LargeAt) -> bytes:
-        return self.history.joined(large.parts)[: large.length]
+        if large not in self.bytes_known:
+            self.bytes_known[large] = self.history.joined(large.parts)[: large.length]
+        return self.bytes_known[large]
 
     def unread(self) -> list[Page]:
         """The first pages of objects that are entries and can't be read as such, as they were left last."""
@@ -132,7 +135,7 @@ class Found:
 
 def same(found: Found, version: Version) -> tuple:
     """What tells a version from others of its entry."""
-    larges = tuple(hash(found.history.joined(it.parts)) for it in version.larges)
+    larges = tuple(hash(found.bytes_of(it)) for it in version.larges)
     return (*version.key, version.time, version.text, larges)
 
 

@@ -15,6 +15,7 @@ from streams import Reader as Stream
 
 ENTRY_HEAD = struct.Struct(">HHII")
 PLACE = struct.Struct(">III")
+ROOM = 4  # times the size of the image
 
 
 class LargeAt(NamedTuple):
@@ -58,6 +59,11 @@ class Version:
 
     def is_finished(self) -> bool:
         return self.record.kind is not Kind.OPEN
+
+
+def size_of(version: Version) -> int:
+    """The bytes of the record of an entry and of its large binaries."""
+    return ENTRY_HEAD.size + len(version.text) + sum(PLACE.size + it.length for it in version.larges)
 
 
 @dataclass
@@ -173,6 +179,9 @@ class History:
         self.owners: dict[int, set[int]] = {}
         self.texts: dict[bytes, Optional[Text]] = {}
         self.by_part: dict[tuple[int, int, int], list[Page]] = {}
+        self.larges: dict[LargeAt, LargeAt] = {}
+        # What large binaries claim to be together is bounded, since a page may claim any length.
+        self.room = ROOM * len(image.data)
         for bank in image.banks:
             for page in (page for record in bank.records for page in record.puts):
                 self.by_part.setdefault((page.object, page.length, page.part), []).append(page)
@@ -205,7 +214,14 @@ class History:
             if page is None:
                 parts[part] = next(reversed(self.by_part.get((number, length, part), [])), None)
                 borrowed += parts[part] is not None
-        return LargeAt(number, length, tuple(parts), borrowed)
+        return self.within_room(LargeAt(number, length, tuple(parts), borrowed))
+
+    def within_room(self, large: LargeAt) -> LargeAt:
+        """A large binary, or an empty one where there is no room for it; the same one where it was met before."""
+        if large not in self.larges:
+            self.room -= large.length
+            self.larges[large] = large if self.room >= 0 else LargeAt(large.object, 0, (), 0)
+        return self.larges[large]
 
     def entries_at(self, bank: Bank, record: Record, number: int) -> Iterator[Version]:
         """The entries that an object is now."""

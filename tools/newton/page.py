@@ -11,9 +11,9 @@ from pathlib import Path
 
 from newton.cardmap import card_told
 from newton.found import Found, find
-from newton.history import Version
+from newton.history import Version, size_of
 from newton.image import read_image
-from newton.views import Card, size_of, views
+from newton.views import Card, views
 
 from check import report
 from graphs import Binary, Frame, Large, Walk

@@ -7,6 +7,7 @@ import sys
 from pathlib import Path
 
 from newton.found import find, store_of
+from newton.history import size_of
 from newton.image import BLOCK, read_image
 from newton.script import MOST_SCRIPT, Choice, blocks_for, heading, script, told_fate
 
@@ -14,6 +15,7 @@ from backups import backup
 from replies import of_name
 from streams import encode
 
+TOO_LONG = "salvage: the script is longer than a run takes, and ends here: take --soup, or --backup"
 LATER = """
 The script goes to standard output, and `%` lines in it say what was found, where, and what has become of it. `time`,
 `soup`, `index`, `tags`, `info`, `addx`, `add` and `vwrite` lines put it on a fresh card:
@@ -51,12 +53,24 @@ def listed(found, choice: Choice) -> list:
     return [f"{names[it.sig]} {it.uid}, minute {it.time}: {told_fate(found, it)}" for it in kept]
 
 
-def written(found, choice: Choice, told: list) -> list:
-    """The lines of the script, with what is told of the card before it."""
-    blocks = blocks_for(found, choice)
+def written(found, choice: Choice, told: list) -> str:
+    """The script, with what is told of the card before it. It ends where it is too long for any run."""
+    blocks, length = blocks_for(found, choice), 0
     lines = [f"% {it}" for it in told]
     lines.append(f"% a fresh card of {blocks} blocks has room: head -c {blocks * BLOCK} /dev/zero > fresh")
-    return [*lines, *script(found, choice)]
+    for line in script(found, choice):
+        length += len(line) + 1
+        if length > MOST_SCRIPT:
+            print(TOO_LONG, file=sys.stderr)
+            lines.append(f"% {TOO_LONG}")
+            break
+        lines.append(line)
+    return "".join(f"{it}\n" for it in lines)
+
+
+def has_backup(found) -> bool:
+    """Whether the backup is no longer than an input may be."""
+    return sum(size_of(it) for it in found.newest()) <= MOST_SCRIPT
 
 
 def main(words: list) -> int:
@@ -72,13 +86,13 @@ def main(words: list) -> int:
     choice = Choice(options.unit, options.soup, options.all, not options.no_format)
     told = list(heading(found, options.image))
     print(f"salvage: {told[-1]}", file=sys.stderr)
+    if options.backup and not has_backup(found):
+        print("salvage: the backup is longer than an input may be", file=sys.stderr)
+        return 1
     if options.backup:
         sys.stdout.buffer.write(encode(backup(store_of(found))))
     elif options.list:
         print("\n".join([*told, *listed(found, choice)]))
     else:
-        text = "".join(f"{it}\n" for it in written(found, choice, told))
-        if len(text) > MOST_SCRIPT:
-            print("salvage: the script is too long for one run: take --soup, or --backup", file=sys.stderr)
-        sys.stdout.write(text)
+        sys.stdout.write(written(found, choice, told))
     return 0 if found.all() else 1

@@ -15,7 +15,7 @@ from replies import of_name, of_path
 from stores import MOST_SIGNATURE, Part, Soup, capacity
 from streams import encode, pages
 
-MOST_LINE, MOST_SCRIPT = 140_000, 16_777_216
+MOST_LINE, MOST_SCRIPT = 140_000, 16_777_216  # of a run
 PIECE = 60_000
 MOST_PATH = 8
 MOST_NAME = 39

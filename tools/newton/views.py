@@ -5,7 +5,7 @@ from dataclasses import dataclass, field
 from typing import Iterator, NamedTuple, Optional
 
 from newton.found import Fate, Found
-from newton.history import Version
+from newton.history import Version, size_of
 from newton.script import part_text
 
 from graphs import Frame
@@ -155,10 +155,6 @@ def view(name: str, members: list[Member]) -> dict:
     if others:
         orders.append({"label": "earlier, removed and unfinished versions", "rows": others})
     return {"name": name, "soups": [soup_told(it) for it in members], "columns": columns(members), "orders": orders}
-
-
-def size_of(version: Version) -> int:
-    return 12 + len(version.text) + sum(12 + it.length for it in version.larges)
 
 
 def views(cards: list[Card]) -> list[dict]:

@@ -1,15 +1,18 @@
 """What `page` shows of cards that the program made, against the replies of the program, and in a browser."""
 
 import json
+import os
+import pty
 import re
 import subprocess
+import sys
 import tempfile
 import unittest
 from pathlib import Path
 from urllib.parse import quote
 
 from browser import CHROMIUM, MISSING, opened
-from cards import PROGRAM, check, tool
+from cards import PROGRAM, TOOLS, check, tool
 from shows import HOSTILE, address_card, damaged_card, hostile_card
 
 from newton.page import hashed
@@ -113,6 +116,14 @@ class Shown(Pages):
         policy = re.search(r'Content-Security-Policy" content="([^"]*)"', text)[1].replace("&#x27;", "'")
         wanted = ["default-src 'none'", f"style-src {hashed(style)}", f"script-src {hashed(script)}", "img-src data:"]
         self.assertEqual([*wanted, "base-uri 'none'", "form-action 'none'"], policy.split("; "))
+
+    def test_a_terminal_sees_a_bar(self) -> None:
+        terminal, shown = pty.openpty()
+        command = [sys.executable, TOOLS / "page", self.hostile]
+        subprocess.run(command, stdout=subprocess.DEVNULL, stderr=shown, check=True)
+        os.close(shown)
+        self.assertRegex(os.read(terminal, 100_000), rb"\[#+ *\] \S*hostile: tables")
+        os.close(terminal)
 
     def test_a_file_that_is_not_there_ends_with_2(self) -> None:
         self.assertEqual(2, tool("page", self.folder / "none").returncode)

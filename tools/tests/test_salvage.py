@@ -1,15 +1,23 @@
 """What `salvage` brings back of cards that the program made, as the program shows it on a fresh card."""
 
+import resource
+import struct
 import subprocess
+import sys
 import tempfile
 import unittest
 from pathlib import Path
 from random import Random
 
 import measure
-from cards import BLOCK, PROGRAM, blank, check, made_card, run, stored, tool
+from cards import BLOCK, PROGRAM, TOOLS, blank, check, made_card, run, stored, tool
 
 from newton.image import read_image
+
+from graphs import Frame, Large, Symbol
+from images import HEADER
+from layouts import record
+from streams import encode_flat
 
 LARGE = bytes(range(256)) * 800
 NOTES = [
@@ -17,6 +25,10 @@ NOTES = [
     "tags 0 Notes labels business personal", "info 0 Notes {owner: \"Ann\"}", "time 5", 'add 0 Notes {title: "Bread"}',
     'add 0 Notes {title: "Milk"}', 'set 0 Notes 0 title "Brot"', "remove 0 Notes 1", 'add 0 "To \\"do\\"" {n: 1}',
 ]
+
+
+def little_memory() -> None:
+    resource.setrlimit(resource.RLIMIT_AS, (500_000_000, 500_000_000))
 
 
 def values(card: Path) -> list[str]:
@@ -149,6 +161,22 @@ class Salvaged(unittest.TestCase):
             ran = tool("salvage", path)
             self.assertEqual((1, False), (ran.returncode, b"Traceback" in ran.stderr), ran.stderr.decode())
         self.assertEqual(2, tool("salvage", self.folder / "none").returncode)
+
+    def test_large_binaries_that_claim_more_than_there_is_take_no_memory(self) -> None:
+        graph = encode_flat(Frame([Symbol(b"bits")], [Large(Symbol(b"raw"), b"")]))
+        puts = {}
+        for at in range(200):
+            entry = struct.pack(">HHII", 0, 1, at, 0) + graph + struct.pack(">III", 2, 2 * at + 2, 1_000_000)
+            puts[2 * at] = struct.pack(">III", 2 * at + 1, 0, len(entry)) + entry.ljust(500, b"\0")
+            puts[2 * at + 1] = struct.pack(">III", 2 * at + 2, 7, 1_000_000) + bytes(500)
+        claims = bytes(12_288) + HEADER + record(puts, [])
+        path = self.folder / "claims"
+        path.write_bytes(claims.ljust(BLOCK * 200, b"\xff"))
+        for words in ([], ["--all"], ["--list"], ["--backup"]):
+            command = [sys.executable, TOOLS / "salvage", path, *words]
+            ran = subprocess.run(command, capture_output=True, preexec_fn=little_memory)
+            self.assertIn(b"200 live", ran.stderr)
+            self.assertNotIn(b"Traceback", ran.stderr)
 
     def test_whatever_the_damage_the_script_plays(self) -> None:
         whole = measure.read_card(made_card(self.folder, "card", 4).read_bytes())
