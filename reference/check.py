@@ -7,6 +7,7 @@ prints for each image what the mode `check` says of it. Each row is said of the 
 
 import struct
 import sys
+from collections import Counter
 from pathlib import Path
 
 from images import BLOCK, HEADER, VERSIONS, NoStore, Record, read_entry
@@ -34,23 +35,23 @@ def start_of_bank(image: bytes) -> int:
     return BLOCK * (3 + chosen * ((len(image) // BLOCK - 3) // 2))
 
 
-def gates(image: bytes, start: int) -> list[tuple[int, bytes]]:
+def gates(image: bytes, start: int) -> list[tuple[int, memoryview]]:
     """Each gate of 0, with what of its bank stands behind it."""
-    end, found = start + (len(image) // BLOCK - 3) // 2 * BLOCK, []
+    end, found, whole = start + (len(image) // BLOCK - 3) // 2 * BLOCK, [], memoryview(image)
     at = start + len(HEADER)
     while at < end and image[at] == 0:
-        found.append((at, image[at + 1 : end]))
+        found.append((at, whole[at + 1 : end]))
         at += 5 + int.from_bytes(image[at + 1 : min(at + 5, end)], "big")
     return found
 
 
-def is_long(behind: bytes) -> bool:
+def is_long(behind: memoryview) -> bool:
     return len(behind) < 4 or len(behind) - 4 < int.from_bytes(behind[:4], "big")
 
 
-def change(behind: bytes) -> tuple[dict, list]:
+def change(behind: memoryview) -> tuple[dict, list]:
     """What a record puts and what it deletes; NoStore where the payload has not its form."""
-    payload = Record(behind[4 : 4 + int.from_bytes(behind[:4], "big")])
+    payload = Record(bytes(behind[4 : 4 + int.from_bytes(behind[:4], "big")]))
     puts, deletes = payload.number(2), payload.number(2)
     payload.wants(payload.left() == 516 * puts + 4 * deletes)
     put = [(payload.number(4, 65_535), payload.take(512)) for _ in range(puts)]
@@ -71,7 +72,8 @@ def pages_after(changes: list[tuple[dict, list]]) -> list[bytes]:
     live: dict[int, bytes] = {}
     for put, deleted in changes:
         live.update(put)
-        live = {number: page for number, page in live.items() if number not in deleted}
+        for number in deleted:
+            live.pop(number, None)
     return list(live.values())
 
 
@@ -126,8 +128,8 @@ def report(image: bytes) -> str:
         objects = objects_of(pages_after([change(behind) for _, behind in found]))
         directory = directory_of(objects, version)
         row("entry", bad_entries(objects, directory))
-        named = [it for number, record in objects.items() if number % 2 for it in named_by(record)]
-        row("large", sorted(it for it in objects if it > 0 and it % 2 == 0 and named.count(it) != 1))
+        named = Counter(it for number, record in objects.items() if number % 2 for it in named_by(record))
+        row("large", sorted(it for it in objects if it > 0 and it % 2 == 0 and named[it] != 1))
         cost = sum(pages(len(it)) for it in objects.values())
         row("cost", [cost] if cost > capacity(blocks) else [])
         return f"ok clean {len(directory.soups)} {sum(it % 2 for it in objects)} {cost}"

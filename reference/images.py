@@ -23,7 +23,6 @@ from stores import (
     Tags,
     capacity,
     cost,
-    entry_of,
     is_name,
     paths_of,
 )
@@ -184,7 +183,7 @@ def read_entry(record: bytes, objects: dict, named: list) -> tuple[int, Entry]:
         wants(len(objects[number]) == length <= MOST_BYTES)
         large.data = objects[number]
         named.append(number)
-    return sig, entry_of(uid, time, graph)
+    return sig, Entry(uid, time, graph, pages(len(record)) + sum(pages(len(it.data)) for it in walk.larges()))
 
 
 def store_of_image(image: bytes) -> Optional[Store]:

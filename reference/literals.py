@@ -1,7 +1,7 @@
 """Literals: the graph that a text writes down, and the printed text of a graph."""
 
 import re
-from typing import Optional
+from typing import Callable, Optional
 
 from graphs import (
     MOST_BYTES,
@@ -226,7 +226,12 @@ def of_unit(unit: int) -> str:
     return chr(unit) if 32 <= unit <= 126 else f"\\u{unit:04X}"
 
 
-def print_literal(root: Ref) -> str:
+def of_data(binary: Binary) -> str:
+    return binary.data.hex().upper()
+
+
+def print_literal(root: Ref, of_data: Callable[[Binary], str] = of_data) -> str:
+    """The printed text of a graph, with a text for the bytes of each binary."""
     walk = Walk(root)
     shared = [it for it in walk.nodes if id(it) in walk.shared and not isinstance(it, Symbol)]
     labels = {id(it): label for label, it in enumerate(shared)}
@@ -248,7 +253,7 @@ def print_literal(root: Ref) -> str:
         if isinstance(value, String):
             return '"' + "".join(map(of_unit, value.units)) + '"'
         if isinstance(value, Binary):
-            inner = f"<{of_name(value.kind.name)}:{value.data.hex().upper()}>"
+            inner = f"<{of_name(value.kind.name)}:{of_data(value)}>"
             return f"<{inner}>" if isinstance(value, Large) else inner
         if isinstance(value, Frame):
             slots = zip(value.tags, value.values)

@@ -20,9 +20,9 @@ class Scanner:
         return len(self.text) - self.at
 
     def take(self, count: int):
-        self.wants(count <= self.left())
-        self.at += count
-        return self.text[self.at - count : self.at]
+        before, self.at = self.at, self.at + count
+        self.wants(self.at <= len(self.text))
+        return self.text[before : self.at]
 
     def number(self, count: int, most: int = 2**32 - 1) -> int:
         """A number of so many bytes."""

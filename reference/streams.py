@@ -3,6 +3,8 @@
 The flat text is that of records and of the cost; the written one has small rectangles, and is what replies hold.
 """
 
+import re
+import struct
 from typing import Callable, Optional
 
 from graphs import (
@@ -27,6 +29,7 @@ from graphs import (
 from scanner import Scanner
 
 SIDES = (b"top", b"left", b"bottom", b"right")
+NAME = re.compile(rb"[ -~]{1,254}")
 
 
 class Malformed(Exception):
@@ -45,8 +48,13 @@ class Reader(Scanner):
         self.nodes = self.bytes = 0
         self.is_compressed = False
 
+    def byte(self) -> int:
+        self.wants(self.at < len(self.text))
+        self.at += 1
+        return self.text[self.at - 1]
+
     def xlong(self) -> int:
-        short = self.number(1)
+        short = self.byte()
         return short if short < 255 else int.from_bytes(self.take(4), "big", signed=True)
 
     def count(self, most: int) -> int:
@@ -73,7 +81,7 @@ class Reader(Scanner):
 
     def named(self, name: bytes, is_numbered: bool) -> Symbol:
         """The symbol of a name, which is the one that was met before where there is one."""
-        self.wants(1 <= len(name) <= 254 and all(32 <= it <= 126 for it in name))
+        self.wants(NAME.fullmatch(name))
         known = self.symbols.get(name.lower())
         if known is None:
             self.symbols[name.lower()] = self.met(Symbol(name), is_numbered)
@@ -83,7 +91,7 @@ class Reader(Scanner):
         return known
 
     def symbol(self) -> Symbol:
-        tag = self.number(1)
+        tag = self.byte()
         self.wants(tag in (7, 9))
         found = self.precedent() if tag == 9 else self.named(self.take(self.count(254)), True)
         self.wants(isinstance(found, Symbol))
@@ -124,7 +132,7 @@ class Reader(Scanner):
         self.wants(count >= 2 and count % 2 == 0)
         string = self.met(String())
         data = self.data(count)
-        units = [int.from_bytes(data[at : at + 2], "big") for at in range(0, count, 2)]
+        units = list(struct.unpack(f">{count // 2}H", data))
         self.wants(units.pop() == 0)
         string.units = units
         return string
@@ -153,26 +161,29 @@ class Reader(Scanner):
         return word
 
     def object(self, is_open: int) -> Ref:
-        tag = self.number(1)
+        tag = self.byte()
         self.wants(tag <= 12)
         if tag == 7:
             self.at -= 1
-        readers = [
-            self.immediate,
-            lambda: 16 * self.number(1) + 6,
-            lambda: 16 * self.number(2) + 6,
-            self.binary,
-            lambda: self.array(True, is_open),
-            lambda: self.array(False, is_open),
-            lambda: self.frame(is_open),
-            self.symbol,
-            self.string,
-            self.precedent,
-            lambda: NIL,
-            lambda: self.rectangle(is_open),
-            self.large,
-        ]
-        return readers[tag]()
+        return OBJECTS[tag](self, is_open)
+
+
+# What reads an object, by its tag.
+OBJECTS: tuple[Callable[[Reader, int], Ref], ...] = (
+    lambda it, _: it.immediate(),
+    lambda it, _: 16 * it.byte() + 6,
+    lambda it, _: 16 * it.number(2) + 6,
+    lambda it, _: it.binary(),
+    lambda it, is_open: it.array(True, is_open),
+    lambda it, is_open: it.array(False, is_open),
+    Reader.frame,
+    lambda it, _: it.symbol(),
+    lambda it, _: it.string(),
+    lambda it, _: it.precedent(),
+    lambda it, _: NIL,
+    Reader.rectangle,
+    lambda it, _: it.large(),
+)
 
 
 def decode(stream: bytes) -> tuple[Ref, bool]:
