@@ -22,6 +22,8 @@ mod lines;
 #[cfg(test)]
 mod modes;
 #[cfg(test)]
+mod programs;
+#[cfg(test)]
 mod rectangles;
 #[cfg(test)]
 mod replaces;
