@@ -113,7 +113,7 @@ handed_placed {reads = reads} {found = found} {result = result} {c = c} {old = o
   desk = desk;
   answered = λ t apart settled. answered_on on _ _ is (answered settled);
   fetches = λ t apart settled unread u. up (o.fetched u) (most_stepped (world_with reads old.units old.desk o) c u);
-  shown = λ un. answers-none said result;
+  shown = λ un. answers-none said o result;
   failed = err_on on _ (none-devices _ found none);
   kept = err_on on _ (none-devices _ found none);
   ends = record {

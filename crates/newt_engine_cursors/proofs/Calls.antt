@@ -51,19 +51,19 @@ on-unit true n = refl
 on-unit false n = refl
 
 -- where the run has ended nothing is said
-pub ended-fetches : {T : Type 0} (reply : T → Reply) {stop : Stop} {o p : Outside}
+pub ended-fetches : {T : Type 0} (reply : T → Reply) (o p : Outside) {stop : Stop}
     (r : Result T StoreFault) → (e : StoreFault) × (r ≡ Err e) × (e ≡ Ends stop)
     → FetchesAnswered reply r o p
-ended-fetches {T} reply {o = o} {p} r e =
+ended-fetches {T} reply o p r e =
     subst (λ (r : Result T StoreFault). FetchesAnswered reply r o p)
     (sym (e.1 ∙ ap {B = Result T StoreFault} (λ e. Err e) e.2)) tt
 
 -- nothing was fetched
-pub answers-none : {T : Type 0} (reply : T → Reply) {o : Outside} (r : Result T StoreFault)
+pub answers-none : {T : Type 0} (reply : T → Reply) (o : Outside) (r : Result T StoreFault)
     → FetchesAnswered reply r o o
-answers-none reply (Ok it) u = omega arith
-answers-none reply (Err (Refused refusal)) u = omega arith
-answers-none reply (Err (Ends stop)) = tt
+answers-none reply o (Ok it) = λ u. omega arith
+answers-none reply o (Err (Refused refusal)) = λ u. omega arith
+answers-none reply o (Err (Ends stop)) = tt
 
 -- ---- a device that fails
 
@@ -145,7 +145,7 @@ module _ {C : Type 0} {reads : List ℕ → Option Store} {place : C → ℕ} {s
       → IfErr result (λ fault. NoDevice fault) → (IsTrue told → let w = world_with reads units was o in MountedApart w → Answers w w c reply result)
       → Walks reads place stands told c reply units units was was o o result
   stays {c = c} {reply} {result} s d none answers =
-      walks-of (stays-turn {becomes = λ w v. Answers w v c reply result} s d none answers) (λ t apart settled d. d) (λ t apart settled un. (λ u. omega arith)) (λ un. answers-none reply result)
+      walks-of (stays-turn {becomes = λ w v. Answers w v c reply result} s d none answers) (λ t apart settled d. d) (λ t apart settled un. (λ u. omega arith)) (λ un. answers-none reply o result)
 
   -- ---- a call that settles
 

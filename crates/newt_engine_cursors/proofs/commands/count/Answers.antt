@@ -26,7 +26,7 @@ returns-in_err-count_hits g c =
     (λ t apart settled d. d)
     (λ t apart settled un. (λ u. let z = (c.in_err-count_hits.ensures.reading.unread
     (unread-open (flat (slice_get c.args.desk.now c.args.cursor)) (query_of c.in-Some.query.now) (ap (option_map (λ q. query_of q.now)) (sym c.in-Some.is) ∙ c.query.ensures.query) un)) u in omega (arith, z)))
-    (λ un. ended-fetches (λ (n : ℕ). Reply.number n) c.from_residual.result (err_from_is_err_and c.from_residual.result c.from_residual.ensures.1))
+    (λ un. ended-fetches (λ (n : ℕ). Reply.number n) _ _ c.from_residual.result (err_from_is_err_and c.from_residual.result c.from_residual.ensures.1))
 
 pub returns : goal.returns
 returns g c =

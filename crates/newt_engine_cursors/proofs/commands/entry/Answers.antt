@@ -31,7 +31,7 @@ returns-in_err-show g c =
     let is = ap (λ (r : Reply). 512 * pages_shown r u) (ap (or_nil (current w)) c.in-Some.ensures) in
     let more = (c.in_err-show.ensures.fetches t apart (λ e. absurd (both-ways e)) (unread-query (flat (slice_get c.args.desk.now c.args.cursor)) (seen_cursor (c.in-Some.query, c.in-Some.place)) c.in-Some.ensures un)) u in
     omega (arith, e, is, more)))
-    (λ un. ended-fetches shown_reply c.from_residual.result (err_from_is_err_and c.from_residual.result c.from_residual.ensures.1))
+    (λ un. ended-fetches shown_reply _ _ c.from_residual.result (err_from_is_err_and c.from_residual.result c.from_residual.ensures.1))
 
 pub returns : goal.returns
 returns g c =

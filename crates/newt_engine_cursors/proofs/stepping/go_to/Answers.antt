@@ -61,7 +61,7 @@ returns-in_err-spot g c =
     c.from_residual-in_err-spot.result (err_from_is_err_and c.from_residual-in_err-spot.result c.from_residual-in_err-spot.ensures.1) (λ w v. tt))
     (λ t apart settled d. d)
     (λ t apart settled un. (λ u. let z = (c.in_err-spot.ensures.reading.unread (unread-query (flat (slice_get c.args.desk.now c.args.cursor)) (seen_cursor (c.in-Some.query, c.in-Some.field-0-1)) c.in-Some.ensures un)) u in omega (arith, z)))
-    (λ un. ended-fetches shown_reply c.from_residual-in_err-spot.result (err_from_is_err_and c.from_residual-in_err-spot.result c.from_residual-in_err-spot.ensures.1))
+    (λ un. ended-fetches shown_reply _ _ c.from_residual-in_err-spot.result (err_from_is_err_and c.from_residual-in_err-spot.result c.from_residual-in_err-spot.ensures.1))
 
 pub returns-in_default-2 : goal.returns-in_default-2
 returns-in_default-2 g c =
@@ -106,7 +106,7 @@ returns-in_err-move_to g c =
     let same : world_with g.C.Card.reads c.spot_on.new.units c.args.desk.now (g.H.Host.outside c.spot_on.new.host) ≡ w = ap (with_cursors c.args.desk.now) (read.read.world t) in
     (λ u. let e = ap (λ (k : ℕ). 512 * k) (goto-pages w c.args.cursor c.args.unit c.args.uid (o.blocks c.args.unit) p.store there k (sym c.in-Some.ensures) h is after u) in let x = (read.unread (unread-query (flat (slice_get c.args.desk.now c.args.cursor)) k c.in-Some.ensures un)) u in let y = (subst (λ (x : World). FetchesAtMost (λ u. 512 * pages_shown (shown_at (set_place x c.args.cursor (on h)) c.args.cursor) u) (g.H.Host.outside c.spot_on.new.host) (g.H.Host.outside c.move_to.new.host)) same
     (c.in_err-move_to.ensures.fetches t (subst MountedApart (sym same) apart) un)) u in omega (arith, e, x, y)))
-    (λ un. ended-fetches shown_reply r (err_from_is_err_and r c.from_residual-in_err-move_to.ensures.1))
+    (λ un. ended-fetches shown_reply _ _ r (err_from_is_err_and r c.from_residual-in_err-move_to.ensures.1))
 
 pub returns : goal.returns
 returns g c =

@@ -32,7 +32,7 @@ returns-in_err-key g c =
     let r = c.from_residual.result in
     walks-of (turns-end {S = Unit {0}} {asks = true} (λ (r : Result Shown StoreFault) (w v : World). Answers w v (command.Gotokey c.args.cursor c.args.graph.now) shown_reply r) {stop = Memory}
     (record { read = not-read c.requires.stands; cause = NoFault-refl _; failed = tt; no_fault = tt; unread = asked-read Rattle.std.proofs.Common.refl }) c.requires.desk tt r (err_from_is_err_and r c.from_residual.ensures.1) (λ w v. tt))
-    (λ t apart settled d. d) (λ t apart settled un. (λ u. omega arith)) (λ un. ended-fetches shown_reply r (err_from_is_err_and r c.from_residual.ensures.1))
+    (λ t apart settled d. d) (λ t apart settled un. (λ u. omega arith)) (λ un. ended-fetches shown_reply _ _ r (err_from_is_err_and r c.from_residual.ensures.1))
 
 pub returns-in_default-2 : goal.returns-in_default-2
 returns-in_default-2 g c =

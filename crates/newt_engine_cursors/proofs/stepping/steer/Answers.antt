@@ -81,12 +81,12 @@ returns-in_default-clause-pages g c un u = omega arith
 pub returns-in_err-place-clause-pages : goal.returns-in_err-place-clause-pages
 returns-in_err-place-clause-pages g c un =
     let r = c.from_residual.result in
-    ended-fetches shown_reply r (err_from_is_err_and r c.from_residual.ensures.1)
+    ended-fetches shown_reply _ _ r (err_from_is_err_and r c.from_residual.ensures.1)
 
 pub returns-in_err-come_to-clause-pages : goal.returns-in_err-come_to-clause-pages
 returns-in_err-come_to-clause-pages g c un =
     let r = c.from_residual-in_err-come_to.result in
-    ended-fetches shown_reply r (err_from_is_err_and r c.from_residual-in_err-come_to.ensures.1)
+    ended-fetches shown_reply _ _ r (err_from_is_err_and r c.from_residual-in_err-come_to.ensures.1)
 
 pub returns-clause-pages : goal.returns-clause-pages
 returns-clause-pages g c un u =
