@@ -60,7 +60,7 @@ module _ {C : Type 0} {reads : List ℕ → Option Store} {place : C → ℕ} {s
       format = λ t. (e.costs t).format;
       settling = λ t. (e.costs t).fetched;
       step = e.step;
-      idle = e.idle;
+      shown = λ un quiet. e.shown un;
       open_after = λ t u other. (e.costs t).open_after tt u;
       threw = quiet-threw it o p e.ends.quiet e.alone;
       failed = λ u h. (e.ends.no_fault tt).dev_faults u;
@@ -87,7 +87,7 @@ module _ {C : Type 0} {reads : List ℕ → Option Store} {place : C → ℕ} {s
     moments = e.moments;
     costs = λ t. let k = e.costs t in record { bound = k.bound; format = k.format; fetched = k.fetched; open_after = λ goes. k.open_after tt };
     step = e.step;
-    idle = λ un nothing. e.idle un tt;
+    shown = e.shown;
     alone = e.alone;
     broke = tt;
     kept = λ idle. e.kept tt;
@@ -112,7 +112,7 @@ module _ {C : Type 0} {reads : List ℕ → Option Store} {place : C → ℕ} {s
       format = λ t. (e.costs t).format;
       settling = λ t. (e.costs t).fetched;
       step = e.step;
-      idle = λ un. tt;
+      shown = λ un. tt;
       open_after = λ t. tt;
       threw = tt;
       failed = tt;
@@ -139,7 +139,7 @@ module _ {C : Type 0} {reads : List ℕ → Option Store} {place : C → ℕ} {s
       format = λ t. (e.costs t).format;
       settling = λ t. (e.costs t).fetched;
       step = e.step;
-      idle = λ un nothing. absurd (cc);
+      shown = λ un quiet. absurd (both-ways (sym (quiet u) ∙ eq-eqb u u refl));
       open_after = λ t n other. opens t n (λ is. other (ap {B = Reply} (λ k. reply.Thrown k) (sym is)));
       threw = thrown-threw u o p e.alone e.ends.cause;
       failed = thrown-failed u o p failed;

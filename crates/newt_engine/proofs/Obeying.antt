@@ -26,6 +26,7 @@ use Rattle.newt_reply.specs.Said.{said}
 use Rattle.newt_spec_script.specs.Rows.{throws}
 use Rattle.newt_engine_units.specs.Stands.{world_of}
 use Rattle.newt_engine_cursors.specs.Calls.{Walks}
+use Rattle.newt_engine_cursors.proofs.Calls.{answers-none}
 use Rattle.newt_engine_cursors.specs.Replies.{shown_reply, side_reply}
 use Rattle.newt_engine_cursors.specs.declared.show.Shown.{Shown}
 use Rattle.newt_engine_cursors.specs.declared.show.Shown.TheVariants.{Nil, Deleted, Entry}
@@ -42,7 +43,7 @@ use Rattle.newt_engine.specs.Handed.{HandsOn}
 use Rattle.newt_engine.specs.declared.world.World.{World}
 use Rattle.newt_engine.proofs.Costing.{costs_on}
 use Rattle.newt_engine.proofs.Keeping.{busy_on, idle_back, refused_back}
-use Rattle.newt_engine.proofs.Handed.{answered_on, err_on, goes_back, has_cause, moments_same, ok_on, quiet_on, shows_back, unrefused_on}
+use Rattle.newt_engine.proofs.Handed.{answered_on, err_on, fetched_on, goes_back, has_cause, moments_same, ok_on, quiet_on, unrefused_on}
 
 -- the command is one that may take memory and use a device
 pub handed_obeyed : {C : Type 0} {reads : List ℕ → Option Store} {place : C → ℕ} {standing : Bool → C → Outside → Type 0} {told : Bool} {T : Type 0} {made : T → plain.Reply} {found : Result T StoreFault}
@@ -95,7 +96,7 @@ handed_walked {reads = reads} {old = old} {o = o} {p} on is memory device other 
   answered = λ t apart settled. answered_on on _ _ is (call.answered t apart settled);
   fetches = λ t apart settled. subst (λ x. steps_unread (world_with reads old.units old.desk o) x ≡ true → FetchesAtMost (most_stepped (world_with reads old.units old.desk o) x) o p) (sym is)
       (call.fetches t apart settled);
-  idle = λ un nothing. call.idle (sym (ap (walks_unread old.desk) is) ∙ un) (shows_back on nothing);
+  shown = λ un. fetched_on on (call.shown (sym (ap (walks_unread old.desk) is) ∙ un));
   failed = err_on on _ call.failed;
   kept = err_on on _ call.kept;
   refused = λ idle. call.refused (refused_back on never is other idle);
@@ -115,12 +116,12 @@ pub handed_placed : {C : Type 0} {reads : List ℕ → Option Store} {place : C 
     → AreRead reads place standing told old.units new.units o o → DeskFits new.desk
     → (IsSettled (world_with reads old.units old.desk o) → Answers (world_with reads old.units old.desk o) (world_with reads new.units new.desk o) d made found)
     → IfErr found (λ fault. NoDevice fault) → (takes_memory d ≡ false → IfErr found (λ fault. IsRefusal fault)) → ((x : T) (u : ℕ) → throws u (made x) ≡ false) → Walked reads place standing told c old new o o result
-handed_placed {reads = reads} {found = found} {c = c} {old = old} {o = o} on is other never stays read desk answered none only quiet = record {
+handed_placed {reads = reads} {found = found} {result = result} {c = c} {old = old} {o = o} on is other never stays read desk answered none only quiet = record {
   read = read;
   desk = desk;
   answered = λ t apart settled. answered_on on _ _ is (answered settled);
   fetches = λ t apart settled unread u. up (o.fetched u) (most_stepped (world_with reads old.units old.desk o) c u);
-  idle = λ un nothing u. up (o.fetched u) 0;
+  shown = λ un. answers-none said o result;
   failed = err_on on _ (none-devices _ found none);
   kept = err_on on _ (none-devices _ found none);
   refused = λ idle. stays (refused_back on never is other idle);

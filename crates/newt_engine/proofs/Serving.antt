@@ -124,7 +124,7 @@ served_fault {reads = reads} laws told old new o p s eight c none fault e =
       costs = λ t. settled_costs old.desk none (e.costs t) (λ goes. goes) refl (λ u. alone-refl u _)
           (λ means. alone_few old.desk (world_of reads old.units o) c o p (whole_known laws told old o s t c none) ((e.costs t).fetched means));
       step = λ t unread. absurd (unread_uses_cursor (stood_for reads old o) c none unread);
-      idle = λ walks nothing. absurd (unread_uses_cursor (stood_for reads old o) c none (walks_steps (stood_for reads old o) c walks));
+      shown = λ walks. absurd (unread_uses_cursor (stood_for reads old o) c none (walks_steps (stood_for reads old o) c walks));
       alone = e.alone;
       broke = at-device-map _ _ fault (λ u b. inl (fails_with c none e.desk b)) e.broke;
       kept = λ idle. record { units = e.kept idle; desk = λ within. e.desk };
@@ -161,7 +161,7 @@ served_ended {reads = reads} {place} {stands = stands} laws told old new o p s e
       moments = moments;
       costs = λ t. let k = costs t in record { bound = k.bound; format = k.format; fetched = k.fetched; open_after = λ goes. k.open_after (fault-goes {T = Reply} S (Err fault) (fault, refl, refl) goes) };
       step = λ t unread. absurd (unread_uses_cursor (stood_for reads old o) c none unread);
-      idle = λ walks nothing. absurd (unread_uses_cursor (stood_for reads old o) c none (walks_steps (stood_for reads old o) c walks));
+      shown = λ walks. absurd (unread_uses_cursor (stood_for reads old o) c none (walks_steps (stood_for reads old o) c walks));
       alone = over.alone;
       broke = broke;
       kept = keeps;

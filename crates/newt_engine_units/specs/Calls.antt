@@ -114,6 +114,9 @@ module _ {C : Type 0} (reads : List ℕ → Option Store) (place : C → ℕ)
     pub fetches : IsTrue told → let w = world_of reads old before in
         (blocks : ℕ) (s : Store) → OnUnit w unit blocks s
         → FetchesAtMost (of_unit unit (512 * pages_of_entry (entry_at soup uid s))) before after
+    -- over every host: 512 bytes for each page of the entry that is read, and nothing where none is
+    pub pages : IfOk result (λ found.
+        FetchesAtMost (of_unit unit (512 * pages_of_entry (entry_said found))) before after)
     pub cause : IfErr result (λ stop. HasStopCause stop before after)
     pub failed : IfErr result (AtStop (FailsAlone before after))
     pub its : IfErr result (AtStop (λ u. u ≡ unit))

@@ -73,7 +73,7 @@ reading-ended {C} {reads} {told} {c} {old} {o} {p} {inner} {result} u uid s unre
       fetched = λ t entries x. let k = turn t in
           subst (λ (ds : List Command). IsOpenFor (most_put w ds x) (image x o.now) → p.fetched x ≤ o.fetched x + most_taken w ds x) (sym k.1) (first-fetches w get k.0 x o p (f.settling t refl x));
       step = λ t steps. absurd (both-ways (sym (unread w) ∙ steps));
-      idle = λ walks. absurd (both-ways (sym (unread w) ∙ walks_steps w c walks));
+      shown = λ walks. absurd (both-ways (sym (unread w) ∙ walks_steps w c walks));
       open_after = opens;
       threw = threw;
       failed = failed;

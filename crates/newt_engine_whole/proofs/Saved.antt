@@ -187,7 +187,7 @@ module _ {C : Type 0} {reads : List ℕ → Option Store} {place : C → ℕ} {s
             (then-fetches w get (turn t).0 x o p q (same-room t x) (a.finished.settling t refl x)
             (rest-of t (λ v ds. IsOpenFor (most_put v ds x) (image x p.now) → q.fetched x ≤ p.fetched x + most_taken v ds x) (b.ended.fetched t refl x)));
         step = λ t is. absurd (both-ways is);
-        idle = λ is. absurd (both-ways is);
+        shown = λ is. absurd (both-ways is);
         open_after = λ t. opens t result (b.ended.open_after t);
         threw = risen result b.ended.threw;
         failed = none-more result b.ended.failed;

@@ -240,7 +240,7 @@ module _ {C : Type 0} {reads : List ℕ → Option Store} {place : C → ℕ} {s
           fetched = λ t entries x. subst (λ (ds : List Command). IsOpenFor (most_put w ds x) (image x o.now) → p.fetched x ≤ o.fetched x + most_taken w ds x) (sym (last-turn n at draft base known t))
               (first-fetches w change [] x o p (a.finished.settling t refl x));
           step = λ t is. absurd (both-ways is);
-          idle = λ is. absurd (both-ways is);
+          shown = λ is. absurd (both-ways is);
           open_after = a.finished.open_after;
           threw = a.finished.threw;
           failed = a.finished.failed;

@@ -16,7 +16,7 @@ use Rattle.newt_reply.specs.declared.reply.Reply.TheVariants as reply
 use Rattle.newt_script_session.specs.Steps.{Stepped}
 use Rattle.newt_laws_whole.specs.Runs.{DraftsFit}
 use Rattle.newt_engine_card.specs.Bounds.{FetchesAtMost, FetchesWithin, FormatsOnce, IsOpenOrSame}
-use Rattle.newt_engine_cursors.specs.Replies.{shows_nothing}
+use Rattle.newt_engine_cursors.specs.Calls.{FetchesShown}
 use Rattle.newt_engine_cursors.specs.Unread.{steps_unread, walks_unread}
 use Rattle.newt_engine.specs.Bounds.{is_format, most_formatted, most_stepped}
 use Rattle.newt_engine.specs.Calls.{IsNotThrown}
@@ -38,12 +38,12 @@ module _ {C : Type 0} (reads : List ℕ → Option Store) where
   -- the input and the output are as they were. But for a format each unit that has room is
   -- programmed by no more than what is asked may, and a format wears once; where what is asked is
   -- of entries, no more is fetched there than by it; one that opens, shows, moves or counts a
-  -- cursor fetches no more than it does in the world, and nothing where it shows nothing of an
-  -- entry, also where the host tells no bytes. After a reply each bank is not closed or is
-  -- as it was, but for a unit that was thrown out. No fault was counted but of a unit that the
-  -- reply says was thrown out, and of that one a fault was, also where the devices do not tell
-  -- their bytes. Want of memory hides none, and only what may take memory ends in it; and only what
-  -- uses a device throws a unit out.
+  -- cursor fetches no more than it does in the world: where the host tells no bytes, by the reply
+  -- that is given, and of a cursor that is open. After a reply each bank is not closed or is as it
+  -- was, but for a unit that was thrown out. No fault was counted but of a unit that the reply says
+  -- was thrown out, and of that one a fault was, also where the devices do not tell their bytes.
+  -- Want of memory hides none, and only what may take memory ends in it; and only what uses a
+  -- device throws a unit out.
   pub record Ended (told : Bool) (command : Command) (asked : List Command) (old : Whole C)
       (before after : Outside) (result : Result Reply AllocError) : Type 0 where
     pub alone : OnDevices before after
@@ -56,8 +56,8 @@ module _ {C : Type 0} (reads : List ℕ → Option Store) where
         FetchesWithin (most_put w asked) (most_taken w asked) before after
     pub step : IsTrue told → let w = stood_for reads old.world before in
         steps_unread w command ≡ true → FetchesAtMost (most_stepped w command) before after
-    pub idle : walks_unread old.world.desk command ≡ true
-        → IfOk result (λ it. shows_nothing (said it) ≡ true → FetchesAtMost (λ u. 0) before after)
+    pub shown : walks_unread old.world.desk command ≡ true
+        → IfOk result (λ it. IsNotThrown it → FetchesShown (said it) before after)
     pub open_after : IsTrue told → IfOk result
         (λ it. (u : ℕ) → it ≢ reply.Thrown u → IsOpenOrSame u before.now after.now)
     pub threw : IfOk result (λ it. Threw (said it) before.dev_faults after.dev_faults)

@@ -82,7 +82,7 @@ returns-then-settles g c =
           (let k = seen-whole laws told a.units a.desk o c.requires.stands t command in
           reached_within a.desk sees k.0 k.1 k.2 k.3 command c.requires.no_cursor v (said c.in-Ok.reply) reached (done.unrefused t moves) (done.answered t) (is t) c.requires.form means u)));
       step = λ t unread. absurd (unread_uses_cursor (stood_for reads a o) command c.requires.no_cursor unread);
-      idle = λ walks nothing. absurd (unread_uses_cursor (stood_for reads a o) command c.requires.no_cursor (walks_steps (stood_for reads a o) command walks));
+      shown = λ walks. absurd (unread_uses_cursor (stood_for reads a o) command c.requires.no_cursor (walks_steps (stood_for reads a o) command walks));
       alone = OnDevices-append e.alone s.read.alone;
       broke = err-device-both (λ u. FailsAlone m p u × (c.settled.new.self.desk ≡ c.obey.new.self.desk)) (λ u. IsTrue told → in_reach reached (mounted_store v u) ≡ true)
           (λ u. Fails reads g.C.Card.place g.C.Card.stands told command a c.settled.new.self o p u ⊎ FailsHalfway reads g.C.Card.place g.C.Card.stands told command a c.settled.new.self o p u) c.settled.result
@@ -129,7 +129,7 @@ returns-else-settles g c =
       costs = λ t. settled_costs a.desk c.requires.no_cursor (done.costs t) (λ goes. tt) refl (λ u. alone-refl u _)
           (λ means. alone_few a.desk w command o m (whole_known laws told a o c.requires.stands t command c.requires.no_cursor) ((done.costs t).fetched means));
       step = λ t unread. absurd (unread_uses_cursor (stood_for reads a o) command c.requires.no_cursor unread);
-      idle = λ walks nothing. absurd (unread_uses_cursor (stood_for reads a o) command c.requires.no_cursor (walks_steps (stood_for reads a o) command walks));
+      shown = λ walks. absurd (unread_uses_cursor (stood_for reads a o) command c.requires.no_cursor (walks_steps (stood_for reads a o) command walks));
       alone = e.alone;
       broke = tt;
       kept = λ idle. record { units = done.kept idle; desk = λ within. e.desk };

@@ -28,7 +28,7 @@ returns g c =
           c.requires.stands t e.read.moment _ _;
       costs = λ t. still_costs e.read.untouched (λ means. absurd (means_no_cursor c.args.command.now c.requires.on_cursor means));
       step = λ t. e.fetches t (c.requires.stands.apart t) (c.requires.stands.settled t);
-      idle = e.idle;
+      shown = e.shown;
       alone = e.read.alone;
       broke = err-device-both _ _ _ c.walk.result (λ u failed kept. inl (fails_reading c.args.command.now e.read kept failed)) e.failed e.kept;
       kept = λ idle. record { units = read-keeps e.read; desk = λ within. e.refused idle };
