@@ -32,8 +32,8 @@ from world import UNITS, Unit, World
 # Scripts at the limits that take a program with checks of each access too long, or want a card of megabytes.
 LONG = ("nodes", "larges", "blocks", "lines")
 # How many random scripts a run has, since it takes rt try more than half a second to begin one, and their lines.
-SCRIPTS, LINES = 5, 60
-TEXTS, BACKUPS = 300, 4
+SCRIPTS, LINES = 10, 60
+TEXTS, BACKUPS = 300, 2
 # How often each of some images is damaged anew, so that each layer is damaged in one of them.
 ROUNDS = 24
 
@@ -82,7 +82,7 @@ def sessions() -> Iterator[Case]:
 
 
 def typed() -> Iterator[Case]:
-    """What is typed at a shell in the documents: each run of `newton` that has no card of an earlier run."""
+    """What is typed at a shell in the documents: each script that is run over no card of an earlier run."""
     for name, steps in zip(map("typed-{:02}".format, count(1)), shells()):
         if is_of_the_program(steps):
             continue
@@ -90,8 +90,9 @@ def typed() -> Iterator[Case]:
             for wrong in differing_steps(steps, f"'{sys.executable}' '{REFERENCE / 'recorded.py'}' '{folder}'"):
                 raise DocumentDiffers(f"the reference differs from a document:\n{wrong}")
             runs = [pickle.loads(it.read_bytes()) for it in sorted(Path(folder).iterdir())]
-            for at, run in enumerate(it for it in runs if not any(map(any, it.files.values()))):
-                yield run._replace(name=f"{name}-{at}-{run.words[0]}")
+            scripts = (it for it in runs if it.words[0] == "run" and not any(map(any, it.files.values())))
+            for at, run in enumerate(scripts):
+                yield run._replace(name=f"{name}-{at}")
 
 
 # Scripts.

@@ -18,7 +18,7 @@ from cases import SCRIPTS, Case, DocumentDiffers, all_cases
 from commands import asked
 
 TOP = Path(__file__).resolve().parent.parent
-RUNS = 12
+RUNS = 6
 MOST_SHOWN = 160
 FOUND = re.compile(
     rb'differs from `[^`]*`: at byte (\d+), expected "(?:[^"\\]|\\.)*"(?: \([^)]*\))?, found ("(?:[^"\\]|\\.)*")'
