@@ -60,7 +60,7 @@ module _ {C : Type 0} {reads : List ℕ → Option Store} {place : C → ℕ} {s
       format = λ t. (e.costs t).format;
       settling = λ t. (e.costs t).fetched;
       step = e.step;
-      idle = e.idle;
+      shown = λ un quiet. e.shown un;
       open_after = λ t u other. (e.costs t).open_after tt u;
       threw = quiet-threw it o p e.ends.quiet e.alone;
       failed = λ u h. (e.ends.no_fault tt).dev_faults u;
@@ -75,6 +75,7 @@ module _ {C : Type 0} {reads : List ℕ → Option Store} {place : C → ℕ} {s
         let k = lift-answer reads (marks_of old) o c (units_kept laws old.units old.desk o (standing-told begun t)) (may t) (good t) p (e.moments t)
         (marks_of new) (units_kept laws new.units new.desk p (standing-told (e.stands tt) t)) e.alone.cards (said it) (e.answered t) w means in
         refused-leaves reads (StandsFor reads (marks_of new) p) w c o.now k.0 it r is k.1 k.2;
+    kept = e.kept;
   }
 
   -- ---- it is refused
@@ -86,9 +87,10 @@ module _ {C : Type 0} {reads : List ℕ → Option Store} {place : C → ℕ} {s
     moments = e.moments;
     costs = λ t. let k = e.costs t in record { bound = k.bound; format = k.format; fetched = k.fetched; open_after = λ goes. k.open_after tt };
     step = e.step;
-    idle = λ un nothing. e.idle un tt;
+    shown = e.shown;
     alone = e.alone;
     broke = tt;
+    kept = λ idle. e.kept tt;
     ends = record {
       cause = tt;
       no_fault = λ goes. e.ends.no_fault tt;
@@ -110,7 +112,7 @@ module _ {C : Type 0} {reads : List ℕ → Option Store} {place : C → ℕ} {s
       format = λ t. (e.costs t).format;
       settling = λ t. (e.costs t).fetched;
       step = e.step;
-      idle = λ un. tt;
+      shown = λ un. tt;
       open_after = λ t. tt;
       threw = tt;
       failed = tt;
@@ -122,6 +124,7 @@ module _ {C : Type 0} {reads : List ℕ → Option Store} {place : C → ℕ} {s
     known = λ t. tt;
     beside = λ t. (Always-last (e.moments t)).beside;
     refused = λ t r is. cc;
+    kept = tt;
   }
 
   -- ---- a device failed, and its unit is thrown out
@@ -136,7 +139,7 @@ module _ {C : Type 0} {reads : List ℕ → Option Store} {place : C → ℕ} {s
       format = λ t. (e.costs t).format;
       settling = λ t. (e.costs t).fetched;
       step = e.step;
-      idle = λ un nothing. absurd (cc);
+      shown = λ un quiet. absurd (both-ways (sym (quiet u) ∙ eq-eqb u u refl));
       open_after = λ t n other. opens t n (λ is. other (ap {B = Reply} (λ k. reply.Thrown k) (sym is)));
       threw = thrown-threw u o p e.alone e.ends.cause;
       failed = thrown-failed u o p failed;
@@ -162,6 +165,7 @@ module _ {C : Type 0} {reads : List ℕ → Option Store} {place : C → ℕ} {s
       known = λ t quiet. absurd (both-ways (sym (quiet u) ∙ eq-eqb u u refl));
       beside = λ t. (Always-last (e.moments t)).beside;
       refused = λ t r is. cc;
+      kept = λ idle. absurd (both-ways idle);
     }
       where
         is : IsTrue told → stood_for reads new p ≡ thrown_out (stood_for reads old o) u (λ _. lost)
@@ -181,6 +185,7 @@ module _ {C : Type 0} {reads : List ℕ → Option Store} {place : C → ℕ} {s
       known = λ t quiet. absurd (both-ways (sym (quiet u) ∙ eq-eqb u u refl));
       beside = λ t. (Always-last (e.moments t)).beside;
       refused = λ t r is. cc;
+      kept = λ idle. absurd (both-ways idle);
     }
       where
         is : IsTrue told → stood_for reads new p ≡ settle (thrown_out (changed (stood_for reads old o) c) u (λ _. lost))

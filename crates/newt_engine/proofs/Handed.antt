@@ -16,8 +16,7 @@ use Rattle.newt_laws_steps.specs.StandsFor.{seen, seen_on}
 use Rattle.newt_spec_graph.proofs.Lists.{both-ways}
 use Rattle.newt_spec_world.specs.Step.{looks_anew}
 use Rattle.newt_spec_world.specs.declared.command.Command.TheVariants as command
-use Rattle.newt_engine_cursors.specs.Calls.{ShowsNothing}
-use Rattle.newt_engine_cursors.specs.Replies.{shows_nothing}
+use Rattle.newt_engine_cursors.specs.Calls.{FetchesAnswered, FetchesShown}
 use Rattle.newt_engine.specs.Ends.{uses_device}
 use Rattle.newt_spec_script.specs.Rows.{throws}
 use Rattle.newt_engine_units.specs.Breaks.{Meanwhile}
@@ -58,17 +57,19 @@ module _ {T : Type 0} {made : T → plain.Reply} {found : Result T StoreFault} {
       go (Ok x) (Err g) s h = absurd s
       go (Err f) (Ok y) s h = absurd s
 
-  -- where nothing is shown, nothing was
-  pub shows_back : ShowsNothing said result → ShowsNothing made found
-  shows_back h = go found result on.same h
+  -- what was fetched for the answer was for the reply
+  pub fetched_on : {o p : Outside} → FetchesAnswered made found o p
+      → FetchesAnswered said result o p
+  fetched_on {o} {p} h = go found result on.same h
     where
-      fault : (f : StoreFault) → ShowsNothing said (Err f) → ShowsNothing made (Err f)
-      fault (Refused r) h = tt
-      fault (Stop stop) h = absurd h
+      fault : (f : StoreFault) → FetchesAnswered made (Err f) o p → FetchesAnswered said (Err f) o p
+      fault (Refused r) h = h
+      fault (Stop stop) h = tt
 
-      go : (f : Result T StoreFault) (r : Result Reply StoreFault) → IsHanded made f r → ShowsNothing said r → ShowsNothing made f
-      go (Ok x) (Ok y) s h = ap shows_nothing (sym s) ∙ h
-      go (Err f) (Err g) s h = fault f (subst (λ e. ShowsNothing said (Err e)) s h)
+      go : (f : Result T StoreFault) (r : Result Reply StoreFault) → IsHanded made f r
+          → FetchesAnswered made f o p → FetchesAnswered said r o p
+      go (Ok x) (Ok y) s h = subst (λ it. FetchesShown it o p) (sym s) h
+      go (Err f) (Err g) s h = subst (λ e. FetchesAnswered said (Err e) o p) (sym s) (fault f h)
       go (Ok x) (Err g) s h = absurd s
       go (Err f) (Ok y) s h = absurd s
 

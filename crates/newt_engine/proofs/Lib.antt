@@ -7,6 +7,7 @@ pub mod Refusing
 pub mod Reaching
 pub mod Settling
 pub mod Starting
+pub mod Keeping
 pub mod Obeying
 pub mod Serving
 pub mod Seeing

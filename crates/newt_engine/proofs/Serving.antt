@@ -37,6 +37,7 @@ use Rattle.newt_engine_cursors.specs.World.{world_with}
 use Rattle.newt_engine.specs.Bounds.{CommandCosts, is_format, most_settled}
 use Rattle.newt_engine.specs.Calls.{Fails, FailsHalfway, Obeyed, Served}
 use Rattle.newt_engine.specs.Ends.{takes_memory, uses_device}
+use Rattle.newt_engine.specs.Kept.{KeepsWorld, LeavesAll}
 use Rattle.newt_engine.specs.Standing.{IsStanding, stood_for}
 use Rattle.newt_engine.specs.declared.world.World.{World}
 use Rattle.newt_engine.proofs.Costing.{alone_few, settled_costs, unread_uses_cursor, walks_steps}
@@ -123,9 +124,10 @@ served_fault {reads = reads} laws told old new o p s eight c none fault e =
       costs = λ t. settled_costs old.desk none (e.costs t) (λ goes. goes) refl (λ u. alone-refl u _)
           (λ means. alone_few old.desk (world_of reads old.units o) c o p (whole_known laws told old o s t c none) ((e.costs t).fetched means));
       step = λ t unread. absurd (unread_uses_cursor (stood_for reads old o) c none unread);
-      idle = λ walks nothing. absurd (unread_uses_cursor (stood_for reads old o) c none (walks_steps (stood_for reads old o) c walks));
+      shown = λ walks. absurd (unread_uses_cursor (stood_for reads old o) c none (walks_steps (stood_for reads old o) c walks));
       alone = e.alone;
       broke = at-device-map _ _ fault (λ u b. inl (fails_with c none e.desk b)) e.broke;
+      kept = λ idle. record { units = e.kept idle; desk = λ within. e.desk };
       ends = e.ends;
     }
 
@@ -146,8 +148,8 @@ pub served_ended : {C : Type 0} {reads : List ℕ → Option Store} {place : C �
     → (IsTrue told → let w = stood_for reads old o in Always (Meanwhile reads (due_in old.units.slots.items) w c (answer (seen reads w o.now c) c).0 o.now) o.now p.now)
     → (IsTrue told → let w = stood_for reads old o in CommandCosts {T = S} w c (most_settled w c) (Err fault) o p)
     → Ended {T = S} (Err fault) o p → AtDevice (λ u. Fails reads place stands told c old new o p u ⊎ FailsHalfway reads place stands told c old new o p u) fault
-    → Served reads place stands told c old new o p result
-served_ended {reads = reads} {place} {stands = stands} laws told old new o p s eight c none memory device S fault result h only stand desk moments costs ended broke =
+    → (LeavesAll c (Err fault) → KeepsWorld c old new) → Served reads place stands told c old new o p result
+served_ended {reads = reads} {place} {stands = stands} laws told old new o p s eight c none memory device S fault result h only stand desk moments costs ended broke keeps =
     let answers : IsTrue told → Answers (seen reads (stood_for reads old o) o.now c) (stood_for reads new p) c said (Err fault) = λ t.
     end-answers (seen reads (stood_for reads old o) o.now c) (stood_for reads new p) c said (Err fault) fault (fault, refl, refl) (only t) in
     let over : Ended {T = Reply} (Err fault) o p = handed-ends (Err fault) (fault, refl, refl) ended in
@@ -159,9 +161,10 @@ served_ended {reads = reads} {place} {stands = stands} laws told old new o p s e
       moments = moments;
       costs = λ t. let k = costs t in record { bound = k.bound; format = k.format; fetched = k.fetched; open_after = λ goes. k.open_after (fault-goes {T = Reply} S (Err fault) (fault, refl, refl) goes) };
       step = λ t unread. absurd (unread_uses_cursor (stood_for reads old o) c none unread);
-      idle = λ walks nothing. absurd (unread_uses_cursor (stood_for reads old o) c none (walks_steps (stood_for reads old o) c walks));
+      shown = λ walks. absurd (unread_uses_cursor (stood_for reads old o) c none (walks_steps (stood_for reads old o) c walks));
       alone = over.alone;
       broke = broke;
+      kept = keeps;
       ends = record {
         cause = over.cause;
         no_fault = over.no_fault;

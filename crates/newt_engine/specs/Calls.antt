@@ -30,16 +30,17 @@ use Rattle.newt_engine_card.specs.Bounds.{IsOpenOrSame, ProgramsAtMost}
 use Rattle.newt_engine_units.specs.Answers.{Answers}
 use Rattle.newt_engine_units.specs.Breaks.{AtDevice, FailsAlone, HasStoreToFormat, Meanwhile}
 use Rattle.newt_engine_units.specs.Calls.{AreRead, BreaksIn, Ended}
+use Rattle.newt_engine_units.specs.Kept.{KeepsUnits}
 use Rattle.newt_engine_units.specs.Stands.{Eight, Stands, StandsBut, due_in, is_due, world_of}
-use Rattle.newt_engine_cursors.specs.Calls.{ShowsNothing}
+use Rattle.newt_engine_cursors.specs.Calls.{FetchesAnswered, FetchesShown}
 use Rattle.newt_engine_cursors.specs.Fits.{DeskFits}
 use Rattle.newt_engine_cursors.specs.Reached.{in_reach}
-use Rattle.newt_engine_cursors.specs.Replies.{shows_nothing}
 use Rattle.newt_engine_cursors.specs.Unread.{steps_unread, walks_unread}
 use Rattle.newt_engine_cursors.specs.World.{world_with}
 use Rattle.newt_engine.specs.Bounds.{CommandCosts, is_format, most_formatted, most_settled}
 use Rattle.newt_engine.specs.Bounds.{most_stepped}
 use Rattle.newt_engine.specs.Ends.{takes_memory, uses_device}
+use Rattle.newt_engine.specs.Kept.{KeepsWorld, LeavesAll, leaves_all}
 use Rattle.newt_engine.specs.Standing.{Standing, means, stood_for}
 use Rattle.newt_engine.specs.declared.world.World.{World}
 use Rattle.std.specs.declared.alloc.AllocError.{AllocError}
@@ -82,6 +83,9 @@ module _ {C : Type 0} (reads : List ℕ → Option Store) (place : C → ℕ)
     pub alone : OnDevices before after
     pub broke : IfErr result
         (AtDevice (BreaksIn reads place standing told command old.units new.units before after))
+    pub kept : LeavesAll command result → KeepsUnits (looks_at command) old.units new.units
+    pub busy : moves_keys command ≡ true
+        → IfOk result (λ it. leaves_all command (said it) ≡ false)
     pub ends : CommandEnds command before after result
 
   -- A command that uses no device, by the world without cursors, whatever the devices hold: the
@@ -99,6 +103,7 @@ module _ {C : Type 0} (reads : List ℕ → Option Store) (place : C → ℕ)
     pub desk : new.desk ≡ old.desk
     pub device : IfErr result (λ fault. NoDevice fault)
     pub quiet : IfOk result (λ it. IsNotThrown it)
+    pub kept : LeavesAll command result → new.units ≡ old.units
     pub ends : takes_memory command ≡ false → IfErr result (λ fault. IsRefusal fault)
 
   -- The cursors that are reached are settled, and a reply is handed on; or the run ends. Devices
@@ -132,10 +137,11 @@ module _ {C : Type 0} (reads : List ℕ → Option Store) (place : C → ℕ)
     pub fetches : IsTrue told → let w = world_with reads old.units old.desk before in
         MountedApart w → IsSettled w → steps_unread w command ≡ true
         → FetchesAtMost (most_stepped w command) before after
-    pub idle : walks_unread old.desk command ≡ true → ShowsNothing said result
-        → FetchesAtMost (λ u. 0) before after
+    pub shown : walks_unread old.desk command ≡ true
+        → FetchesAnswered said result before after
     pub failed : IfErr result (AtDevice (FailsAlone before after))
     pub kept : IfErr result (AtDevice (λ u. new.desk ≡ old.desk))
+    pub refused : LeavesAll command result → new.desk ≡ old.desk
     pub ends : CommandEnds command before after result
 
   -- What stands where the device of a unit has failed in a command: but for that unit all is as it
@@ -179,11 +185,12 @@ module _ {C : Type 0} (reads : List ℕ → Option Store) (place : C → ℕ)
         CommandCosts w command (most_settled w command) result before after
     pub step : IsTrue told → let w = world_with reads old.units old.desk before in
         steps_unread w command ≡ true → FetchesAtMost (most_stepped w command) before after
-    pub idle : walks_unread old.desk command ≡ true → ShowsNothing said result
-        → FetchesAtMost (λ u. 0) before after
+    pub shown : walks_unread old.desk command ≡ true
+        → FetchesAnswered said result before after
     pub alone : OnDevices before after
     pub broke : IfErr result (AtDevice (λ u. Fails told command old new before after u
         ⊎ FailsHalfway told command old new before after u))
+    pub kept : LeavesAll command result → KeepsWorld command old new
     pub ends : CommandEnds command before after result
 
 module _ {C : Type 0} (reads : List ℕ → Option Store) where
@@ -192,11 +199,11 @@ module _ {C : Type 0} (reads : List ℕ → Option Store) where
   -- and is synced twice at most, and a format wears once; where the command is one of entries, for
   -- each page of those that it means 1024 bytes at most are fetched there; one that opens, shows,
   -- moves or counts a cursor whose query asks for no words or texts fetches 512 for each page of
-  -- the entry that it answers, and where it shows nothing of an entry, nothing, also where the host
-  -- tells no bytes. After a reply each bank is not closed or is as it was, but for a
-  -- unit that was thrown out. No fault was counted but of a unit that the reply says was thrown
-  -- out, and of that one a fault was; want of memory hides none, and only what may take memory ends
-  -- in it; and only what uses a device throws a unit out.
+  -- the entry that it answers, and nothing where it answers none: where the host tells no bytes, by
+  -- the reply that is given, and of a cursor that is open. After a reply each bank is not closed or
+  -- is as it was, but for a unit that was thrown out. No fault was counted but of a unit that the
+  -- reply says was thrown out, and of that one a fault was; want of memory hides none, and only what
+  -- may take memory ends in it; and only what uses a device throws a unit out.
   pub record Finished (told : Bool) (command : Command) (old : World C) (before after : Outside) (result : Result Reply AllocError) : Type 0 where
     pub alone : OnDevices before after
     pub bound : IsTrue told → is_format command ≡ false → (u : ℕ) → ProgramsAtMost (most_programmed (stood_for reads old before) command u) u before after
@@ -204,8 +211,8 @@ module _ {C : Type 0} (reads : List ℕ → Option Store) where
         → FormatsOnce (most_formatted command) 10 u before after
     pub settling : IsTrue told → means_entries command ≡ true → let w = stood_for reads old before in FetchesWithin (most_programmed w command) (most_settled w command) before after
     pub step : IsTrue told → let w = stood_for reads old before in steps_unread w command ≡ true → FetchesAtMost (most_stepped w command) before after
-    pub idle : walks_unread old.desk command ≡ true
-        → IfOk result (λ it. shows_nothing (said it) ≡ true → FetchesAtMost (λ u. 0) before after)
+    pub shown : walks_unread old.desk command ≡ true
+        → IfOk result (λ it. IsNotThrown it → FetchesShown (said it) before after)
     pub open_after : IsTrue told → IfOk result (λ it. (u : ℕ) → it ≢ reply.Thrown u → IsOpenOrSame u before.now after.now)
     pub threw : IfOk result (λ it. Threw (said it) before.dev_faults after.dev_faults)
     pub failed : IfOk result (λ it. Failed (said it) before.dev_faults after.dev_faults)
@@ -220,7 +227,7 @@ module _ {C : Type 0} (reads : List ℕ → Option Store) (place : C → ℕ)
   -- one that it stands for; at each moment a crash leaves each unit as in the one or in the other;
   -- and for the whole, which asks commands in turn: where no unit was thrown out, the known world is
   -- answered too; nothing has happened to a unit that the command leaves alone; and a refusal leaves
-  -- the world as the command saw it.
+  -- the world as the command saw it; whatever the host tells, what is known in memory stays then.
   pub record Applied (told : Bool) (command : Command) (old new : World C)
       (before after : Outside) (result : Result Reply AllocError) : Type 0 where
     pub stands : OnOk result (Standing reads place standing told new.units new.desk after)
@@ -237,3 +244,5 @@ module _ {C : Type 0} (reads : List ℕ → Option Store) (place : C → ℕ)
     pub refused : IsTrue told → (refusal : Refusal) → result ≡ Ok (reply.Refused refusal)
         → (w : plain.World) → means reads old before w
         → means reads new after (seen reads w before.now command)
+    pub kept : IfOk result
+        (λ it. leaves_all command (said it) ≡ true → KeepsWorld command old new)

@@ -4,4 +4,5 @@ pub mod Ends
 pub mod Handed
 pub mod Standing
 pub mod Laws
+pub mod Kept
 pub mod Calls

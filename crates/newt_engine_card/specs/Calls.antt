@@ -83,6 +83,9 @@ module _ {C : Type 0} (reads : List ℕ → Option Store) (place : C → ℕ) (s
     pub same_soups : soups new ≡ soups old
     pub found : IsTrue told → (s : Store) → reads (image (place old) before.now) ≡ Some s → IfOk result (λ found. entry_said found ≡ entry_at soup uid s)
     pub costs : IsTrue told → (s : Store) → reads (image (place old) before.now) ≡ Some s → Spends (place old) 0 (512 * pages_of_entry (entry_at soup uid s)) before after
+    -- over every host: 512 bytes for each page of the entry that is read, and nothing where none is
+    pub pages : IfOk result (λ found.
+        Spends (place old) 0 (512 * pages_of_entry (entry_said found)) before after)
     pub looks : OnlyReads (place old) before after
     pub cause : IfErr result (StopsAt (place old) before after)
     pub no_fault : OnOk result (NoFault before after)

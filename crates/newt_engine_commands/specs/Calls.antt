@@ -1,5 +1,5 @@
 -- What the calls promise that move an entry. All of it is this project's own.
-use Rattle.std.specs.Prelude.{◌≡◌, ℕ, Bool, false, IsTrue, List, Option, Result, IfErr}
+use Rattle.std.specs.Prelude.{◌≡◌, ℕ, Bool, false, IsTrue, List, Option, None, Result, IfErr}
 use Rattle.newt_host.specs.Moments.{Always}
 use Rattle.newt_host.specs.Outside.{Outside}
 use Rattle.newt_spec_store.specs.Store.{Store}
@@ -13,6 +13,7 @@ use Rattle.newt_engine_units.specs.Answers.{Answers}
 use Rattle.newt_engine_units.specs.Breaks.{AtDevice, Meanwhile}
 use Rattle.newt_engine_units.specs.Calls.{Breaks, CostsOf, Ended}
 use Rattle.newt_engine_units.specs.Found.{HasSoup}
+use Rattle.newt_engine_units.specs.Kept.{KeepsUnits}
 use Rattle.newt_engine_units.specs.Stands.{Stands, due_in, world_of}
 use Rattle.newt_engine_units.specs.declared.units.Units.{Units}
 
@@ -30,10 +31,11 @@ module _ {C : Type 0} (reads : List ℕ → Option Store) where
 
 module _ {C : Type 0} (reads : List ℕ → Option Store) (place : C → ℕ) (standing : Bool → C → Outside → Type 0) where
   -- An entry is moved from one soup of a mounted store to another, each given by its signature: as
-  -- the command by any names of these two.
+  -- the command by any names of these two. What is known in memory of the units is as it was.
   pub record MovesWithin (told : Bool) (unit soup uid into : ℕ) (old new : Units C) (before after : Outside) (result : Result ℕ StoreFault) : Type 0 where
     pub stands : GoesOn result → Stands place standing told new after
     pub moved : IsTrue told → let w = world_of reads old before in (name target : List ℕ) → HasSoup w unit name soup → HasSoup w unit target into
         → MovesNamed reads unit name uid target old new before after result
     pub ends : Ended result before after
     pub broke : IfErr result (AtDevice (λ u. (u ≡ unit) × Breaks reads place standing told old new before after u))
+    pub kept : KeepsUnits None old new

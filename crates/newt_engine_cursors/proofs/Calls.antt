@@ -1,6 +1,6 @@
 -- Calls on cursors, one after another.
 use Rattle.std.proofs.Common.{arith, ◌≡◌, refl, sym, ◌∙◌, ◌*◌, ap, subst, Bool, true, false, List, Option, Some, None, ℕ, IsTrue}
-use Rattle.std.specs.Prelude.{Result, Ok, Err, IfErr, IfOk, not}
+use Rattle.std.specs.Prelude.{Result, Ok, Err, IfErr, if◌then◌else◌, not}
 use Rattle.newt_host.specs.Outside.{Outside, NoFault}
 use Rattle.newt_host.proofs.Outside.{NoFault-refl}
 use Rattle.newt_pagebook.specs.declared.book.Stop.{Stop}
@@ -18,7 +18,7 @@ use Rattle.newt_engine_units.specs.Answers.{Answers}
 use Rattle.newt_laws_world.specs.Cursors.{with_cursors}
 use Rattle.newt_store_change.specs.Faults.{NoDevice}
 use Rattle.newt_store_change.specs.declared.fault.StoreFault.{StoreFault}
-use Rattle.newt_store_change.specs.declared.fault.StoreFault.TheVariants.{Stop as Ends}
+use Rattle.newt_store_change.specs.declared.fault.StoreFault.TheVariants.{Refused, Stop as Ends}
 use Rattle.newt_engine_units.specs.Breaks.{AtStop}
 use Rattle.newt_engine_units.specs.Calls.{AreRead}
 use Rattle.newt_engine_units.specs.Stands.{Stands}
@@ -27,7 +27,7 @@ use Rattle.newt_engine_units.proofs.Broken.{none-devices}
 use Rattle.newt_engine_units.proofs.Obeying.{none-cause}
 use Rattle.newt_engine_hits.specs.Calls.{IsReading}
 use Rattle.newt_engine_hits.proofs.Reading.{asked-read, not-read, read-then, cause-since, failed-since, read-more}
-use Rattle.newt_engine_cursors.specs.Calls.{Settles, ShowsNothing, Turns, Walks}
+use Rattle.newt_engine_cursors.specs.Calls.{FetchesAnswered, Settles, Turns, Walks}
 use Rattle.newt_engine_cursors.specs.Unread.{is_unread, steps_unread, walks_unread}
 use Rattle.newt_query.specs.Filter.{asks_texts}
 use Rattle.newt_spec_graph.proofs.Lists.{some-same, none-some}
@@ -45,19 +45,25 @@ unread-query (Some j) k e h = ap (λ (x : Cursor). asks_texts x.query.spec) (som
     not-true true h = cc
     not-true false h = refl
 
--- ---- where nothing is shown
+-- so many pages of one unit
+pub on-unit : (this : Bool) (n : ℕ) → (if this then 512 * n else 0) ≡ 512 * (if this then n else 0)
+on-unit true n = refl
+on-unit false n = refl
 
--- the run has ended, and not with an answer
-pub ended-shows : {T P : Type 0} (reply : T → Reply) {stop : Stop} (r : Result T StoreFault) → (e : StoreFault) × (r ≡ Err e) × (e ≡ Ends stop) → ShowsNothing reply r → P
-ended-shows {T} reply r e shows = absurd (subst (λ (r : Result T StoreFault). ShowsNothing reply r) (e.1 ∙ ap {B = Result T StoreFault} (λ e. Err e) e.2) shows)
+-- where the run has ended nothing is said
+pub ended-fetches : {T : Type 0} (reply : T → Reply) (o p : Outside) {stop : Stop}
+    (r : Result T StoreFault) → (e : StoreFault) × (r ≡ Err e) × (e ≡ Ends stop)
+    → FetchesAnswered reply r o p
+ended-fetches {T} reply o p r e =
+    subst (λ (r : Result T StoreFault). FetchesAnswered reply r o p)
+    (sym (e.1 ∙ ap {B = Result T StoreFault} (λ e. Err e) e.2)) tt
 
--- an entry is shown, or that it is gone
-pub some-shown : {T : Type 0} (P : Type 0) (shows : T → Bool) (r : Result T Stop) → IfOk r (λ it. shows it ≡ false) → IfOk r (λ it. shows it ≡ true → P)
-some-shown P shows (Ok it) hides = λ yes. absurd (both (shows it) yes hides)
-  where
-    both : (b : Bool) → b ≡ true → b ≡ false → ⊥
-    both b h k = cc
-some-shown P shows (Err stop) hides = tt
+-- nothing was fetched
+pub answers-none : {T : Type 0} (reply : T → Reply) (o : Outside) (r : Result T StoreFault)
+    → FetchesAnswered reply r o o
+answers-none reply o (Ok it) = λ u. omega arith
+answers-none reply o (Err (Refused refusal)) = λ u. omega arith
+answers-none reply o (Err (Ends stop)) = tt
 
 -- ---- a device that fails
 
@@ -80,6 +86,7 @@ module _ {C : Type 0} {reads : List ℕ → Option Store} {place : C → ℕ} {s
     cause = none-cause result o o (NoFault-refl o) none;
     failed = none-devices _ result none;
     kept = none-devices _ result none;
+    refused = λ no. refl;
     no_fault = λ goes. NoFault-refl o;
   }
 
@@ -94,6 +101,7 @@ module _ {C : Type 0} {reads : List ℕ → Option Store} {place : C → ℕ} {s
     cause = none-cause result o q f none;
     failed = none-devices _ result none;
     kept = none-devices _ result none;
+    refused = λ no. refl;
     no_fault = λ goes. f;
   }
 
@@ -102,7 +110,7 @@ module _ {C : Type 0} {reads : List ℕ → Option Store} {place : C → ℕ} {s
       → Settles reads place stands told one units later was is o q (Ok x)
       → (IsTrue told → let w = world_with reads units was o in let v = world_with reads later is q in MountedApart w → one w v → other w v)
       → Turns reads place stands told other units later was is o q (Ok y)
-  turns-settled a same = record { read = a.read; desk = a.desk; turned = λ t apart. same t apart (a.settled t apart); cause = tt; failed = tt; kept = tt; no_fault = λ goes. a.no_fault }
+  turns-settled a same = record { read = a.read; desk = a.desk; turned = λ t apart. same t apart (a.settled t apart); cause = tt; failed = tt; kept = tt; refused = λ no. absurd no; no_fault = λ goes. a.no_fault }
 
   -- that ends the run where it read
   pub turns-end : {S T : Type 0} {asks : Bool} (becomes : Result T StoreFault → World → World → Type 0) {stop : Stop} {later : Units C} {is : List (Option Cursor)} {q : Outside}
@@ -111,7 +119,7 @@ module _ {C : Type 0} {reads : List ℕ → Option Store} {place : C → ℕ} {s
       → ((w v : World) → becomes (Err (Ends stop)) w v) → Turns reads place stands told (becomes r) units later was is o q r
   turns-end {T = T} becomes {stop} {later} {is} {q} a d kept r e ends =
       subst (λ (r : Result T StoreFault). Turns reads place stands told (becomes r) units later was is o q r) (sym (e.1 ∙ ap {B = Result T StoreFault} (λ e. Err e) e.2))
-      (record { read = a.read; desk = d; turned = λ t apart. ends _ _; cause = a.cause; failed = a.failed; kept = kept; no_fault = λ goes. absurd goes })
+      (record { read = a.read; desk = d; turned = λ t apart. ends _ _; cause = a.cause; failed = a.failed; kept = kept; refused = λ no. absurd no; no_fault = λ goes. absurd goes })
 
   -- ---- a command
 
@@ -120,16 +128,18 @@ module _ {C : Type 0} {reads : List ℕ → Option Store} {place : C → ℕ} {s
       → Turns reads place stands told becomes units later was is o q result
       → (IsTrue told → let w = world_with reads units was o in let v = world_with reads later is q in MountedApart w → IsSettled w → becomes w v → Answers w v c reply result)
       → (IsTrue told → let w = world_with reads units was o in MountedApart w → IsSettled w → steps_unread w c ≡ true → FetchesAtMost (λ u. 512 * pages_shown (answer w c).1 u) o q)
-      → (walks_unread was c ≡ true → ShowsNothing reply result → FetchesAtMost (λ u. 0) o q) → Walks reads place stands told c reply units later was is o q result
-  walks-of a answers fetches idle = record {
+      → (walks_unread was c ≡ true → FetchesAnswered reply result o q)
+      → Walks reads place stands told c reply units later was is o q result
+  walks-of a answers fetches shown = record {
     read = a.read;
     desk = a.desk;
     answered = λ t apart settled. answers t apart settled (a.turned t apart);
     fetches = fetches;
-    idle = idle;
+    shown = shown;
     cause = a.cause;
     failed = a.failed;
     kept = a.kept;
+    refused = a.refused;
     no_fault = a.no_fault;
   }
 
@@ -138,7 +148,7 @@ module _ {C : Type 0} {reads : List ℕ → Option Store} {place : C → ℕ} {s
       → IfErr result (λ fault. NoDevice fault) → (IsTrue told → let w = world_with reads units was o in MountedApart w → Answers w w c reply result)
       → Walks reads place stands told c reply units units was was o o result
   stays {c = c} {reply} {result} s d none answers =
-      walks-of (stays-turn {becomes = λ w v. Answers w v c reply result} s d none answers) (λ t apart settled d. d) (λ t apart settled un. (λ u. omega arith)) (λ un nothing u. omega arith)
+      walks-of (stays-turn {becomes = λ w v. Answers w v c reply result} s d none answers) (λ t apart settled d. d) (λ t apart settled un. (λ u. omega arith)) (λ un. answers-none reply o result)
 
   -- ---- a call that settles
 

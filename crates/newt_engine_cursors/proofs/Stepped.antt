@@ -20,7 +20,7 @@ use Rattle.newt_engine_card.specs.Bounds.{FetchesAtMost}
 use Rattle.newt_engine_units.specs.declared.units.Units.{Units}
 use Rattle.newt_engine_units.specs.Stands.{Eight, Stands, due_in, world_of}
 use Rattle.newt_engine_units.proofs.Known.{Laws, at-card, at-none}
-use Rattle.newt_engine_cursors.specs.Calls.{ShowsNothing, Turns, Walks}
+use Rattle.newt_engine_cursors.specs.Calls.{FetchesAnswered, Turns, Walks}
 use Rattle.newt_engine_cursors.specs.Motions.{Steers}
 use Rattle.newt_engine_cursors.specs.Replies.{shown_at, shown_reply}
 use Rattle.newt_engine_cursors.specs.Unread.{is_unread}
@@ -58,11 +58,12 @@ module _ {C : Type 0} {reads : List ℕ → Option Store} {place : C → ℕ} {s
   pub walks-stepped : {c : Command} {n : ℕ} {step : Step} {later : Units C} {is : List (Option Cursor)} {q : Outside} {result : Result Shown StoreFault} → IsStepping c n step
       → Turns reads place stands told (λ w v. Steers w v n step result) units later ks is o q result
       → (IsTrue told → MountedApart w → is_unread (cursor w n) ≡ true → FetchesAtMost (λ u. 512 * pages_shown (shown_at (stepped w n step) n) u) o q)
-      → (is_unread (flat (slice_get ks n)) ≡ true → ShowsNothing shown_reply result → FetchesAtMost (λ u. 0) o q) → Walks reads place stands told c shown_reply units later ks is o q result
-  walks-stepped {c} {n} {step} {result = result} steps turns fetches idle =
+      → (is_unread (flat (slice_get ks n)) ≡ true → FetchesAnswered shown_reply result o q)
+      → Walks reads place stands told c shown_reply units later ks is o q result
+  walks-stepped {c} {n} {step} {result = result} steps turns fetches shown =
       walks-of turns (λ t apart settled d. steered-answers _ _ c n step steps (after t apart settled) result d)
       (λ t apart settled un. (λ u. let e = ap (λ (k : ℕ). 512 * k) (stepped-pages w c n step steps (after t apart settled) u) in let more = (fetches t apart (sym (steps.unread w) ∙ un)) u in omega (arith, e, more)))
-      (λ un. idle (sym (steps.known ks) ∙ un))
+      (λ un. shown (sym (steps.known ks) ∙ un))
     where
       after : IsTrue told → MountedApart w → IsSettled w → IsSettled (stepped w n step)
       after t apart settled = subst IsSettled (steps.does w) (still-settled c t apart settled steps.few)

@@ -1,5 +1,5 @@
 -- What the commands of cursors reply.
-use Rattle.std.specs.Prelude.{ℕ, Bool, true, false}
+use Rattle.std.specs.Prelude.{ℕ}
 use Rattle.newt_spec_world.specs.Answer.{current, or_nil}
 use Rattle.newt_spec_world.specs.Reply.{Reply}
 use Rattle.newt_spec_world.specs.World.{World, cursor}
@@ -43,12 +43,3 @@ entry_reply unit e = Reply.current unit e.uid e.time e.graph
 -- the reply that shows a hit (a word of these definitions)
 abbrev pub hit_reply : Hit → Reply
 hit_reply x = entry_reply x.unit x.entry
-
--- no entry is shown, nor that one is gone (this project's own)
-abbrev pub shows_nothing : Reply → Bool
-shows_nothing Reply.nil = true
-shows_nothing Reply.begin = true
-shows_nothing Reply.«end» = true
-shows_nothing (Reply.number n) = true
-shows_nothing (Reply.refused refusal) = true
-shows_nothing _ = false

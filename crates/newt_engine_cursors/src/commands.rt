@@ -83,6 +83,7 @@ pub fn clone_of(desk: &mut Desk, cursor: u8) -> Result<u8, StoreFault>
         → Answers (with_cursors desk.old w) (with_cursors desk.new w)
         (Command.Clone cursor) (λ n. Reply.number n) result }
     ensures only { IfErr result (λ fault. NoDevice fault) }
+    ensures kept { IfErr result (λ fault. desk.new ≡ desk.old) }
 {
     if desk.query(cursor).is_none() {
         return Err(StoreFault::Refused(Refusal::Cursor));
@@ -102,6 +103,7 @@ pub fn close(desk: &mut Desk, cursor: u8) -> Result<(), StoreFault>
         → Answers (with_cursors desk.old w) (with_cursors desk.new w)
         (Command.Close cursor) (λ _. Reply.done) result }
     ensures only { IfErr result (λ fault. IsRefusal fault) }
+    ensures kept { IfErr result (λ fault. desk.new ≡ desk.old) }
 {
     if desk.query(cursor).is_none() {
         return Err(StoreFault::Refused(Refusal::Cursor));

@@ -7,16 +7,19 @@ ghost use Rattle.newt_spec_store.specs.Store.{Entry as Plain};
 ghost use Rattle.newt_spec_query.specs.Cursor.{on};
 ghost use Rattle.newt_spec_query.specs.Hits.{Query as Asked};
 ghost use Rattle.newt_spec_world.specs.World.{hits_of};
+ghost use Rattle.newt_laws_answers.specs.Faces.{first_showing};
 ghost use Rattle.newt_laws_answers.specs.Fetched.{pages_shown};
 ghost use Rattle.newt_laws_world.specs.Settled.{MountedApart};
 ghost use Rattle.newt_engine_card.specs.Bounds.{FetchesAtMost};
+ghost use Rattle.newt_engine_units.specs.Faces.{faces_of};
 ghost use Rattle.newt_engine_units.specs.Stands.{Stands, world_of};
 ghost use Rattle.newt_engine_hits.specs.Calls.{IsReading};
 ghost use Rattle.newt_engine_hits.specs.Present.{IsPresent, entry_there, fetched_there};
 ghost use Rattle.newt_engine_hits.specs.Present.{Present as Hit};
+ghost use Rattle.newt_engine_cursors.specs.Calls.{FetchesShown};
 ghost use Rattle.newt_engine_cursors.specs.Motions.{IsAmong};
 ghost use Rattle.newt_engine_cursors.specs.Replies.{entry_reply, hit_reply, shown_place};
-ghost use Rattle.newt_engine_cursors.specs.Replies.{shown_reply, shows_nothing};
+ghost use Rattle.newt_engine_cursors.specs.Replies.{shown_reply};
 
 use newt_cursor::{Place, Query};
 use newt_engine_card::Card;
@@ -61,8 +64,8 @@ pub(crate) fn show<C: Card, H: Host>(
     requires { Stands C.place C.stands H.told units.old (H.outside host.old) }
     ensures reading { IsReading C.reads C.place C.stands true H.told units.old units.new
         (H.outside host.old) (H.outside host.new) result }
-    ensures idle { IfOk result (λ shown. shows_nothing (shown_reply shown) ≡ true
-        → FetchesAtMost (λ u. 0) (H.outside host.old) (H.outside host.new)) }
+    ensures pages { asks_texts query.now.spec ≡ false → IfOk result (λ shown.
+        FetchesShown (shown_reply shown) (H.outside host.old) (H.outside host.new)) }
     ensures shown { IsTrue H.told → let w = world_of C.reads units.old (H.outside host.old) in
         let q = query_of query.now in MountedApart w
         → (is_found ≡ true → IsAmong (hits_of w q) (place_of place.now))
@@ -96,7 +99,8 @@ fn show_searched<C: Card, H: Host>(
     requires { Stands C.place C.stands H.told units.old (H.outside host.old) }
     ensures reading { IsReading C.reads C.place C.stands true H.told units.old units.new
         (H.outside host.old) (H.outside host.new) result }
-    ensures shows { IfOk result (λ shown. shows_nothing (shown_reply shown) ≡ false) }
+    ensures pages { asks_texts query.now.spec ≡ false → IfOk result (λ shown.
+        FetchesShown (shown_reply shown) (H.outside host.old) (H.outside host.new)) }
     ensures shown { IsTrue H.told → let w = world_of C.reads units.old (H.outside host.old) in
         let reply = shown_place w (query_of query.now) (on (spot_hit spot.now)) in
         MountedApart w → IfOk result (λ shown. shown_reply shown ≡ reply) }
@@ -120,7 +124,8 @@ fn show_found<C: Card, H: Host>(
     requires { Stands C.place C.stands H.told units.old (H.outside host.old) }
     ensures reading { IsReading C.reads C.place C.stands true H.told units.old units.new
         (H.outside host.old) (H.outside host.new) result }
-    ensures shows { IfOk result (λ shown. shows_nothing (shown_reply shown) ≡ false) }
+    ensures pages { IfOk result (λ shown.
+        FetchesShown (shown_reply shown) (H.outside host.old) (H.outside host.new)) }
     ensures shown { IsTrue H.told → let w = world_of C.reads units.old (H.outside host.old) in
         let at = on (spot_hit spot.now) in MountedApart w → (q : Asked) → IsAmong (hits_of w q) at
         → IfOk result (λ shown. shown_reply shown ≡ shown_place w q at) }
@@ -145,7 +150,9 @@ fn show_hit<C: Card, H: Host>(
     requires { Stands C.place C.stands H.told units.old (H.outside host.old) }
     ensures reading { IsReading C.reads C.place C.stands true H.told units.old units.new
         (H.outside host.old) (H.outside host.new) result }
-    ensures shows { IfOk result (λ shown. shows_nothing (shown_reply shown) ≡ false) }
+    ensures pages { first_showing spot.now.store (faces_of C.soups units.old) ≡ Some hit.unit
+        → IfOk result (λ shown.
+        FetchesShown (shown_reply shown) (H.outside host.old) (H.outside host.new)) }
     ensures shown { IsTrue H.told → let w = world_of C.reads units.old (H.outside host.old) in
         (x : Hit) → IsPresent (Some hit) (Some x)
         → entry_there w spot.now.store spot.now.soup spot.now.uid ≡ Some x.entry
@@ -171,7 +178,9 @@ fn read_and_show<C: Card, H: Host>(
     requires { Stands C.place C.stands H.told units.old (H.outside host.old) }
     ensures reading { IsReading C.reads C.place C.stands true H.told units.old units.new
         (H.outside host.old) (H.outside host.new) result }
-    ensures shows { IfOk result (λ shown. shows_nothing (shown_reply shown) ≡ false) }
+    ensures pages { first_showing spot.now.store (faces_of C.soups units.old) ≡ Some unit
+        → IfOk result (λ shown.
+        FetchesShown (shown_reply shown) (H.outside host.old) (H.outside host.new)) }
     ensures shown { IsTrue H.told → let w = world_of C.reads units.old (H.outside host.old) in
         (e : Plain) → entry_there w spot.now.store spot.now.soup spot.now.uid ≡ Some e
         → IfOk result (λ shown. shown_reply shown ≡ entry_reply unit e) }

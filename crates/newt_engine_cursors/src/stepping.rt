@@ -20,11 +20,12 @@ ghost use Rattle.newt_engine_cursors.specs.Fits.{DeskFits};
 ghost use Rattle.newt_engine_hits.specs.Fits.{PlaceFits};
 ghost use Rattle.newt_engine_cursors.specs.Motions.{CanMove, ComesAmong, MotionFits, Steers};
 ghost use Rattle.newt_engine_cursors.specs.Motions.{leads_to_hits, step_of};
-ghost use Rattle.newt_engine_cursors.specs.Replies.{shown_at, shown_reply, shows_nothing};
+ghost use Rattle.newt_engine_cursors.specs.Replies.{shown_at, shown_reply};
 ghost use Rattle.newt_engine_cursors.specs.Unread.{is_unread};
 ghost use Rattle.newt_engine_cursors.specs.World.{world_with};
 ghost use Rattle.newt_engine_hits.specs.Calls.{IsReading};
-ghost use Rattle.newt_engine_cursors.specs.Calls.{Settles, Shows, ShowsNothing, Turns, Walks};
+ghost use Rattle.newt_engine_cursors.specs.Calls.{FetchesAnswered, FetchesShown, Settles};
+ghost use Rattle.newt_engine_cursors.specs.Calls.{Shows, Turns, Walks};
 
 use crate::desks::open_cursor;
 use crate::show::{Shown, show};
@@ -195,9 +196,8 @@ fn steer<C: Card, H: Host>(
     ensures turns { Turns C.reads C.place C.stands H.told
         (λ w v. Steers w v cursor (step_of motion) result) units.old units.new
         desk.old desk.new (H.outside host.old) (H.outside host.new) result }
-    ensures idle { is_unread (flat (slice_get desk.old cursor)) ≡ true
-        → ShowsNothing shown_reply result
-        → FetchesAtMost (λ u. 0) (H.outside host.old) (H.outside host.new) }
+    ensures pages { is_unread (flat (slice_get desk.old cursor)) ≡ true
+        → FetchesAnswered shown_reply result (H.outside host.old) (H.outside host.new) }
     ensures fetches { IsTrue H.told
         → let w = world_with C.reads units.old desk.old (H.outside host.old) in MountedApart w
         → is_unread (flat (slice_get desk.old cursor)) ≡ true → FetchesAtMost
@@ -264,8 +264,8 @@ fn move_to<C: Card, H: Host>(
     ensures moved { Settles C.reads C.place C.stands H.told
         (λ w v. IfOk result (Shows (set_place w cursor (place_of place)) v cursor))
         units.old units.new desk.old desk.new (H.outside host.old) (H.outside host.new) result }
-    ensures idle { IfOk result (λ shown. shows_nothing (shown_reply shown) ≡ true
-        → FetchesAtMost (λ u. 0) (H.outside host.old) (H.outside host.new)) }
+    ensures pages { is_unread (flat (slice_get desk.old cursor)) ≡ true → IfOk result (λ shown.
+        FetchesShown (shown_reply shown) (H.outside host.old) (H.outside host.new)) }
     ensures fetches { IsTrue H.told
         → let w = world_with C.reads units.old desk.old (H.outside host.old) in MountedApart w
         → is_unread (flat (slice_get desk.old cursor)) ≡ true → FetchesAtMost
@@ -293,8 +293,8 @@ fn come_to<C: Card, H: Host>(
         (λ w v. (is_found ≡ true → ComesAmong w cursor (place_of place))
         → IfOk result (Shows (set_place w cursor (place_of place)) v cursor))
         units.old units.new desk.old desk.new (H.outside host.old) (H.outside host.new) result }
-    ensures idle { IfOk result (λ shown. shows_nothing (shown_reply shown) ≡ true
-        → FetchesAtMost (λ u. 0) (H.outside host.old) (H.outside host.new)) }
+    ensures pages { is_unread (flat (slice_get desk.old cursor)) ≡ true → IfOk result (λ shown.
+        FetchesShown (shown_reply shown) (H.outside host.old) (H.outside host.new)) }
     ensures fetches { IsTrue H.told
         → let w = world_with C.reads units.old desk.old (H.outside host.old) in MountedApart w
         → (is_found ≡ true → ComesAmong w cursor (place_of place)) → is_unread (flat (slice_get desk.old cursor)) ≡ true → FetchesAtMost

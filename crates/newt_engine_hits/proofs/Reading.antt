@@ -41,7 +41,7 @@ asked-read is e = absurd (both is e)
 module _ {C : Type 0} {reads : List ℕ → Option Store} {place : C → ℕ} {stands : Bool → C → Outside → Type 0} {told : Bool} where
   -- nothing was read
   pub not-read : {units : Units C} {o : Outside} → Stands place stands told units o → AreRead reads place stands told units units o o
-  not-read {units} {o} s = record { stand = s; world = λ t. refl; marks = λ u. refl; dues = λ u. refl; moment = refl; untouched = λ u. alone-refl u o; alone = OnDevices-refl o }
+  not-read {units} {o} s = record { stand = s; world = λ t. refl; marks = λ u. refl; dues = λ u. refl; default = refl; minute = refl; moment = refl; untouched = λ u. alone-refl u o; alone = OnDevices-refl o }
 
   -- one call after another
   pub then-unread : {asks : Bool} {units mid later : Units C} {o p q : Outside} → AreRead reads place stands told units mid o p → AreRead reads place stands told mid later p q
@@ -55,6 +55,8 @@ module _ {C : Type 0} {reads : List ℕ → Option Store} {place : C → ℕ} {s
     world = λ t. b.world t ∙ a.world t;
     marks = λ u. b.marks u ∙ a.marks u;
     dues = λ u. b.dues u ∙ a.dues u;
+    default = b.default ∙ a.default;
+    minute = b.minute ∙ a.minute;
     moment = b.moment ∙ a.moment;
     untouched = λ u. alone-append (a.untouched u) (b.untouched u);
     alone = OnDevices-append a.alone b.alone;

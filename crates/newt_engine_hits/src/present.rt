@@ -14,8 +14,10 @@ ghost use Rattle.newt_laws_answers.specs.There.{OnUnit};
 ghost use Rattle.newt_laws_hits.specs.Located.{takes_part};
 ghost use Rattle.newt_laws_hits.specs.Taking.{declared};
 ghost use Rattle.newt_spec_world.specs.World.{mounted_store};
-ghost use Rattle.newt_engine_card.specs.Bounds.{FetchesAtMost};
+ghost use Rattle.newt_laws_answers.specs.Faces.{first_showing};
+ghost use Rattle.newt_engine_card.specs.Bounds.{FetchesAtMost, of_unit};
 ghost use Rattle.newt_engine_units.specs.Breaks.{AtStop};
+ghost use Rattle.newt_engine_units.specs.Faces.{faces_of};
 ghost use Rattle.newt_engine_units.specs.Stands.{Eight, Stands, world_of};
 ghost use Rattle.newt_store_change.specs.Change.{pages_of_entry};
 ghost use Rattle.newt_store_change.specs.Entries.{entry_said};
@@ -62,6 +64,8 @@ pub fn find_hit<C: Card, H: Host>(
         MountedApart w → IfOk result (λ found. IsPresent found
         (present_in w (query_of query.now) (identity store soup uid))) }
     ensures key { IfOk result (λ found. IfSome found (λ p. IsKeyOf query.now.spec.index p.key)) }
+    ensures unit { IfOk result (λ found. IfSome found (λ p.
+        first_showing store (faces_of C.soups units.new) ≡ Some p.unit)) }
     ensures own { IsTrue H.told → let w = world_of C.reads units.old (H.outside host.old) in
         IfErr result (AtStop (λ u. has_sig store (mounted_store w u) ≡ true)) }
 {
@@ -124,6 +128,10 @@ pub fn read_entry<C: Card, H: Host>(
         FetchesAtMost (λ u. 512 * pages_of_entry
         (entry_in_store store soup uid (mounted_store w u)))
         (H.outside host.old) (H.outside host.new) }
+    ensures pages { (unit : ℕ) → first_showing store (faces_of C.soups units.old) ≡ Some unit
+        → IfOk result (λ found. FetchesAtMost
+        (of_unit unit (512 * pages_of_entry (entry_said found)))
+        (H.outside host.old) (H.outside host.new)) }
     ensures own { IsTrue H.told → let w = world_of C.reads units.old (H.outside host.old) in
         IfErr result (AtStop (λ u. has_sig store (mounted_store w u) ≡ true)) }
 {
@@ -144,6 +152,8 @@ pub fn hit_key<C: Card>(
     entry: &Option<Entry>,
 ) -> Result<Option<(Unit, Key)>, AllocError>
     ensures key { IfOk result (λ found. IfSome found (λ x. IsKeyOf query.now.spec.index x.1)) }
+    ensures unit { IfOk result (λ found. IfSome found (λ x.
+        first_showing store (faces_of C.soups units.now) ≡ Some x.0)) }
     ensures found { (outside : Outside) → Eight outside
         → Stands C.place C.stands true units.now outside →
         let w = world_of C.reads units.now outside in MountedApart w

@@ -278,6 +278,8 @@ module _ {C : Type 0} {reads : List ℕ → Option Store} {place : C → ℕ} {s
     world = λ t. call-still reads c looks.moment;
     marks = λ j. marks units (later units n slot next) u card next (replaced c) j;
     dues = λ j. dues units (later units n slot next) u card next (replaced c) j;
+    default = refl;
+    minute = refl;
     moment = looks.moment;
     untouched = all-alone looks;
     alone = on-devices looks.alone;
@@ -310,6 +312,8 @@ read-still reads {place} {stands} kept durable {told} {units} {u} {o} {p} looks 
   world = λ t. world-still reads units o p looks.alone.cards (λ j. ap (changes j) looks.moment);
   marks = λ j. refl;
   dues = λ j. refl;
+  default = refl;
+  minute = refl;
   moment = looks.moment;
   untouched = all-alone looks;
   alone = on-devices looks.alone;

@@ -14,5 +14,6 @@ pub mod Mounts
 pub mod Rows
 pub mod Resolving
 pub mod Costs
+pub mod Keeping
 pub mod Obeying
 pub mod Sure

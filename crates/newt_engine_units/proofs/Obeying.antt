@@ -27,6 +27,7 @@ use Rattle.newt_engine_units.specs.Stands.{Stands, world_of}
 use Rattle.newt_engine_units.specs.declared.units.Units.{Units}
 use Rattle.newt_engine_units.proofs.Broken.{err-device-map, fails-after, none-devices}
 use Rattle.newt_engine_units.proofs.Costs.{costs-of, idle-costs, read-costs}
+use Rattle.newt_engine_units.proofs.Keeping.{keeps-refl, read-keeps}
 use Rattle.newt_engine_units.proofs.Settings.{Setting, is-err, still}
 use Rattle.newt_engine_units.proofs.Slots.{but-of}
 
@@ -158,6 +159,7 @@ module _ {C : Type 0} {reads : List ℕ → Option Store} {place : C → ℕ} {s
     cause = none-cause result o o (NoFault-refl o) none;
     broke = none-devices _ result none;
     no_fault = λ goes. NoFault-refl o;
+    kept = λ idle. keeps-refl units;
   }
 
   -- the same with a fault that is handed on
@@ -177,6 +179,7 @@ module _ {C : Type 0} {reads : List ℕ → Option Store} {place : C → ℕ} {s
     cause = ends.cause;
     broke = err-device-map _ _ result (λ u f. read-breaks c looks f) ends.failed;
     no_fault = ends.no_fault;
+    kept = λ idle. read-keeps looks;
   }
 
 -- a fault is handed on by a command that answers in other words
@@ -191,6 +194,7 @@ fault-obeys (Refused refusal) e = record {
   cause = e.cause;
   broke = tt;
   no_fault = λ goes. e.no_fault tt;
+  kept = λ idle. e.kept tt;
 }
 fault-obeys (Stop stop) e = record {
   stands = λ goes. absurd goes;
@@ -201,4 +205,5 @@ fault-obeys (Stop stop) e = record {
   cause = e.cause;
   broke = e.broke;
   no_fault = λ goes. absurd goes;
+  kept = λ idle. absurd idle;
 }

@@ -28,6 +28,7 @@ use Rattle.newt_engine_units.specs.declared.units.Units.{Units}
 use Rattle.newt_engine_units.specs.Answers.{Answers}
 use Rattle.newt_engine_units.specs.Breaks.{AtDevice, FailsAlone, HasStoreToFormat, IsLeftAs, Meanwhile}
 use Rattle.newt_engine_units.specs.Calls.{AreRead, Breaks, BreaksIn, Ended, MakesSure, Obeys}
+use Rattle.newt_engine_units.specs.Kept.{IsIdle, KeepsUnits}
 use Rattle.newt_engine_units.specs.Looks.{IsFree, has_device}
 use Rattle.newt_engine_units.specs.Stands.{card_of, due_in, is_due, mounted_in, world_of, Stands, Eight}
 use Rattle.newt_engine_units.proofs.Broken.{fails-after, thrown-changed}
@@ -36,6 +37,7 @@ use Rattle.newt_engine_units.proofs.Left.{left-after, left-same}
 use Rattle.newt_engine_units.proofs.Known.{at-card, at-none, look-known}
 use Rattle.newt_engine_units.proofs.Marked.{attached-slot, due-here, due-other, mark-here, mark-other, slot-here, stands-marked, world-slot}
 use Rattle.newt_engine_units.proofs.Costs.{synced-costs}
+use Rattle.newt_engine_units.proofs.Keeping.{keeps-refl}
 use Rattle.newt_engine_units.proofs.Obeying.{ends-after, still-breaks}
 use Rattle.newt_engine_units.proofs.Settings.{Setting, stand-told, still}
 use Rattle.newt_engine_units.proofs.Slots.{but-beside, but-of, durable-same, stands-still}
@@ -158,6 +160,14 @@ module _ {C : Type 0} {reads : List ℕ → Option Store} {place : C → ℕ} {s
       go : (j ≡ u) ⊎ (j ≡ u → ⊥) → due_in mid.slots.items j ≡ due_in units.slots.items j
       go (inl e) = ap (due_in mid.slots.items) e ∙ now-sure ∙ sym due ∙ ap (due_in units.slots.items) (sym e)
       go (inr other) = due-other units mid u sure-slot made.slots j other
+
+  -- what is known in memory is but for that
+  pub sure-keeps : KeepsUnits (Some u) units mid
+  sure-keeps = record { marks = marks-same; dues = λ j sure. go j sure (same-or-not j u); default = made.default; minute = made.minute }
+    where
+      go : (j : ℕ) → (Some u ≡ Some j → due_in units.slots.items j ≡ false) → (j ≡ u) ⊎ (j ≡ u → ⊥) → due_in mid.slots.items j ≡ due_in units.slots.items j
+      go j sure (inl e) = ap (due_in mid.slots.items) e ∙ now-sure ∙ sym (sure (ap (λ (n : ℕ). Some n) (sym e)))
+      go j sure (inr other) = due-other units mid u sure-slot made.slots j other
 
   -- where none was, the world is as it was
   same-then : is_due units u ≡ false → IsTrue told → v ≡ w
@@ -333,8 +343,9 @@ module _ {C : Type 0} {reads : List ℕ → Option Store} {place : C → ℕ} {s
 
   pub mount-obeys : {T : Type 0} (reply : T → Reply) {after : Units C} {p : Outside} (result : Result T StoreFault) → (IsTrue told → MayLeave u o.now (image u o.now)) → ((j : ℕ) → LeftAlone j m p) → p.now ≡ m.now → Ended result m p
       → (GoesOn result → Stands place stands told after p) → (IsTrue told → Answers v (world_of reads after p) (command.Mount u) reply result)
-      → IfErr result (AtDevice (BreaksIn reads place stands told (command.Mount u) units after o p)) → Obeys reads place stands told (command.Mount u) reply units after o p result
-  mount-obeys reply {after} {p} result may alone moment ends stand answered broke =
+      → IfErr result (AtDevice (BreaksIn reads place stands told (command.Mount u) units after o p)) → (IsIdle (command.Mount u) result → KeepsUnits (Some u) units after)
+      → Obeys reads place stands told (command.Mount u) reply units after o p result
+  mount-obeys reply {after} {p} result may alone moment ends stand answered broke keeps =
       let both = ends-after made.ends tt ends in
       record {
         stands = stand;
@@ -345,6 +356,7 @@ module _ {C : Type 0} {reads : List ℕ → Option Store} {place : C → ℕ} {s
         cause = both.cause;
         broke = broke;
         no_fault = both.no_fault;
+        kept = keeps;
       }
 
 -- ---- the sync fails
@@ -362,6 +374,9 @@ module _ {C : Type 0} {reads : List ℕ → Option Store} {place : C → ℕ} {s
 
   pub failed-moments : IsTrue told → (c : Command) (after : World) → Always (Meanwhile reads (due_in units.slots.items) (world_of reads units o) c after o.now) o.now m.now
   failed-moments t c after = still at t c after m.now (made.nothing_done t)
+
+  pub failed-keeps : KeepsUnits (Some u) units mid
+  failed-keeps = subst (λ (x : Units C). KeepsUnits (Some u) units x) (sym made.same) (keeps-refl units)
 
   failed-breaks : (c : Command) → FailsAlone o m u → BreaksIn reads place stands told c units mid o m u
   failed-breaks c failed = still-breaks c failed-stands failed-world made.nothing_done failed

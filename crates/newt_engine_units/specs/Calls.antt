@@ -13,7 +13,7 @@ use Rattle.newt_spec_store.specs.Store.{Store, entry_at, new_store}
 use Rattle.newt_spec_world.specs.declared.command.Command.{Command}
 use Rattle.newt_spec_world.specs.declared.command.Command.TheVariants as command
 use Rattle.newt_spec_world.specs.Reply.{Reply}
-use Rattle.newt_spec_world.specs.Step.{formats, may_tear, thrown_out, writes}
+use Rattle.newt_spec_world.specs.Step.{formats, looks_at, may_tear, thrown_out, writes}
 use Rattle.newt_spec_world.specs.World.{World, IsBlankOn, lost, store_on_unit, change_store}
 use Rattle.newt_laws_answers.specs.Bounds.{most_programmed}
 use Rattle.newt_laws_answers.specs.Fetched.{means_entries, most_fetched}
@@ -33,6 +33,7 @@ use Rattle.newt_engine_card.specs.Bounds.{IsOpenOrSame, LeftAlone, of_unit}
 use Rattle.newt_engine_units.specs.Answers.{Answers}
 use Rattle.newt_engine_units.specs.Breaks.{AtDevice, AtStop, FailsAlone, HasStoreToFormat, Meanwhile}
 use Rattle.newt_engine_units.specs.Faces.{with_due}
+use Rattle.newt_engine_units.specs.Kept.{IsIdle, KeepsUnits}
 use Rattle.newt_engine_units.specs.Stands.{Stands, StandsBut, due_in, is_due, mounted_in, world_of}
 use Rattle.newt_engine_units.specs.declared.units.Units.{Units}
 
@@ -90,13 +91,15 @@ module _ {C : Type 0} (reads : List ℕ → Option Store) (place : C → ℕ)
         → HasStoreToFormat reads w command u before.now → after.now ≡ before.now
 
   -- What every call promises that only reads: the units stand for the world that they stood for,
-  -- the same units are mounted, of the same ones a sync is due, and nothing has happened outside
-  -- but reading.
+  -- the same units are mounted, of the same ones a sync is due, the default unit and the minute are
+  -- what they were, and nothing has happened outside but reading.
   pub record AreRead (told : Bool) (old new : Units C) (before after : Outside) : Type 0 where
     pub stand : Stands place standing told new after
     pub world : IsTrue told → world_of reads new after ≡ world_of reads old before
     pub marks : (u : ℕ) → mounted_in new.slots.items u ≡ mounted_in old.slots.items u
     pub dues : (u : ℕ) → due_in new.slots.items u ≡ due_in old.slots.items u
+    pub default : new.default ≡ old.default
+    pub minute : new.minute ≡ old.minute
     pub moment : after.now ≡ before.now
     pub untouched : (u : ℕ) → LeftAlone u before after
     pub alone : OnDevices before after
@@ -111,6 +114,9 @@ module _ {C : Type 0} (reads : List ℕ → Option Store) (place : C → ℕ)
     pub fetches : IsTrue told → let w = world_of reads old before in
         (blocks : ℕ) (s : Store) → OnUnit w unit blocks s
         → FetchesAtMost (of_unit unit (512 * pages_of_entry (entry_at soup uid s))) before after
+    -- over every host: 512 bytes for each page of the entry that is read, and nothing where none is
+    pub pages : IfOk result (λ found.
+        FetchesAtMost (of_unit unit (512 * pages_of_entry (entry_said found))) before after)
     pub cause : IfErr result (λ stop. HasStopCause stop before after)
     pub failed : IfErr result (AtStop (FailsAlone before after))
     pub its : IfErr result (AtStop (λ u. u ≡ unit))
@@ -159,6 +165,8 @@ module _ {C : Type 0} (reads : List ℕ → Option Store) (place : C → ℕ)
         → IsSome (refusal_of change blocks w.minute s) → after.now ≡ before.now
     pub marks : (u : ℕ) → mounted_in new.slots.items u ≡ mounted_in old.slots.items u
     pub dues : (u : ℕ) → due_in new.slots.items u ≡ due_in old.slots.items u
+    pub default : new.default ≡ old.default
+    pub minute : new.minute ≡ old.minute
     pub costs : IsTrue told → let w = world_of reads old before in
         (blocks : ℕ) (s : Store) → OnUnit w unit blocks s
         → CostsOn unit (most_bytes change blocks w.minute s) result before after
@@ -175,7 +183,8 @@ module _ {C : Type 0} (reads : List ℕ → Option Store) (place : C → ℕ)
   -- the command sees it, whose units they then have; at each moment a crash leaves each store of
   -- that world as it was or as it is then; it programs no more than the command may, and fetches no
   -- more for the entries that it means; the units stand for the host, unless the run ends, and
-  -- where a device has failed, but for that unit.
+  -- where a device has failed, but for that unit; and where it was refused, or shows an entry, what
+  -- is known in memory is as it was, whatever the host tells.
   pub record Obeys {T : Type 0} (told : Bool) (command : Command) (reply : T → Reply)
       (old new : Units C) (before after : Outside) (result : Result T StoreFault) : Type 0 where
     pub stands : GoesOn result → Stands place standing told new after
@@ -189,6 +198,7 @@ module _ {C : Type 0} (reads : List ℕ → Option Store) (place : C → ℕ)
     pub cause : IfErr result (λ fault. HasFaultCause fault before after)
     pub broke : IfErr result (AtDevice (BreaksIn told command old new before after))
     pub no_fault : GoesOn result → NoFault before after
+    pub kept : IsIdle command result → KeepsUnits (looks_at command) old new
 
   -- The device of a unit that has no store is made one with a store without soups, or the run ends;
   -- at each moment a crash leaves every other store as it was.
@@ -228,3 +238,4 @@ module _ {C : Type 0} (reads : List ℕ → Option Store) (place : C → ℕ)
     pub ends : Ended result before after
     pub broke : IfErr result
         (AtDevice (BreaksIn told (command.Format unit name sig) old new before after))
+    pub kept : IsIdle (command.Format unit name sig) result → KeepsUnits (Some unit) old new

@@ -1,4 +1,5 @@
 pub mod Stands
+pub mod Kept
 pub mod Breaks
 pub mod Calls
 pub mod Answers

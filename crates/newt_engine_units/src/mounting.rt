@@ -102,6 +102,7 @@ impl<C: Card> Units<C> {
             Answers (world_of C.reads self.old outside) (world_of C.reads self.new outside)
             (Command.Unmount unit) (λ _. Reply.done) result }
         ensures only { IfErr result (λ fault. IsRefusal fault) }
+        ensures kept { IfErr result (λ fault. self.new ≡ self.old) }
     {
         self.find_unit(unit)?;
         self.take(unit);

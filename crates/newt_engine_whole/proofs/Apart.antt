@@ -42,6 +42,7 @@ use Rattle.newt_engine_whole.specs.Calls.{AnsweredApart, Applied, Ended}
 use Rattle.newt_engine_whole.specs.Ends.{whole_takes_memory}
 use Rattle.newt_engine_whole.specs.Standing.{Means, Standing}
 use Rattle.newt_engine_whole.specs.declared.whole.Whole.{Whole}
+use Rattle.newt_engine_whole.proofs.Leaving.{whole-apart}
 
 -- where nothing happens a crash leaves each unit as it was
 pub at-rest : (reads : List ℕ → Option Store) (marks : Marks) (o : Outside) (w : World) → StandsFor reads marks o w → (c : Command) (v : World)
@@ -174,7 +175,7 @@ rest-ended reads told old o c {asked} result memory quiet = record {
   format = λ t is u. alone-once 10 (alone-refl u o);
   fetched = λ t means u room. no-more (o.fetched u) _;
   step = λ t unread u. no-more (o.fetched u) _;
-  idle = λ walks. each_ok result (λ it nothing u. no-more (o.fetched u) 0);
+  shown = λ walks. each_ok result (λ it quiet u. no-more (o.fetched u) _);
   open_after = λ t. each_ok result (λ it u other. inr refl);
   threw = still-threw result o.dev_faults quiet;
   failed = each_ok result (λ it u none. refl);
@@ -194,6 +195,7 @@ apart-applied {C} {reads} {place} {stands} {told} {c} {old} {new} {o} {result} a
   });
   stepped = λ t h m. apart-stepped reads old new o c h result apart m (a.answered o h m);
   ended = rest-ended reads told old o c result a.memory a.quiet;
+  kept = whole-apart result a.world a.kept;
 }
 
 -- what is promised of a command is promised of it by its other name

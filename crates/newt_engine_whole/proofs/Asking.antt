@@ -33,6 +33,7 @@ use Rattle.newt_laws_whole.specs.Runs.{DraftsFit}
 use Rattle.newt_engine_units.specs.Stands.{world_of}
 use Rattle.newt_engine_units.proofs.Known.{Laws}
 use Rattle.newt_engine.specs.Calls.{Applied as Inner}
+use Rattle.newt_engine.specs.Kept.{KeepsWorld}
 use Rattle.newt_engine.specs.Standing as inner
 use Rattle.newt_engine.specs.Standing.{IsStanding, marks_of, means}
 use Rattle.newt_engine.specs.declared.world.World.{World as Engine}
@@ -44,6 +45,7 @@ use Rattle.newt_engine_whole.specs.Standing.{Means, Standing}
 use Rattle.newt_engine_whole.specs.Told.{HasSig, Tells, all_due, due_told}
 use Rattle.newt_engine_whole.specs.declared.due.Due.{Due}
 use Rattle.newt_engine_whole.specs.declared.whole.Whole.{Whole}
+use Rattle.newt_engine_whole.proofs.Leaving.{refusal-leaves, refusal-told}
 use Rattle.newt_engine_whole.proofs.Apart.{at-rest, rest-ended}
 use Rattle.newt_engine_whole.proofs.Ending.{ended-plain}
 use Rattle.newt_engine_whole.proofs.Meant.{mounted-same, uid-on}
@@ -162,6 +164,12 @@ module _ {C : Type 0} {reads : List ℕ → Option Store} {place : C → ℕ} {s
         (subst (λ (w : Engine C). means reads w p v) tells.world there) step)
         (λ ws kept. tells.watches ws (watches ∙ kept)) (tells.works ∙ works) a.finished.threw a.finished.failed;
     ended = ended-plain itself a.finished;
+    kept = λ no. record {
+      world = subst (λ (w : Engine C). KeepsWorld c old.world w) (sym tells.world) (a.kept (refusal-leaves c (said it) no));
+      watches = let k = begun.watches in tells.watches k.0 (watches ∙ k.1)
+          ∙ ap (λ (es : List Event). kept_all (note_all es k.0)) (refusal-told soups mid.world.units due (said it) no) ∙ sym k.1;
+      works = tells.works ∙ works;
+    };
   }
 
   module _ (may : IsTrue told → (u : ℕ) → IsSome (o.card u) → MayLeave u o.now (image u o.now))
@@ -172,6 +180,7 @@ module _ {C : Type 0} {reads : List ℕ → Option Store} {place : C → ℕ} {s
       stands = tt;
       stepped = λ t h m. asked-memory reads old o p c h error (Means reads new p) itself m (may t) (good t) (a.obeyed t h.world m.world) a.finished.later a.finished.unhidden;
       ended = ended-plain itself a.finished;
+      kept = tt;
     }
 
     -- or before it was asked
@@ -180,4 +189,5 @@ module _ {C : Type 0} {reads : List ℕ → Option Store} {place : C → ℕ} {s
       stands = tt;
       stepped = λ t h m. asked-memory reads old o o c h error (Means reads new o) itself m (may t) (good t) (at-rest reads (marks_of old.world) o h.world m.world c _) (λ u. omega arith) (λ u. refl);
       ended = rest-ended reads told old o c (Err error) (λ none. absurd (both-ways (sym none ∙ takes))) tt;
+      kept = tt;
     }

@@ -35,6 +35,7 @@ use Rattle.newt_engine_commands.proofs.Replacing.{raw-of}
 use Rattle.newt_engine_whole.specs.Calls.{AnsweredApart}
 use Rattle.newt_engine_whole.specs.Standing.{AreKept, Means}
 use Rattle.newt_engine_whole.specs.declared.whole.Whole.{Whole}
+use Rattle.newt_engine_whole.proofs.Leaving.{no-refusal}
 use Rattle.newt_engine_whole.proofs.Noticed.{apart-refused}
 
 -- ---- places
@@ -141,6 +142,7 @@ module _ {C : Type 0} {reads : List ℕ → Option Store} {old new : Whole C} (n
     drafts = subst (λ (x : Whole C). DraftsFit x.works) (sym same);
     answered = λ outside h m. (h, draft-answered h n k (there-in n old.works h k m.copies there), subst (λ (x : Whole C). Means reads x outside h) (sym same) m);
     quiet = λ u. refl;
+    kept = λ no. (ap (λ (x : Whole C). x.watches) same, ap (λ (x : Whole C). x.works) same);
     memory = λ none. refl;
   }
 
@@ -164,6 +166,7 @@ module _ {C : Type 0} {reads : List ℕ → Option Store} {old new : Whole C} (n
       },
     );
     quiet = λ u. refl;
+    kept = λ no. absurd (both-ways no);
     memory = λ none. refl;
   }
 
@@ -220,6 +223,7 @@ module _ {C : Type 0} {reads : List ℕ → Option Store} {old new : Whole C} (n
               record { world = subst (λ (w : Engine C). means reads w outside h.world) (sym world) m.world; watches = watches ∙ m.watches; copies = works ∙ m.copies },
             );
             quiet = quiet (replies.Reply.refused Size) says (λ u. refl);
+            kept = λ no. (watches, works);
             memory = λ none. refl;
           }
           go raw made nf within false size (says, works) = record {
@@ -238,6 +242,7 @@ module _ {C : Type 0} {reads : List ℕ → Option Store} {old new : Whole C} (n
               },
             );
             quiet = quiet replies.Reply.done says (λ u. refl);
+            kept = λ no. no-refusal says refl no;
             memory = λ none. refl;
           }
             where

@@ -6,6 +6,7 @@ pub mod Meant
 pub mod Telling
 pub mod Dues
 pub mod Told
+pub mod Leaving
 pub mod Apart
 pub mod Ending
 pub mod Asking

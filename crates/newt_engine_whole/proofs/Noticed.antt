@@ -28,8 +28,10 @@ use Rattle.newt_engine.specs.Standing.{means}
 use Rattle.newt_engine.specs.declared.world.World.{World as Engine}
 use Rattle.newt_engine_whole.specs.Calls.{AnsweredApart}
 use Rattle.newt_engine_whole.specs.Ends.{whole_takes_memory}
+use Rattle.newt_engine_whole.specs.Kept.{is_refusal}
 use Rattle.newt_engine_whole.specs.Standing.{AreKept, Means}
 use Rattle.newt_engine_whole.specs.declared.whole.Whole.{Whole}
+use Rattle.newt_engine_whole.proofs.Leaving.{no-refusal}
 use Rattle.newt_engine_whole.proofs.Keeping.{kept-at, kept-emptied, kept-free, kept-set}
 
 -- ---- what the whole answers
@@ -85,8 +87,8 @@ module _ {C : Type 0} {reads : List ℕ → Option Store} {old new : Whole C} wh
   noticed : (c : Command) (it : Reply) (after : List (Option Watching) → List (Option Watching)) → new.world ≡ old.world → new.works ≡ old.works
       → ((ws : List (Option Watching)) → old.watches ≡ kept_all ws → new.watches ≡ kept_all (after ws))
       → ((h : plain.Whole) → old.watches ≡ kept_all h.watches → whole_answer h c ≡ (record h { watches = after h.watches }, said it))
-      → IsNotThrown it → AnsweredApart reads c old new (Ok it)
-  noticed c it after world works kept answers quiet = record {
+      → IsNotThrown it → is_refusal (said it) ≡ false → AnsweredApart reads c old new (Ok it)
+  noticed c it after world works kept answers quiet never = record {
     world = world;
     watches = λ ws. (after ws.0, kept ws.0 ws.1);
     drafts = λ fit. subst DraftsFit (sym works) fit;
@@ -100,6 +102,7 @@ module _ {C : Type 0} {reads : List ℕ → Option Store} {old new : Whole C} wh
       },
     );
     quiet = quiet;
+    kept = λ no. no-refusal refl never no;
     memory = λ none. refl;
   }
 
@@ -112,6 +115,7 @@ module _ {C : Type 0} {reads : List ℕ → Option Store} {old new : Whole C} wh
     drafts = subst (λ (x : Whole C). DraftsFit x.works) (sym same);
     answered = λ outside h m. (h, answers h m.watches m.copies, subst (λ (x : Whole C). Means reads x outside h) (sym same) m);
     quiet = λ u. refl;
+    kept = λ no. (ap (λ (x : Whole C). x.watches) same, ap (λ (x : Whole C). x.works) same);
     memory = λ none. refl;
   }
 
@@ -123,6 +127,7 @@ module _ {C : Type 0} {reads : List ℕ → Option Store} {old new : Whole C} wh
     drafts = subst (λ (x : Whole C). DraftsFit x.works) (sym same);
     answered = λ outside h m. tt;
     quiet = tt;
+    kept = tt;
     memory = λ none. absurd (both-ways (sym none ∙ takes));
   }
 
@@ -133,7 +138,7 @@ module _ {C : Type 0} {reads : List ℕ → Option Store} {old new : Whole C} wh
   watch-made s most n world works free is = noticed (command.Watch s most) (reply.Number n) (λ ws. slice_set ws n (Some (watching s most))) world works
       (λ ws kept. is ∙ ap (λ (ks : List (Option Kept)). slice_set ks n (Some (kept_of (watching s most)))) kept ∙ kept-set ws n (Some (watching s most)))
       (λ h kept. watch-answered h s most n (sym (kept-free h.watches) ∙ ap (position is_none) (sym kept) ∙ free))
-      (λ u. refl)
+      (λ u. refl) refl
 
   pub no-place : (s : List ℕ) (most : ℕ) → new ≡ old → position is_none old.watches ≡ None → AnsweredApart reads (command.Watch s most) old new (Ok (reply.Refused Limit))
   no-place s most same full = apart-refused (command.Watch s most) Limit same
@@ -146,7 +151,7 @@ module _ {C : Type 0} {reads : List ℕ → Option Store} {old new : Whole C} wh
     notes-taken notes world works lost last empty = noticed (command.Notes n) (reply.Notes notes) (change_at n emptied) world works
         (λ ws kept. empty ∙ ap (λ (ks : List (Option Kept)). slice_set ks n (option_map as_new (watch_at n ks))) kept ∙ kept-emptied ws n)
         (λ h kept. go h (watch h n) refl (lost ∙ ap (option_map (λ (k : Kept). k.lost)) (at-kept n h old.watches kept)) (last ∙ ap (option_map (λ (k : Kept). k.last)) (at-kept n h old.watches kept)))
-        (λ u. refl)
+        (λ u. refl) refl
       where
         go : (h : plain.Whole) (o : Option Watching) → watch h n ≡ o → Some notes.lost ≡ option_map (λ k. k.lost) (option_map kept_of o) → Some notes.list ≡ option_map (λ k. k.last) (option_map kept_of o)
             → whole_answer h (command.Notes n) ≡ (record h { watches = change_at n emptied h.watches }, replies.Reply.notes notes.lost notes.list)
@@ -164,7 +169,7 @@ module _ {C : Type 0} {reads : List ℕ → Option Store} {old new : Whole C} wh
     unwatched world works there is = noticed (command.Unwatch n) reply.Done (λ ws. slice_set ws n None) world works
         (λ ws kept. is ∙ ap (λ (ks : List (Option Kept)). slice_set ks n None) kept ∙ kept-set ws n None)
         (λ h kept. let w = some-of kept_of (watch h n) (ap is_some (sym (at-kept n h old.watches kept)) ∙ there) in unwatch-answered h n w.0 w.1)
-        (λ u. refl)
+        (λ u. refl) refl
 
     pub not-watched : new ≡ old → is_some (watch_at n old.watches) ≡ false → AnsweredApart reads (command.Unwatch n) old new (Ok (reply.Refused NoWatch))
     not-watched same lacks = apart-refused (command.Unwatch n) NoWatch same (λ h kept copies. unwatch-none h n (none-of kept_of (watch h n) (ap is_some (sym (at-kept n h old.watches kept)) ∙ lacks)))

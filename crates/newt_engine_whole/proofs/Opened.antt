@@ -41,6 +41,7 @@ use Rattle.newt_engine_card.specs.Bounds.{IsOpenOrSame}
 use Rattle.newt_engine_cursors.specs.Unread.{steps_unread}
 use Rattle.newt_engine.specs.Bounds.{is_format}
 use Rattle.newt_engine.specs.Calls.{Applied as Inner, Finished}
+use Rattle.newt_engine.specs.Kept.{KeepsWorld}
 use Rattle.newt_engine.specs.Standing.{IsStanding, means, stood_for}
 use Rattle.newt_engine.specs.declared.world.World.{World as Engine}
 use Rattle.newt_engine_whole.specs.Bounds.{ProgramsInTurn, most_put, most_taken}
@@ -49,6 +50,7 @@ use Rattle.newt_engine_whole.specs.Copies.{PutsCopy}
 use Rattle.newt_engine_whole.specs.Ends.{whole_takes_memory, whole_uses_device}
 use Rattle.newt_engine_whole.specs.Standing.{AreKept, Means, Standing, known_whole}
 use Rattle.newt_engine_whole.specs.declared.whole.Whole.{Whole}
+use Rattle.newt_engine_whole.proofs.Leaving.{no-refusal, refusal-leaves, whole-asked, world-as}
 use Rattle.newt_engine.proofs.Costing.{walks_steps}
 use Rattle.newt_engine_whole.proofs.Costing.{first-fetches, first-programs}
 use Rattle.newt_engine_whole.proofs.Turns.{as-other}
@@ -71,7 +73,7 @@ reading-ended {C} {reads} {told} {c} {old} {o} {p} {inner} {result} u uid s unre
       fetched = λ t entries x. let k = turn t in
           subst (λ (ds : List Command). IsOpenFor (most_put w ds x) (image x o.now) → p.fetched x ≤ o.fetched x + most_taken w ds x) (sym k.1) (first-fetches w get k.0 x o p (f.settling t refl x));
       step = λ t steps. absurd (both-ways (sym (unread w) ∙ steps));
-      idle = λ walks. absurd (both-ways (sym (unread w) ∙ walks_steps w c walks));
+      shown = λ walks. absurd (both-ways (sym (unread w) ∙ walks_steps w c walks));
       open_after = opens;
       threw = threw;
       failed = failed;
@@ -167,6 +169,7 @@ module _ {C : Type 0} {reads : List ℕ → Option Store} {place : C → ℕ} {s
     stands = record { world = a.stands; watches = begun.watches; drafts = begun.drafts };
     stepped = λ t h m. go h m (a.obeyed t h.world m.world);
     ended = reading-ended u uid s (λ w. refl) refl refl refl (λ t. ([], open-turn (known_whole reads old o) u uid s)) a.finished a.finished.open_after a.finished.threw a.finished.failed tt;
+    kept = λ no. whole-asked (world-as refl refl (a.kept (refusal-leaves _ (said it) no)));
   }
     where
       go : (h : plain.Whole) → Means reads old o h → Obeys reads {R = Reply} {E = AllocError} said (means reads mid p) h.world (command.Get u s uid) (Ok it) o.now p.now
@@ -269,6 +272,11 @@ module _ {C : Type 0} {reads : List ℕ → Option Store} {place : C → ℕ} {s
                 let f = open-found t h m in
                 answered-by h h.copies (replies.Reply.refused Limit) says (λ x. refl) (open-full h u s uid f.1 (ap (position is_none) (sym m.copies) ∙ free)) f.6 (now-means h h.copies m f.5 (works ∙ m.copies));
             ended = ended (λ x. ap (throws x) says);
+            kept = λ no. record {
+              world = subst (λ (e : Engine C). KeepsWorld (command.Open u s uid) old.world e) (sym world) (world-as refl refl (a.kept refl));
+              watches = watches;
+              works = works;
+            };
           }
           go (Some n) free (says, works) = record {
             stands = stands-so (λ t j k at. put-all (λ j. CanBeEntry j.draft) old.works (begun.drafts t) (Some n) (opened store soup uid time graph) (can t) j k
@@ -282,4 +290,5 @@ module _ {C : Type 0} {reads : List ℕ → Option Store} {place : C → ℕ} {s
                 (now-means h (slice_set h.copies n (Some (opened k.0.sig k.3.sig f.0.uid f.0.time f.0.graph))) m f.5
                 (works ∙ ap (λ (ks : List (Option Copy)). slice_set ks n (Some (opened store soup uid time graph))) m.copies ∙ ap (λ (c : Copy). slice_set h.copies n (Some c)) (sym same)));
             ended = ended (λ x. ap (throws x) says);
+            kept = λ no. no-refusal says refl no;
           }

@@ -42,6 +42,7 @@ use Rattle.newt_engine_whole.specs.Copies.{IsAt}
 use Rattle.newt_engine_whole.specs.Standing.{AreKept, Means, Standing, known_whole}
 use Rattle.newt_engine_whole.specs.declared.saves.Place.{Place}
 use Rattle.newt_engine_whole.specs.declared.whole.Whole.{Whole}
+use Rattle.newt_engine_whole.proofs.Leaving.{refusal-leaves, whole-asked, world-as}
 use Rattle.newt_engine_whole.proofs.Drafted.{change-as, set-change}
 use Rattle.newt_engine_whole.proofs.Living.{entry-passes, entry-there}
 use Rattle.newt_engine_whole.proofs.Opened.{reading-ended}
@@ -114,6 +115,7 @@ module _ {C : Type 0} {reads : List ℕ → Option Store} {place : C → ℕ} {s
     stands = record { world = a.stands; watches = begun.watches; drafts = begun.drafts };
     stepped = λ t h m. go h m (found t h m) (a.obeyed t h.world m.world);
     ended = reading-ended at.unit at.uid at.name (λ w. refl) refl refl refl (λ t. ([], known-turn t)) a.finished a.finished.open_after a.finished.threw a.finished.failed tt;
+    kept = λ no. whole-asked (world-as refl refl (a.kept (refusal-leaves _ (said it) no)));
   }
     where
       go : (h : plain.Whole) → Means reads old o h → AllFormed h.world × IsAt h n at → Obeys reads {R = Reply} {E = AllocError} said (means reads mid p) h.world (command.Get at.unit at.name at.uid) (Ok it) o.now p.now
@@ -148,6 +150,7 @@ module _ {C : Type 0} {reads : List ℕ → Option Store} {place : C → ℕ} {s
     stepped = λ t h m. go h m (found t h m) (read-so t h m (found t h m));
     ended = reading-ended at.unit at.uid at.name (λ w. refl) refl refl refl (λ t. ([], known-turn t)) a.finished (λ t x other. a.finished.open_after t x (λ k. cc))
         (record { later = a.finished.later; rose = λ u x. absurd (both-ways x) }) (λ u x. a.finished.failed u refl) tt;
+    kept = λ no. absurd (both-ways no);
   }
     where
       -- the entry is as it was read, and nothing has happened

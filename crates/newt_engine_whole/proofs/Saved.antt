@@ -41,6 +41,7 @@ use Rattle.newt_engine_whole.specs.Bounds.{ProgramsInTurn, most_put, most_taken}
 use Rattle.newt_engine_whole.specs.Calls.{Applied, AppliedRest, rest_asked}
 use Rattle.newt_engine_whole.specs.Standing.{Means, Standing, known_whole}
 use Rattle.newt_engine_whole.specs.declared.whole.Whole.{Whole}
+use Rattle.newt_engine_whole.proofs.Leaving.{whole-behind, world-as}
 use Rattle.newt_engine_whole.proofs.Costing.{then-fetches, then-programs}
 use Rattle.newt_engine_whole.proofs.Turns.{in-turn}
 use Rattle.newt_engine_whole.proofs.Unanswered.{get-stays}
@@ -186,7 +187,7 @@ module _ {C : Type 0} {reads : List ℕ → Option Store} {place : C → ℕ} {s
             (then-fetches w get (turn t).0 x o p q (same-room t x) (a.finished.settling t refl x)
             (rest-of t (λ v ds. IsOpenFor (most_put v ds x) (image x p.now) → q.fetched x ≤ p.fetched x + most_taken v ds x) (b.ended.fetched t refl x)));
         step = λ t is. absurd (both-ways is);
-        idle = λ is. absurd (both-ways is);
+        shown = λ is. absurd (both-ways is);
         open_after = λ t. opens t result (b.ended.open_after t);
         threw = risen result b.ended.threw;
         failed = none-more result b.ended.failed;
@@ -195,6 +196,7 @@ module _ {C : Type 0} {reads : List ℕ → Option Store} {place : C → ℕ} {s
         never_memory = λ none. absurd (both-ways (sym none));
         never_thrown = λ none. absurd (both-ways (sym none));
       };
+      kept = whole-behind result (world-as refl refl (a.kept refl)) b.kept;
     }
       where
         w : World

@@ -50,6 +50,7 @@ use Rattle.newt_engine_whole.specs.Told.{Tells}
 use Rattle.newt_engine_whole.proofs.Apart.{apart-quiet, apart-stepped, rest-ended}
 use Rattle.newt_engine_whole.specs.declared.saves.Place.{Place}
 use Rattle.newt_engine_whole.specs.declared.whole.Whole.{Whole}
+use Rattle.newt_engine_whole.proofs.Leaving.{refusal-leaves, whole-asked, whole-refl, world-as}
 use Rattle.newt_engine_whole.proofs.Costing.{first-fetches, first-programs}
 use Rattle.newt_engine_whole.proofs.Drafted.{change-as, set-change}
 use Rattle.newt_engine_whole.proofs.Living.{entry-there, named, soup-there}
@@ -239,7 +240,7 @@ module _ {C : Type 0} {reads : List ℕ → Option Store} {place : C → ℕ} {s
           fetched = λ t entries x. subst (λ (ds : List Command). IsOpenFor (most_put w ds x) (image x o.now) → p.fetched x ≤ o.fetched x + most_taken w ds x) (sym (last-turn n at draft base known t))
               (first-fetches w change [] x o p (a.finished.settling t refl x));
           step = λ t is. absurd (both-ways is);
-          idle = λ is. absurd (both-ways is);
+          shown = λ is. absurd (both-ways is);
           open_after = a.finished.open_after;
           threw = a.finished.threw;
           failed = a.finished.failed;
@@ -251,10 +252,11 @@ module _ {C : Type 0} {reads : List ℕ → Option Store} {place : C → ℕ} {s
 
     pub save-handed : {it : Reply} → (said it ≡ replies.Reply.done → ⊥) → Inner reads place stands told (command.Change at.unit at.name at.uid draft) old.world mid o p (Ok it)
         → AppliedRest reads place stands told (command.Save n) old (record old { world = mid }) o p (Ok it)
-    save-handed other a = record {
+    save-handed {it} other a = record {
       stands = record { world = a.stands; watches = begun.watches; drafts = begun.drafts };
       stepped = change-handed other a;
       ended = save-ended a;
+      kept = λ no. whole-asked (world-as refl refl (a.kept (refusal-leaves _ (said it) no)));
     }
 
     pub save-over : {mended new : Whole C} (k : Copy) → Some k ≡ copy_at n old.works → draft ≡ k.draft → Inner reads place stands told (command.Change at.unit at.name at.uid draft) old.world mid o p (Ok reply.Done)
@@ -270,6 +272,7 @@ module _ {C : Type 0} {reads : List ℕ → Option Store} {place : C → ℕ} {s
       };
       stepped = change-done a (tells.world ∙ world) (λ ws kept. tells.watches ws (watches ∙ kept)) (tells.works ∙ works);
       ended = save-ended a;
+      kept = λ no. absurd (both-ways no);
     }
 
     -- memory was refused in it
@@ -292,6 +295,7 @@ module _ {C : Type 0} {reads : List ℕ → Option Store} {place : C → ℕ} {s
                 (subst (λ (c : Command). Always (Answering reads h.world c (answer (seen reads h.world o.now c) c).0 o.now) o.now p.now) (λ j. command.Change (b.is.unit j) (b.is.name j) (b.is.uid j) (b.drafted j)) (a.obeyed t h.world m.world)));
           };
       ended = save-ended a;
+      kept = tt;
     }
 
 -- ---- the entry is not as the base
@@ -304,6 +308,7 @@ rest-changed {C} {reads} {place} {stands} {told} {old} {o} {n} {time} {graph} {a
   stands = begun;
   stepped = λ t h m. apart-stepped reads old old o (command.Save n) h (Ok (reply.Changed time)) refl m (h, says h m (read t h m), m);
   ended = rest-ended reads told old o (command.Save n) (Ok (reply.Changed time)) (λ none. refl) (λ u. refl);
+  kept = λ no. whole-refl (command.Save n) old;
 }
   where
     says : (h : plain.Whole) → Means reads old o h → IsRead h n at time graph → whole_answer h (command.Save n) ≡ (h, replies.Reply.changed time)

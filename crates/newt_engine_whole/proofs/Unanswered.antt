@@ -38,6 +38,7 @@ use Rattle.newt_engine_whole.specs.Calls.{Applied, AppliedBy}
 use Rattle.newt_engine_whole.specs.Ends.{whole_takes_memory, whole_uses_device}
 use Rattle.newt_engine_whole.specs.Standing.{Means, Standing, known_whole}
 use Rattle.newt_engine_whole.specs.declared.whole.Whole.{Whole}
+use Rattle.newt_engine_whole.proofs.Leaving.{whole-refl}
 use Rattle.newt_engine_whole.proofs.Apart.{apart-looks, apart-quiet, apart-stepped, rest-ended}
 use Rattle.newt_engine_whole.proofs.Opened.{reading-ended}
 use Rattle.newt_engine_whole.proofs.Turns.{early}
@@ -72,6 +73,7 @@ module _ {C : Type 0} {reads : List ℕ → Option Store} {place : C → ℕ} {s
     stands = begun;
     stepped = λ t h m. apart-stepped reads old old o c h (Ok (reply.Refused r)) apart m (h, is t h m, m);
     ended = rest-ended reads told old o c (Ok (reply.Refused r)) (λ none. refl) (λ u. refl);
+    kept = λ no. whole-refl c old;
   }
 
   pub rest-memory : {new : Whole C} {asked : List Command} (error : AllocError) → whole_takes_memory c ≡ true → AppliedBy reads place stands asked told c old new o o (Err error)
@@ -79,6 +81,7 @@ module _ {C : Type 0} {reads : List ℕ → Option Store} {place : C → ℕ} {s
     stands = tt;
     stepped = λ t h m. apart-stepped reads old new o c h (Err error) apart m tt;
     ended = rest-ended reads told old o c (Err error) (λ none. absurd (both-ways (sym none ∙ takes))) tt;
+    kept = tt;
   }
 
   -- an entry is read first
@@ -100,4 +103,5 @@ module _ {C : Type 0} {reads : List ℕ → Option Store} {place : C → ℕ} {s
             moments = Always-map (early reads h.world (command.Get u s uid) c w.0.world o.now o.now p.now (λ x. refl)) (moments t h m);
           };
       ended = reading-ended u uid s unread other memory device turn a.finished (λ t. tt) tt tt none;
+      kept = tt;
     }

@@ -16,7 +16,7 @@ use Rattle.newt_reply.specs.declared.reply.Reply.TheVariants as reply
 use Rattle.newt_script_session.specs.Steps.{Stepped}
 use Rattle.newt_laws_whole.specs.Runs.{DraftsFit}
 use Rattle.newt_engine_card.specs.Bounds.{FetchesAtMost, FetchesWithin, FormatsOnce, IsOpenOrSame}
-use Rattle.newt_engine_cursors.specs.Replies.{shows_nothing}
+use Rattle.newt_engine_cursors.specs.Calls.{FetchesShown}
 use Rattle.newt_engine_cursors.specs.Unread.{steps_unread, walks_unread}
 use Rattle.newt_engine.specs.Bounds.{is_format, most_formatted, most_stepped}
 use Rattle.newt_engine.specs.Calls.{IsNotThrown}
@@ -24,6 +24,7 @@ use Rattle.newt_engine.specs.Standing.{stood_for}
 use Rattle.newt_engine_whole.specs.Bounds.{ProgramsInTurn, most_put, most_taken}
 use Rattle.newt_engine_whole.specs.Bounds.{whole_means_entries}
 use Rattle.newt_engine_whole.specs.Ends.{whole_takes_memory, whole_uses_device}
+use Rattle.newt_engine_whole.specs.Kept.{KeepsWhole, is_refusal}
 use Rattle.newt_engine_whole.specs.Standing.{AreKept, Means, Standing, known_whole}
 use Rattle.newt_engine_whole.specs.declared.whole.Whole.{Whole}
 
@@ -37,12 +38,12 @@ module _ {C : Type 0} (reads : List ℕ → Option Store) where
   -- the input and the output are as they were. But for a format each unit that has room is
   -- programmed by no more than what is asked may, and a format wears once; where what is asked is
   -- of entries, no more is fetched there than by it; one that opens, shows, moves or counts a
-  -- cursor fetches no more than it does in the world, and nothing where it shows nothing of an
-  -- entry, also where the host tells no bytes. After a reply each bank is not closed or is
-  -- as it was, but for a unit that was thrown out. No fault was counted but of a unit that the
-  -- reply says was thrown out, and of that one a fault was, also where the devices do not tell
-  -- their bytes. Want of memory hides none, and only what may take memory ends in it; and only what
-  -- uses a device throws a unit out.
+  -- cursor fetches no more than it does in the world: where the host tells no bytes, by the reply
+  -- that is given, and of a cursor that is open. After a reply each bank is not closed or is as it
+  -- was, but for a unit that was thrown out. No fault was counted but of a unit that the reply says
+  -- was thrown out, and of that one a fault was, also where the devices do not tell their bytes.
+  -- Want of memory hides none, and only what may take memory ends in it; and only what uses a
+  -- device throws a unit out.
   pub record Ended (told : Bool) (command : Command) (asked : List Command) (old : Whole C)
       (before after : Outside) (result : Result Reply AllocError) : Type 0 where
     pub alone : OnDevices before after
@@ -55,8 +56,8 @@ module _ {C : Type 0} (reads : List ℕ → Option Store) where
         FetchesWithin (most_put w asked) (most_taken w asked) before after
     pub step : IsTrue told → let w = stood_for reads old.world before in
         steps_unread w command ≡ true → FetchesAtMost (most_stepped w command) before after
-    pub idle : walks_unread old.world.desk command ≡ true
-        → IfOk result (λ it. shows_nothing (said it) ≡ true → FetchesAtMost (λ u. 0) before after)
+    pub shown : walks_unread old.world.desk command ≡ true
+        → IfOk result (λ it. IsNotThrown it → FetchesShown (said it) before after)
     pub open_after : IsTrue told → IfOk result
         (λ it. (u : ℕ) → it ≢ reply.Thrown u → IsOpenOrSame u before.now after.now)
     pub threw : IfOk result (λ it. Threw (said it) before.dev_faults after.dev_faults)
@@ -67,7 +68,8 @@ module _ {C : Type 0} (reads : List ℕ → Option Store) where
     pub never_thrown : whole_uses_device command ≡ false → IfOk result (λ it. IsNotThrown it)
 
   -- A command that asks nothing of the world, whatever the devices hold: it is answered as the
-  -- whole answers it that is stood for, and only what may take memory ends in want of it.
+  -- whole answers it that is stood for, a refusal leaves watches and copies, and only what may take
+  -- memory ends in want of it.
   pub record AnsweredApart (command : Command) (old new : Whole C)
       (result : Result Reply AllocError) : Type 0 where
     pub world : new.world ≡ old.world
@@ -77,13 +79,16 @@ module _ {C : Type 0} (reads : List ℕ → Option Store) where
         (λ it. (next : plain.Whole) × (whole_answer h command ≡ (next, said it))
         × Means reads new outside next)
     pub quiet : IfOk result (λ it. IsNotThrown it)
+    pub kept : IfOk result (λ it. is_refusal (said it) ≡ true
+        → (new.watches ≡ old.watches) × (new.works ≡ old.works))
     pub memory : whole_takes_memory command ≡ false → IsOk result
 
 module _ {C : Type 0} (reads : List ℕ → Option Store) (place : C → ℕ)
     (standing : Bool → C → Outside → Type 0) where
   -- What the whole promises of a command that asks these commands of the world. From each whole
   -- that it stood for it has made a step to one that it stands for, and at each moment a crash
-  -- leaves each unit as in the one or in the other.
+  -- leaves each unit as in the one or in the other. Whatever the host tells, a refusal leaves what is
+  -- known in memory: the units, the cursors, the watches and the working copies.
   pub record AppliedBy (asked : List Command) (told : Bool) (command : Command) (old new : Whole C)
       (before after : Outside) (result : Result Reply AllocError) : Type 0 where
     pub stands : OnOk result (Standing reads place standing told new after)
@@ -91,6 +96,7 @@ module _ {C : Type 0} (reads : List ℕ → Option Store) (place : C → ℕ)
         → Stepped WholeStep reads command result h (Means reads new after) before.now after.now
         before.dev_faults after.dev_faults
     pub ended : Ended reads told command asked old before after result
+    pub kept : IfOk result (λ it. is_refusal (said it) ≡ true → KeepsWhole command old new)
 
   -- any command, by what it asks in the known whole
   abbrev pub Applied : Bool → Command → (old new : Whole C) → (before after : Outside)

@@ -1,7 +1,7 @@
 -- Entry records as a program has them.
 use Rattle.std.specs.Prelude.{◌≡◌, ℕ, zero, suc, ◌==◌, Bool, ◌&&◌, ◌++◌, nat_lt, bytes_eq, List, [], ◌∷◌, length, map, flat_map, drop, fold, zip, Option, Some, None, Result, Ok, Err, if◌then◌else◌}
 use Rattle.std.specs.List.{list_all, enumerate_from}
-use Rattle.newt_base.specs.Text.{be32, be32_at}
+use Rattle.newt_base.specs.Text.{be16, be32, be32_at}
 use Rattle.newt_graph.specs.declared.node.Node.{Node}
 use Rattle.newt_graph.specs.Graph.{RawGraph}
 use Rattle.newt_spec_nsof.specs.Flat.{flat}
@@ -20,6 +20,11 @@ row_at l = (l.node, l.object, l.length)
 -- the bytes of such a row: four for each number
 abbrev pub large_bytes : LargeAt → List ℕ
 large_bytes l = be32 l.node ++ be32 l.object ++ be32 l.length
+
+-- how a row is written: its head, the flat text of its skeleton, and its large binaries
+abbrev pub row_bytes : EntryRow → List ℕ
+row_bytes row = be16 row.soup ++ be16 (length row.larges) ++ be32 row.uid ++ be32 row.time
+    ++ flat row.skeleton ++ flat_map large_bytes row.larges
 
 -- what a row says: its fields with the flat text of the skeleton, and the skeleton
 abbrev pub said : EntryRow → PlainRow × RawGraph

@@ -1,8 +1,9 @@
 //! What an entry record has.
-ghost use Rattle.std.specs.Prelude.{◌≡◌};
+ghost use Rattle.std.specs.Prelude.{◌≡◌, IfOk};
 
 use newt_base::{Sig, Uid};
 use newt_graph::Graph;
+use std::alloc::AllocError;
 use std::marker::Model;
 
 /// A large binary in a record: the number of its node, from 0 in the order of the graph's nodes;
@@ -43,6 +44,22 @@ impl Larges {
     {
         self.items.as_slice()
     }
+
+    /// All of them, given away.
+    pub fn into_vec(self) -> Vec<LargeAt>
+        ensures { result.items ≡ self }
+    {
+        self.items
+    }
+
+    /// An equal list.
+    pub fn copy(&self) -> Result<Larges, AllocError>
+        ensures { IfOk result (λ copy. copy ≡ self.now) }
+    {
+        let mut items = Vec::new(*self.items.allocator());
+        items.extend_from_slice(&self.items)?;
+        Ok(Larges { items })
+    }
 }
 
 /// An entry's record: the signature of its soup, at most 65,535; its id; the minute of its last
@@ -55,4 +72,19 @@ pub struct EntryRow {
     pub time: u32,
     pub skeleton: Graph,
     pub larges: Larges,
+}
+
+impl EntryRow {
+    /// An equal row.
+    pub fn copy(&self) -> Result<EntryRow, AllocError>
+        ensures { IfOk result (λ copy. copy ≡ self.now) }
+    {
+        Ok(EntryRow {
+            soup: self.soup,
+            uid: self.uid,
+            time: self.time,
+            skeleton: self.skeleton.copy()?,
+            larges: self.larges.copy()?,
+        })
+    }
 }

@@ -4,7 +4,7 @@ ghost use Rattle.newt_base.specs.Text.{be16, be32};
 ghost use Rattle.newt_spec_nsof.specs.Flat.{flat};
 ghost use Rattle.newt_spec_store.specs.Image.{entry_bytes};
 ghost use Rattle.newt_spec_store.specs.Store.{Entry};
-ghost use Rattle.newt_entries.specs.Entry.{large_bytes, AreRowsOf};
+ghost use Rattle.newt_entries.specs.Entry.{large_bytes, row_bytes, AreRowsOf};
 
 use crate::row::{EntryRow, LargeAt};
 use newt_base::{push16, push32};
@@ -47,12 +47,13 @@ fn head_and_text(alloc: Global, row: &EntryRow) -> Result<Vec<u8>, AllocError>
     Ok(out)
 }
 
-/// The bytes of an entry's record: of the entry that has this skeleton, and whose large binaries
-/// have these objects and lengths.
+/// The bytes of a row. They are the record of the entry that has this skeleton, and whose large
+/// binaries have these objects and lengths.
 pub fn write_entry(alloc: Global, row: &EntryRow) -> Result<Vec<u8>, AllocError>
     requires soup { row.now.soup < 65536 }
     requires few { length row.now.larges < 65536 }
-    ensures { (e : Entry) (ids : List ℕ) → e.uid ≡ row.now.uid → e.time ≡ row.now.time
+    ensures bytes { IfOk result (λ v. v.items ≡ row_bytes row.now) }
+    ensures of_entry { (e : Entry) (ids : List ℕ) → e.uid ≡ row.now.uid → e.time ≡ row.now.time
         → AreRowsOf row.now.skeleton row.now.larges e.graph ids
         → IfOk result (λ v. v.items ≡ entry_bytes row.now.soup e ids) }
 {

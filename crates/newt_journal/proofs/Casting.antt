@@ -8,6 +8,7 @@ use Rattle.newt_host.proofs.Ranges.{get_or-same, same-trans, same-widen, same-ov
 use Rattle.newt_spec_image.specs.Records.{chosen, chosen_bank, AllVoteFor}
 use Rattle.newt_journal.specs.Turns.{Turns}
 use Rattle.newt_journal.proofs.Votes.{first_torn, middle_torn, last_torn}
+use Rattle.newt_journal.proofs.Blocks.{block-same}
 
 pub get_or-after : {at n : ℕ} {a b : List ℕ} → SameOutside at n a b → (i : ℕ) → at + n ≤ i → get_or b i 0 ≡ get_or a i 0
 get_or-after {at = at} {n = n} {a = a} {b = b} s i past =
@@ -75,6 +76,10 @@ module _ (from to : ℕ) (from_small : from ≤ 1) (to_small : to ≤ 1) (image 
   pub turn_1 : (left : List ℕ) → SameOutside 0 4096 image left → Turns from to image left
   turn_1 left s = record {
     bank = inl ((λ i. chosen (get_or left 0 0) ((get_or-after s 4096 (omega arith) ∙ alike.second) i) ((get_or-after s 8192 (omega arith) ∙ alike.third) i)) ∙ first_torn (get_or left 0 0) from from_small);
+    in_turn = record {
+      second_waits = inl (block-same 1 0 (omega arith) s);
+      third_waits = inl (block-same 2 0 (omega arith) s);
+    };
     same = cast_1 to image long left s;
   }
 
@@ -87,12 +92,20 @@ module _ (from to : ℕ) (from_small : from ≤ 1) (to_small : to ≤ 1) (image 
         let chosen_is : chosen_bank left ≡ chosen to (get_or left 4096 0) from = λ i. chosen ((get_or-same s 0 (omega arith) ∙ first_1 to image long image_1 is_1) i) (get_or left 4096 0) ((get_or-after s 8192 (omega arith) ∙ third_1) i) in
         record {
           bank = subst (λ (o : Option ℕ). (o ≡ Some from) ⊎ (o ≡ Some to)) (sym chosen_is) (middle_torn to (get_or left 4096 0) from to_small from_small);
+          in_turn = record {
+            second_waits = inr (get_or-same s 0 (omega arith) ∙ first_1 to image long image_1 is_1);
+            third_waits = inl (block-same 2 1 (omega arith) s ∙ block-same 2 0 (omega arith) (s_1 to image long image_1 is_1));
+          };
           same = cast_2 to image long image_1 is_1 left s;
         }
 
     module _ (image_2 : List ℕ) (is_2 : image_2 ≡ overwritten image_1 4096 (to ∷ blank 4095)) where
       pub turn_3 : (left : List ℕ) → SameOutside 8192 4096 image_2 left → Turns from to image left
-      turn_3 left s = record {
+      turn_3 left s = let first_3 : get_or left 0 0 ≡ to = get_or-same s 0 (omega arith) ∙ first_2 to image long image_1 is_1 image_2 is_2 in record {
         bank = inr ((λ i. chosen ((get_or-same s 0 (omega arith) ∙ first_2 to image long image_1 is_1 image_2 is_2) i) ((get_or-same s 4096 (omega arith) ∙ second_2 to image long image_1 is_1 image_2 is_2) i) (get_or left 8192 0)) ∙ last_torn to (get_or left 8192 0) to_small);
+        in_turn = record {
+          second_waits = inr first_3;
+          third_waits = inr (first_3, get_or-same s 4096 (omega arith) ∙ second_2 to image long image_1 is_1 image_2 is_2);
+        };
         same = cast_3 to image long image_1 is_1 image_2 is_2 left s;
       }

@@ -18,7 +18,7 @@ use Rattle.newt_journal.proofs.Steps.{bank-fits, bank-low, holds-reading, versio
 use Rattle.newt_journal.proofs.Tail.{holds-tail}
 use Rattle.newt_journal.proofs.Finish.{Ends-blank}
 use Rattle.newt_journal.proofs.Casting.{alike-chosen}
-use Rattle.newt_journal.proofs.Repairing.{drop-behind}
+use Rattle.newt_journal.proofs.Blocks.{drop-behind}
 use Rattle.newt_journal.proofs.Opened.{has_blocks}
 use Rattle.newt_journal.proofs.Beginning.{length-lead}
 use Rattle.newt_journal.proofs.Switches.{lead-record}

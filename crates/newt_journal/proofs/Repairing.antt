@@ -1,6 +1,5 @@
 -- Three votes are made equal.
 use Rattle.std.proofs.Common.{◌≡◌, ℕ, ◌+◌, ◌≤◌, ◌==◌, ◌-◌, if◌then◌else◌, List, [], ◌∷◌, ◌++◌, take, drop, Some, sym, ◌∙◌, ap, subst, arith}
-use Rattle.std.proofs.lemmas.List.{drop-drop}
 use Rattle.newt_host.specs.Moments.{Moment, image, IsDurable, SameOutside, Leaves}
 use Rattle.newt_host.proofs.Moments.{Leaves-append, Leaves-weaken, Leaves-start, Leaves-same}
 use Rattle.newt_spec_image.specs.Records.{chosen_bank, bank_size, vote_of, AllVoteFor}
@@ -11,6 +10,7 @@ use Rattle.newt_journal.specs.declared.bank.Bank.{Bank}
 use Rattle.newt_journal.specs.declared.journal.Journal.{Journal}
 use Rattle.newt_journal.proofs.Steps.{bank-small, bank-low, holds-reading}
 use Rattle.newt_journal.proofs.Opened.{byte_at}
+use Rattle.newt_journal.proofs.Blocks.{drop-behind}
 use Rattle.newt_journal.proofs.Settle.{Order, order_of, other-differs, step_0, step_1, step_2, step_3, alike}
 
 module _ (u : ℕ) (bank : Bank) (old m1 : Moment) (durable : IsDurable u old) (same : m1 ≡ old) (voted : chosen_bank (image u old) ≡ Some (bank_number bank)) where
@@ -34,7 +34,7 @@ module _ (u : ℕ) (bank : Bank) (old m1 : Moment) (durable : IsDurable u old) (
       (step_0 k other (bank-small bank) (bank-small (other_bank bank)) (other-differs bank) (image u old) voted))) same
 
   module _ (third near : ℕ) (byte : take 1 (drop 8192 (image u old)) ≡ third ∷ []) (near_is : near ≡ (if third == other then 2 else 1)) where
-    order : Order (vote_of 2 img) other near (3 - near)
+    pub order : Order (vote_of 2 img) other near (3 - near)
     order = subst (λ (v : ℕ). Order v other near (3 - near)) (sym (ap (λ (m : Moment). vote_of 2 (image u m)) same ∙ byte_at (image u old) 8192 third byte)) (order_of third other near near_is)
 
     module _ {m2 : Moment} (leaves_1 : Leaves u (Settling near k img) m1 m2) where
@@ -65,24 +65,18 @@ module _ (u : ℕ) (bank : Bank) (old m1 : Moment) (durable : IsDurable u old) (
           pub alike_now : (m4 : Moment) → Settling 0 k (image u m3) (image u m4) → vote_of 0 (image u m4) ≡ k → AllVoteFor k (image u m4)
           alike_now m4 kept_3 settled_3 = alike k other (bank-small bank) (bank-small (other_bank bank)) (other-differs bank) img voted_1 near (3 - near) order (image u m2) kept_1 settled_1 (image u m3) kept_2 settled_2 (image u m4) kept_3 settled_3
 
-pub drop-behind : {at n : ℕ} {a b : List ℕ} → SameOutside at n a b → (from : ℕ) → at + n ≤ from → drop from b ≡ drop from a
-drop-behind {at = at} {n = n} {a = a} {b = b} s from past =
-    let more = from - (at + n) in
-    let there : (at + n) + more ≡ from = omega (arith, past) in
-    ap (λ (i : ℕ). drop i b) (sym there) ∙ sym (drop-drop more (at + n) b) ∙ ap (λ (l : List ℕ). drop more l) s.after ∙ drop-drop more (at + n) a ∙ ap (λ (i : ℕ). drop i a) there
-
 -- a bank lies behind the votes
-pub bank-behind : (blocks : ℕ) (bank : Bank) (bytes image left : List ℕ) → Holds blocks (bank_number bank) bytes image → Repairs (bank_number bank) image left → Holds blocks (bank_number bank) bytes left
-bank-behind blocks bank bytes image left h r = record {
-  size = r.same.size ∙ h.size;
-  votes = r.bank_is;
-  bank_is = ap (λ (l : List ℕ). take (bank_size blocks) l) (drop-behind r.same (start_of blocks bank) (bank-low blocks bank)) ∙ h.bank_is;
+pub bank-behind : (blocks : ℕ) (bank : Bank) (bytes image left : List ℕ) → Holds blocks (bank_number bank) bytes image → chosen_bank left ≡ Some (bank_number bank) → SameOutside 0 12288 image left → Holds blocks (bank_number bank) bytes left
+bank-behind blocks bank bytes image left h bank_is same = record {
+  size = same.size ∙ h.size;
+  votes = bank_is;
+  bank_is = ap (λ (l : List ℕ). take (bank_size blocks) l) (drop-behind same (start_of blocks bank) (bank-low blocks bank)) ∙ h.bank_is;
 }
 
 module _ (j : Journal) (old : Moment) (held : IsHeld j old) where
   pub same_reading : (left : List ℕ) → Repairs (bank_number j.bank) (image j.unit old) left → reading left ≡ reading (image j.unit old)
   same_reading left r =
-      holds-reading j.blocks j.bank j.enough j.not_too_many j.version j.known held.payloads held.behind left (bank-behind j.blocks j.bank (written j.version held.payloads ++ held.behind) (image j.unit old) left held.bank r) held.ends
+      holds-reading j.blocks j.bank j.enough j.not_too_many j.version j.known held.payloads held.behind left (bank-behind j.blocks j.bank (written j.version held.payloads ++ held.behind) (image j.unit old) left held.bank r.bank_is r.same) held.ends
       ∙ sym (holds-reading j.blocks j.bank j.enough j.not_too_many j.version j.known held.payloads held.behind (image j.unit old) held.bank held.ends)
 
   pub mended : (left : List ℕ) → Repairs (bank_number j.bank) (image j.unit old) left
@@ -93,7 +87,7 @@ module _ (j : Journal) (old : Moment) (held : IsHeld j old) where
   still_held now r durable = record {
     payloads = held.payloads;
     behind = held.behind;
-    bank = bank-behind j.blocks j.bank (written j.version held.payloads ++ held.behind) (image j.unit old) (image j.unit now) held.bank r;
+    bank = bank-behind j.blocks j.bank (written j.version held.payloads ++ held.behind) (image j.unit old) (image j.unit now) held.bank r.bank_is r.same;
     end = held.end;
     ends = held.ends;
     blank = held.blank;

@@ -1,5 +1,5 @@
 -- A record is written alone into the other bank, and then the votes turn.
-use Rattle.std.proofs.Common.{◌≡◌, inl, inr, ℕ, ◌+◌, ◌-◌, ◌≤◌, false, List, [], ◌∷◌, ◌++◌, length, take, drop, replicate, Some, Result, Ok, refl, sym, ◌∙◌, ap, subst, arith, append_assoc, length-append}
+use Rattle.std.proofs.Common.{◌≡◌, inl, inr, ℕ, ◌+◌, ◌-◌, ◌*◌, ◌≤◌, false, List, [], ◌∷◌, ◌++◌, length, take, drop, replicate, Some, Result, Ok, refl, sym, ◌∙◌, ap, subst, arith, append_assoc, length-append}
 use Rattle.std.proofs.lemmas.List.{length-replicate, append-nil}
 use Rattle.newt_host.specs.Moments.{Moment, image, changes, IsDurable, SameOutside, Leaves}
 use Rattle.newt_host.specs.Outside.{IsBlank, Writes, Syncs}
@@ -7,7 +7,7 @@ use Rattle.newt_host.proofs.Moments.{Leaves-start, Leaves-sync, Leaves-append, L
 use Rattle.newt_host.proofs.Ranges.{get_or-same, same-refl, part-reads}
 use Rattle.newt_spec_image.specs.Records.{bank_size, bank_bytes, chosen, chosen_bank, header, record_bytes, length_bytes, AllVoteFor}
 use Rattle.newt_journal.specs.Bank.{bank_number, other_bank, start_of}
-use Rattle.newt_journal.specs.Turns.{Turns}
+use Rattle.newt_journal.specs.Turns.{Turns, IsSameBlock, InTurn}
 use Rattle.newt_journal.specs.Fresh.{lead, FilledBy}
 use Rattle.newt_journal.specs.Journal.{Holds, written, Reading, reading, HeldBy, IsHeld, ReadsAs, ReadsAsEither}
 use Rattle.newt_journal.specs.Switch.{switch_start, switched, IsSwitching}
@@ -18,7 +18,8 @@ use Rattle.newt_journal.specs.declared.switching.Switching.{Switching}
 use Rattle.newt_journal.proofs.Steps.{bank-low, bank-fits, holds-reading, version-2}
 use Rattle.newt_journal.proofs.Finish.{Ends-blank}
 use Rattle.newt_journal.proofs.Erasing.{part-before}
-use Rattle.newt_journal.proofs.Repairing.{drop-behind, bank-behind}
+use Rattle.newt_journal.proofs.Blocks.{drop-behind}
+use Rattle.newt_journal.proofs.Repairing.{bank-behind}
 use Rattle.newt_journal.proofs.Beginning.{length-lead}
 use Rattle.newt_journal.proofs.Filling.{room_blank, write_leaves, write_filled}
 
@@ -169,6 +170,26 @@ module _ (s : Switching) (now : Moment) (held : IsSwitching s now) where
     pub any_1 : {T E : Type 0} {result : Result T E} {m1 : Moment} → Syncs u result now m1 → Leaves u (ReadsAsEither before after) now m1
     any_1 synced = Leaves-sync (Leaves-start (λ left may. inl (reads_same left (held.filled.crash left may)))) synced (inl refl)
 
+    -- the blocks that vote are as they were until the votes turn
+    unturned : (block : ℕ) → block ≤ 2 → (left : List ℕ) → SameOutside start size held.base left
+        → IsSameBlock block held.base left
+    unturned block low left same = part-before same (block * 4096) 4096 (omega (arith, low, bank-low blocks to))
+
+    none_turned : (left : List ℕ) → SameOutside start size held.base left
+        → InTurn (bank_number to) 0 1 2 img left
+    none_turned left same = record {
+      second_waits = inl (unturned 1 (omega arith) left same
+          ∙ sym (unturned 1 (omega arith) img held.filled.kept));
+      third_waits = inl (unturned 2 (omega arith) left same
+          ∙ sym (unturned 2 (omega arith) img held.filled.kept));
+    }
+
+    pub in_turn_1 : {T E : Type 0} {result : Result T E} {m1 : Moment} → Syncs u result now m1
+        → Leaves u (InTurn (bank_number to) 0 1 2 img) now m1
+    in_turn_1 synced = Leaves-sync
+        (Leaves-start (λ left may. none_turned left (held.filled.crash left may))) synced
+        (none_turned img held.filled.kept)
+
     module _ {T1 E1 : Type 0} {x1 : T1} {m1 : Moment} (synced : Syncs {E = E1} u (Ok x1) now m1) where
       img_1 : image u m1 ≡ img
       img_1 = image-sync synced
@@ -181,7 +202,7 @@ module _ (s : Switching) (now : Moment) (held : IsSwitching s now) where
         kept_from left chosen_is same =
             holds-reading blocks from s.journal.enough s.journal.not_too_many version s.journal.known held.payloads held.behind left
             (bank-behind blocks from (written version held.payloads ++ held.behind) img left (elsewhere img held.filled.kept)
-            (record { bank_is = chosen_is; same = subst (λ (l : List ℕ). SameOutside 0 12288 l left) img_1 same })) held.ends
+            chosen_is (subst (λ (l : List ℕ). SameOutside 0 12288 l left) img_1 same)) held.ends
             ∙ sym reads_now
 
         pub holds_to : (left : List ℕ) → chosen_bank left ≡ Some (bank_number to_bank) → SameOutside 0 12288 (image u m1) left → Holds blocks (bank_number to) (written 2 (held.so_far ∷ []) ++ rest) left
@@ -204,6 +225,12 @@ module _ (s : Switching) (now : Moment) (held : IsSwitching s now) where
 
         pub any_2 : {m2 : Moment} → Leaves u (Turns (bank_number from) (bank_number to_bank) (image u m1)) m1 m2 → Leaves u (ReadsAsEither before after) now m2
         any_2 turning = Leaves-append (any_1 synced) (Leaves-weaken either turning)
+
+        pub in_turn_2 : {m2 : Moment} → Leaves u (Turns (bank_number from) (bank_number to_bank) (image u m1)) m1 m2
+            → Leaves u (InTurn (bank_number to) 0 1 2 img) now m2
+        in_turn_2 turning = Leaves-append (in_turn_1 synced) (Leaves-weaken (λ left t.
+            subst (λ (b : Bank). InTurn (bank_number b) 0 1 2 img left) to_is
+            (subst (λ (l : List ℕ). InTurn (bank_number to_bank) 0 1 2 l left) img_1 t.in_turn)) turning)
 
         module _ (m2 : Moment) (turned : (chosen_bank (image u m2) ≡ Some (bank_number to_bank)) × SameOutside 0 12288 (image u m1) (image u m2)) where
           pub committed : reading (image u m2) ≡ after

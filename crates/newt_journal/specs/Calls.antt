@@ -1,5 +1,5 @@
 -- What calls on a unit promise beside their own effect. All of it is this project's own.
-use Rattle.std.specs.Prelude.{◌≡◌, ◌≤◌, ℕ, Bool, IsTrue, List, Result, Ok, Err, IsErrOf}
+use Rattle.std.specs.Prelude.{◌≡◌, ◌≤◌, ℕ, ◌*◌, Bool, IsTrue, List, Result, Ok, Err, IsErrOf}
 use Rattle.newt_host.specs.Moments.{IsDurable, Leaves}
 use Rattle.newt_host.specs.Outside.{Outside, Counted, HasBlocks, Rose, Spends, Touches, Wears, Work}
 use Rattle.newt_journal.specs.declared.fault.JournalFault.{JournalFault}
@@ -24,13 +24,21 @@ abbrev pub writing : ℕ → ℕ → ℕ → Work
 writing programs erases syncs =
     record { programs = programs; fetches = 0; erases = erases; syncs = syncs }
 
--- one vote is read, and written anew
-abbrev pub one_vote : Work
-one_vote = record { programs = 1; fetches = 1; erases = 1; syncs = 2 }
+-- so many votes are read, and so many written anew
+abbrev pub votes : ℕ → ℕ → Work
+votes read anew = record { programs = anew; fetches = read; erases = anew; syncs = 2 * anew }
 
--- so are all three of them, one of which is read twice
+-- one vote, and all three of them, one of which is read twice
+abbrev pub one_vote : Work
+one_vote = votes 1 1
+
 abbrev pub three_votes : Work
-three_votes = record { programs = 3; fetches = 4; erases = 3; syncs = 6 }
+three_votes = votes 4 3
+
+-- at most so much was done to a unit
+pub record IsWithin (unit : ℕ) (work : Work) (old new : Outside) : Type 0 where
+  pub costs : Spends unit work.programs work.fetches old new
+  pub wears : Wears unit work.erases work.syncs old new
 
 -- A call that reads: nothing happens, at most so many bytes are fetched, nothing is erased or
 -- synced, nothing else is touched, and a fault is counted and told.

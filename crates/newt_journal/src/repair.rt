@@ -2,9 +2,10 @@
 ghost use Rattle.std.specs.Prelude.{IsTrue, ◌≡◌, ◌≤◌, ◌<◌, ◌*◌, if◌then◌else◌, ◌==◌, Some, OnOk};
 ghost use Rattle.newt_host.specs.Moments.{image, IsDurable};
 ghost use Rattle.newt_journal.specs.Bank.{bank_number, other_bank};
-ghost use Rattle.newt_journal.specs.Calls.{IsAtRest, Programs, one_vote, three_votes};
+ghost use Rattle.newt_journal.specs.Calls.{IsAtRest, IsWithin, Programs};
+ghost use Rattle.newt_journal.specs.Calls.{votes, one_vote, three_votes};
 ghost use Rattle.newt_journal.specs.Turns.{IsVotedFor};
-ghost use Rattle.newt_journal.specs.Repairs.{Settling, Repairs, Mends};
+ghost use Rattle.newt_journal.specs.Repairs.{Settling, Repairs, Mends, differs, differing};
 ghost use Rattle.newt_spec_image.specs.Records.{vote_of, chosen_bank};
 
 use crate::scan::read_byte;
@@ -30,6 +31,10 @@ pub(crate) fn settle_vote<H: Host>(
     ensures durable { IsTrue H.told → OnOk result (IsDurable unit (H.outside host.new).now) }
     ensures writes { Programs H.told unit one_vote
         (Settling block (bank_number bank) (image unit (H.outside host.old).now)) result
+        (H.outside host.old) (H.outside host.new) }
+    // A vote that is right is read alone.
+    ensures bounded { IsTrue H.told → IsWithin unit
+        (votes 1 (differs (bank_number bank) block (image unit (H.outside host.old).now)))
         (H.outside host.old) (H.outside host.new) }
 {
     let vote = read_byte(host, unit, block * BLOCK)?;
@@ -66,6 +71,9 @@ pub(crate) fn settle_votes<H: Host>(
     ensures writes { Programs H.told unit three_votes
         (Repairs (bank_number bank) (image unit (H.outside host.old).now)) result
         (H.outside host.old) (H.outside host.new) }
+    ensures bounded { IsTrue H.told → IsWithin unit
+        (votes 4 (differing (bank_number bank) (image unit (H.outside host.old).now)))
+        (H.outside host.old) (H.outside host.new) }
 {
     let third = read_byte(host, unit, 2 * BLOCK)?;
     let near = first_to_settle(third, bank);
@@ -79,7 +87,8 @@ impl Journal {
     ghost use Rattle.newt_journal.specs.Journal.{Stands, VotesAgree, reading, unit_under, bank_of};
 
     /// Makes all three votes equal to the bank that they choose. Whenever it is cut off, the same
-    /// bank is chosen, so that it may be begun again.
+    /// bank is chosen, so that it may be begun again. A block that votes for it is left alone; of
+    /// the blocks 1 and 2, one that votes for the other bank comes first, and block 0 last.
     pub fn repair<H: Host>(&mut self, host: &mut H) -> Result<(), Failed>
         requires stands { Stands H.told self.old (H.outside host.old) }
         ensures same { self.new ≡ self.old }
@@ -93,6 +102,11 @@ impl Journal {
             (Mends (bank_number (bank_of self.old))
             (image (unit_under self.old) (H.outside host.old).now))
             result (H.outside host.old) (H.outside host.new) }
+        // No more votes are rewritten than there are wrong ones.
+        ensures bounded { IsTrue H.told → IsWithin (unit_under self.old)
+            (votes 4 (differing (bank_number (bank_of self.old))
+            (image (unit_under self.old) (H.outside host.old).now)))
+            (H.outside host.old) (H.outside host.new) }
     {
         settle_votes(host, self.unit, self.bank, self.blocks)?;
         Ok(())

@@ -21,7 +21,7 @@ pub struct Switching {
 
 impl Switching {
     ghost use Rattle.std.specs.Prelude.{OnOk, IfOk, length, true};
-    ghost use Rattle.newt_host.specs.Moments.{image};
+    ghost use Rattle.newt_host.specs.Moments.{image, Leaves};
     ghost use Rattle.newt_spec_image.specs.Records.{bank_blocks};
     ghost use Rattle.newt_journal.specs.Journal.{Stands, VotesAgree};
     ghost use Rattle.newt_journal.specs.Journal.{reading, ReadsAs, ReadsAsEither};
@@ -29,6 +29,8 @@ impl Switching {
     ghost use Rattle.newt_journal.specs.Draft.{IsBegun, IsSameRecord, HasPut, IsFinished};
     ghost use Rattle.newt_journal.specs.Draft.{outcome_of};
     ghost use Rattle.newt_journal.specs.declared.draft.Draft.TheVariants.{Switch};
+    ghost use Rattle.newt_journal.specs.Bank.{bank_number, other_bank};
+    ghost use Rattle.newt_journal.specs.Turns.{InTurn};
     ghost use Rattle.newt_journal.specs.Calls.{Programs, writing};
 
     /// Begins the record that alone will stand in the other bank.
@@ -88,6 +90,10 @@ impl Switching {
             (ReadsAsEither (reading (image self.journal.unit (H.outside host.old).now))
             (outcome_of (Switch self) (H.outside host.old))) result
             (H.outside host.old) (H.outside host.new) }
+        ensures in_turn { IsTrue H.told → Leaves self.journal.unit
+            (InTurn (bank_number (other_bank self.journal.bank)) 0 1 2
+            (image self.journal.unit (H.outside host.old).now))
+            (H.outside host.old).now (H.outside host.new).now }
     {
         let Switching { journal, len, .. } = self;
         let Journal {

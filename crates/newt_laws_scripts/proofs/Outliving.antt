@@ -5,7 +5,7 @@ use Rattle.std.proofs.lemmas.List.{append-nil, append_cancel_left, length-append
 use Rattle.newt_host.specs.Meanings.{held, out_of}
 use Rattle.newt_host.specs.Outside.{Outside}
 use Rattle.newt_laws_changes.specs.Later.{EntryGone, SoupGone, SoupLater, StoreLater}
-use Rattle.newt_laws_changes.proofs.Later.{entry-gone, soup-gone, store-trans}
+use Rattle.newt_laws_changes.proofs.Later.{entry-gone, soup-gone, store-not, store-trans}
 use Rattle.newt_laws_images.proofs.Assembled.{map-among, one-sig}
 use Rattle.newt_laws_images.proofs.Placed.{soups-rise}
 use Rattle.newt_laws_images.proofs.Stores.{IsSoup, is-soup, is-store}
@@ -48,6 +48,10 @@ module _ (reads : List ℕ → Option Store) where
   reads-later : (before after : List Store) (image : List ℕ) → ((t : Store) → Among after t → (s : Store) × Among before s × StoreLater s t)
       → ReadsOneOf reads after image → ReadsLater reads before image
   reads-later before after image each r = let q = each r.0 r.1 in record { found = r.0; read = r.2; was = q.0; among = q.1; later = q.2 }
+
+  -- an image that is read as a store
+  pub made-later : (s : Store) (image : List ℕ) → reads image ≡ Some s → ReadsLater reads (s ∷ []) image
+  made-later s image is = record { found = s; read = is; was = s; among = inl refl; later = store-not s }
 
   -- behind a number of rows, or one more
   pub left-later : (h : Whole) (items : List Item) (rows : List (Row Whole)) (k m unit : ℕ) (s : Store) (image : List ℕ) → IsRun WholeStep h items rows → k ≤ m

@@ -1,7 +1,8 @@
 -- The worlds of the runs of scripts are sound, and aliases in them.
 use Rattle.std.proofs.Common.{ℕ, ◌≡◌, ◌≤◌, inl, refl, sym, ◌∙◌, ap, subst, true, false, Bool, IsTrue, List, [], ◌∷◌, ◌++◌, length, Option, Some, None}
-use Rattle.std.specs.Prelude.{Result, Ok, Err, option_and_then, ◌==◌}
+use Rattle.std.specs.Prelude.{Result, Ok, Err, option_and_then, option_map, unwrap_or, ◌==◌}
 use Rattle.newt_host.specs.Meanings.{held}
+use Rattle.newt_graph.specs.Graph.{RawGraph}
 use Rattle.newt_host.specs.Outside.{Outside}
 use Rattle.newt_laws_scripts.specs.Crashed.{CrashedBehind, HasEntry, IdGiven, IdGivenOn, ReadsLater}
 use Rattle.newt_laws_scripts.proofs.Outliving.{given-there, ids-later, mounted-only, next-later, resolves-later, run-left}
@@ -13,6 +14,8 @@ use Rattle.newt_base.specs.Refusals.{first_of}
 use Rattle.newt_base.specs.declared.Refusal.{Refusal}
 use Rattle.std.proofs.lemmas.Bool.{eqb-true}
 use Rattle.newt_laws_whole.proofs.Asking.{plain-step}
+use Rattle.newt_laws_whole.proofs.Telling.{mounted-change}
+use Rattle.newt_laws_images.proofs.Chosen.{first-among}
 use Rattle.newt_laws_world.specs.Named.{IsNamed}
 use Rattle.newt_laws_world.proofs.Kept.{all-false, not-none}
 use Rattle.newt_laws_world.proofs.Settled.{find-passes}
@@ -30,11 +33,11 @@ use Rattle.newt_script_session.specs.Script.{commands_of, given, items_of, scrip
 use Rattle.newt_script_session.specs.declared.halt.Halt.{Halt}
 use Rattle.newt_script_session.proofs.Spelling.{script_items_are}
 use Rattle.newt_spec_graph.specs.Lists.{Among, Each}
-use Rattle.newt_spec_graph.proofs.Lists.{each-append, none-some}
+use Rattle.newt_spec_graph.proofs.Lists.{among-right, each-append, none-some}
 use Rattle.newt_spec_script.specs.Rows.{IsRun, Row, world_at}
 use Rattle.newt_spec_script.specs.Script.{Item, is_quit, up_to_quit}
 use Rattle.newt_spec_store.specs.OfImage.{blocks_of}
-use Rattle.newt_spec_store.specs.Store.{Entry, Soup, Store, entry_of, soup_named}
+use Rattle.newt_spec_store.specs.Store.{Entry, Soup, Store, add_entry, change_soup, entry_of, soup_named}
 use Rattle.newt_spec_store.specs.Valid.{valid}
 use Rattle.newt_spec_whole.specs.Step.{WholeStep}
 use Rattle.newt_spec_whole.specs.Whole.{Whole, stores_on}
@@ -200,6 +203,67 @@ module _ (h : Whole) (u : ℕ) (name : List ℕ) (uid store soup id : ℕ) (soun
 
       go : Step h.world ask v.world (Reply.alias store soup id) → IdGivenOn v.world u soup id
       go (plain none is) = answered-given v.world is
+      go (found {u = x} looks has is) = absurd (none-some x looks)
+      go (thrown {u = x} next is) = absurd (thrown-not x is)
+      go (halfway {u = x} moves ok next is) = absurd (thrown-not x is)
+
+-- ---- an add that is answered
+
+module _ (h : Whole) (u : ℕ) (name : List ℕ) (g : RawGraph) (id : ℕ) where
+  abbrev adds : Command
+  adds = command.Add u name g
+
+  -- the entry is in the store behind it
+  record Added (v : World) : Type 0 where
+    p : Soup
+    named : soup_in h.world u name ≡ Some p
+    t : Store
+    on : mounted_store v u ≡ Some t
+    has : HasEntry p.sig id t
+
+  added-in : (v : World) → answer h.world adds ≡ (v, Reply.number id) → Added v
+  unfolding answer changed checks fields
+  added-in v is = go (first_of (checks h.world adds)) refl is
+    where
+      number : Reply → ℕ
+      number (Reply.number n) = n
+      number r = 0
+
+      go : (o : Option Refusal) → first_of (checks h.world adds) ≡ o → answered h.world adds o ≡ (v, Reply.number id) → Added v
+      go (Some r) e is = absurd (refused (ap (λ (x : World × Reply). x.1) is))
+        where
+          refused : Reply.refused r ≡ Reply.number id → ⊥
+          refused e = cc
+      go None e is =
+          let passed = all-false (checks h.world adds) e in
+          let t = not-none (mounted_store h.world u) passed.1.0 in
+          let p = not-none (soup_in h.world u name) passed.1.1.0 in
+          let found : soup_named name t.0 ≡ Some p.0 = sym (ap (option_and_then (soup_named name)) t.1) ∙ p.1 in
+          let more : Soup → Soup = add_entry h.world.minute g in
+          record {
+            p = p.0;
+            named = p.1;
+            t = change_soup name more t.0;
+            on = ap (λ (x : World × Reply). mounted_store x.0 u) (sym is) ∙ mounted-change h.world u (change_soup name more) t.0 t.1;
+            has = record {
+              soup = more p.0;
+              is_soup = first-among (λ (q : Soup). equal_text q.name name) more t.0.soups p.0 found;
+              sig_is = refl;
+              entry = record { uid = p.0.next_uid; time = h.world.minute; graph = g };
+              is_entry = among-right p.0.entries (record { uid = p.0.next_uid; time = h.world.minute; graph = g } ∷ []) (record { uid = p.0.next_uid; time = h.world.minute; graph = g }) (inl refl);
+              uid_is = sym (ap (λ (o : Option Soup). unwrap_or (option_map (λ (q : Soup). q.next_uid) o) 0) p.1) ∙ ap (λ (x : World × Reply). number x.1) is;
+            };
+          }
+
+  pub added-given : (v : Whole) → IsSound v → WholeStep h adds v (Reply.number id) → (p : Soup) × (soup_in h.world u name ≡ Some p) × IdGivenOn v.world u p.sig id
+  unfolding is_plain
+  added-given v sound s = go (plain-step h adds v (Reply.number id) refl s)
+    where
+      thrown-not : (x : ℕ) → Reply.number id ≡ Reply.thrown x → ⊥
+      thrown-not x e = cc
+
+      go : Step h.world adds v.world (Reply.number id) → (p : Soup) × (soup_in h.world u name ≡ Some p) × IdGivenOn v.world u p.sig id
+      go (plain none is) = let a = added-in v.world is in (a.p, a.named, mounted-given v u a.t a.p.sig id sound a.on a.has)
       go (found {u = x} looks has is) = absurd (none-some x looks)
       go (thrown {u = x} next is) = absurd (thrown-not x is)
       go (halfway {u = x} moves ok next is) = absurd (thrown-not x is)

@@ -1,6 +1,7 @@
 //! Laws of one run after another, where devices may fail and a crash may come at any moment.
-ghost use Rattle.std.specs.Prelude.{ℕ, ◌≡◌, ◌≤◌, ◌<◌, ◌+◌, ◌++◌, IsTrue, List, length, Option};
-ghost use Rattle.std.specs.Prelude.{Some, Result};
+ghost use Rattle.std.specs.Prelude.{ℕ, ◌≡◌, ◌≤◌, ◌<◌, ◌+◌, ◌++◌, ◌∷◌, [], IsTrue, List, length};
+ghost use Rattle.std.specs.Prelude.{Option, Some, Result};
+ghost use Rattle.newt_graph.specs.Graph.{RawGraph};
 ghost use Rattle.newt_host.specs.Outside.{Outside};
 ghost use Rattle.newt_laws_changes.specs.Later.{EntryGone, SoupGone};
 ghost use Rattle.newt_laws_scripts.specs.Crashed.{CrashedAt, CrashedBehind, HasEntry, IdGiven};
@@ -14,20 +15,21 @@ ghost use Rattle.newt_spec_graph.specs.Lists.{Among, Each};
 ghost use Rattle.newt_spec_script.specs.Rows.{IsRun, Row, world_at, world_behind};
 ghost use Rattle.newt_spec_script.specs.Script.{Item as IsItem};
 ghost use Rattle.newt_spec_store.specs.OfImage.{blocks_of};
-ghost use Rattle.newt_spec_store.specs.Store.{Store};
+ghost use Rattle.newt_spec_store.specs.Store.{Soup, Store};
 ghost use Rattle.newt_spec_store.specs.Valid.{valid, well_formed};
 ghost use Rattle.newt_spec_whole.specs.Step.{WholeStep};
 ghost use Rattle.newt_spec_whole.specs.Whole.{Whole};
 ghost use Rattle.newt_spec_world.specs.Alias.{Alias as IsAlias, Spot, resolved};
 ghost use Rattle.newt_spec_world.specs.Reply.{Reply};
-ghost use Rattle.newt_spec_world.specs.World.{World, mounted_store, stores_on};
+ghost use Rattle.newt_spec_world.specs.World.{World, mounted_store, soup_in, stores_on};
 ghost use Rattle.newt_spec_world.specs.declared.command.Command.TheVariants as command;
 
 /// What a crash leaves of a unit that has a store, or one of two, behind k replies that have begun,
 /// is read as one of these stores, later, whatever cards fail. So it is of a run of a script over
 /// the devices of names; of one whose replies are counted, since its start, and once a byte of the
 /// summary is out behind all of it; and of the rows of any run, where a crash leaves the unit as
-/// behind m of them, or one more.
+/// behind m of them, or one more. Of an image that is read as a store it is so of that store: as of
+/// what a crash leaves on a device to which a store was restored, once a byte of the reply is out.
 pub fn crashes_leave_later_stores()
     ensures run { (reads : List ℕ → Option Store) (limit : ℕ)
         (result : Result (Unit {0}) IsHalt) (names : List (List ℕ)) (old new : Outside)
@@ -54,6 +56,8 @@ pub fn crashes_leave_later_stores()
         → ReadsOneOf reads (stores_on (world_at h rows m).world unit
         ++ stores_on (world_at h rows (m + 1)).world unit) image)
         → ReadsLater reads (stores_on (world_at h rows k).world unit) image }
+    ensures made { (reads : List ℕ → Option Store) (s : Store) (image : List ℕ)
+        → reads image ≡ Some s → ReadsLater reads (s ∷ []) image }
 {}
 
 /// A run over such an image has on the unit of its name's place stores that are later ones of
@@ -122,7 +126,8 @@ pub fn worlds_of_runs_are_sound()
 {}
 
 /// In a sound world the id of each entry in a mounted store has been given in all that its unit may
-/// have: so has that of an alias that resolves, and of one that is replied.
+/// have: so has that of an alias that resolves, of one that is replied, and the id that an `add` is
+/// answered with.
 pub fn ids_of_entries_have_been_given()
     ensures there { (h : Whole) (u : ℕ) (t : Store) (sig uid : ℕ) → IsSound h
         → mounted_store h.world u ≡ Some t → HasEntry sig uid t → IdGivenOn h.world u sig uid }
@@ -131,6 +136,9 @@ pub fn ids_of_entries_have_been_given()
     ensures replied { (h : Whole) (u : ℕ) (name : List ℕ) (uid store soup id : ℕ) → IsSound h
         → (v : Whole) → WholeStep h (command.Alias u name uid) v (Reply.alias store soup id)
         → IdGivenOn v.world u soup id }
+    ensures added { (h : Whole) (u : ℕ) (name : List ℕ) (graph : RawGraph) (id : ℕ) (v : Whole)
+        → IsSound v → WholeStep h (command.Add u name graph) v (Reply.number id)
+        → (p : Soup) × (soup_in h.world u name ≡ Some p) × IdGivenOn v.world u p.sig id }
 {}
 
 /// The id of an alias was given behind k replies of a run. Whatever cards fail, and wherever behind

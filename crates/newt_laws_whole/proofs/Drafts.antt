@@ -1,4 +1,4 @@
--- A working copy while commands go on.
+-- A working copy behind a command.
 use Rattle.std.proofs.Common.{◌≡◌, refl, ap, sym, ◌∙◌, subst, ℕ, List, [], ◌∷◌, ◌++◌, true, false, Bool, cond, not, Option, Some, None, option_map, option_and_then}
 use Rattle.std.specs.Prelude.{slice_get, is_none, ◌==◌}
 use Rattle.std.specs.List.{position}
@@ -18,8 +18,8 @@ use Rattle.newt_spec_world.specs.declared.command.Command.TheVariants as command
 use Rattle.newt_laws_world.proofs.Units.{at-same, at-other}
 use Rattle.newt_spec_whole.specs.Whole.{Whole, copy, free_copy, living, asks, change_of}
 use Rattle.newt_spec_whole.specs.Refused.{whole_checks, no_copy, entry_gone, entry_changed, no_room}
-use Rattle.newt_spec_whole.specs.Answer.{whole_answer, whole_answered, whole_later, copies_after, put_copy, put_at, opened_of, reverted, world_after}
-use Rattle.newt_laws_whole.specs.Since.{Edit, put_all, IsDone, edit_by, if_done, edits_since, ends_edits, GoesOn, Saves}
+use Rattle.newt_spec_whole.specs.Answer.{whole_answer, whole_answered, copies_after, put_copy, put_at, opened_of, reverted, world_after}
+use Rattle.newt_laws_whole.specs.Since.{Edit, put_all, IsDone, edit_by, if_done, ends_edits, Saves}
 use Rattle.newt_laws_whole.proofs.Places.{set-other, set-free, free-other}
 
 -- ---- one command
@@ -68,20 +68,11 @@ pub step-kept : (h : Whole) (c : Command) (n : ℕ) (k : Copy) (o : Option Refus
 step-kept h c n k (Some r) here on = here
 step-kept h c n k None here on = copies-kept h c n k here (on refl)
 
--- ---- many commands
+-- ---- many edits
 
 pub put-more : (g : RawGraph) (es fs : List Edit) → put_all g (es ++ fs) ≡ put_all (put_all g es) fs
 put-more g [] fs = refl
 put-more g (e ∷ es) fs = put-more (graph_after_set e.0 e.1 g) es fs
-
-pub copy-kept : (h : Whole) (cs : List Command) (n : ℕ) (k : Copy) → copy h n ≡ Some k → GoesOn n h cs
-    → copy (whole_later h cs) n ≡ Some (edited (put_all k.draft (edits_since n h cs)) k)
-unfolding GoesOn edits_since whole_answer
-copy-kept h [] n k here on = here
-copy-kept h (c ∷ cs) n k here on =
-    copy-kept (whole_answer h c).0 cs n (edited (put_all k.draft (if_done (first_of (whole_checks h c)) (edit_by n c))) k)
-    (step-kept h c n k (first_of (whole_checks h c)) here on.0) on.1
-    ∙ ap (λ g. Some (edited g k)) (sym (put-more k.draft (if_done (first_of (whole_checks h c)) (edit_by n c)) (edits_since n (whole_answer h c).0 cs)))
 
 -- ---- a save
 
@@ -127,15 +118,6 @@ saves h n k done here = go (living h k) refl
               ∙ ap (λ o. world_after h.world (option_and_then (λ k. option_map (change_of k) (living h k)) o)) here
               ∙ ap (λ o. world_after h.world (option_map (change_of k) o)) e;
         }
-
-pub saved-since : (h : Whole) (cs : List Command) (n : ℕ) (k : Copy) → copy h n ≡ Some k → k.draft ≡ k.base → GoesOn n h cs → IsDone (whole_later h cs) (command.Save n)
-    → Saves (whole_later h cs) (whole_answer (whole_later h cs) (command.Save n)).0 k (put_all k.base (edits_since n h cs))
-saved-since h cs n k here fresh on done =
-    let draft = put_all k.draft (edits_since n h cs) in
-    let later = whole_later h cs in
-    let s : Saves later (whole_answer later (command.Save n)).0 (edited draft k) draft = saves later n (edited draft k) done (copy-kept h cs n k here on) in
-    subst (λ g. Saves later (whole_answer later (command.Save n)).0 k (put_all g (edits_since n h cs))) fresh
-    (record { spot = s.spot; lives = s.lives; same_time = s.same_time; same_graph = s.same_graph; after = s.after })
 
 -- ---- a copy begins
 

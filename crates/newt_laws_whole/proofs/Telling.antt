@@ -125,7 +125,7 @@ find-first {X} test f keeps (x ∷ xs) = go (test x) refl (find-first test f kee
     go true is more = ap (λ (b : Bool). cond b (Some (f x)) (find test xs)) (keeps x ∙ is)
     go false is more = ap (λ (b : Bool). cond b (Some x) (find test (change_first test f xs))) is ∙ more
 
-mounted-change : (w : World) (x : ℕ) (f : Store → Store) (st : Store) → mounted_store w x ≡ Some st → mounted_store (change_store w x f) x ≡ Some (f st)
+pub mounted-change : (w : World) (x : ℕ) (f : Store → Store) (st : Store) → mounted_store w x ≡ Some st → mounted_store (change_store w x f) x ≡ Some (f st)
 mounted-change w x f st h = ap on_unit (device-same w x (λ d. record d { media = change_media f d.media })) ∙ go (device w x) h
   where
     media : (b : Bool) (m : Media) → cond b (store_of m) None ≡ Some st → cond b (store_of (change_media f m)) None ≡ Some (f st)

@@ -1,9 +1,8 @@
--- A watch while commands go on.
+-- A watch behind a command.
 use Rattle.std.proofs.Common.{◌≡◌, refl, ap, sym, ◌∙◌, ℕ, zero, suc, List, [], ◌∷◌, ◌++◌, true, false, Bool, if◌then◌else◌, Option, Some, None, option_map, map, append_assoc}
 use Rattle.std.specs.Prelude.{slice_get, is_none}
 use Rattle.std.specs.List.{position}
 use Rattle.newt_base.specs.Names.{equal_text}
-use Rattle.newt_base.specs.Refusals.{first_of}
 use Rattle.newt_base.specs.declared.Refusal.{Refusal}
 use Rattle.newt_notify.specs.declared.note.Note.{Note}
 use Rattle.newt_notify.specs.Watch.{Watching, taking, noted, watching, emptied}
@@ -14,10 +13,9 @@ use Rattle.newt_spec_world.specs.declared.command.Command.TheVariants as command
 use Rattle.newt_laws_world.proofs.Units.{at-same, at-other}
 use Rattle.newt_spec_whole.specs.Whole.{Whole, watch, asks}
 use Rattle.newt_spec_whole.specs.Events.{Event, events_of, note_all}
-use Rattle.newt_spec_whole.specs.Refused.{whole_checks}
-use Rattle.newt_spec_whole.specs.Answer.{whole_answer, whole_answered, whole_later, whole_fields, watches_after, put_at, notes_reply}
+use Rattle.newt_spec_whole.specs.Answer.{whole_answer, whole_answered, whole_fields, watches_after, put_at, notes_reply}
 use Rattle.newt_laws_whole.specs.Since.{IsDone, if_done}
-use Rattle.newt_laws_whole.specs.Told.{told_to, events_since, ends_notes, Watches, with_notes}
+use Rattle.newt_laws_whole.specs.Told.{told_to, ends_notes, with_notes}
 use Rattle.newt_laws_whole.proofs.Places.{set-other, free-other}
 use Rattle.newt_laws_whole.proofs.Drafts.{apart}
 
@@ -71,7 +69,7 @@ pub step-told : (h : Whole) (c : Command) (n : ℕ) (w : Watching) (o : Option R
 step-told h c n w (Some r) here on = here ∙ ap {A = List Note} {B = Option Watching} (λ ns. Some (record w { notes = ns })) (sym (end w.notes))
 step-told h c n w None here on = all-told (events_of h.world (asks h c)) (watches_after h c) n w (row-kept h c n w here (on refl))
 
--- ---- many commands
+-- ---- more notes
 
 pub told-more : (name : List ℕ) (es fs : List Event) → told_to name (es ++ fs) ≡ told_to name es ++ told_to name fs
 told-more name [] fs = refl
@@ -81,16 +79,6 @@ told-more name (e ∷ es) fs = go (equal_text e.0 name) (told-more name es fs)
         → (if b then e.1 ∷ told_to name (es ++ fs) else told_to name (es ++ fs)) ≡ (if b then e.1 ∷ told_to name es else told_to name es) ++ told_to name fs
     go true more = ap (λ ns. e.1 ∷ ns) more
     go false more = more
-
-pub watch-told : (h : Whole) (cs : List Command) (n : ℕ) (w : Watching) → watch h n ≡ Some w → Watches n h cs
-    → watch (whole_later h cs) n ≡ Some (with_notes (told_to w.name (events_since h cs)) w)
-unfolding Watches events_since whole_answer
-watch-told h [] n w here on = here ∙ ap {A = List Note} {B = Option Watching} (λ ns. Some (record w { notes = ns })) (sym (end w.notes))
-watch-told h (c ∷ cs) n w here on =
-    let es = if_done (first_of (whole_checks h c)) (events_of h.world (asks h c)) in
-    let fs = events_since (whole_answer h c).0 cs in
-    watch-told (whole_answer h c).0 cs n (with_notes (told_to w.name es) w) (step-told h c n w (first_of (whole_checks h c)) here on.0) on.1
-    ∙ ap {A = List Note} {B = Option Watching} (λ ns. Some (record w { notes = ns })) (append_assoc w.notes (told_to w.name es) (told_to w.name fs) ∙ ap (λ ns. w.notes ++ ns) (sym (told-more w.name es fs)))
 
 -- ---- the notes are taken
 

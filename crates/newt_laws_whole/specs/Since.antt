@@ -16,7 +16,6 @@ use Rattle.newt_spec_world.specs.declared.command.Command.{Command}
 use Rattle.newt_spec_world.specs.declared.command.Command.TheVariants as command
 use Rattle.newt_spec_whole.specs.Whole.{Whole, living}
 use Rattle.newt_spec_whole.specs.Refused.{whole_checks}
-use Rattle.newt_spec_whole.specs.Answer.{whole_answer}
 
 -- a path, and the value that is put there (a word of these definitions)
 abbrev pub Edit : Type 0
@@ -41,23 +40,12 @@ abbrev pub if_done : {X : Type 0} → Option Refusal → List X → List X
 if_done (Some r) xs = []
 if_done None xs = xs
 
--- the edits that commands one after another make in a copy (this project's own)
-unfoldable pub edits_since : ℕ → Whole → List Command → List Edit
-edits_since n h [] = []
-edits_since n h (c ∷ cs) =
-    if_done (first_of (whole_checks h c)) (edit_by n c) ++ edits_since n (whole_answer h c).0 cs
-
 -- the command saves, reverts or discards the copy, where it is not refused (this project's own)
 abbrev pub ends_edits : ℕ → Command → Bool
 ends_edits n (command.Save m) = m == n
 ends_edits n (command.Revert m) = m == n
 ends_edits n (command.Discard m) = m == n
 ends_edits n _ = false
-
--- none of the commands that are done saves, reverts or discards the copy (this project's own)
-unfoldable pub GoesOn : ℕ → Whole → List Command → Type 0
-GoesOn n h [] = ⊤
-GoesOn n h (c ∷ cs) = (IsDone h c → ends_edits n c ≡ false) × GoesOn n (whole_answer h c).0 cs
 
 -- A save was done: the entry was still as the copy's base, and what it asks of the world is that its
 -- graph is changed to this one. (this project's own)

@@ -2,16 +2,15 @@
 ghost use Rattle.std.specs.Prelude.{ℕ, ◌≡◌, List, Some};
 ghost use Rattle.newt_graph.specs.Graph.{RawGraph};
 ghost use Rattle.newt_graph.specs.Meeting.{normal_form};
-ghost use Rattle.newt_laws_whole.specs.Since.{put_all, edits_since, GoesOn, IsDone, Saves};
+ghost use Rattle.newt_laws_whole.specs.Since.{IsDone};
 ghost use Rattle.newt_spec_store.specs.Keys.{Path};
 ghost use Rattle.newt_spec_store.specs.Store.{Entry, Soup, Store};
-ghost use Rattle.newt_spec_whole.specs.Answer.{whole_answer, whole_later};
+ghost use Rattle.newt_spec_whole.specs.Answer.{whole_answer};
 ghost use Rattle.newt_spec_whole.specs.Whole.{Whole, copy, free_copy, living};
 ghost use Rattle.newt_spec_world.specs.Alias.{Spot};
 ghost use Rattle.newt_spec_world.specs.World.{mounted_store, soup_in, entry_in};
-ghost use Rattle.newt_spec_world.specs.declared.command.Command.{Command as IsCommand};
 ghost use Rattle.newt_spec_world.specs.declared.command.Command.TheVariants as command;
-ghost use Rattle.newt_work.specs.Work.{Copy, draft_with, drafted, edited, opened, rebased};
+ghost use Rattle.newt_work.specs.Work.{Copy, draft_with, drafted, opened, rebased};
 
 /// An open that is done makes a copy at the least free number of the entry as it is; a save that is
 /// done makes its draft the base, at the present minute, which is what the entry then is; a revert
@@ -37,22 +36,4 @@ pub fn edits_are_put()
     ensures { (h : Whole) (n : ℕ) (path : Path) (g : RawGraph) (k : Copy)
         → IsDone h (command.Edit n path g) → copy h n ≡ Some k → (raw : RawGraph)
         × (draft_with path g k ≡ Some raw) × (normal_form raw ≡ Some (drafted path g k).draft) }
-{}
-
-/// While commands go on, a copy keeps its entry and its base, and its draft is the one before with
-/// the edits since put into it one after another.
-pub fn copies_keep_their_edits()
-    ensures { (h : Whole) (cs : List IsCommand) (n : ℕ) (k : Copy) → copy h n ≡ Some k
-        → GoesOn n h cs
-        → copy (whole_later h cs) n ≡ Some (edited (put_all k.draft (edits_since n h cs)) k) }
-{}
-
-/// A save that is done replaces exactly the state of the entry at which the copy was opened, saved
-/// or reverted last, and the new graph is that state's with the edits since put into it one after
-/// another.
-pub fn saves_replace_what_was_read()
-    ensures { (h : Whole) (cs : List IsCommand) (n : ℕ) (k : Copy) → copy h n ≡ Some k
-        → k.draft ≡ k.base → GoesOn n h cs → IsDone (whole_later h cs) (command.Save n)
-        → Saves (whole_later h cs) (whole_answer (whole_later h cs) (command.Save n)).0 k
-        (put_all k.base (edits_since n h cs)) }
 {}

@@ -3,7 +3,7 @@ use Rattle.std.specs.Prelude.{◌≡◌, ℕ, ◌+◌, ◌*◌, Bool, IsTrue, Li
 use Rattle.newt_nsof_flat.specs.Stream.{stream_graph}
 use Rattle.newt_host.specs.Moments.{Anything, IsDurable, image, Leaves}
 use Rattle.newt_host.specs.Outside.{Outside, NoFault, OnlyReads, Spends, Touches, Wears}
-use Rattle.newt_pagebook.specs.Book.{Numbers, IsOpenFor, format_bytes}
+use Rattle.newt_pagebook.specs.Book.{Numbers, IsFormatted, IsOpenFor, format_bytes}
 use Rattle.newt_pagebook.specs.declared.book.BookFault.{BookFault}
 use Rattle.newt_pagebook.specs.declared.book.Stop.{Stop}
 use Rattle.newt_pagebook.specs.declared.book.Stop.TheVariants.{Memory}
@@ -23,6 +23,7 @@ use Rattle.newt_objects_commit.specs.Names.{AreSoundNames, names_of}
 use Rattle.newt_objects_commit.specs.Places.{AreSoundPlaces, place_of}
 use Rattle.newt_soupdir.specs.Bare.{bare_store}
 use Rattle.newt_spec_image.specs.Objects.{Objects}
+use Rattle.newt_spec_image.specs.Pages.{Change as PageChange}
 use Rattle.newt_spec_image.specs.Records.{bank_blocks}
 use Rattle.newt_spec_store.specs.Valid.{well_formed}
 use Rattle.newt_store_change.specs.Change.{changed_by, answer_of, first_checks, refusal_of, most_bytes}
@@ -55,12 +56,15 @@ pub record CallEnds {T : Type 0} (unit : ℕ) (before after : Outside)
   pub cause : IfErr result (FaultsAt unit before after)
   pub no_fault : GoesOn result → NoFault before after
 
--- A unit's image is made that of this store, and nothing is pending then; after out of memory
--- nothing has happened; after a fault of the device nothing is said of the unit.
+-- A unit's image is made that of this store, in one record of bank 0, for which all three vote, and
+-- nothing is pending then; after out of memory nothing has happened; after a fault of the device
+-- nothing is said of the unit.
 pub record FormatsUnit (told : Bool) (unit : ℕ) (fresh : PlainStore) (before after : Outside)
     (result : Result (Unit {0}) Stop) : Type 0 where
   pub formatted : IsTrue told → OnOk result
       (store_of_image stream_graph (image unit after.now) ≡ Some fresh)
+  pub laid : IsTrue told → OnOk result
+      ((change : PageChange) × IsFormatted change (image unit after.now))
   pub durable : IsTrue told → OnOk result (IsDurable unit after.now)
   pub open_after : IsTrue told → OnOk result (IsOpenFor 0 (image unit after.now))
   pub unchanged : IsErrOf result Memory → after.now ≡ before.now

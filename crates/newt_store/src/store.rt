@@ -9,7 +9,8 @@ ghost use Rattle.newt_spec_store.specs.Store.{new_store};
 ghost use Rattle.newt_spec_store.specs.OfImage.{blocks_of};
 ghost use Rattle.newt_store_change.specs.Change.{uids_in, entry_fetched, pages_of_entry};
 ghost use Rattle.newt_store_change.specs.Change.{most_bytes};
-ghost use Rattle.newt_store_change.specs.Entries.{ReadsLarge, large_fetches, plain_entry};
+ghost use Rattle.newt_store_change.specs.Entries.{ReadsLarge, entry_said, large_fetches};
+ghost use Rattle.newt_store_change.specs.Entries.{plain_entry};
 ghost use Rattle.newt_store_catalog.specs.Reading.{ReadEnds};
 ghost use Rattle.newt_store_catalog.specs.Stands.{StandsFor};
 ghost use Rattle.newt_store.specs.Calls.{AreGathered, CallEnds, Changes, FormatsUnit, IsOpen};
@@ -183,6 +184,8 @@ impl<P: PageBook> Store<P> {
         ensures costs { ForShown P.place H.told self.old (H.outside host.old) (λ s.
             Spends (unit_of P.place self.old) 0 (512 * pages_of_entry (entry_at soup uid s))
             (H.outside host.old) (H.outside host.new)) }
+        ensures pages { IfOk result (λ found. Spends (unit_of P.place self.old) 0
+            (512 * pages_of_entry (entry_said found)) (H.outside host.old) (H.outside host.new)) }
         ensures reads { Reads P.place P.numbers P.stands H.told self.old self.new
             (H.outside host.old) (H.outside host.new) }
         ensures ends { ReadEnds (unit_of P.place self.old) (H.outside host.old) (H.outside host.new)

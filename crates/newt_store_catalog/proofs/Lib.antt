@@ -4,6 +4,7 @@ pub mod OpeningPlaces
 pub mod Unnamed
 pub mod Owning
 pub mod ReadLarges
+pub mod Sizes
 pub mod Rows
 pub mod Exits
 pub mod Lying

@@ -125,7 +125,7 @@ has-both texts [] rest has some = absurd (omega (arith, some))
 has-both texts (l ∷ left) [] has some = absurd cc
 has-both texts (l ∷ left) (b ∷ rest) has some = refl
 
-spent-both : (unit m n total : ℕ) (old mid new : Outside) → m + n ≤ total → Spends unit 0 (512 * m) old mid → Spends unit 0 (512 * n) mid new → Spends unit 0 (512 * total) old new
+pub spent-both : (unit m n total : ℕ) (old mid new : Outside) → m + n ≤ total → Spends unit 0 (512 * m) old mid → Spends unit 0 (512 * n) mid new → Spends unit 0 (512 * total) old new
 spent-both unit m n total old mid new most one two = Spends-widen (0 + 0) (512 * m + 512 * n) 0 (512 * total) (omega arith) (omega (arith, most)) (Spends-append 0 (512 * m) 0 (512 * n) one two)
 
 module _ (texts : Objects) (left : List LargeAt) (bs done : List (List ℕ)) (unit : ℕ) (old mid : Outside) (w : WentOn texts left bs done unit old mid) (some : 1 ≤ length left) where

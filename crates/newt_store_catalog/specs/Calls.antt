@@ -1,9 +1,9 @@
 -- What calls that read entries, and that find a unit's store, ask and promise. All of it is this
 -- project's own.
 use Rattle.newt_spec_image.specs.Records.{version}
-use Rattle.std.specs.Prelude.{◌≡◌, ℕ, ◌*◌, Bool, true, IsTrue, List, length, map as list_map, Some, IsSome, Result, IfOk, Vec}
+use Rattle.std.specs.Prelude.{◌≡◌, ℕ, ◌+◌, ◌*◌, Bool, true, IsTrue, List, length, map as list_map, Some, IsSome, Result, IfOk, Vec}
 use Rattle.std.specs.Global.{Global}
-use Rattle.std.specs.List.{list_all, sum_by}
+use Rattle.std.specs.List.{list_all, sum, sum_by}
 use Rattle.std.specs.FinMap as map
 use Rattle.newt_host.specs.Moments.{image}
 use Rattle.newt_host.specs.Outside.{Outside, OnlyReads, Spends}
@@ -18,6 +18,7 @@ use Rattle.newt_objects_commit.specs.Names.{AreSoundNames}
 use Rattle.newt_objects_commit.specs.Places.{AreSoundPlaces, place_of}
 use Rattle.newt_laws_changes.specs.Written.{Names}
 use Rattle.newt_laws_images.specs.Found.{IsFound}
+use Rattle.newt_spec_nsof.specs.Flat.{flat}
 use Rattle.newt_spec_store.specs.Cost.{entry_pages}
 use Rattle.newt_spec_store.specs.Lies.{Places, record_read}
 use Rattle.newt_spec_store.specs.Store.{Store, Entry}
@@ -103,6 +104,14 @@ pub record IsRowOver (objects : Held) (row : EntryRow) : Type 0 where
   pub read : record_read stream_graph bytes ≡ Some (said row)
   pub fits : fits_skeleton (list_map row_at row.larges) row.skeleton ≡ true
   pub there : AreThere objects row.larges
+
+-- the pages of the record that a row is read of
+abbrev pub row_pages : EntryRow → ℕ
+row_pages row = pages_for (12 + length (flat row.skeleton) + 12 * length row.larges)
+
+-- the pages of the large binaries of some rows
+abbrev pub larges_pages : List LargeAt → ℕ
+larges_pages rows = sum (list_map pages_for (list_map (λ l. l.length) rows))
 
 -- ---- what is found
 

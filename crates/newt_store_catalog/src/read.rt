@@ -1,11 +1,15 @@
 // An entry is read, with its large binaries.
-ghost use Rattle.std.specs.Prelude.{IsTrue, ◌≡◌, true, IfOk, length, map as list_map};
+ghost use Rattle.std.specs.Prelude.{IsTrue, ◌≡◌, ◌*◌, true, IfOk, length, map as list_map};
 ghost use Rattle.newt_host.specs.Moments.{image};
+ghost use Rattle.newt_host.specs.Outside.{Spends};
 ghost use Rattle.newt_objects.specs.Held.{held};
+ghost use Rattle.newt_spec_image.specs.Objects.{pages_for};
+ghost use Rattle.newt_spec_store.specs.Cost.{entry_pages};
 ghost use Rattle.newt_spec_store.specs.Valid.{valid_entry};
 ghost use Rattle.newt_store_catalog.specs.Calls.{AreThere, CanRead, HasEntry, IsRowOver, Reads};
 ghost use Rattle.newt_store_catalog.specs.Calls.{ForEntry, ForLarges, ForObject, ReadsBytes};
 ghost use Rattle.newt_store_catalog.specs.Calls.{ReadsEntry, ReadsLarges, ReadsRecord};
+ghost use Rattle.newt_store_catalog.specs.Calls.{larges_pages, row_pages};
 ghost use Rattle.newt_store_catalog.specs.Opening.{has_length};
 ghost use Rattle.newt_store_change.specs.Entries.{plain_entry};
 
@@ -42,6 +46,8 @@ pub fn read_row<P: PageBook, H: Host>(
         (λ bytes. ReadsRecord (P.place book.old) bytes
         (H.outside host.old) (H.outside host.new) result) }
     ensures any { IfOk result (IsRowOver objects.now) }
+    ensures pages { IfOk result (λ row. Spends (P.place book.old) 0 (512 * row_pages row)
+        (H.outside host.old) (H.outside host.new)) }
     ensures reads { Reads P.place P.numbers P.stands H.told objects.now book.old book.new
         (H.outside host.old) (H.outside host.new) result }
 {
@@ -72,6 +78,8 @@ fn read_large<P: PageBook, H: Host>(
     ensures bytes { ForObject H.told (image (P.place book.old) (H.outside host.old).now)
         large.now.object (λ bytes. ReadsBytes (P.place book.old) bytes
         (H.outside host.old) (H.outside host.new) result) }
+    ensures pages { Spends (P.place book.old) 0 (512 * pages_for large.now.length)
+        (H.outside host.old) (H.outside host.new) }
     ensures reads { Reads P.place P.numbers P.stands H.told objects.now book.old book.new
         (H.outside host.old) (H.outside host.new) result }
 {
@@ -94,6 +102,8 @@ fn read_larges<P: PageBook, H: Host>(
     ensures larges { ForLarges H.told (image (P.place book.old) (H.outside host.old).now) rows.now
         (λ bs. ReadsLarges (P.place book.old) bs
         (H.outside host.old) (H.outside host.new) result) }
+    ensures pages { Spends (P.place book.old) 0 (512 * larges_pages rows.now)
+        (H.outside host.old) (H.outside host.new) }
     ensures reads { Reads P.place P.numbers P.stands H.told objects.now book.old book.new
         (H.outside host.old) (H.outside host.new) result }
 {
@@ -121,6 +131,8 @@ pub fn read_whole<P: PageBook, H: Host>(
     ensures entry { ForEntry H.told (image (P.place book.old) (H.outside host.old).now) id
         (λ e. ReadsEntry (P.place book.old) e (H.outside host.old) (H.outside host.new) result) }
     ensures valid { IfOk result (λ found. IsTrue (valid_entry (plain_entry found))) }
+    ensures pages { IfOk result (λ found. Spends (P.place book.old) 0
+        (512 * entry_pages (plain_entry found)) (H.outside host.old) (H.outside host.new)) }
     ensures reads { Reads P.place P.numbers P.stands H.told objects.now book.old book.new
         (H.outside host.old) (H.outside host.new) result }
 {

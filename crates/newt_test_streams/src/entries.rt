@@ -1,13 +1,47 @@
 //! Records in bytes that were spelt by hand, with ample memory.
-ghost use Rattle.std.specs.Prelude.{◌≡◌, true, map};
+ghost use Rattle.std.specs.Prelude.{◌≡◌, true, map, IfOk};
 ghost use Rattle.newt_entries.specs.Entry.{row_at, fits};
 
 use crate::records::Record;
-use newt_entries::{EntryRow, filled, larges_of, read_entry, row_of, skeleton, write_entry};
+use newt_entries::{
+    EntryRow, FullEntry, Larges, filled, larges_of, read_entry, row_of, skeleton, write_entry,
+};
 use newt_graph::Graph;
 use newt_test_tables::{bytes_of, expect_rows};
 use std::alloc::{AllocError, Global};
 use std::test::*;
+
+/// An equal row, which is made of copies.
+fn copied(row: &EntryRow) -> Result<EntryRow, AllocError>
+    ensures { IfOk result (λ copy. copy ≡ row.now) }
+{
+    let EntryRow {
+        soup,
+        uid,
+        time,
+        skeleton: graph,
+        larges,
+    } = row.copy()?;
+    let entry = FullEntry {
+        soup,
+        uid,
+        time,
+        graph,
+    };
+    let FullEntry {
+        soup,
+        uid,
+        time,
+        graph,
+    } = entry.copy()?;
+    Ok(EntryRow {
+        soup,
+        uid,
+        time,
+        skeleton: graph,
+        larges: Larges::of(larges.into_vec()),
+    })
+}
 
 /// The soup, the id and the minute of an entry, and whether its row is written as the same record;
 /// or that there is none.
@@ -19,7 +53,7 @@ pub(crate) fn entry(alloc: Global, bytes: &[u8]) -> Result<String, Fail> {
     if row.soup.0 > 65_535 || row.larges.list().len() > 65_535 {
         return Err("a larger row".into());
     }
-    let kept = write_entry(alloc, &row)?.as_slice() == bytes;
+    let kept = write_entry(alloc, &copied(&row)?)?.as_slice() == bytes;
     Ok(format!(in alloc; "{} {} {} {kept}", row.soup.0, row.uid.0, row.time)?)
 }
 

@@ -16,16 +16,17 @@ use Rattle.newt_host_attach.proofs.Since.{since_attached}
 use Rattle.newt_laws_steps.proofs.Beginning.{attached-durable}
 use Rattle.newt_script_session.specs.Calls.{OutputFailed, WriteCall}
 use Rattle.newt_script_session.specs.Causes.{HasCause, NoStreamFault}
-use Rattle.newt_script_session.specs.Named.{AtEachMoment, held_by}
+use Rattle.newt_script_session.specs.Named.{AtEachMoment, AttachedFirst, held_by}
 use Rattle.newt_script_session.specs.Stream.{Puts, WroteSome}
 use Rattle.newt_script_session.specs.declared.halt.Halt.TheVariants.{Sink as NoSink}
 use Rattle.newt_script_session.proofs.Counting.{faults_err, never_of, none-append}
 use Rattle.newt_top.specs.Calls.{RunEnds}
-use Rattle.newt_top.specs.Reading.{IsSaid, RanReading, WroteSaid}
+use Rattle.newt_top.specs.Reading.{ActsBeforeReply, IsSaid, RanReading, WroteSaid}
 use Rattle.newt_top.specs.declared.status.Mode.TheVariants.{Read}
 use Rattle.newt_top.specs.declared.status.Reading.{Reading}
 use Rattle.newt_top.specs.declared.status.Status.{Status}
 use Rattle.newt_top.specs.declared.status.Status.TheVariants.{Ok, Memory, Device, Sink}
+use Rattle.newt_top.proofs.Acting.{attached-printing}
 use Rattle.newt_top.proofs.Halting.{ends_halted, ends_ok, ends_quiet}
 
 -- what was printed since then has changed no device
@@ -94,9 +95,16 @@ module _ (names : List (List ℕ)) (old mid looked : Outside) (a : AreAttached t
       let since_mid : Always (PrintsSome text mid.now) mid.now new.now = subst (λ (m : Moment). Always (PrintsSome text m) m new.now) looks.moment always in
       crash-held names old mid a new (still text mid new since_mid) (λ unit. cards unit ∙ looks.alone.cards.card unit) fresh unknown history
 
-module _ (reading : Reading) (names : List (List ℕ)) (old mid looked : Outside) (a : AreAttached true names old mid) (looks : OnlyReads 0 mid looked) (fresh : (unit : ℕ) → changes unit old.now ≡ []) where
+module _ (reading : Reading) (names : List (List ℕ)) (old mid looked : Outside) (a : AreAttached true names old mid) (looks : OnlyReads 0 mid looked)
+    (fresh : (unit : ℕ) → changes unit old.now ≡ []) (blank : (unit : ℕ) → mid.card unit ≡ None → changes unit mid.now ≡ []) where
   quiet : out_of looked ≡ out_of old
   quiet = quiet-held names old mid looked a looks
+
+  -- it was attached first, and nothing was done to it while a text was put out
+  first-attached : (new : Outside) (text : List ℕ) → Always (PrintsSome text looked.now) looked.now new.now → ((unit : ℕ) → new.card unit ≡ looked.card unit)
+      → AttachedFirst names old new × ActsBeforeReply old.now new.now
+  first-attached new text prints cards = attached-printing names old mid new blank a (λ unit. cards unit ∙ looks.alone.cards.card unit) text
+      (subst (λ (m : Moment). Always (PrintsSome text m) m new.now) looks.moment prints)
 
   module _ (new : Outside) (unknown : (unit : ℕ) → new.card unit ≡ None → changes unit new.now ≡ []) (history : (unit : ℕ) → IsSome (new.card unit) → IsHistory (new.blocks unit * 4096) (changes unit new.now)) where
     -- the text was put out, or the output failed
@@ -105,6 +113,8 @@ module _ (reading : Reading) (names : List (List ℕ)) (old mid looked : Outside
     ran-put (Good x) text is puts call = (
       λ fails. absurd (cc),
       λ works. record {
+        attached = (first-attached new text puts.moments call.devices.cards.card).0;
+        acts = (first-attached new text puts.moments call.devices.cards.card).1;
         wrote = (text, is, puts.whole ∙ ap (λ (o : List ℕ). o ++ text) quiet);
         left = call.unread.input ∙ looks.alone.input ∙ a.input;
         crash = crash-since names old mid looked a looks fresh new unknown history text puts.moments call.devices.cards.card;
@@ -112,6 +122,8 @@ module _ (reading : Reading) (names : List (List ℕ)) (old mid looked : Outside
     )
     ran-put (Bad e) text is puts call = (
       λ fails. record {
+        attached = (first-attached new text puts.moments call.devices.cards.card).0;
+        acts = (first-attached new text puts.moments call.devices.cards.card).1;
         wrote = (text, is, subst (λ (o : List ℕ). WroteSome text o (out_of new)) quiet puts.failed);
         left = call.unread.input ∙ looks.alone.input ∙ a.input;
         crash = crash-since names old mid looked a looks fresh new unknown history text puts.moments call.devices.cards.card;
@@ -119,13 +131,18 @@ module _ (reading : Reading) (names : List (List ℕ)) (old mid looked : Outside
       λ works. absurd (cc),
     )
 
+  none-put : Always (PrintsSome [] looked.now) looked.now looked.now
+  none-put = here (record { done = []; rest = []; split = refl; moment = refl })
+
   -- nothing was put out
   pub ran-unput : ((unit : ℕ) → looked.card unit ≡ None → changes unit looked.now ≡ []) → ((unit : ℕ) → IsSome (looked.card unit) → IsHistory (looked.blocks unit * 4096) (changes unit looked.now))
       → (status : Status) → (out_of looked ≡ out_of old → WroteSaid status (IsSaid reading (held_by names old 0)) (out_of old) (out_of looked)) → RanReading reading names status old looked
   ran-unput unknown history status wrote = record {
+    attached = (first-attached looked [] none-put (λ unit. refl)).0;
+    acts = (first-attached looked [] none-put (λ unit. refl)).1;
     wrote = wrote quiet;
     left = looks.alone.input ∙ a.input;
-    crash = crash-since names old mid looked a looks fresh looked unknown history [] (here (record { done = []; rest = []; split = refl; moment = refl })) (λ unit. refl);
+    crash = crash-since names old mid looked a looks fresh looked unknown history [] none-put (λ unit. refl);
   }
 
 -- ---- devices

@@ -1,10 +1,10 @@
 -- A store is made on a device, or refused, and the reply put out.
-use Rattle.std.proofs.Common.{◌≡◌, inl, inr, ℕ, zero, suc, ◌+◌, ◌-◌, ◌<◌, ◌≤◌, ◌*◌, Bool, true, false, List, [], ◌∷◌, ◌++◌, length, drop, Option, Some, None, IsSome, Result, Ok as Good, Err as Bad, is_err, refl, sym, ◌∙◌, ap, subst, arith}
+use Rattle.std.proofs.Common.{◌≡◌, ◌⊎◌, inl, inr, ℕ, zero, suc, ◌+◌, ◌-◌, ◌<◌, ◌≤◌, ◌*◌, Bool, true, false, List, [], ◌∷◌, ◌++◌, length, drop, Option, Some, None, IsSome, Result, Ok as Good, Err as Bad, is_err, refl, sym, ◌∙◌, ap, subst, arith}
 use Rattle.std.proofs.lemmas.Bool.{cases_lt}
 use Rattle.std.proofs.lemmas.List.{length-append}
 use Rattle.newt_base.specs.declared.Refusal.{Refusal}
 use Rattle.newt_host.specs.Meanings.{device_on, out_of}
-use Rattle.newt_host.specs.Moments.{Change, On, Printed, Took, IsHistory, LeftBy, MayLeave, Moment, Always, here, bytes_after, changes, moment_at, output}
+use Rattle.newt_host.specs.Moments.{Change, On, Printed, Took, IsHistory, LeftBy, MayLeave, Moment, Always, here, bytes_after, changes, moment_at, output, taken}
 use Rattle.newt_host.specs.Outside.{Outside, PrintsSome, SameCounts, SameWork, Wears}
 use Rattle.newt_host.proofs.Extending.{extends-always, moment-stays}
 use Rattle.newt_host.proofs.Moments.{Always-last}
@@ -24,8 +24,9 @@ use Rattle.newt_spec_store.specs.Store.{Store}
 use Rattle.newt_store_backup.specs.Restored.{IsAsked, IsDone, IsLeft, IsRestored, Restores}
 use Rattle.newt_store_backup.proofs.Outcomes.{one-outcome}
 use Rattle.newt_store_catalog.specs.Readable.{readable}
-use Rattle.newt_top.specs.Restoring.{CrashLeaves, IsMade, RanRestored, Replied, WritesOneDevice}
+use Rattle.newt_top.specs.Restoring.{AttachedBehind, CrashLeaves, IsMade, RanRestored, Replied, WritesOneDevice}
 use Rattle.newt_top.specs.declared.status.Status.TheVariants.{Ok, Memory, Device, Sink}
+use Rattle.newt_top.proofs.Acting.{attached-filling}
 use Rattle.newt_top.proofs.Looking.{crash-held, crash-since, device-held, only-read, still}
 
 -- ---- what was shown
@@ -78,8 +79,8 @@ pub record HasHistory (new : Outside) : Type 0 where
   pub untouched : (unit : ℕ) → new.card unit ≡ None → changes unit new.now ≡ []
   pub history : (unit : ℕ) → IsSome (new.card unit) → IsHistory (new.blocks unit * 4096) (changes unit new.now)
 
-module _ {T : Type 0} (names : List (List ℕ)) (input : List ℕ) (old mid done : Outside) (r : Result T Stop) (fresh : (unit : ℕ) → changes unit old.now ≡ []) (a : AreAttached true names old mid)
-    (restores : Restores true 0 input mid done r) where
+module _ {T : Type 0} (names : List (List ℕ)) (input : List ℕ) (old mid done : Outside) (r : Result T Stop) (fresh : (unit : ℕ) → changes unit old.now ≡ []) (blank : (unit : ℕ) → mid.card unit ≡ None → changes unit mid.now ≡ [])
+    (a : AreAttached true names old mid) (restores : Restores true 0 input mid done r) where
   -- the device is attached as it was held
   at-hand : (outcome : Result Store Refusal) → IsRestored input (held_by names old 0) outcome → IsRestored input (device_on 0 mid) outcome
   at-hand outcome is = subst (λ (d : Option (List ℕ)). IsRestored input d outcome) (sym (device-held names old mid a 0)) is
@@ -116,6 +117,11 @@ module _ {T : Type 0} (names : List (List ℕ)) (input : List ℕ) (old mid done
         go (Good s) is same = made-left old done new quiet-done (still text done new prints) s mid (subst (λ (o : Result Store Refusal). IsLeft o 0 mid done) same d.left)
         go (Bad refusal) is same = crash-refused refusal is
 
+  -- the device was attached first, and filled before the reply
+  attached-first : (new : Outside) (text : List ℕ) → Always (PrintsSome text done.now) done.now new.now → ((unit : ℕ) → new.card unit ≡ done.card unit) → taken new.now ≡ taken done.now
+      → {X : Type 0} → AttachedBehind names old new ⊎ X
+  attached-first new text prints cards unread = inl (attached-filling names old mid new blank a (λ unit. cards unit ∙ restores.alone.cards.card unit) text done (restores.any_moment refl) prints unread)
+
   -- what the reply tells
   replied : (new : Outside) (text : List ℕ) → Always (PrintsSome text done.now) done.now new.now → (P : List ℕ → Type 0) → IsDone input 0 mid done text → P text → Replied names input P old new
   replied new text prints P d put = record {
@@ -136,11 +142,18 @@ module _ {T : Type 0} (names : List (List ℕ)) (input : List ℕ) (old mid done
 
     -- by the device
     pub ran-failed : (unit : ℕ) → RanRestored names input (Device unit) old done
-    ran-failed unit = record { wrote = quiet-done; crash = crash-halted; no_memory = λ memory. absurd (cc); once = once-by done (SameWork-refl 0 done) }
+    ran-failed unit = record {
+      attached = attached-first done [] none-put (λ unit. refl) refl;
+      wrote = quiet-done;
+      crash = crash-halted;
+      no_memory = λ memory. absurd (cc);
+      once = once-by done (SameWork-refl 0 done);
+    }
 
     -- by want of memory, and nothing has happened
     pub ran-short : done.now ≡ mid.now → RanRestored names input Memory old done
     ran-short same = record {
+      attached = attached-first done [] none-put (λ unit. refl) refl;
       wrote = quiet-done;
       crash = crash-halted;
       no_memory = λ memory.
@@ -155,6 +168,7 @@ module _ {T : Type 0} (names : List (List ℕ)) (input : List ℕ) (old mid done
   ran-replied new past text (Good x) d puts call = (
     λ fails. absurd (cc),
     λ works. record {
+      attached = attached-first new text puts.moments call.devices.cards.card (Always-last (call.unread.moments refl));
       wrote = replied new text puts.moments (λ t. out_of new ≡ out_of old ++ t) d (puts.whole ∙ ap (λ (o : List ℕ). o ++ text) quiet-done);
       crash = crash-done new past text puts.moments call.devices.cards.card call.devices.counts.work d;
       no_memory = λ memory. absurd (cc);
@@ -163,6 +177,7 @@ module _ {T : Type 0} (names : List (List ℕ)) (input : List ℕ) (old mid done
   )
   ran-replied new past text (Bad e) d puts call = (
     λ fails. record {
+      attached = attached-first new text puts.moments call.devices.cards.card (Always-last (call.unread.moments refl));
       wrote = replied new text puts.moments (λ t. WroteSome t (out_of old) (out_of new)) d (subst (λ (o : List ℕ). WroteSome text o (out_of new)) quiet-done puts.failed);
       crash = crash-done new past text puts.moments call.devices.cards.card call.devices.counts.work d;
       no_memory = λ memory. absurd (cc);

@@ -1,5 +1,5 @@
 -- A store is restored: what the reading of the input before leaves.
-use Rattle.std.proofs.Common.{◌≡◌, refl, sym, ◌∙◌, ap, subst, ℕ, ◌+◌, ◌<◌, ◌≤◌, true, List, [], ◌++◌, length, Option, Some, None, Result, Ok as Made, Err as Refused, arith}
+use Rattle.std.proofs.Common.{◌≡◌, inl, inr, refl, sym, ◌∙◌, ap, subst, ℕ, ◌+◌, ◌<◌, ◌≤◌, true, List, [], ◌++◌, length, Option, Some, None, Result, Ok as Made, Err as Refused, arith}
 use Rattle.std.specs.Prelude.{option_and_then, slice_get}
 use Rattle.newt_base.specs.declared.Refusal.{Refusal}
 use Rattle.newt_host.specs.Meanings.{out_of, since}
@@ -11,6 +11,7 @@ use Rattle.newt_script_session.specs.Named.{AtEachMoment, held_by}
 use Rattle.newt_script_session.specs.Stream.{WroteSome}
 use Rattle.newt_script_session.specs.declared.halt.Halt.{Halt}
 use Rattle.newt_script_session.specs.declared.halt.Halt.TheVariants as halts
+use Rattle.newt_script_session.proofs.Counting.{same-trans}
 use Rattle.newt_pagebook.specs.Book.{format_bytes}
 use Rattle.newt_spec_store.specs.Cost.{cost}
 use Rattle.newt_spec_store.specs.Store.{Store}
@@ -40,6 +41,7 @@ no-more a b n same = omega (arith, same)
 pub halted-restoring : (names : List (List ℕ)) (limit : ℕ) (halt : Halt) (old new : Outside) → HasReadCause halt old new → (halt ≡ halts.TooLong → limit < length old.input)
     → out_of new ≡ out_of old → SameDevices true old new → ((unit : ℕ) → changes unit old.now ≡ []) → RanRestoring names limit (status_of halt) old new
 halted-restoring names limit halts.Memory old new cause long quiet same fresh = record {
+  attached = inr (refl, same);
   wrote = quiet;
   crash = λ outcome is. go outcome;
   no_memory = λ status. no-moment new _ none;
@@ -103,6 +105,10 @@ module _ (names : List (List ℕ)) (old mid new : Outside) (quiet : out_of mid �
 
   ran-over : (status : Status) (input : List ℕ) → RanRestored names input status mid new → RanRestored names input status old new
   ran-over status input r = record {
+    attached = elim r.attached [
+      | inl b ↦ inl (record { read = b.read; all = b.all; quiet = b.quiet ∙ quiet; same = same-trans same b.same; attached = b.attached; acts = b.acts })
+      | inr none ↦ inr (none.0, same-trans same none.1)
+    ];
     wrote = wrote-over status input r.wrote;
     crash = λ outcome is. crash-over outcome (r.crash outcome (is-under input outcome is));
     no_memory = λ memory unit t left shown at was. sym (held-same unit) ∙ r.no_memory memory unit t left shown at was;

@@ -1,21 +1,21 @@
 -- What a run leaves that makes the store of a backup on a device. All of it is this project's own.
-use Rattle.std.specs.Prelude.{◌≡◌, ◌≢◌, ℕ, ◌+◌, ◌<◌, ◌≤◌, true, List, [], ◌++◌, length, Some, Result}
+use Rattle.std.specs.Prelude.{◌≡◌, ◌≢◌, ◌⊎◌, ℕ, ◌+◌, ◌<◌, ◌≤◌, true, List, [], ◌++◌, length, Some, Result}
 use Rattle.std.specs.Prelude.{Ok as Made, Err as Refused}
 use Rattle.newt_base.specs.declared.Refusal.{Refusal}
 use Rattle.newt_host.specs.Meanings.{out_of}
-use Rattle.newt_host.specs.Moments.{IsDurable, image}
+use Rattle.newt_host.specs.Moments.{IsDurable, image, taken}
 use Rattle.newt_host.specs.Outside.{Outside, SameWork, Wears}
 use Rattle.newt_laws_steps.specs.Devices.{SameDevices}
 use Rattle.newt_nsof_read.specs.Reading.{decoded}
 use Rattle.newt_pagebook.specs.Book.{format_bytes}
-use Rattle.newt_script_session.specs.Named.{AtEachMoment, held_by}
+use Rattle.newt_script_session.specs.Named.{AtEachMoment, AttachedFirst, held_by}
 use Rattle.newt_script_session.specs.Stream.{WroteSome}
 use Rattle.newt_spec_image.specs.Records.{bank_blocks}
 use Rattle.newt_spec_store.specs.Cost.{cost}
 use Rattle.newt_spec_store.specs.Store.{Store}
 use Rattle.newt_store_backup.specs.Restored.{IsAsked, IsRestored, restored_text}
 use Rattle.newt_store_catalog.specs.Readable.{readable}
-use Rattle.newt_top.specs.Reading.{OnlyReadsDevices}
+use Rattle.newt_top.specs.Reading.{ActsBeforeReply, OnlyReadsDevices}
 use Rattle.newt_top.specs.declared.status.Status.{Status}
 use Rattle.newt_top.specs.declared.status.Status.TheVariants.{Ok, Usage, Memory, Device, Source, Sink, TooLong}
 
@@ -59,11 +59,24 @@ CrashLeaves (Made s) names old new =
     → readable left ≡ Some s)
 CrashLeaves (Refused refusal) names old new = OnlyReadsDevices old new × IsAsHeld names old new
 
--- A store was restored of this input to the device of the first name, or refused. Where memory ran
--- out the device is as it was held; and whatever the status is, each page of the store that is
--- asked for was written once at most.
+-- The device was attached after all that is read of the input was taken: until then nothing was put
+-- out, and nothing done to a device. From there on it was attached first, and nothing is done to a
+-- device once a byte of the reply is out: so the reply begins after the store was written.
+pub record AttachedBehind (names : List (List ℕ)) (old new : Outside) : Type 0 where
+  pub read : Outside
+  pub all : taken new.now ≡ taken read.now
+  pub quiet : out_of read ≡ out_of old
+  pub same : SameDevices true old read
+  pub attached : AttachedFirst names read new
+  pub acts : ActsBeforeReply read.now new.now
+
+-- A store was restored of this input to the device of the first name, or refused. The device was
+-- attached after the input was read; or memory was refused to the input itself, and no device was
+-- touched. Where memory ran out the device is as it was held; and whatever the status is, each page
+-- of the store that is asked for was written once at most.
 pub record RanRestored (names : List (List ℕ)) (input : List ℕ) (status : Status)
     (old new : Outside) : Type 0 where
+  pub attached : AttachedBehind names old new ⊎ ((status ≡ Memory) × SameDevices true old new)
   pub wrote : WroteRestored status names input old new
   pub crash : (outcome : Result Store Refusal) → IsRestored input (held_by names old 0) outcome
       → CrashLeaves outcome names old new

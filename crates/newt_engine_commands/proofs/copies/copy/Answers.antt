@@ -24,6 +24,7 @@ use Rattle.newt_laws_answers.proofs.Copies.{copy-not-found}
 use Rattle.newt_laws_answers.proofs.Refusals.{added-uid}
 use Rattle.newt_engine_commands.proofs.Commands.{copy-missing, copy-answers, copy-makes, read-found, entry-fits}
 use Rattle.newt_engine_commands.proofs.Costing.{copy-costs, copy-few}
+use Rattle.newt_engine_units.proofs.Keeping.{change-keeps, keeps-append, read-keeps}
 use Rattle.newt_engine_units.proofs.Obeying.{cause-after, handed-ends, none-refused, read-obeys, refused-obeys}
 use Rattle.newt_engine_commands.proofs.Said.{said-made, said-moments, said-costs, behind-breaks, behind-moments, behind-untorn, unrefused}
 use Rattle.newt_engine_units.proofs.Settings.{Setting, is-err, both-refused, has-soup}
@@ -115,4 +116,5 @@ returns g c =
           (copy-answers w _ c.args.unit h.blocks h.store c.args.name.now h.soup c.args.uid h.on h.named refl c.args.to k.blocks k.store c.args.target.now k.soup k.on k.named k.name_is x found fits (Ok k.soup.next_uid)
           (subst (λ (y : World). first_of (add_tests k.blocks y.minute k.soup.name x.graph k.store k.soup) ≡ None) same q, refl, refl))));
       no_fault = λ goes. NoFault-append (read.ends.no_fault tt) (e.no_fault goes);
+      kept = λ idle. keeps-append (read-keeps read.looks) (change-keeps e);
     }

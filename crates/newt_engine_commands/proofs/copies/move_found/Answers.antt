@@ -7,6 +7,7 @@ use Rattle.newt_engine_units.specs.Stands.{Stands, world_of}
 use Rattle.newt_engine_commands.proofs.Moves.{inside-answers, inside-by-sig, inside-makes, inside-missing}
 use Rattle.newt_engine_commands.proofs.Costing.{inside-costs}
 use Rattle.newt_engine_units.proofs.Costs.{idle-costs}
+use Rattle.newt_engine_units.proofs.Keeping.{change-keeps, keeps-refl}
 use Rattle.newt_engine_units.proofs.Obeying.{ends-change, none-ends}
 use Rattle.newt_engine_units.proofs.Settings.{Setting, still, stand-told, has-entry}
 use Rattle.newt_laws_answers.proofs.Changes.{move-said}
@@ -46,6 +47,7 @@ returns-then-has_entry g c =
           };
       ends = ends-change e;
       broke = e.broke;
+      kept = change-keeps e;
     }
 
 pub returns-else-has_entry : goal.returns-else-has_entry
@@ -63,4 +65,5 @@ returns-else-has_entry g c =
           };
       ends = none-ends {T = ℕ} _ tt;
       broke = tt;
+      kept = keeps-refl c.args.units.now;
     }

@@ -50,4 +50,5 @@ returns g c =
         same = λ t tears sure store. (moved t).untorn (subst (λ k. may_tear w (command.Move c.args.unit c.args.name.now c.args.uid c.args.unit c.args.target.now) k ≡ false) b.0 tears);
       }) e.broke;
       no_fault = e.ends.no_fault;
+      kept = λ idle. e.kept;
     }

@@ -12,6 +12,7 @@ use Rattle.newt_laws_answers.proofs.Changes.{add-said}
 use Rattle.newt_laws_answers.proofs.Refusals.{added-uid}
 use Rattle.newt_engine_commands.proofs.Commands.{add-answers, add-makes, addx-answers, addx-makes, addu-answers, addu-makes}
 use Rattle.newt_engine_commands.proofs.Costing.{add-costs, addx-costs, addu-costs}
+use Rattle.newt_engine_units.proofs.Keeping.{change-keeps}
 use Rattle.newt_engine_units.proofs.Obeying.{none-refused, refused-obeys}
 use Rattle.newt_engine_commands.proofs.Said.{said-made, said-moments, said-costs, change-breaks, said-untorn}
 use Rattle.newt_engine_units.proofs.Settings.{Setting, unit-there, soup-refused, has-soup}
@@ -57,6 +58,7 @@ returns-clause-obeyed g c =
           said-untorn e t h.on (add-said h.blocks w.minute c.in_ok-soup.soup h.store h.soup h.by_sig c.args.graph) (command.Add c.args.unit c.args.name.now c.args.graph) (λ n. Reply.number n) h.soup.next_uid (λ n. n ≡ h.soup.next_uid) (eq-eqb c.args.unit c.args.unit refl) refl (λ r x. cc) refl
           (add-answers w _ c.args.unit h.blocks h.store h.on refl c.args.name.now h.soup h.named h.name_is c.args.graph));
       no_fault = e.no_fault;
+      kept = λ idle. change-keeps e;
     }
 
 pub returns-in_err-soup-clause-as_stream : goal.returns-in_err-soup-clause-as_stream
@@ -89,6 +91,7 @@ returns-clause-as_stream g c =
           said-untorn e t h.on (add-said h.blocks w.minute c.in_ok-soup.soup h.store h.soup h.by_sig c.args.graph) (command.Addx c.args.unit c.args.name.now c.args.graph) (λ n. Reply.number n) h.soup.next_uid (λ n. n ≡ h.soup.next_uid) (eq-eqb c.args.unit c.args.unit refl) refl (λ r x. cc) refl
           (addx-answers w _ c.args.unit h.blocks h.store h.on refl c.args.name.now h.soup h.named h.name_is c.args.graph));
       no_fault = e.no_fault;
+      kept = λ idle. change-keeps e;
     }
 
 pub returns-in_err-soup-clause-to_default : goal.returns-in_err-soup-clause-to_default
@@ -122,4 +125,5 @@ returns-clause-to_default g c d =
           said-untorn e t h.on (add-said h.blocks w.minute c.in_ok-soup.soup h.store h.soup h.by_sig c.args.graph) (command.Addu c.args.name.now c.args.graph) (λ n. Reply.added c.args.unit n) h.soup.next_uid (λ n. n ≡ h.soup.next_uid) (eq-eqb _ c.args.unit (ap (λ o. unwrap_or o 8) d)) refl (λ r x. cc) refl
           (addu-answers w _ c.args.unit h.blocks h.store h.on refl c.args.name.now h.soup h.named h.name_is c.args.graph (ap (λ o. unwrap_or o 8) d)));
       no_fault = e.no_fault;
+      kept = λ idle. change-keeps e;
     }

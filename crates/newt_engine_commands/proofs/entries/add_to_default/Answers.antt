@@ -2,6 +2,7 @@
 use Rattle.std.proofs.Common.{ap, sym, ◌∙◌}
 use Rattle.std.specs.Prelude.{unwrap_or}
 use Rattle.newt_engine_units.specs.Stands.{Stands, world_of}
+use Rattle.newt_spec_graph.proofs.Lists.{both-ways}
 use Rattle.newt_spec_world.specs.Reply.{Reply}
 use Rattle.newt_spec_world.specs.declared.command.Command.TheVariants as command
 use Rattle.newt_spec_world.specs.World.{mounted_store}
@@ -33,6 +34,7 @@ returns-in-Ok g c =
       cause = tt;
       broke = tt;
       no_fault = λ goes. e.no_fault tt;
+      kept = λ idle. absurd (both-ways idle);
     }
 
 pub returns-in-Err : goal.returns-in-Err

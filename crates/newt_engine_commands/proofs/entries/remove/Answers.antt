@@ -10,6 +10,7 @@ use Rattle.newt_laws_answers.proofs.Changes.{remove-said}
 use Rattle.newt_laws_answers.proofs.Entries.{remove-refused}
 use Rattle.newt_engine_commands.proofs.Commands.{remove-answers, remove-makes}
 use Rattle.newt_engine_commands.proofs.Costing.{remove-costs}
+use Rattle.newt_engine_units.proofs.Keeping.{change-keeps}
 use Rattle.newt_engine_units.proofs.Obeying.{none-only, refused-obeys}
 use Rattle.newt_engine_commands.proofs.Said.{said-done, said-moments, said-costs, done-goes, done-cause, done-costs, change-breaks, said-untorn}
 use Rattle.newt_engine_units.proofs.Settings.{Setting, stand-told, entry-refused}
@@ -62,4 +63,5 @@ returns g c =
           said-untorn e t h.on (remove-said h.blocks w.minute c.in_ok-soup.soup h.store h.soup h.by_sig c.args.uid k.entry k.found) (command.Remove c.args.unit c.args.name.now c.args.uid) (λ _. Reply.done) tt (λ _. ⊤) (eq-eqb c.args.unit c.args.unit refl) refl (λ r x. cc) tt
           (remove-answers w _ c.args.unit h.blocks h.store h.on refl c.args.name.now h.soup h.named h.name_is c.args.uid k.entry k.found)));
       no_fault = λ goes. e.no_fault (done-goes c.change.result is goes);
+      kept = λ idle. change-keeps e;
     }

@@ -15,6 +15,7 @@ use Rattle.newt_laws_answers.proofs.Declares.{index-not-found}
 use Rattle.newt_engine_commands.specs.Declares.{MayDeclare}
 use Rattle.newt_engine_commands.proofs.Declaring.{index-fails, index-answers, index-makes}
 use Rattle.newt_engine_commands.proofs.Costing.{index-costs}
+use Rattle.newt_engine_units.proofs.Keeping.{change-keeps}
 use Rattle.newt_engine_units.proofs.Obeying.{none-refused, refused-obeys}
 use Rattle.newt_engine_commands.proofs.Said.{said-done, said-moments, said-costs, done-goes, done-cause, done-costs, change-breaks, said-untorn}
 use Rattle.newt_engine_units.proofs.Settings.{Setting, is-err, stand-told, soup-refused, has-soup}
@@ -80,4 +81,5 @@ returns g c =
           said-untorn e t h.on (index-said h.blocks w.minute c.in_ok-soup.soup h.store h.soup h.by_sig c.in_ok-spec.spec) (command.Index c.args.unit c.args.name.now c.args.parts.now) (λ _. Reply.done) tt (λ _. ⊤) (eq-eqb c.args.unit c.args.unit refl) refl (λ r x. cc) tt
           (index-answers w _ c.args.unit h.blocks h.store h.on refl c.args.name.now h.soup h.named h.name_is c.args.parts.now c.in_ok-spec.spec words may.0 may.1)));
       no_fault = λ goes. e.no_fault (done-goes c.change.result is goes);
+      kept = λ idle. change-keeps e;
     }

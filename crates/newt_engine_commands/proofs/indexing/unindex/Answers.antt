@@ -12,6 +12,7 @@ use Rattle.newt_laws_answers.proofs.Changes.{unindex-said}
 use Rattle.newt_laws_answers.proofs.Declares.{unindex-not-found, unindex-missing}
 use Rattle.newt_engine_commands.proofs.Declaring.{unindex-answers, unindex-makes}
 use Rattle.newt_engine_commands.proofs.Costing.{unindex-costs}
+use Rattle.newt_engine_units.proofs.Keeping.{change-keeps}
 use Rattle.newt_engine_units.proofs.Obeying.{none-refused, refused-obeys, still-obeys}
 use Rattle.newt_engine_commands.proofs.Said.{said-done, said-moments, said-costs, done-goes, done-cause, done-costs, change-breaks, said-untorn}
 use Rattle.newt_engine_units.proofs.Settings.{Setting, stand-told, soup-refused, has-soup}
@@ -66,4 +67,5 @@ returns g c =
           said-untorn e t h.on (unindex-said h.blocks w.minute c.in_ok-soup.soup h.store h.soup h.by_sig c.args.paths) (command.Unindex c.args.unit c.args.name.now c.args.paths) (λ _. Reply.done) tt (λ _. ⊤) (eq-eqb c.args.unit c.args.unit refl) refl (λ r x. cc) tt
           (unindex-answers w _ c.args.unit h.blocks h.store h.on refl c.args.name.now h.soup h.named h.name_is c.args.paths (ap (λ x. has_paths x h.soup.specs) (sym c.list.ensures) ∙ sym (c.has_index.ensures (g.H.Host.outside c.args.host.now) at.eight (stand-told at t) h.blocks h.store h.soup h.on h.by_sig) ∙ c.if-not-has_index.false))));
       no_fault = λ goes. e.no_fault (done-goes c.change.result is goes);
+      kept = λ idle. change-keeps e;
     }

@@ -24,6 +24,7 @@ use Rattle.newt_laws_answers.proofs.Larges.{vwrite-not-found}
 use Rattle.newt_engine_commands.proofs.Binaries.{missing, reached, vwrite-answers, vwrite-makes, vwrite-nowhere}
 use Rattle.newt_engine_commands.proofs.Commands.{read-found}
 use Rattle.newt_engine_commands.proofs.Costing.{vwrite-costs, get-few}
+use Rattle.newt_engine_units.proofs.Keeping.{change-keeps, keeps-append, read-keeps}
 use Rattle.newt_engine_units.proofs.Obeying.{cause-after, ends-after, handed-ends, none-ends, none-refused, read-obeys, refused-obeys}
 use Rattle.newt_engine_commands.proofs.Said.{said-done, said-moments, said-costs, done-goes, done-cause, done-costs, behind-breaks, behind-moments, behind-untorn, unrefused}
 use Rattle.newt_engine_units.proofs.Settings.{Setting, is-err, soup-refused, has-soup}
@@ -106,6 +107,7 @@ returns-in-Some g c =
           (λ k. unrefused {T = Unit {0}} (λ _. Reply.done) w _ (command.Vwrite c.args.unit c.args.name.now c.args.uid c.args.path.now c.args.at c.args.bytes) tt (λ r x. cc)
           (vwrite-answers w _ c.args.unit h.blocks h.store h.on refl c.args.name.now h.soup h.named h.name_is c.args.uid x found c.args.path.now c.args.at c.args.bytes c.in-Some.node reach (Ok tt) (k, tt, refl)))));
       no_fault = λ goes. NoFault-append (read.ends.no_fault tt) (e.no_fault (done-goes c.change.result is goes));
+      kept = λ idle. keeps-append (read-keeps read.looks) (change-keeps e);
     }
 
 pub returns-in-None : goal.returns-in-None

@@ -27,6 +27,7 @@ use Rattle.newt_laws_answers.proofs.Replaces.{set-not-found}
 use Rattle.newt_engine_commands.proofs.Replacing.{set-answers, set-makes, set-missing, set-fails}
 use Rattle.newt_engine_commands.proofs.Commands.{read-found, entry-fits}
 use Rattle.newt_engine_commands.proofs.Costing.{set-costs, get-few}
+use Rattle.newt_engine_units.proofs.Keeping.{change-keeps, keeps-append, read-keeps}
 use Rattle.newt_engine_units.proofs.Obeying.{cause-after, ends-after, handed-ends, none-ends, none-put, none-refused, read-obeys, refused-obeys}
 use Rattle.newt_engine_commands.proofs.Said.{said-done, said-moments, said-costs, done-goes, done-cause, done-costs, behind-breaks, behind-moments, behind-untorn, unrefused}
 use Rattle.newt_engine_units.proofs.Settings.{Setting, is-err, soup-refused, has-soup}
@@ -126,4 +127,5 @@ returns g c =
           (set-answers w _ c.args.unit h.blocks h.store h.on refl c.args.name.now h.soup h.named h.name_is c.args.uid x found c.args.path.now c.args.value.now c.in_ok-made.made c.in_ok-made.ensures.form fits (Ok tt)
           (subst (λ (y : World). first_of (replace_tests h.blocks y.minute h.soup.name c.args.uid c.in_ok-made.made h.store) ≡ None) same k, tt, refl)))));
       no_fault = λ goes. NoFault-append (read.ends.no_fault tt) (e.no_fault (done-goes c.change.result is goes));
+      kept = λ idle. keeps-append (read-keeps read.looks) (change-keeps e);
     }

@@ -11,6 +11,7 @@ use Rattle.newt_laws_answers.proofs.Changes.{drop-said}
 use Rattle.newt_laws_answers.proofs.Soups.{drop-not-found}
 use Rattle.newt_engine_commands.proofs.Commands.{drop-answers, drop-makes}
 use Rattle.newt_engine_commands.proofs.Costing.{drop-costs}
+use Rattle.newt_engine_units.proofs.Keeping.{change-keeps}
 use Rattle.newt_engine_units.proofs.Obeying.{none-refused, refused-obeys}
 use Rattle.newt_engine_commands.proofs.Said.{said-done, said-moments, said-costs, done-goes, done-cause, done-costs, change-breaks, said-untorn}
 use Rattle.newt_engine_units.proofs.Settings.{Setting, soup-refused, has-soup}
@@ -59,4 +60,5 @@ returns g c =
           said-untorn e t h.on (drop-said h.blocks w.minute c.in_ok-soup.soup h.store h.soup h.by_sig) (command.Drop c.args.unit c.args.name.now) (λ _. Reply.done) tt (λ _. ⊤) (eq-eqb c.args.unit c.args.unit refl) refl (λ r x. cc) tt
           (drop-answers w _ c.args.unit h.blocks h.store h.on refl c.args.name.now h.soup h.named h.name_is)));
       no_fault = λ goes. e.no_fault (done-goes c.change.result is goes);
+      kept = λ idle. change-keeps e;
     }

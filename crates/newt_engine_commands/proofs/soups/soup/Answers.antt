@@ -11,6 +11,7 @@ use Rattle.newt_laws_answers.proofs.Soups.{soup-not-mounted}
 use Rattle.newt_engine_commands.proofs.Commands.{soup-answers, soup-makes}
 use Rattle.newt_laws_answers.proofs.Most.{soup-most}
 use Rattle.newt_spec_graph.proofs.Lists.{both-ways}
+use Rattle.newt_engine_units.proofs.Keeping.{change-keeps}
 use Rattle.newt_engine_units.proofs.Obeying.{none-refused, refused-obeys}
 use Rattle.newt_engine_commands.proofs.Said.{said-made, said-moments, said-costs, change-breaks, said-untorn}
 use Rattle.newt_engine_units.proofs.Costs.{on-costs}
@@ -56,4 +57,5 @@ returns g c =
           said-untorn e t p.on (make-said _ w.minute c.args.name p.store) (command.Soup c.args.unit c.args.name) (λ n. Reply.number n) p.store.next_soup (λ n. n ≡ p.store.next_soup)
           (eq-eqb c.args.unit c.args.unit refl) refl (λ r x. cc) refl (soup-answers w _ c.args.unit _ p.store p.on refl c.args.name));
       no_fault = e.no_fault;
+      kept = λ idle. change-keeps e;
     }

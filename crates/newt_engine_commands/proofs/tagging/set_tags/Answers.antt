@@ -12,6 +12,7 @@ use Rattle.newt_laws_answers.proofs.Changes.{tags-said}
 use Rattle.newt_laws_answers.proofs.Declares.{set-tags-not-found, set-tags-many}
 use Rattle.newt_engine_commands.proofs.Declaring.{tags-answers, tags-makes}
 use Rattle.newt_engine_commands.proofs.Costing.{tags-costs}
+use Rattle.newt_engine_units.proofs.Keeping.{change-keeps}
 use Rattle.newt_engine_units.proofs.Obeying.{none-refused, refused-obeys, still-obeys}
 use Rattle.newt_engine_commands.proofs.Said.{said-done, said-moments, said-costs, done-goes, done-cause, done-costs, change-breaks, said-untorn}
 use Rattle.newt_pagebook.specs.declared.book.Stop.TheVariants.{Memory}
@@ -77,4 +78,5 @@ returns g c =
           said-untorn e t h.on (tags-said h.blocks w.minute c.in_ok-soup.soup h.store h.soup h.by_sig c.in_ok-table.table) (command.SetTags c.args.unit c.args.name.now c.args.path.now c.args.symbols.now) (λ _. Reply.done) tt (λ _. ⊤) (eq-eqb c.args.unit c.args.unit refl) refl (λ r x. cc) tt
           (tags-answers w _ c.args.unit h.blocks h.store h.on refl c.args.name.now h.soup h.named h.name_is c.args.path.now c.args.symbols.now few c.in_ok-table.table words)));
       no_fault = λ goes. e.no_fault (done-goes c.change.result is goes);
+      kept = λ idle. change-keeps e;
     }

@@ -29,3 +29,11 @@ returns-in-Err-Limit-clause-answered c w settled =
     (open-alike (λ q. query_of q.now) (λ (k : Cursor). k.query) c.query.result (flat (slice_get c.args.desk.now c.args.cursor)) true c.query.ensures.query c.if-is_none.ensures)
     (c.in-Err-Limit.ensures.limit.0 (ap Err c.in-Err-Limit.field-0-is))
     ∙ (λ i. (with_cursors (sym c.in-Err-Limit.ensures.err i) w, Reply.refused Limit))
+
+-- ---- a clone that is not made leaves the places
+
+pub returns-in-Err-Limit-clause-kept : goal.returns-in-Err-Limit-clause-kept
+returns-in-Err-Limit-clause-kept c = c.in-Err-Limit.ensures.err
+
+pub returns-in-Err-Memory-clause-kept : goal.returns-in-Err-Memory-clause-kept
+returns-in-Err-Memory-clause-kept c = c.in-Err-Memory.ensures.err

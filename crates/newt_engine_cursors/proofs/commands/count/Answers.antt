@@ -11,7 +11,7 @@ use Rattle.newt_store_change.specs.declared.fault.StoreFault.{StoreFault}
 use Rattle.newt_engine_units.specs.Answers.{Answers}
 use Rattle.newt_engine_cursors.specs.World.{world_with}
 use Rattle.newt_engine_cursors.proofs.Answered.{open-alike, count-closed, count-open, count-said, unread-open}
-use Rattle.newt_engine_cursors.proofs.Calls.{all-kept, stays, turns-end, turns-read, walks-of}
+use Rattle.newt_engine_cursors.proofs.Calls.{all-kept, ended-fetches, stays, turns-end, turns-read, walks-of}
 use Rattle.newt_engine_cursors.proofs.commands.count.Goals as goal
 
 pub returns-in_default : goal.returns-in_default
@@ -26,8 +26,7 @@ returns-in_err-count_hits g c =
     (λ t apart settled d. d)
     (λ t apart settled un. (λ u. let z = (c.in_err-count_hits.ensures.reading.unread
     (unread-open (flat (slice_get c.args.desk.now c.args.cursor)) (query_of c.in-Some.query.now) (ap (option_map (λ q. query_of q.now)) (sym c.in-Some.is) ∙ c.query.ensures.query) un)) u in omega (arith, z)))
-    (λ un nothing. (λ u. let z = (c.in_err-count_hits.ensures.reading.unread
-    (unread-open (flat (slice_get c.args.desk.now c.args.cursor)) (query_of c.in-Some.query.now) (ap (option_map (λ q. query_of q.now)) (sym c.in-Some.is) ∙ c.query.ensures.query) un)) u in omega (arith, z)))
+    (λ un. ended-fetches (λ (n : ℕ). Reply.number n) _ _ c.from_residual.result (err_from_is_err_and c.from_residual.result c.from_residual.ensures.1))
 
 pub returns : goal.returns
 returns g c =
@@ -39,4 +38,4 @@ returns g c =
     (same ∙ sym settled)
     (count-said w (flat (slice_get c.args.desk.now c.args.cursor)) (query_of c.in-Some.query.now) c.in_ok-count_hits.field-0 is (c.in_ok-count_hits.ensures.count t apart)))
     (λ t apart settled un. (λ u. let z = (c.in_ok-count_hits.ensures.reading.unread (unread-open (flat (slice_get c.args.desk.now c.args.cursor)) (query_of c.in-Some.query.now) is un)) u in omega (arith, z)))
-    (λ un nothing. (λ u. let z = (c.in_ok-count_hits.ensures.reading.unread (unread-open (flat (slice_get c.args.desk.now c.args.cursor)) (query_of c.in-Some.query.now) is un)) u in omega (arith, z)))
+    (λ un. (λ u. let z = (c.in_ok-count_hits.ensures.reading.unread (unread-open (flat (slice_get c.args.desk.now c.args.cursor)) (query_of c.in-Some.query.now) is un)) u in omega (arith, z)))

@@ -15,7 +15,7 @@ use Rattle.newt_engine_cursors.specs.Replies.{shown_at, shown_reply}
 use Rattle.newt_engine_cursors.specs.World.{world_with}
 use Rattle.newt_engine_cursors.specs.declared.show.Shown.{Shown}
 use Rattle.newt_engine_cursors.proofs.Answered.{entry-closed, entry-open, entry-pages}
-use Rattle.newt_engine_cursors.proofs.Calls.{all-kept, ended-shows, stays, turns-end, turns-read, unread-query, walks-of}
+use Rattle.newt_engine_cursors.proofs.Calls.{all-kept, ended-fetches, stays, turns-end, turns-read, unread-query, walks-of}
 use Rattle.newt_engine_cursors.proofs.commands.entry.Goals as goal
 
 pub returns-in_default : goal.returns-in_default
@@ -31,7 +31,7 @@ returns-in_err-show g c =
     let is = ap (λ (r : Reply). 512 * pages_shown r u) (ap (or_nil (current w)) c.in-Some.ensures) in
     let more = (c.in_err-show.ensures.fetches t apart (λ e. absurd (both-ways e)) (unread-query (flat (slice_get c.args.desk.now c.args.cursor)) (seen_cursor (c.in-Some.query, c.in-Some.place)) c.in-Some.ensures un)) u in
     omega (arith, e, is, more)))
-    (λ un nothing. ended-shows shown_reply c.from_residual.result (err_from_is_err_and c.from_residual.result c.from_residual.ensures.1) nothing)
+    (λ un. ended-fetches shown_reply _ _ c.from_residual.result (err_from_is_err_and c.from_residual.result c.from_residual.ensures.1))
 
 pub returns : goal.returns
 returns g c =
@@ -43,4 +43,4 @@ returns g c =
     let is = ap (λ (r : Reply). 512 * pages_shown r u) (ap (or_nil (current w)) c.in-Some.ensures) in
     let more = (c.in_ok-show.ensures.fetches t apart (λ e. absurd (both-ways e)) (unread-query (flat (slice_get c.args.desk.now c.args.cursor)) (seen_cursor (c.in-Some.query, c.in-Some.place)) c.in-Some.ensures un)) u in
     omega (arith, e, is, more)))
-    (λ un nothing. c.in_ok-show.ensures.idle nothing)
+    (λ un. c.in_ok-show.ensures.pages (unread-query (flat (slice_get c.args.desk.now c.args.cursor)) (seen_cursor (c.in-Some.query, c.in-Some.place)) c.in-Some.ensures un))

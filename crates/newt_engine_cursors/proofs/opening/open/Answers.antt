@@ -40,6 +40,7 @@ returns-in-Ok-clause-turns g c =
       cause = tt;
       failed = tt;
       kept = tt;
+      refused = λ no. absurd no;
       no_fault = λ goes. read.no_fault;
     }
 
@@ -59,10 +60,11 @@ returns-in-Err-Limit-clause-turns g c =
       cause = tt;
       failed = tt;
       kept = tt;
+      refused = λ no. same;
       no_fault = λ goes. read.no_fault;
     }
 
 pub returns-in-Err-Memory-clause-turns : goal.returns-in-Err-Memory-clause-turns
 returns-in-Err-Memory-clause-turns g c =
     let read = c.in_ok-first.ensures.reading in
-    record { read = read.read; desk = subst DeskFits (sym c.in-Err-Memory.ensures.err) c.requires.desk; turned = λ t apart. tt; cause = read.no_fault; failed = tt; kept = tt; no_fault = λ goes. absurd goes }
+    record { read = read.read; desk = subst DeskFits (sym c.in-Err-Memory.ensures.err) c.requires.desk; turned = λ t apart. tt; cause = read.no_fault; failed = tt; kept = tt; refused = λ no. absurd no; no_fault = λ goes. absurd goes }

@@ -33,7 +33,7 @@ returns-in-Ok g c = walks-of c.open.ensures.turns (λ t apart settled d.
     let eight : Eight (g.H.Host.outside c.args.host.now) = record { eight = g.met.H.Host.eight c.args.host.now; none = g.met.H.Host.none c.args.host.now } in
     let stand : Stands g.C.Card.place g.C.Card.stands true c.args.units.now o = subst (λ b. Stands g.C.Card.place g.C.Card.stands b c.args.units.now o) t c.requires.stands in
     let z = (c.open.ensures.unread (unread-asked (seen c.in-Ok.query) _ (c.in-Ok.ensures.bound o eight stand).1 un)) u in omega (arith, z))
-    (λ un nothing. absurd (cc))
+    (λ un. absurd (cc))
 
 pub returns-in-Err : goal.returns-in-Err
 returns-in-Err g c = stays c.requires.stands c.requires.desk c.in-Err.ensures.cause (λ t apart.

@@ -7,9 +7,7 @@ use Rattle.newt_spec_query.specs.Cursor.{Place, on}
 use Rattle.newt_spec_world.specs.World.{hits_of}
 use Rattle.newt_engine_units.specs.Stands.{world_of}
 use Rattle.newt_engine_cursors.specs.Motions.{IsAmong}
-use Rattle.newt_engine_cursors.specs.Replies.{shown_place, shown_reply, shows_nothing}
-use Rattle.newt_engine_cursors.specs.declared.show.Shown.{Shown}
-use Rattle.newt_engine_cursors.proofs.Calls.{some-shown}
+use Rattle.newt_engine_cursors.specs.Replies.{shown_place, shown_reply}
 use Rattle.newt_engine_cursors.proofs.show.show.Goals as goal
 
 pub returns-then-is_found-clause-shown : goal.returns-then-is_found-clause-shown
@@ -19,5 +17,5 @@ returns-then-is_found-clause-shown g c t apart among =
     let at : place_of c.args.place.now ≡ on (spot_hit c.in-On.spot) = ap place_of c.in-On.is in
     subst (λ (p : Place). IfOk c.show_found.result (λ shown. shown_reply shown ≡ shown_place w q p)) (sym at) (c.show_found.ensures.shown t apart q (subst (IsAmong (hits_of w q)) at (among c.if-is_found.true)))
 
-pub returns-then-is_found-clause-idle : goal.returns-then-is_found-clause-idle
-returns-then-is_found-clause-idle g c = some-shown _ (λ (shown : Shown). shows_nothing (shown_reply shown)) c.show_found.result c.show_found.ensures.shows
+pub returns-then-is_found-clause-pages : goal.returns-then-is_found-clause-pages
+returns-then-is_found-clause-pages g c un = c.show_found.ensures.pages

@@ -66,3 +66,9 @@ returns-in-None-clause-shown g c t apart q among =
 
 pub returns-in-None-clause-fetches : goal.returns-in-None-clause-fetches
 returns-in-None-clause-fetches g c t apart q among u = omega arith
+
+pub returns-in-Some-clause-pages : goal.returns-in-Some-clause-pages
+returns-in-Some-clause-pages g c = c.read_and_show.ensures.pages (sym c.in-Some.ensures)
+
+pub returns-in-None-clause-pages : goal.returns-in-None-clause-pages
+returns-in-None-clause-pages g c u = omega arith

@@ -26,3 +26,6 @@ returns-in-Some-clause-reading g c = is-read (not-read c.requires) (NoFault-refl
 
 pub returns-in-Some-clause-fetches : goal.returns-in-Some-clause-fetches
 returns-in-Some-clause-fetches g c t u = omega arith
+
+pub returns-in-Some-clause-pages : goal.returns-in-Some-clause-pages
+returns-in-Some-clause-pages g c at u = omega arith

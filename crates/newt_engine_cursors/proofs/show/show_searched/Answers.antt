@@ -1,16 +1,21 @@
 -- The entry, or that it is no longer a hit.
 use Rattle.std.proofs.Common.{arith, ◌≡◌, ◌∙◌, ap, subst, refl, true, Option, Some}
+use Rattle.std.specs.Prelude.{IfSome}
 use Rattle.std.proofs.lemmas.Result.{IfOk-weaker, err_from_is_err_and}
+use Rattle.newt_host.specs.Outside.{Outside}
 use Rattle.newt_cursor.specs.Seen.{query_of}
 use Rattle.newt_index.specs.Spots.{spot_hit}
 use Rattle.newt_spec_query.specs.Cursor.{Cursor, on}
 use Rattle.newt_spec_world.specs.World.{World}
+use Rattle.newt_laws_answers.specs.Faces.{first_showing}
 use Rattle.newt_engine_card.specs.Bounds.{FetchesAtMost}
+use Rattle.newt_engine_units.specs.Faces.{faces_of}
 use Rattle.newt_engine_units.specs.Stands.{world_of}
 use Rattle.newt_engine_hits.specs.Present.{IsPresent, entry_there, fetched_there, identity, present_in}
 use Rattle.newt_engine_hits.specs.declared.present.Present.{Present}
 use Rattle.newt_host.proofs.Outside.{NoFault-refl}
 use Rattle.newt_engine_hits.proofs.Reading.{any-reading, asked-read, end-read, is-read, not-read, read-more}
+use Rattle.newt_engine_cursors.specs.Calls.{FetchesShown}
 use Rattle.newt_engine_cursors.specs.Replies.{hit_reply, shown_place, shown_reply}
 use Rattle.newt_engine_cursors.specs.declared.show.Shown.{Shown}
 use Rattle.newt_engine_cursors.proofs.Standing.{absent-shown, shown-there}
@@ -65,3 +70,22 @@ returns-in_err-hit-clause-reading g c =
 
 pub returns-in_err-hit-clause-fetches : goal.returns-in_err-hit-clause-fetches
 returns-in_err-hit-clause-fetches g c t apart un = (λ u. let z = (c.in_err-hit.ensures.reading.unread un) u in omega (arith, z))
+
+pub returns-in-Some-clause-pages : goal.returns-in-Some-clause-pages
+returns-in-Some-clause-pages g c un =
+    let o = g.H.Host.outside in
+    let faces = faces_of g.C.Card.soups c.find_hit.new.units in
+    let at = subst (λ (found : Option Present).
+    IfSome found (λ p. first_showing c.args.spot.now.store faces ≡ Some p.unit))
+    c.in-Some.is c.in_ok-hit.ensures.unit in
+    let Within : Outside → Shown → Type 0 = λ p shown.
+    FetchesShown (shown_reply shown) p (o c.show_hit.new.host) in
+    IfOk-weaker c.show_hit.result (Within (o c.find_hit.new.host)) (Within (o c.args.host.now))
+    (λ shown more u.
+    let x = (c.in_ok-hit.ensures.reading.unread un) u in
+    let y = more u in
+    omega (arith, x, y)) (c.show_hit.ensures.pages at)
+
+pub returns-in-None-clause-pages : goal.returns-in-None-clause-pages
+returns-in-None-clause-pages g c un u =
+    let x = (c.in_ok-hit.ensures.reading.unread un) u in omega (arith, x)

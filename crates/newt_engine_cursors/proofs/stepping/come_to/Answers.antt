@@ -87,8 +87,11 @@ returns-clause-fetches g c t apart among un u =
     let more = c.in_ok-shown.ensures.fetches t apart (λ found. among found k (sym c.in-Some.ensures)) (unread-query (flat (slice_get c.args.desk.now c.args.cursor)) k c.in-Some.ensures un) u in
     omega (arith, is, more)
 
-pub returns-in_default-clause-idle : goal.returns-in_default-clause-idle
-returns-in_default-clause-idle g c nothing u = omega arith
+pub returns-in_default-clause-pages : goal.returns-in_default-clause-pages
+returns-in_default-clause-pages g c un u = omega arith
 
-pub returns-clause-idle : goal.returns-clause-idle
-returns-clause-idle g c = c.in_ok-shown.ensures.idle
+pub returns-clause-pages : goal.returns-clause-pages
+returns-clause-pages g c un =
+    let k = seen_cursor (c.in-Some.query, c.in-Some.field-0-1) in
+    c.in_ok-shown.ensures.pages
+    (unread-query (flat (slice_get c.args.desk.now c.args.cursor)) k c.in-Some.ensures un)

@@ -27,7 +27,7 @@ use Rattle.newt_engine_cursors.specs.Replies.{shown_at, shown_reply}
 use Rattle.newt_engine_cursors.specs.Calls.{Shows}
 use Rattle.newt_engine_cursors.specs.World.{world_with}
 use Rattle.newt_engine_cursors.specs.declared.show.Shown.{Shown}
-use Rattle.newt_engine_cursors.proofs.Calls.{all-kept, ended-shows, stays, turns-end, turns-read, turns-settled, settles-reads, settles-after, walks-of, unread-query}
+use Rattle.newt_engine_cursors.proofs.Calls.{all-kept, ended-fetches, stays, turns-end, turns-read, turns-settled, settles-reads, settles-after, walks-of, unread-query}
 use Rattle.newt_engine_cursors.proofs.Stepped.{still-settled}
 use Rattle.newt_engine_cursors.proofs.Going.{unit-faults, no-cursor-goto, no-hit-goto, hit-goto, goto-does-so, goto-few, goto-pages}
 use Rattle.newt_engine_cursors.proofs.stepping.go_to.Goals as goal
@@ -61,7 +61,7 @@ returns-in_err-spot g c =
     c.from_residual-in_err-spot.result (err_from_is_err_and c.from_residual-in_err-spot.result c.from_residual-in_err-spot.ensures.1) (λ w v. tt))
     (λ t apart settled d. d)
     (λ t apart settled un. (λ u. let z = (c.in_err-spot.ensures.reading.unread (unread-query (flat (slice_get c.args.desk.now c.args.cursor)) (seen_cursor (c.in-Some.query, c.in-Some.field-0-1)) c.in-Some.ensures un)) u in omega (arith, z)))
-    (λ un nothing. ended-shows shown_reply c.from_residual-in_err-spot.result (err_from_is_err_and c.from_residual-in_err-spot.result c.from_residual-in_err-spot.ensures.1) nothing)
+    (λ un. ended-fetches shown_reply _ _ c.from_residual-in_err-spot.result (err_from_is_err_and c.from_residual-in_err-spot.result c.from_residual-in_err-spot.ensures.1))
 
 pub returns-in_default-2 : goal.returns-in_default-2
 returns-in_default-2 g c =
@@ -79,7 +79,7 @@ returns-in_default-2 g c =
     (sym (c.in_ok-spot.ensures.found t apart k refl) ∙ ap (option_map spot_hit) c.in_default-2.is)))
     (λ t apart settled d. d)
     (λ t apart settled un. (λ u. let z = (c.in_ok-spot.ensures.reading.unread (unread-query (flat (slice_get c.args.desk.now c.args.cursor)) k c.in-Some.ensures un)) u in omega (arith, z)))
-    (λ un nothing. (λ u. let z = (c.in_ok-spot.ensures.reading.unread (unread-query (flat (slice_get c.args.desk.now c.args.cursor)) k c.in-Some.ensures un)) u in omega (arith, z)))
+    (λ un. (λ u. let z = (c.in_ok-spot.ensures.reading.unread (unread-query (flat (slice_get c.args.desk.now c.args.cursor)) k c.in-Some.ensures un)) u in omega (arith, z)))
 
 pub returns-in_err-move_to : goal.returns-in_err-move_to
 returns-in_err-move_to g c =
@@ -106,7 +106,7 @@ returns-in_err-move_to g c =
     let same : world_with g.C.Card.reads c.spot_on.new.units c.args.desk.now (g.H.Host.outside c.spot_on.new.host) ≡ w = ap (with_cursors c.args.desk.now) (read.read.world t) in
     (λ u. let e = ap (λ (k : ℕ). 512 * k) (goto-pages w c.args.cursor c.args.unit c.args.uid (o.blocks c.args.unit) p.store there k (sym c.in-Some.ensures) h is after u) in let x = (read.unread (unread-query (flat (slice_get c.args.desk.now c.args.cursor)) k c.in-Some.ensures un)) u in let y = (subst (λ (x : World). FetchesAtMost (λ u. 512 * pages_shown (shown_at (set_place x c.args.cursor (on h)) c.args.cursor) u) (g.H.Host.outside c.spot_on.new.host) (g.H.Host.outside c.move_to.new.host)) same
     (c.in_err-move_to.ensures.fetches t (subst MountedApart (sym same) apart) un)) u in omega (arith, e, x, y)))
-    (λ un nothing. ended-shows shown_reply r (err_from_is_err_and r c.from_residual-in_err-move_to.ensures.1) nothing)
+    (λ un. ended-fetches shown_reply _ _ r (err_from_is_err_and r c.from_residual-in_err-move_to.ensures.1))
 
 pub returns : goal.returns
 returns g c =
@@ -140,4 +140,4 @@ returns g c =
     let same : world_with g.C.Card.reads c.spot_on.new.units c.args.desk.now (g.H.Host.outside c.spot_on.new.host) ≡ w = ap (with_cursors c.args.desk.now) (read.read.world t) in
     (λ u. let e = ap (λ (k : ℕ). 512 * k) (goto-pages w c.args.cursor c.args.unit c.args.uid (o.blocks c.args.unit) p.store there k (sym c.in-Some.ensures) h is after u) in let x = (read.unread (unread-query (flat (slice_get c.args.desk.now c.args.cursor)) k c.in-Some.ensures un)) u in let y = (subst (λ (x : World). FetchesAtMost (λ u. 512 * pages_shown (shown_at (set_place x c.args.cursor (on h)) c.args.cursor) u) (g.H.Host.outside c.spot_on.new.host) (g.H.Host.outside c.move_to.new.host)) same
     (c.in_ok-move_to.ensures.fetches t (subst MountedApart (sym same) apart) un)) u in omega (arith, e, x, y)))
-    (λ un nothing u. let x = (read.unread (unread-query (flat (slice_get c.args.desk.now c.args.cursor)) k c.in-Some.ensures un)) u in let y = (c.in_ok-move_to.ensures.idle nothing) u in omega (arith, x, y))
+    (λ un u. let x = (read.unread (unread-query (flat (slice_get c.args.desk.now c.args.cursor)) k c.in-Some.ensures un)) u in let y = (c.in_ok-move_to.ensures.pages un) u in omega (arith, x, y))

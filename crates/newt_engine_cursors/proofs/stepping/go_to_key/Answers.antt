@@ -20,7 +20,7 @@ use Rattle.newt_engine_cursors.specs.World.{world_with}
 use Rattle.newt_engine_cursors.specs.declared.show.Shown.{Shown}
 use Rattle.newt_engine_cursors.specs.declared.stepping.Motion.TheVariants as motion
 use Rattle.newt_engine_cursors.proofs.Answering.{no-cursor-key, bad-key, key-answers, key-does-so, key-pages, key-few}
-use Rattle.newt_engine_cursors.proofs.Calls.{stays, turns-end, walks-of}
+use Rattle.newt_engine_cursors.proofs.Calls.{ended-fetches, stays, turns-end, walks-of}
 use Rattle.newt_engine_cursors.proofs.Stepped.{still-settled}
 use Rattle.newt_engine_cursors.proofs.stepping.go_to_key.Goals as goal
 
@@ -32,7 +32,7 @@ returns-in_err-key g c =
     let r = c.from_residual.result in
     walks-of (turns-end {S = Unit {0}} {asks = true} (λ (r : Result Shown StoreFault) (w v : World). Answers w v (command.Gotokey c.args.cursor c.args.graph.now) shown_reply r) {stop = Memory}
     (record { read = not-read c.requires.stands; cause = NoFault-refl _; failed = tt; no_fault = tt; unread = asked-read Rattle.std.proofs.Common.refl }) c.requires.desk tt r (err_from_is_err_and r c.from_residual.ensures.1) (λ w v. tt))
-    (λ t apart settled d. d) (λ t apart settled un. (λ u. omega arith)) (λ un nothing u. omega arith)
+    (λ t apart settled d. d) (λ t apart settled un. (λ u. omega arith)) (λ un. ended-fetches shown_reply _ _ r (err_from_is_err_and r c.from_residual.ensures.1))
 
 pub returns-in_default-2 : goal.returns-in_default-2
 returns-in_default-2 g c =
@@ -53,4 +53,4 @@ returns g c =
     walks-of c.steer.ensures.turns
     (λ t apart settled d. key-answers w c.args.cursor c.args.graph.now k (sym c.in-Some.ensures) c.in-Some-2.key is (after t apart settled) _ c.steer.result d)
     (λ t apart settled un. (λ u. let e = ap (λ (n : ℕ). 512 * n) (key-pages w c.args.cursor c.args.graph.now k (sym c.in-Some.ensures) c.in-Some-2.key is (after t apart settled) u) in let more = (c.steer.ensures.fetches t apart un) u in omega (arith, e, more)))
-    (λ un nothing. c.steer.ensures.idle un nothing)
+    (λ un. c.steer.ensures.pages un)

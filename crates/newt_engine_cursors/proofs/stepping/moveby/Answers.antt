@@ -12,4 +12,4 @@ returns g c =
     let laws : Laws g.C.Card.reads g.C.Card.place g.C.Card.soups g.C.Card.stands = record { formed = g.met.C.Card.formed; plain = g.met.C.Card.plain; durable = g.met.C.Card.durable; banks = g.met.C.Card.banks; kept = g.met.C.Card.kept } in
     let o = g.H.Host.outside c.args.host.now in
     let eight : Eight (g.H.Host.outside c.args.host.now) = record { eight = g.met.H.Host.eight c.args.host.now; none = g.met.H.Host.none c.args.host.now } in
-    walks-stepped laws g.H.Host.told c.args.units.now c.args.desk.now o eight c.requires.stands (moveby-stepping c.args.cursor c.args.by _ (to_z-of_z w32 c.args.by c.ranges.by)) c.steer.ensures.turns c.steer.ensures.fetches c.steer.ensures.idle
+    walks-stepped laws g.H.Host.told c.args.units.now c.args.desk.now o eight c.requires.stands (moveby-stepping c.args.cursor c.args.by _ (to_z-of_z w32 c.args.by c.ranges.by)) c.steer.ensures.turns c.steer.ensures.fetches c.steer.ensures.pages

@@ -17,7 +17,7 @@ use Rattle.newt_engine_cursors.specs.World.{world_with}
 use Rattle.newt_engine_cursors.specs.declared.show.Shown.{Shown}
 use Rattle.newt_engine_cursors.proofs.Answering.{steers-there, there-stepped}
 use Rattle.newt_engine_cursors.proofs.Coming.{comes-among}
-use Rattle.newt_engine_cursors.proofs.Calls.{all-kept, ended-shows, stays-turn, turns-end, turns-settled, settles-reads, settles-after, unread-query}
+use Rattle.newt_engine_cursors.proofs.Calls.{all-kept, ended-fetches, stays-turn, turns-end, turns-settled, settles-reads, settles-after, unread-query}
 use Rattle.newt_engine_cursors.proofs.stepping.steer.Goals as goal
 
 pub returns-in_default-clause-turns : goal.returns-in_default-clause-turns
@@ -73,20 +73,25 @@ returns-clause-fetches g c t apart un =
     (c.in_ok-come_to.ensures.fetches t (subst MountedApart (sym same) apart) (λ is. subst (λ (x : World). ComesAmong x c.args.cursor (place_of c.in_ok-place.place)) (sym same)
     (comes-among w c.args.cursor c.args.motion k (place_of c.in_ok-place.place) c.in-Some.ensures (c.in_ok-place.ensures.place t apart) (sym c.finds-is_found.ensures ∙ is))) un)) u in omega (arith, x, y))
 
--- ---- where nothing is shown
+-- ---- what is fetched, by what is shown
 
-pub returns-in_default-clause-idle : goal.returns-in_default-clause-idle
-returns-in_default-clause-idle g c un nothing u = omega arith
+pub returns-in_default-clause-pages : goal.returns-in_default-clause-pages
+returns-in_default-clause-pages g c un u = omega arith
 
-pub returns-in_err-place-clause-idle : goal.returns-in_err-place-clause-idle
-returns-in_err-place-clause-idle g c un nothing = ended-shows shown_reply c.from_residual.result (err_from_is_err_and c.from_residual.result c.from_residual.ensures.1) nothing
+pub returns-in_err-place-clause-pages : goal.returns-in_err-place-clause-pages
+returns-in_err-place-clause-pages g c un =
+    let r = c.from_residual.result in
+    ended-fetches shown_reply _ _ r (err_from_is_err_and r c.from_residual.ensures.1)
 
-pub returns-in_err-come_to-clause-idle : goal.returns-in_err-come_to-clause-idle
-returns-in_err-come_to-clause-idle g c un nothing =
-    ended-shows shown_reply c.from_residual-in_err-come_to.result (err_from_is_err_and c.from_residual-in_err-come_to.result c.from_residual-in_err-come_to.ensures.1) nothing
+pub returns-in_err-come_to-clause-pages : goal.returns-in_err-come_to-clause-pages
+returns-in_err-come_to-clause-pages g c un =
+    let r = c.from_residual-in_err-come_to.result in
+    ended-fetches shown_reply _ _ r (err_from_is_err_and r c.from_residual-in_err-come_to.ensures.1)
 
-pub returns-clause-idle : goal.returns-clause-idle
-returns-clause-idle g c un nothing u =
-    let x = (c.in_ok-place.ensures.reading.unread (unread-query (flat (slice_get c.args.desk.now c.args.cursor)) (seen_cursor (c.in-Some.query, c.in-Some.place)) c.in-Some.ensures un)) u in
-    let y = (c.in_ok-come_to.ensures.idle nothing) u in
+pub returns-clause-pages : goal.returns-clause-pages
+returns-clause-pages g c un u =
+    let k = seen_cursor (c.in-Some.query, c.in-Some.place) in
+    let ks = flat (slice_get c.args.desk.now c.args.cursor) in
+    let x = (c.in_ok-place.ensures.reading.unread (unread-query ks k c.in-Some.ensures un)) u in
+    let y = (c.in_ok-come_to.ensures.pages un) u in
     omega (arith, x, y)

@@ -1,10 +1,14 @@
 -- The entry is read if need be, and its key is looked up.
-use Rattle.std.proofs.Common.{◌≡◌, ◌∙◌, ap, sym, subst, true, false}
+use Rattle.std.proofs.Common.{◌≡◌, ◌∙◌, ◌*◌, ap, sym, subst, ℕ, true, false, Option, Some}
+use Rattle.std.specs.Prelude.{IfSome}
 use Rattle.std.proofs.lemmas.Result.{err_from_is_err_and}
 use Rattle.newt_query.specs.Filter.{asks_texts}
 use Rattle.newt_cursor.specs.Seen.{query_of}
+use Rattle.newt_spec_store.specs.Keys.{Key}
 use Rattle.newt_spec_world.specs.World.{World}
+use Rattle.newt_laws_answers.specs.Faces.{first_showing}
 use Rattle.newt_laws_world.specs.Settled.{MountedApart}
+use Rattle.newt_engine_units.specs.Faces.{faces_of}
 use Rattle.newt_engine_units.specs.Stands.{Stands, Eight, world_of}
 use Rattle.newt_engine_hits.specs.Present.{entry_there, identity, keyed_in, present_in}
 use Rattle.newt_engine_hits.proofs.Presence.{is-present, is-absent}
@@ -45,3 +49,10 @@ returns-in-None-clause-found g c t apart =
     (sym c.in-None.is ∙ c.in_ok-hit.ensures.found p eight2 stand2 (subst MountedApart (sym same) apart)
     (λ asks. c.in_ok-entry.ensures.entry t asks ∙ ap (λ (v : World). entry_there v c.args.store c.args.soup c.args.uid) (sym same))
     ∙ ap (λ (v : World). keyed_in (present_in v (query_of c.args.query.now) (identity c.args.store c.args.soup c.args.uid))) same)
+
+pub returns-in-Some-clause-unit : goal.returns-in-Some-clause-unit
+returns-in-Some-clause-unit g c =
+    let faces = faces_of g.C.Card.soups c.entry_if_asked.new.units in
+    subst (λ (found : Option (ℕ × Key)).
+    IfSome found (λ x. first_showing c.args.store faces ≡ Some x.0))
+    c.in-Some.is c.in_ok-hit.ensures.unit

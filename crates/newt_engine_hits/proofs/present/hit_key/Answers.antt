@@ -47,3 +47,6 @@ returns-in-None-clause-found g c o eight stand apart read =
     ∙ c.in_ok-key.ensures.found o eight stand k.blocks k.store k.on (takes-carries (query_of c.args.query.now) c.args.soup k.store takes)
     (λ asks. read asks ∙ ap (option_and_then (entry_at c.args.soup c.args.uid)) k.found))
     ∙ there-keyed w (query_of c.args.query.now) c.args.store c.args.soup c.args.uid apart (stores-formed laws c.args.units.now o eight stand) c.in-Some.unit k.store k.found k.found_with k.sig_is takes
+
+pub returns-in-Some-2-clause-unit : goal.returns-in-Some-2-clause-unit
+returns-in-Some-2-clause-unit g c = sym c.in-Some.ensures

@@ -1,12 +1,15 @@
 -- The unit of the store is looked up, and the entry is read there.
-use Rattle.std.proofs.Common.{◌≡◌, ◌∙◌, ap, sym, subst, refl, true, Option, None, option_and_then}
-use Rattle.std.specs.Prelude.{is_some}
+use Rattle.std.proofs.Common.{◌≡◌, ◌∙◌, ◌*◌, ap, sym, subst, refl, ℕ, true, Option, None, option_and_then}
+use Rattle.std.specs.Prelude.{IfOk, is_some}
 use Rattle.std.proofs.lemmas.Result.{IfOk-weaker}
+use Rattle.newt_spec_graph.proofs.Lists.{some-same}
 use Rattle.newt_spec_store.specs.Store.{Store, entry_at}
+use Rattle.newt_store_change.specs.Change.{pages_of_entry}
 use Rattle.newt_store_change.specs.Entries.{entry_said}
 use Rattle.newt_store_change.specs.declared.entry.Entry.{Entry}
 use Rattle.newt_spec_world.specs.World.{mounted_store}
 use Rattle.newt_laws_answers.proofs.Units.{is-mounted}
+use Rattle.newt_engine_card.specs.Bounds.{FetchesAtMost, of_unit}
 use Rattle.newt_engine_units.specs.Stands.{Stands, Eight, world_of}
 use Rattle.newt_engine_units.proofs.Broken.{err-stop-map}
 use Rattle.newt_engine_units.proofs.Known.{Laws}
@@ -82,3 +85,14 @@ returns-in-None-clause-fetches g c t u = omega Rattle.std.proofs.Common.arith
 
 pub returns-in-None-clause-within : goal.returns-in-None-clause-within
 returns-in-None-clause-within g c t u = omega Rattle.std.proofs.Common.arith
+
+pub returns-in-Some-clause-pages : goal.returns-in-Some-clause-pages
+returns-in-Some-clause-pages g c unit at =
+    let o = g.H.Host.outside in
+    subst (λ (u : ℕ). IfOk c.entry_on.result (λ found.
+    FetchesAtMost (of_unit u (512 * pages_of_entry (entry_said found)))
+    (o c.args.host.now) (o c.entry_on.new.host)))
+    (some-same c.in-Some.unit unit (c.in-Some.ensures ∙ at)) c.entry_on.ensures.pages
+
+pub returns-in-None-clause-pages : goal.returns-in-None-clause-pages
+returns-in-None-clause-pages g c unit at u = omega Rattle.std.proofs.Common.arith

@@ -1,6 +1,11 @@
 use Rattle.std.proofs.Common.{◌∙◌, refl}
-use Rattle.newt_journal.proofs.Repairing.{any_0, any_1, any_2, any_3, repaired, alike_now}
+use Rattle.newt_journal.proofs.Repairing.{any_0, any_1, any_2, any_3, repaired, alike_now, order}
 use Rattle.newt_journal.proofs.Adding.{did-read, did-write, then, widen, counted-err, counted-ok}
+use Rattle.std.proofs.Common.{ℕ, ◌-◌, List, arith}
+use Rattle.newt_host.specs.Moments.{image}
+use Rattle.newt_journal.specs.Bank.{bank_number, other_bank}
+use Rattle.newt_journal.specs.Calls.{votes}
+use Rattle.newt_journal.proofs.Mending.{within, after_1, after_2, after_3, before_it, most_1, most_2, most_3}
 use Rattle.newt_journal.proofs.repair.settle_votes.Goals as goal
 
 pub returns-in_err-third-clause-writes : goal.returns-in_err-third-clause-writes
@@ -63,3 +68,51 @@ returns-clause-writes g c =
       wears = did.wears;
       faults = counted-ok tt (c.in_ok-settle_vote-3.ensures.writes.faults.no_fault ∙ c.in_ok-settle_vote-2.ensures.writes.faults.no_fault ∙ c.in_ok-settle_vote.ensures.writes.faults.no_fault ∙ c.in_ok-third.ensures.reads.faults.no_fault);
     }
+
+pub returns-in_err-third-clause-bounded : goal.returns-in_err-third-clause-bounded
+returns-in_err-third-clause-bounded g c t =
+    within (did-read c.read_byte.ensures.reads) (votes 4 _) (omega arith) (omega arith) (omega arith) (omega arith)
+
+pub returns-in_err-settle_vote-clause-bounded : goal.returns-in_err-settle_vote-clause-bounded
+returns-in_err-settle_vote-clause-bounded g c t =
+    let u : ℕ = c.args.unit in
+    let o = g.H.Host.outside in
+    let old = (o c.args.host.now).now in
+    let img : List ℕ = image u (o c.read_byte.new.host).now in
+    let turn = order u c.args.bank old _ (c.requires.rest.durable t) c.read_byte.ensures.reads.moment (c.requires.voted t) _ _ (c.in_ok-third.ensures.byte t) c.first_to_settle-near.ensures in
+    let near : ℕ = c.first_to_settle-near.result in
+    before_it u u (bank_number c.args.bank) old _ _ _ c.read_byte.ensures.reads.moment
+    (after_1 c.read_byte.ensures.reads c.settle_vote.ensures.writes.alone (c.settle_vote.ensures.bounded t) (most_1 (bank_number c.args.bank) near (3 - near) (bank_number (other_bank c.args.bank)) img turn))
+
+pub returns-in_err-settle_vote-2-clause-bounded : goal.returns-in_err-settle_vote-2-clause-bounded
+returns-in_err-settle_vote-2-clause-bounded g c t =
+    let u : ℕ = c.args.unit in
+    let o = g.H.Host.outside in
+    let old = (o c.args.host.now).now in
+    let img : List ℕ = image u (o c.read_byte.new.host).now in
+    let turn = order u c.args.bank old _ (c.requires.rest.durable t) c.read_byte.ensures.reads.moment (c.requires.voted t) _ _ (c.in_ok-third.ensures.byte t) c.first_to_settle-near.ensures in
+    let near : ℕ = c.first_to_settle-near.result in
+    before_it u u (bank_number c.args.bank) old _ _ _ c.read_byte.ensures.reads.moment
+    (after_2 c.read_byte.ensures.reads c.settle_vote.ensures.writes.alone (c.settle_vote.ensures.bounded t) c.settle_vote-2.ensures.writes.alone (c.settle_vote-2.ensures.bounded t) (most_2 (bank_number c.args.bank) near (3 - near) (bank_number (other_bank c.args.bank)) img turn (image u (o c.settle_vote.new.host).now) (c.in_ok-settle_vote.ensures.kept t)))
+
+pub returns-in_err-settle_vote-3-clause-bounded : goal.returns-in_err-settle_vote-3-clause-bounded
+returns-in_err-settle_vote-3-clause-bounded g c t =
+    let u : ℕ = c.args.unit in
+    let o = g.H.Host.outside in
+    let old = (o c.args.host.now).now in
+    let img : List ℕ = image u (o c.read_byte.new.host).now in
+    let turn = order u c.args.bank old _ (c.requires.rest.durable t) c.read_byte.ensures.reads.moment (c.requires.voted t) _ _ (c.in_ok-third.ensures.byte t) c.first_to_settle-near.ensures in
+    let near : ℕ = c.first_to_settle-near.result in
+    before_it u u (bank_number c.args.bank) old _ _ _ c.read_byte.ensures.reads.moment
+    (after_3 c.read_byte.ensures.reads c.settle_vote.ensures.writes.alone (c.settle_vote.ensures.bounded t) c.settle_vote-2.ensures.writes.alone (c.settle_vote-2.ensures.bounded t) c.settle_vote-3.ensures.writes.alone (c.settle_vote-3.ensures.bounded t) (most_3 (bank_number c.args.bank) near (3 - near) (bank_number (other_bank c.args.bank)) img turn (image u (o c.settle_vote.new.host).now) (c.in_ok-settle_vote.ensures.kept t) (image u (o c.settle_vote-2.new.host).now) (c.in_ok-settle_vote-2.ensures.kept t)))
+
+pub returns-clause-bounded : goal.returns-clause-bounded
+returns-clause-bounded g c t =
+    let u : ℕ = c.args.unit in
+    let o = g.H.Host.outside in
+    let old = (o c.args.host.now).now in
+    let img : List ℕ = image u (o c.read_byte.new.host).now in
+    let turn = order u c.args.bank old _ (c.requires.rest.durable t) c.read_byte.ensures.reads.moment (c.requires.voted t) _ _ (c.in_ok-third.ensures.byte t) c.first_to_settle-near.ensures in
+    let near : ℕ = c.first_to_settle-near.result in
+    before_it u u (bank_number c.args.bank) old _ _ _ c.read_byte.ensures.reads.moment
+    (after_3 c.read_byte.ensures.reads c.settle_vote.ensures.writes.alone (c.settle_vote.ensures.bounded t) c.settle_vote-2.ensures.writes.alone (c.settle_vote-2.ensures.bounded t) c.settle_vote-3.ensures.writes.alone (c.settle_vote-3.ensures.bounded t) (most_3 (bank_number c.args.bank) near (3 - near) (bank_number (other_bank c.args.bank)) img turn (image u (o c.settle_vote.new.host).now) (c.in_ok-settle_vote.ensures.kept t) (image u (o c.settle_vote-2.new.host).now) (c.in_ok-settle_vote-2.ensures.kept t)))

@@ -1,4 +1,4 @@
-use Rattle.newt_laws_scripts.proofs.Outliving.{counted-left, left-later, run-left, summed-left}
+use Rattle.newt_laws_scripts.proofs.Outliving.{counted-left, left-later, made-later, run-left, summed-left}
 use Rattle.newt_laws_scripts.proofs.crashes.crashes_leave_later_stores.Goals as goal
 
 pub returns-clause-run : goal.returns-clause-run
@@ -12,3 +12,6 @@ returns-clause-rows c = left-later
 
 pub returns-clause-summed : goal.returns-clause-summed
 returns-clause-summed c = summed-left
+
+pub returns-clause-made : goal.returns-clause-made
+returns-clause-made c = made-later

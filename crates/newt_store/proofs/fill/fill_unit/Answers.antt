@@ -19,6 +19,7 @@ returns-in_err-batch g c = λ s is.
     let o = g.H.Host.outside c.args.host.now in
     record {
       formatted = λ tells. no-value c.from_residual.result _ c.from_residual.ensures.0;
+      laid = λ tells. no-value c.from_residual.result _ c.from_residual.ensures.0;
       durable = λ tells. no-value c.from_residual.result _ c.from_residual.ensures.0;
       open_after = λ tells. no-value c.from_residual.result _ c.from_residual.ensures.0;
       unchanged = λ is. refl;
@@ -39,6 +40,7 @@ returns-in-Ok g c = λ s is. record {
       let size : blocks_of img ≡ (g.H.Host.outside c.args.host.now).blocks c.args.unit = blocks-are img ((g.H.Host.outside c.format.new.host).blocks c.args.unit) (g.met.H.Host.sized c.format.new.host c.args.unit tells) ∙ c.format.ensures.alone.cards.blocks c.args.unit in
       let lies = w.lies ((g.H.Host.outside c.args.host.now).blocks c.args.unit) s is in
       filled-read s ((g.H.Host.outside c.args.host.now).blocks c.args.unit) img w.texts lies.0 lies.1 holds fresh.blank.is_open.new size is.is_valid;
+  laid = λ tells. (c.in_ok-batch.batch, (c.in-Ok.ensures.formatted tells).0);
   durable = λ tells. (c.in-Ok.ensures.formatted tells).1;
   open_after = λ tells. (c.in-Ok.ensures.formatted tells).0.blank;
   unchanged = λ is. absurd (cc);
@@ -55,6 +57,7 @@ returns-in-Ok g c = λ s is. record {
 pub returns : goal.returns
 returns g c = λ s is. record {
   formatted = λ tells. tt;
+  laid = λ tells. tt;
   durable = λ tells. tt;
   open_after = λ tells. tt;
   unchanged = c.in-Err.ensures.unchanged;

@@ -21,6 +21,7 @@ returns-in_err-bytes g c =
     let o = g.H.Host.outside c.args.host.now in
     record {
       formatted = λ tells. no-value c.from_residual.result _ c.from_residual.ensures.0;
+      laid = λ tells. no-value c.from_residual.result _ c.from_residual.ensures.0;
       durable = λ tells. no-value c.from_residual.result _ c.from_residual.ensures.0;
       open_after = λ tells. no-value c.from_residual.result _ c.from_residual.ensures.0;
       unchanged = λ is. refl;
@@ -36,6 +37,7 @@ returns-in_err-plan_put g c =
     let o = g.H.Host.outside c.args.host.now in
     record {
       formatted = λ tells. no-value c.from_residual-in_err-plan_put.result _ c.from_residual-in_err-plan_put.ensures.0;
+      laid = λ tells. no-value c.from_residual-in_err-plan_put.result _ c.from_residual-in_err-plan_put.ensures.0;
       durable = λ tells. no-value c.from_residual-in_err-plan_put.result _ c.from_residual-in_err-plan_put.ensures.0;
       open_after = λ tells. no-value c.from_residual-in_err-plan_put.result _ c.from_residual-in_err-plan_put.ensures.0;
       unchanged = λ is. refl;
@@ -57,6 +59,7 @@ returns-in-Ok g c = record {
       let blocks : blocks_of img ≡ (g.H.Host.outside c.args.host.now).blocks c.args.unit = blocks-are img ((g.H.Host.outside c.format.new.host).blocks c.args.unit) (g.met.H.Host.sized c.format.new.host c.args.unit tells) ∙ c.format.ensures.alone.cards.blocks c.args.unit in
       let many : 13 ≤ blocks_of img = omega (arith, blocks, c.requires.enough) in
       fresh-read c.args.name.now c.args.sig c.deref.result.now img c.new_bytes.ensures.named (short-name c.args.name.now c.new_bytes.ensures.named) c.requires.few many bytes holds;
+  laid = λ tells. (c.plan_put.new.batch, (c.in-Ok.ensures.formatted tells).0);
   durable = λ tells. (c.in-Ok.ensures.formatted tells).1;
   open_after = λ tells. (c.in-Ok.ensures.formatted tells).0.blank;
   unchanged = λ is. absurd (cc);
@@ -74,6 +77,7 @@ returns-in-Ok g c = record {
 pub returns : goal.returns
 returns g c = record {
   formatted = λ tells. tt;
+  laid = λ tells. tt;
   durable = λ tells. tt;
   open_after = λ tells. tt;
   unchanged = c.in-Err.ensures.unchanged;

@@ -4,6 +4,7 @@ use Rattle.newt_objects.specs.Held.{held}
 use Rattle.newt_store_catalog.proofs.Exits.{of-reading}
 use Rattle.newt_store_catalog.proofs.Lying.{long-there, long-read}
 use Rattle.newt_store_catalog.proofs.Rows.{read-is, read-costs}
+use Rattle.newt_store_catalog.proofs.Sizes.{long-size, size-costs}
 use Rattle.newt_store_catalog.proofs.read.read_large.Goals as goal
 
 pub read-requires-clause-there : goal.read-requires-clause-there
@@ -23,5 +24,9 @@ returns g c =
         bytes_are = IfOk-weaker c.read.result _ _ (λ bytes read. sym (read-is g.H.Host.told objects numbers u (o c.args.host.now) kept tells texts holds object b at bytes.items (read tells))) c.read.ensures.bytes;
         costs = read-costs g.H.Host.told objects numbers u (o c.args.host.now) kept tells texts holds object b at (o c.args.host.now) (o c.read.new.host) c.read.ensures.costs;
       };
+      pages =
+          let size : ℕ = c.args.large.now.length in
+          size-costs kept object (long-there (held objects object) size c.requires.there)
+          c.read.ensures.costs size (long-size (held objects object) size c.requires.there);
       reads = of-reading kept c.read.ensures.reads;
     }

@@ -1,5 +1,6 @@
-use Rattle.std.proofs.Common.{◌≡◌, ℕ, sym, ◌∙◌, ap, subst}
+use Rattle.std.proofs.Common.{◌≡◌, ◌*◌, ℕ, List, length, sym, ◌∙◌, ap, subst}
 use Rattle.std.specs.List.{list_all}
+use Rattle.newt_host.specs.Outside.{Spends}
 use Rattle.newt_objects.specs.Held.{held}
 use Rattle.newt_pagebook.specs.Stops.{StopsAt}
 use Rattle.newt_spec_store.specs.Lies.{record_read}
@@ -10,6 +11,7 @@ use Rattle.newt_store_catalog.proofs.Exits.{with-kept, read-fails, no-value}
 use Rattle.newt_store_catalog.proofs.Lying.{is-record, are-there}
 use Rattle.newt_store_catalog.proofs.Opening.{not_true, the-fault}
 use Rattle.newt_store_catalog.proofs.Rows.{read-is, read-costs}
+use Rattle.newt_store_catalog.proofs.Sizes.{record-pages, size-costs}
 use Rattle.newt_store_catalog.proofs.read.read_row.Goals as goal
 
 pub lies-requires : goal.lies-requires
@@ -35,6 +37,7 @@ returns-in_err-bytes g c =
         costs = read-costs g.H.Host.told c.args.objects.now (g.P.PageBook.numbers c.args.book.now) (g.P.PageBook.place c.args.book.now) (o c.args.host.now) kept tells texts holds c.args.id bytes at (o c.args.host.now) (o c.read.new.host) c.read.ensures.costs;
       };
       any = no-value r c.in_err-bytes.field-0.0 _ c.from_residual.ensures.1;
+      pages = no-value r c.in_err-bytes.field-0.0 _ c.from_residual.ensures.1;
       reads = record {
         book = with-kept kept c.read.ensures.reads.book;
         ends = read-fails {T = Unit {0}} r c.in_err-bytes.field-0.0 c.from_residual.ensures.1 (record { cause = c.in_err-bytes.ensures.reads.cause; no_fault = tt });
@@ -52,6 +55,7 @@ returns-then-not-are_there g c =
         costs = read-costs g.H.Host.told c.args.objects.now (g.P.PageBook.numbers c.args.book.now) u (o c.args.host.now) kept tells texts holds c.args.id bytes at (o c.args.host.now) (o c.read.new.host) c.read.ensures.costs;
       };
       any = tt;
+      pages = tt;
       reads = record { book = with-kept kept c.read.ensures.reads.book; ends = record { cause = subst (StopsAt u (o c.args.host.now) (o c.read.new.host)) (sym c.lies.ensures) c.in_ok-bytes.ensures.reads.no_fault; no_fault = tt } };
     }
 
@@ -75,6 +79,13 @@ returns-in-Ok g c =
         fits = c.in-Ok.ensures.fit;
         there = ap (list_all (λ l. has_length (held objects) l)) (sym c.list.ensures) ∙ sym c.are_there.ensures ∙ c.if-not-are_there.false;
       };
+      pages =
+          let got : List ℕ = c.in_ok-bytes.bytes.items in
+          subst (λ (n : ℕ). Spends u 0 (512 * n) (o c.args.host.now) (o c.read.new.host))
+          (record-pages got c.in-Ok.row
+          (ap (record_read stream_graph) (sym c.deref.ensures.value) ∙ c.in-Ok.ensures.found))
+          (size-costs kept c.args.id c.requires.entry.there c.read.ensures.costs (length got)
+          c.in_ok-bytes.ensures.size);
       reads = record { book = with-kept kept c.read.ensures.reads.book; ends = record { cause = tt; no_fault = c.in_ok-bytes.ensures.reads.no_fault } };
     }
 
@@ -89,6 +100,7 @@ returns-in-Err-Bad g c =
         costs = read-costs g.H.Host.told c.args.objects.now (g.P.PageBook.numbers c.args.book.now) u (o c.args.host.now) kept tells texts holds c.args.id bytes at (o c.args.host.now) (o c.read.new.host) c.read.ensures.costs;
       };
       any = tt;
+      pages = tt;
       reads = record { book = with-kept kept c.read.ensures.reads.book; ends = record { cause = subst (StopsAt u (o c.args.host.now) (o c.read.new.host)) (sym c.lies-in-Err-Bad.ensures) c.in_ok-bytes.ensures.reads.no_fault; no_fault = tt } };
     }
 
@@ -102,5 +114,6 @@ returns g c =
         costs = read-costs g.H.Host.told c.args.objects.now (g.P.PageBook.numbers c.args.book.now) (g.P.PageBook.place c.args.book.now) (o c.args.host.now) kept tells texts holds c.args.id bytes at (o c.args.host.now) (o c.read.new.host) c.read.ensures.costs;
       };
       any = tt;
+      pages = tt;
       reads = record { book = with-kept kept c.read.ensures.reads.book; ends = record { cause = c.in_ok-bytes.ensures.reads.no_fault; no_fault = tt } };
     }

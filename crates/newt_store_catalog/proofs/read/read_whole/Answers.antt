@@ -1,12 +1,16 @@
-use Rattle.std.proofs.Common.{ℕ, List, ap, sym, ◌∙◌, subst, map as map_list}
+use Rattle.std.proofs.Common.{arith, ℕ, ◌*◌, List, length, ap, sym, ◌∙◌, subst, map as map_list, Vec, Global}
+use Rattle.std.proofs.lemmas.Simd.{map-map}
+use Rattle.newt_host.specs.Outside.{Spends}
 use Rattle.newt_host.proofs.Outside.{NoFault-append}
+use Rattle.newt_spec_store.specs.Cost.{entry_pages}
 use Rattle.newt_spec_store.specs.Image.{entry_bytes}
 use Rattle.newt_spec_store.specs.Store.{Entry}
 use Rattle.newt_entries.specs.declared.row.LargeAt.{LargeAt}
 use Rattle.newt_entries.specs.Entry.{row_at, filled}
-use Rattle.newt_store_catalog.specs.Calls.{AreThere}
+use Rattle.newt_store_catalog.specs.Calls.{AreThere, larges_pages, row_pages}
 use Rattle.newt_store_catalog.specs.Reading.{HaveBytes}
-use Rattle.newt_store_catalog.proofs.ReadLarges.{its_bytes, have-bytes, entry-is, holds-on, whole-spent, row-spent}
+use Rattle.newt_store_catalog.proofs.ReadLarges.{its_bytes, have-bytes, entry-is, holds-on, spends-at, spent-both, whole-spent, row-spent}
+use Rattle.newt_store_catalog.proofs.Sizes.{entry-pages}
 use Rattle.newt_store_catalog.proofs.Exits.{can-on, no-value, reads-on, read-fails, read-memory, read-after}
 use Rattle.newt_store_catalog.proofs.read.read_whole.Goals as goal
 
@@ -27,6 +31,7 @@ returns-in_err-row g c =
         costs = row-spent sig e ids laid.larges_are.each_named (g.P.PageBook.place c.args.book.now) (o c.args.host.now) (o c.read_row.new.host) (c.read_row.ensures.row tells texts (entry_bytes sig e ids) holds laid.bytes_are).costs;
       };
       valid = no-value r c.in_err-row.field-0.0 _ fails;
+      pages = no-value r c.in_err-row.field-0.0 _ fails;
       reads = record { book = c.read_row.ensures.reads.book; ends = read-fails r c.in_err-row.field-0.0 fails c.in_err-row.ensures.reads.ends };
     }
 
@@ -50,6 +55,7 @@ returns-in_err-larges g c =
             costs = whole-spent sig e ids laid.larges_are.each_named u v (o c.args.host.now) (o c.read_row.new.host) (o c.read_larges.new.host) book.same_place its.costs (c.read_larges.ensures.larges tells texts (its_bytes e ids) still have).costs;
           };
       valid = no-value r c.in_err-larges.field-0.0 _ fails;
+      pages = no-value r c.in_err-larges.field-0.0 _ fails;
       reads = record {
         book = reads-on book c.read_larges.ensures.reads.book;
         ends = read-after r book.same_place book.looks one.reads.ends.no_fault (read-fails r c.in_err-larges.field-0.0 fails c.in_err-larges.ensures.reads.ends);
@@ -76,6 +82,7 @@ returns-in_err-graph g c =
             costs = whole-spent sig e ids laid.larges_are.each_named u v (o c.args.host.now) (o c.read_row.new.host) (o c.read_larges.new.host) book.same_place its.costs (c.in_ok-larges.ensures.larges tells texts (its_bytes e ids) still have).costs;
           };
       valid = no-value r _ _ fails;
+      pages = no-value r _ _ fails;
       reads = record { book = reads-on book c.in_ok-larges.ensures.reads.book; ends = read-memory r (NoFault-append one.reads.ends.no_fault c.in_ok-larges.ensures.reads.ends.no_fault) fails };
     }
 
@@ -96,6 +103,30 @@ returns-clause-entry g c = λ tells texts sig e ids holds laid.
       entry = ◌∙◌ {A = Entry} (λ i. record { uid = row.uid; time = row.time; graph = graph i }) (entry-is texts c.args.id sig e ids laid row its.row);
       costs = whole-spent sig e ids laid.larges_are.each_named u v (o c.args.host.now) (o c.read_row.new.host) (o c.read_larges.new.host) book.same_place its.costs got.costs;
     }
+
+pub returns-clause-pages : goal.returns-clause-pages
+returns-clause-pages g c =
+    let o = g.H.Host.outside in
+    let u : ℕ = g.P.PageBook.place c.args.book.now in
+    let v : ℕ = g.P.PageBook.place c.read_row.new.book in
+    let row = c.in_ok-row.row in
+    let one = c.in_ok-row.ensures in
+    let p = o c.read_row.new.host in
+    let q = o c.read_larges.new.host in
+    let read = c.in_ok-larges in
+    let graph = c.in_ok-graph.graph in
+    let items_of = λ (bytes : Vec ℕ Global). bytes.items in
+    let bs : List (List ℕ) = map_list items_of read.larges.items in
+    let lengths = map-map (λ (b : List ℕ). length b) items_of read.larges.items
+    ∙ read.ensures.lengths ∙ ap (map_list (λ (l : LargeAt). l.length)) c.list.ensures in
+    let all = entry-pages row bs one.any.fits lengths graph row.uid row.time
+    c.in_ok-graph.ensures.value in
+    let larges = subst (λ (ls : List LargeAt). Spends v 0 (512 * larges_pages ls) p q)
+    c.list.ensures read.ensures.pages in
+    let total = entry_pages (record { uid = row.uid; time = row.time; graph = graph }) in
+    spent-both u (row_pages row) (larges_pages row.larges) total (o c.args.host.now) p q
+    (omega (arith, all)) one.pages
+    (spends-at u v (512 * larges_pages row.larges) p q one.reads.book.same_place larges)
 
 pub returns-clause-reads : goal.returns-clause-reads
 returns-clause-reads g c =

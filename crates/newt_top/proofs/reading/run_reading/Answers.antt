@@ -35,7 +35,7 @@ returns-in-Err-Memory-clause-ran g c = λ told.
     let names = map (string_bytes {Z = Global}) c.args.names.now in
     let a = subst (λ (t : Bool). AreAttached t names (o c.args.host.now) (o c.attach_names-attached.new.host)) told c.attach_names-attached.ensures.attached in
     ran-unput c.args.reading names (o c.args.host.now) (o c.attach_names-attached.new.host) (o c.said.new.host) a c.said.ensures.looks
-    (λ unit. g.met.H.Host.untouched c.args.host.now unit told (c.requires.may.free unit))
+    (λ unit. g.met.H.Host.untouched c.args.host.now unit told (c.requires.may.free unit)) (λ unit none. g.met.H.Host.untouched c.attach_names-attached.new.host unit told none)
     (λ unit none. g.met.H.Host.untouched c.said.new.host unit told none) (λ unit some. g.met.H.Host.history c.said.new.host unit told some)
     Memory (λ same. same)
 
@@ -59,7 +59,7 @@ returns-in-Err-Device-clause-ran g c = λ told.
     let names = map (string_bytes {Z = Global}) c.args.names.now in
     let a = subst (λ (t : Bool). AreAttached t names (o c.args.host.now) (o c.attach_names-attached.new.host)) told c.attach_names-attached.ensures.attached in
     ran-unput c.args.reading names (o c.args.host.now) (o c.attach_names-attached.new.host) (o c.said.new.host) a c.said.ensures.looks
-    (λ unit. g.met.H.Host.untouched c.args.host.now unit told (c.requires.may.free unit))
+    (λ unit. g.met.H.Host.untouched c.args.host.now unit told (c.requires.may.free unit)) (λ unit none. g.met.H.Host.untouched c.attach_names-attached.new.host unit told none)
     (λ unit none. g.met.H.Host.untouched c.said.new.host unit told none) (λ unit some. g.met.H.Host.history c.said.new.host unit told some)
     (Device 0) (λ same. same)
 
@@ -91,7 +91,7 @@ returns-then-is_err-clause-ran g c = λ told.
     subst (λ (d : Option (List ℕ)). IsSaid c.args.reading d c.deref.result.now) (device-held names (o c.args.host.now) mid a 0)
     (subst (λ (t : List ℕ). IsSaid c.args.reading (device_on 0 mid) t) (sym c.deref.ensures.value) (c.in-Ok.ensures.text told)) in
     let call = subst (λ (t : Bool). WriteCall t OutputFailed c.write_all.result looked new) told c.write_all.ensures.call in
-    (ran-put c.args.reading names (o c.args.host.now) mid looked a c.said.ensures.looks (λ unit. g.met.H.Host.untouched c.args.host.now unit told (c.requires.may.free unit))
+    (ran-put c.args.reading names (o c.args.host.now) mid looked a c.said.ensures.looks (λ unit. g.met.H.Host.untouched c.args.host.now unit told (c.requires.may.free unit)) (λ unit none. g.met.H.Host.untouched c.attach_names-attached.new.host unit told none)
     new (λ unit none. g.met.H.Host.untouched c.write_all.new.host unit told none) (λ unit some. g.met.H.Host.history c.write_all.new.host unit told some)
     c.write_all.result c.deref.result.now text (c.write_all.ensures.puts told) call).0 (sym c.is_err.ensures.value ∙ c.if-is_err.true)
 
@@ -120,7 +120,7 @@ returns-clause-ran g c = λ told.
     subst (λ (d : Option (List ℕ)). IsSaid c.args.reading d c.deref.result.now) (device-held names (o c.args.host.now) mid a 0)
     (subst (λ (t : List ℕ). IsSaid c.args.reading (device_on 0 mid) t) (sym c.deref.ensures.value) (c.in-Ok.ensures.text told)) in
     let call = subst (λ (t : Bool). WriteCall t OutputFailed c.write_all.result looked new) told c.write_all.ensures.call in
-    (ran-put c.args.reading names (o c.args.host.now) mid looked a c.said.ensures.looks (λ unit. g.met.H.Host.untouched c.args.host.now unit told (c.requires.may.free unit))
+    (ran-put c.args.reading names (o c.args.host.now) mid looked a c.said.ensures.looks (λ unit. g.met.H.Host.untouched c.args.host.now unit told (c.requires.may.free unit)) (λ unit none. g.met.H.Host.untouched c.attach_names-attached.new.host unit told none)
     new (λ unit none. g.met.H.Host.untouched c.write_all.new.host unit told none) (λ unit some. g.met.H.Host.history c.write_all.new.host unit told some)
     c.write_all.result c.deref.result.now text (c.write_all.ensures.puts told) call).1 (sym c.is_err.ensures.value ∙ c.if-is_err.false)
 

@@ -21,7 +21,7 @@ returns-in-Err-Memory-clause-ran g c = λ told.
     let done = o c.restore_text.new.host in
     let a = subst (λ (t : Bool). AreAttached t names old mid) told c.attach_names-attached.ensures.attached in
     let restores = subst (λ (t : Bool). Restores t 0 input mid done c.restore_text.result) told c.restore_text.ensures.restores in
-    ran-short names input old mid done c.restore_text.result (λ unit. g.met.H.Host.untouched c.args.host.now unit told (c.requires.may.free unit)) a restores
+    ran-short names input old mid done c.restore_text.result (λ unit. g.met.H.Host.untouched c.args.host.now unit told (c.requires.may.free unit)) (λ unit none. g.met.H.Host.untouched c.attach_names-attached.new.host unit told none) a restores
     (record { untouched = λ unit none. g.met.H.Host.untouched c.restore_text.new.host unit told none; history = λ unit some. g.met.H.Host.history c.restore_text.new.host unit told some })
     (restores.unchanged (c.in-Err-Memory.is ∙ ap Err c.in-Err-Memory.field-0-is))
 
@@ -35,7 +35,7 @@ returns-in-Err-Device-clause-ran g c = λ told.
     let done = o c.restore_text.new.host in
     let a = subst (λ (t : Bool). AreAttached t names old mid) told c.attach_names-attached.ensures.attached in
     let restores = subst (λ (t : Bool). Restores t 0 input mid done c.restore_text.result) told c.restore_text.ensures.restores in
-    ran-failed names input old mid done c.restore_text.result (λ unit. g.met.H.Host.untouched c.args.host.now unit told (c.requires.may.free unit)) a restores
+    ran-failed names input old mid done c.restore_text.result (λ unit. g.met.H.Host.untouched c.args.host.now unit told (c.requires.may.free unit)) (λ unit none. g.met.H.Host.untouched c.attach_names-attached.new.host unit told none) a restores
     (record { untouched = λ unit none. g.met.H.Host.untouched c.restore_text.new.host unit told none; history = λ unit some. g.met.H.Host.history c.restore_text.new.host unit told some }) 0
 
 -- ---- the reply was put out, or the output failed
@@ -53,7 +53,7 @@ returns-then-is_err-clause-ran g c = λ told.
     let new = o c.write_all.new.host in
     let text : IsDone input 0 mid done c.deref.result.now = subst (λ (t : List ℕ). IsDone input 0 mid done t) (sym c.deref.ensures.value) (c.in-Ok.ensures.done told) in
     let call = subst (λ (t : Bool). WriteCall t OutputFailed c.write_all.result done new) told c.write_all.ensures.call in
-    (ran-replied names input old mid done c.restore_text.result (λ unit. g.met.H.Host.untouched c.args.host.now unit told (c.requires.may.free unit)) a restores
+    (ran-replied names input old mid done c.restore_text.result (λ unit. g.met.H.Host.untouched c.args.host.now unit told (c.requires.may.free unit)) (λ unit none. g.met.H.Host.untouched c.attach_names-attached.new.host unit told none) a restores
     new (record { untouched = λ unit none. g.met.H.Host.untouched c.write_all.new.host unit told none; history = λ unit some. g.met.H.Host.history c.write_all.new.host unit told some })
     c.deref.result.now c.write_all.result text (c.write_all.ensures.puts told) call).0 (sym c.is_err.ensures.value ∙ c.if-is_err.true)
 
@@ -70,7 +70,7 @@ returns-clause-ran g c = λ told.
     let new = o c.write_all.new.host in
     let text : IsDone input 0 mid done c.deref.result.now = subst (λ (t : List ℕ). IsDone input 0 mid done t) (sym c.deref.ensures.value) (c.in-Ok.ensures.done told) in
     let call = subst (λ (t : Bool). WriteCall t OutputFailed c.write_all.result done new) told c.write_all.ensures.call in
-    (ran-replied names input old mid done c.restore_text.result (λ unit. g.met.H.Host.untouched c.args.host.now unit told (c.requires.may.free unit)) a restores
+    (ran-replied names input old mid done c.restore_text.result (λ unit. g.met.H.Host.untouched c.args.host.now unit told (c.requires.may.free unit)) (λ unit none. g.met.H.Host.untouched c.attach_names-attached.new.host unit told none) a restores
     new (record { untouched = λ unit none. g.met.H.Host.untouched c.write_all.new.host unit told none; history = λ unit some. g.met.H.Host.history c.write_all.new.host unit told some })
     c.deref.result.now c.write_all.result text (c.write_all.ensures.puts told) call).1 (sym c.is_err.ensures.value ∙ c.if-is_err.false)
 

@@ -1,6 +1,7 @@
 -- The entry is read, its graph is added to the target, the cursors on it are settled, and then it is removed.
 use Rattle.std.proofs.Common.{refl, sym, subst, ap, ℕ, ◌≡◌, ◌⊎◌, inl, inr, ◌∙◌, ◌*◌, true, IsTrue, Ok}
-use Rattle.std.specs.Prelude.{Err}
+use Rattle.std.specs.Prelude.{Err, not}
+use Rattle.std.proofs.lemmas.Bool.{ne_eqb}
 use Rattle.std.proofs.lemmas.Result.{err_from_is_err_and}
 use Rattle.newt_reply.specs.Said.{said}
 use Rattle.newt_reply.specs.declared.reply.Reply.{Reply as Shown}
@@ -21,6 +22,7 @@ use Rattle.newt_spec_script.specs.Rows.{throws}
 use Rattle.newt_engine.specs.Calls.{Fails, FailsHalfway}
 use Rattle.newt_engine_units.specs.Stands.{Eight, Stands, world_of}
 use Rattle.newt_engine_units.proofs.Known.{Laws}
+use Rattle.newt_engine_units.proofs.Keeping.{change-keeps, keeps-append, read-keeps}
 use Rattle.newt_engine_units.proofs.Obeying.{ends-after, ends-change, ends-ok, handed-ends, read-obeys}
 use Rattle.newt_engine_units.proofs.Settings.{Setting}
 use Rattle.newt_engine_hits.proofs.Stores.{stores-formed}
@@ -31,10 +33,12 @@ use Rattle.newt_engine_commands.proofs.Said.{behind-breaks}
 use Rattle.newt_engine_cursors.specs.Reached.{in_reach, reached_by}
 use Rattle.newt_engine_cursors.specs.World.{world_with}
 use Rattle.newt_engine_cursors.specs.declared.reach.Aim.{Aim}
+use Rattle.newt_engine.specs.Kept.{leaves_all}
 use Rattle.newt_engine.specs.Laws.{laws_of}
 use Rattle.newt_engine.proofs.Between.{Carried, added-costs, added-fails, added-moments, added-untorn, mid-apart, moved-answers, moved-costs, moved-moments, new_pages, removal-ends, settled-costs, source-fails, target-fails, with-moments}
 use Rattle.newt_engine.proofs.Costing.{unread_uses_cursor, walks_steps}
 use Rattle.newt_engine.proofs.Handed.{told_stands}
+use Rattle.newt_engine.proofs.Keeping.{end_idle}
 use Rattle.newt_engine.proofs.Moving.{move_no_cursor}
 use Rattle.newt_engine.proofs.Failing.{told-device}
 use Rattle.newt_engine.proofs.Serving.{err-device-both, served_ended, served_handed}
@@ -105,6 +109,7 @@ returns-in_err-added g c name target both =
       cause = ends.cause;
       broke = behind-breaks cmd read.looks (read.ends.no_fault tt) first (λ t. added-untorn (b t) first);
       no_fault = ends.no_fault;
+      kept = λ idle. keeps-append (read-keeps read.looks) (change-keeps first);
     })
 
 pub returns-in_err-reply : goal.returns-in_err-reply
@@ -151,6 +156,7 @@ returns-in_err-reply g c name target both =
     (err-device-both {T = Shown} (FailsAlone (o c.change.new.host) (o c.settled.new.host)) (λ v. c.settled.new.self.desk ≡ start.desk) (λ v. FailsAlone (o c.change.new.host) (o c.settled.new.host) v × (c.settled.new.self.desk ≡ start.desk))
     (Err c.in_err-reply.field-0.0) (λ v f same. (f, same)) s.ends.failed s.kept)
     (told-device {T = Shown} (IsTrue g.H.Host.told) (λ v. in_reach (reached_by c.aim_into-aim.result x2 (Reply.number n)) (mounted_store x2 v) ≡ true) (Err c.in_err-reply.field-0.0) s.own))
+    (λ idle. absurd (end_idle cmd _ s.only idle))
 
 pub returns-in_err-change : goal.returns-in_err-change
 returns-in_err-change g c name target both =
@@ -194,6 +200,10 @@ returns-in_err-change g c name target both =
     (λ t. stores-formed (laws g) c.change.new.self (o c.change.new.host) (units_are g c.change.new.host) (told_stands g.H.Host.told c.change.new.self (o c.change.new.host) (first.stands tt) t))
     (λ t. subst (λ (r : Reach). with_cursors c.settled.new.self.desk (world_of g.C.Card.reads c.settled.new.self.units (o c.settled.new.host)) ≡ settle_reached r (with_cursors start.desk x2)) (aimed t)
     (s.settled t (mid-apart (b t) first))) c.requires.apart)) second.broke)
+    (λ idle. record {
+      units = keeps-append (read-keeps read.looks) (keeps-append (change-keeps first) (keeps-append (read-keeps s.read) (change-keeps second)));
+      desk = λ within. absurd (both-ways (sym within ∙ ap not (ne_eqb c.args.unit c.args.to (λ same. c.requires.apart (sym same)))));
+    })
 
 pub returns : goal.returns
 returns g c name target both =
@@ -245,9 +255,10 @@ returns g c name target both =
       moments = λ t. moved-moments (b t) first s.read (few t) second;
       costs = λ t. moved-costs (b t) first s.read (few t) second (λ goes. tt);
       step = λ t unread. absurd (unread_uses_cursor (with_cursors start.desk w) cmd none unread);
-      idle = λ walks nothing. absurd (unread_uses_cursor (with_cursors start.desk w) cmd none (walks_steps (with_cursors start.desk w) cmd walks));
+      shown = λ walks. absurd (unread_uses_cursor (with_cursors start.desk w) cmd none (walks_steps (with_cursors start.desk w) cmd walks));
       alone = ends.alone;
       broke = tt;
+      kept = λ idle. absurd (both-ways (sym (ap (λ (k : Shown). leaves_all cmd (said k)) s.same) ∙ idle));
       ends = record {
         cause = ends.cause;
         no_fault = ends.no_fault;

@@ -6,13 +6,17 @@ use Rattle.newt_reply.specs.Said.{said}
 use Rattle.newt_reply.specs.declared.reply.Reply.TheVariants as reply
 use Rattle.newt_spec_graph.proofs.Lists.{both-ways}
 use Rattle.newt_spec_world.specs.Answer.{answer}
+use Rattle.newt_spec_world.specs.Step.{looks_at}
+use Rattle.newt_spec_world.specs.declared.command.Command.{Command}
 use Rattle.newt_laws_answers.proofs.Stores.{nsof-done, lit-done}
 use Rattle.std.specs.Prelude.{IfErr}
 use Rattle.newt_engine_units.specs.Answers.{Answers}
 use Rattle.newt_engine_units.specs.Breaks.{AtDevice}
 use Rattle.newt_engine_units.specs.Calls.{BreaksIn}
+use Rattle.newt_engine_units.specs.Kept.{KeepsUnits}
 use Rattle.newt_engine_units.specs.Stands.{Eight, world_of}
 use Rattle.newt_engine_units.proofs.Broken.{none-devices}
+use Rattle.newt_engine_units.proofs.Keeping.{keeps-refl}
 use Rattle.newt_laws_steps.specs.StandsFor.{seen}
 use Rattle.newt_engine.specs.Ends.{takes_memory, uses_device}
 use Rattle.newt_engine.specs.Laws.{laws_of}
@@ -20,6 +24,7 @@ use Rattle.newt_engine.proofs.Costing.{format_costs, still_costs}
 use Rattle.newt_engine.proofs.Groups.{format_form, in_memory, index_form, tags_form, within_own}
 use Rattle.newt_engine.proofs.Handed.{answered_on, err_on, goes_back, has_cause, moments_same, quiet, quiet_on, seen_in_memory, told_stands}
 use Rattle.newt_laws_world.specs.Settled.{moves_keys}
+use Rattle.newt_engine.proofs.Keeping.{idle_back}
 use Rattle.newt_engine.proofs.Obeying.{handed_obeyed}
 use Rattle.newt_engine.proofs.Settling.{moves_no_format, moves_on_devices}
 use Rattle.newt_engine.proofs.world.World.obey.Goals as goal
@@ -33,6 +38,8 @@ returns-in-Nsof g c =
       moments = λ t. quiet (laws_of g.met.C.Card.formed g.met.C.Card.plain g.met.C.Card.durable g.met.C.Card.banks g.met.C.Card.kept) g.H.Host.told c.args.self.now.units o (record { eight = g.met.H.Host.eight c.args.host.now; none = g.met.H.Host.none c.args.host.now }) c.requires.stands t c.args.command _;
       desk = refl;
       unrefused = λ t moves. absurd (moves_on_devices _ moves (ap uses_device c.in-Nsof.is));
+      kept = λ idle. keeps-refl c.args.self.now.units;
+      busy = λ moves. absurd (moves_on_devices _ moves (ap uses_device c.in-Nsof.is));
       costs = λ t. still_costs (λ u. alone-refl u _) (λ means. idle-fetches _ _ o);
       alone = OnDevices-refl o;
       broke = tt;
@@ -54,6 +61,8 @@ returns-in-Lit g c =
       moments = λ t. quiet (laws_of g.met.C.Card.formed g.met.C.Card.plain g.met.C.Card.durable g.met.C.Card.banks g.met.C.Card.kept) g.H.Host.told c.args.self.now.units o (record { eight = g.met.H.Host.eight c.args.host.now; none = g.met.H.Host.none c.args.host.now }) c.requires.stands t c.args.command _;
       desk = refl;
       unrefused = λ t moves. absurd (moves_on_devices _ moves (ap uses_device c.in-Lit.is));
+      kept = λ idle. keeps-refl c.args.self.now.units;
+      busy = λ moves. absurd (moves_on_devices _ moves (ap uses_device c.in-Lit.is));
       costs = λ t. still_costs (λ u. alone-refl u _) (λ means. idle-fetches _ _ o);
       alone = OnDevices-refl o;
       broke = tt;
@@ -87,6 +96,8 @@ returns-in-Format g c =
       moments = λ t. moments_same g.C.Card.reads _ _ _ _ c.args.command _ c.in-Format.is (call.moments t);
       desk = refl;
       unrefused = λ t moves. absurd (moves_no_format _ _ _ (subst (λ x. moves_keys x ≡ true) c.in-Format.is moves));
+      kept = λ idle. subst (λ (x : Command). KeepsUnits (looks_at x) c.args.self.now.units c.format.new.self) (sym c.in-Format.is) (call.kept (idle_back on (λ x r k. cc) c.in-Format.is idle));
+      busy = λ moves. absurd (moves_no_format _ _ _ (subst (λ x. moves_keys x ≡ true) c.in-Format.is moves));
       costs = λ t. format_costs c.in-Format.is call.costs (λ goes. call.open_after t (goes_back on goes));
       alone = call.ends.alone;
       broke = subst (λ x. IfErr c.done.result (AtDevice (BreaksIn g.C.Card.reads g.C.Card.place g.C.Card.stands g.H.Host.told x c.args.self.now.units c.format.new.self o p))) (sym c.in-Format.is) (err_on on _ call.broke);
@@ -176,6 +187,8 @@ returns-in_default g c =
       moments = λ t. quiet (laws_of g.met.C.Card.formed g.met.C.Card.plain g.met.C.Card.durable g.met.C.Card.banks g.met.C.Card.kept) g.H.Host.told c.args.self.now.units o eight c.requires.stands t c.args.command _;
       desk = call.desk;
       unrefused = λ t moves. absurd (moves_on_devices c.args.command moves no_device);
+      kept = λ idle. subst (λ x. KeepsUnits (looks_at c.args.command) c.args.self.now.units x) (sym (call.kept idle)) (keeps-refl c.args.self.now.units);
+      busy = λ moves. absurd (moves_on_devices c.args.command moves no_device);
       costs = λ t. still_costs (λ u. alone-refl u _) (λ means. idle-fetches _ _ o);
       alone = OnDevices-refl o;
       broke = none-devices _ _ call.device;

@@ -28,6 +28,7 @@ use Rattle.newt_engine.specs.Standing.{stood_for}
 use Rattle.newt_engine.proofs.Costing.{alone_few, settled_costs, settled_few, unread_uses_cursor, walks_steps}
 use Rattle.newt_engine.proofs.Failing.{means-unlooked, seen-same, settling-fails, told-device}
 use Rattle.newt_engine.proofs.Handed.{told_stands}
+use Rattle.newt_engine.proofs.Keeping.{settled_busy}
 use Rattle.newt_engine.proofs.Reaching.{reaches-one}
 use Rattle.newt_engine.proofs.Serving.{err-device-both, moments_served, seen_is, served_fault, whole_known}
 use Rattle.newt_engine.proofs.Settling.{apart_after, done_answers, done_changed, moves_in_memory, moves_on_devices, reached_within, seen-whole, settled_answers, settled_quiet, settled_reached, stands_after}
@@ -81,7 +82,7 @@ returns-then-settles g c =
           (let k = seen-whole laws told a.units a.desk o c.requires.stands t command in
           reached_within a.desk sees k.0 k.1 k.2 k.3 command c.requires.no_cursor v (said c.in-Ok.reply) reached (done.unrefused t moves) (done.answered t) (is t) c.requires.form means u)));
       step = λ t unread. absurd (unread_uses_cursor (stood_for reads a o) command c.requires.no_cursor unread);
-      idle = λ walks nothing. absurd (unread_uses_cursor (stood_for reads a o) command c.requires.no_cursor (walks_steps (stood_for reads a o) command walks));
+      shown = λ walks. absurd (unread_uses_cursor (stood_for reads a o) command c.requires.no_cursor (walks_steps (stood_for reads a o) command walks));
       alone = OnDevices-append e.alone s.read.alone;
       broke = err-device-both (λ u. FailsAlone m p u × (c.settled.new.self.desk ≡ c.obey.new.self.desk)) (λ u. IsTrue told → in_reach reached (mounted_store v u) ≡ true)
           (λ u. Fails reads g.C.Card.place g.C.Card.stands told command a c.settled.new.self o p u ⊎ FailsHalfway reads g.C.Card.place g.C.Card.stands told command a c.settled.new.self o p u) c.settled.result
@@ -90,6 +91,7 @@ returns-then-settles g c =
           (λ t. subst (λ (x : World). in_reach (reach sees command) (mounted_store x u) ≡ true) (row t) (subst (λ (r : Reach). in_reach r (mounted_store v u) ≡ true) (is t) (reaches t)))))
           (err-device-both (FailsAlone m p) (λ u. c.settled.new.self.desk ≡ c.obey.new.self.desk) (λ u. FailsAlone m p u × (c.settled.new.self.desk ≡ c.obey.new.self.desk)) c.settled.result (λ u f same. (f, same)) s.ends.failed s.kept)
           (told-device (IsTrue told) (λ u. in_reach reached (mounted_store v u) ≡ true) c.settled.result s.own);
+      kept = λ idle. absurd (settled_busy command c.in-Ok.reply c.settled.result s.same s.only (done.busy moves) idle);
       ends = record {
         cause = cause-after _ _ (done.ends.no_fault tt) s.ends.cause;
         no_fault = λ goes. NoFault-append (done.ends.no_fault tt) (s.ends.no_fault goes);
@@ -127,9 +129,10 @@ returns-else-settles g c =
       costs = λ t. settled_costs a.desk c.requires.no_cursor (done.costs t) (λ goes. tt) refl (λ u. alone-refl u _)
           (λ means. alone_few a.desk w command o m (whole_known laws told a o c.requires.stands t command c.requires.no_cursor) ((done.costs t).fetched means));
       step = λ t unread. absurd (unread_uses_cursor (stood_for reads a o) command c.requires.no_cursor unread);
-      idle = λ walks nothing. absurd (unread_uses_cursor (stood_for reads a o) command c.requires.no_cursor (walks_steps (stood_for reads a o) command walks));
+      shown = λ walks. absurd (unread_uses_cursor (stood_for reads a o) command c.requires.no_cursor (walks_steps (stood_for reads a o) command walks));
       alone = e.alone;
       broke = tt;
+      kept = λ idle. record { units = done.kept idle; desk = λ within. e.desk };
       ends = done.ends;
     }
 

@@ -12,8 +12,10 @@ use Rattle.newt_engine_units.specs.Answers.{Answers}
 use Rattle.newt_engine_units.specs.Stands.{world_of}
 use Rattle.newt_engine.specs.Calls.{IsNotThrown}
 use Rattle.newt_engine.specs.Ends.{takes_memory}
+use Rattle.newt_engine.specs.Kept.{leaves_all}
 use Rattle.newt_engine.proofs.Groups.{no_other}
 use Rattle.newt_engine.proofs.Handed.{answered_on, blameless, err_on, for_memory, quiet_on}
+use Rattle.newt_engine.proofs.Keeping.{err_refused, refused_back}
 use Rattle.newt_engine.proofs.Obeying.{nil_quiet}
 use Rattle.newt_engine.proofs.world.World.obey_in_memory.Goals as goal
 
@@ -23,6 +25,7 @@ returns-in-Time g c =
       stands = call.stands;
       answered = λ outside eight stand. subst (λ x. answer (world_of g.C.Card.reads c.args.self.now.units outside) x ≡ (world_of g.C.Card.reads c.set_minute.new.self outside, plain.done)) (sym c.in-Time.is) (call.answered outside);
       desk = refl;
+      kept = λ idle. absurd (both-ways (sym (ap (λ x. leaves_all x plain.done) c.in-Time.is) ∙ idle));
       device = tt;
       quiet = λ u. refl;
       ends = λ none. tt;
@@ -33,6 +36,7 @@ returns-in-Quit g c = record {
   stands = λ told outside h. h;
   answered = λ outside eight stand. let w = world_of g.C.Card.reads c.args.self.now.units outside in subst (λ x. answer w x ≡ (w, plain.done)) (sym c.in-Quit.is) (quit-done w refl);
   desk = refl;
+  kept = λ idle. refl;
   device = tt;
   quiet = λ u. refl;
   ends = λ none. tt;
@@ -45,6 +49,7 @@ returns-in-Unmount g c =
       stands = call.stands;
       answered = λ outside eight stand. answered_on on _ _ c.in-Unmount.is (call.answered outside eight stand);
       desk = refl;
+      kept = λ idle. err_refused _ _ call.kept (refused_back on (λ x r k. cc) c.in-Unmount.is refl idle);
       device = err_on on _ (blameless _ call.only);
       quiet = quiet_on on (λ x u. refl);
       ends = λ none. err_on on _ call.only;
@@ -58,6 +63,7 @@ returns-in_ok-stores-in-Stores g c =
           let w = world_of g.C.Card.reads c.args.self.now.units outside in
           subst (λ x. answer w x ≡ (w, plain.stores (map store_row rows))) (sym c.in-Stores.is) (c.in_ok-stores-in-Stores.ensures.answered outside eight stand);
       desk = refl;
+      kept = λ idle. refl;
       device = tt;
       quiet = λ u. refl;
       ends = λ none. tt;
@@ -71,6 +77,7 @@ returns-in_err-stores-in-Stores g c =
           let w = world_of g.C.Card.reads c.args.self.now.units outside in
           for_memory (λ r. Answers w w c.args.command.now said r) _ memory tt;
       desk = refl;
+      kept = λ idle. refl;
       device = for_memory (λ r. IfErr r (λ fault. NoDevice fault)) _ memory tt;
       quiet = for_memory (λ r. IfOk r (λ it. IsNotThrown it)) _ memory tt;
       ends = λ none. absurd (both-ways (sym none ∙ ap takes_memory c.in-Stores.is));
@@ -83,6 +90,7 @@ returns-in-Default g c =
       stands = call.stands;
       answered = λ outside eight stand. answered_on on _ _ c.in-Default.is (call.answered outside eight stand);
       desk = refl;
+      kept = λ idle. err_refused _ _ call.kept (refused_back on (λ x r k. cc) c.in-Default.is refl idle);
       device = err_on on _ (blameless _ call.only);
       quiet = quiet_on on (λ x u. refl);
       ends = λ none. err_on on _ call.only;
@@ -95,6 +103,7 @@ returns-in-Soups g c =
       stands = λ told outside h. h;
       answered = λ outside eight stand. answered_on on _ _ c.in-Soups.is (call.answered outside eight stand);
       desk = refl;
+      kept = λ idle. refl;
       device = err_on on _ call.only;
       quiet = quiet_on on (λ x u. refl);
       ends = λ none. absurd (both-ways (sym none ∙ ap takes_memory c.in-Soups.is));
@@ -107,6 +116,7 @@ returns-in-Indexes g c =
       stands = λ told outside h. h;
       answered = λ outside eight stand. answered_on on _ _ c.in-Indexes.is (call.answered outside eight stand);
       desk = refl;
+      kept = λ idle. refl;
       device = err_on on _ call.only;
       quiet = quiet_on on (λ x u. refl);
       ends = λ none. absurd (both-ways (sym none ∙ ap takes_memory c.in-Indexes.is));
@@ -119,6 +129,7 @@ returns-in-Tags g c =
       stands = λ told outside h. h;
       answered = λ outside eight stand. answered_on on _ _ c.in-Tags.is (call.answered outside eight stand);
       desk = refl;
+      kept = λ idle. refl;
       device = err_on on _ call.only;
       quiet = quiet_on on (λ x u. refl);
       ends = λ none. absurd (both-ways (sym none ∙ ap takes_memory c.in-Tags.is));
@@ -131,6 +142,7 @@ returns-in-Info g c =
       stands = λ told outside h. h;
       answered = λ outside eight stand. answered_on on _ _ c.in-Info.is (call.answered outside eight stand);
       desk = refl;
+      kept = λ idle. refl;
       device = err_on on _ call.only;
       quiet = quiet_on on (λ x u. nil_quiet plain.literal_of x u (λ y. refl));
       ends = λ none. absurd (both-ways (sym none ∙ ap takes_memory c.in-Info.is));
@@ -143,6 +155,7 @@ returns-in-Alias g c =
       stands = λ told outside h. h;
       answered = λ outside eight stand. answered_on on _ _ c.in-Alias.is (call.answered outside eight stand);
       desk = refl;
+      kept = λ idle. refl;
       device = err_on on _ (blameless _ call.only);
       quiet = quiet_on on (λ x u. refl);
       ends = λ none. err_on on _ call.only;
@@ -155,6 +168,7 @@ returns-in-Resolve g c =
       stands = λ told outside h. h;
       answered = λ outside eight stand. answered_on on _ _ c.in-Resolve.is (call.answered outside eight stand);
       desk = refl;
+      kept = λ idle. refl;
       device = err_on on _ call.only;
       quiet = quiet_on on (λ x u. nil_quiet (λ y. plain.where_is y.0 y.1 y.2) x u (λ y. refl));
       ends = λ none. absurd (both-ways (sym none ∙ ap takes_memory c.in-Resolve.is));
@@ -168,6 +182,7 @@ returns-in_default g c =
       stands = λ told outside h. h;
       answered = λ outside eight stand. apart-done (world_of g.C.Card.reads c.args.self.now.units outside) refl c.args.command.now apart;
       desk = refl;
+      kept = λ idle. refl;
       device = tt;
       quiet = λ u. refl;
       ends = λ none. tt;

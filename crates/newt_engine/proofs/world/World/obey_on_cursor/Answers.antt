@@ -3,6 +3,7 @@ use Rattle.std.proofs.Common.{ap, subst, sym, inl, IsTrue}
 use Rattle.newt_reply.specs.Said.{said}
 use Rattle.newt_spec_world.specs.World.{World}
 use Rattle.newt_engine_units.specs.Answers.{Answers}
+use Rattle.newt_engine_units.proofs.Keeping.{read-keeps}
 use Rattle.newt_engine_cursors.specs.World.{world_with}
 use Rattle.newt_engine.specs.Laws.{laws_of}
 use Rattle.newt_engine.proofs.Costing.{means_no_cursor, still_costs}
@@ -27,8 +28,9 @@ returns g c =
           c.requires.stands t e.read.moment _ _;
       costs = λ t. still_costs e.read.untouched (λ means. absurd (means_no_cursor c.args.command.now c.requires.on_cursor means));
       step = λ t. e.fetches t (c.requires.stands.apart t) (c.requires.stands.settled t);
-      idle = e.idle;
+      shown = e.shown;
       alone = e.read.alone;
       broke = err-device-both _ _ _ c.walk.result (λ u failed kept. inl (fails_reading c.args.command.now e.read kept failed)) e.failed e.kept;
+      kept = λ idle. record { units = read-keeps e.read; desk = λ within. e.refused idle };
       ends = e.ends;
     }

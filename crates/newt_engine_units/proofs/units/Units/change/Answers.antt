@@ -39,6 +39,8 @@ returns-in-Some g c =
           (λ blocks. refusals c.args.change blocks minute s) (c.apply.ensures.any_moment t s) on;
       marks = λ j. marks c.args.self.now (later c.args.self.now c.unit.inside.0 c.index_mut.result.now c.apply.new.self) c.args.unit c.in-Some.card c.apply.new.self (replaced call) j;
       dues = λ j. dues c.args.self.now (later c.args.self.now c.unit.inside.0 c.index_mut.result.now c.apply.new.self) c.args.unit c.in-Some.card c.apply.new.self (replaced call) j;
+      default = refl;
+      minute = refl;
       costs = λ t blocks s on. call-costs laws t eight call c.requires.stands (c.apply.ensures.others t) blocks s
           (λ blocks. most_bytes c.args.change blocks minute s) _
           (λ reads. record { programmed = λ room. (c.apply.ensures.costs t s reads room).programmed; wears = λ room. c.apply.ensures.wears t s reads room }) (c.apply.ensures.open_after t) c.apply.ensures.nothing_done on;

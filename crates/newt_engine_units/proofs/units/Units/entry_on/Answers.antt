@@ -1,5 +1,11 @@
 -- A call on the card of the unit after which nothing has happened.
-use Rattle.std.proofs.Common.{◌≡◌, sym, subst}
+use Rattle.std.proofs.Common.{◌≡◌, ◌*◌, ℕ, Option, sym, subst}
+use Rattle.std.proofs.lemmas.Result.{IfOk-weaker}
+use Rattle.newt_host.specs.Outside.{Spends}
+use Rattle.newt_store_change.specs.Change.{pages_of_entry}
+use Rattle.newt_store_change.specs.Entries.{entry_said}
+use Rattle.newt_store_change.specs.declared.entry.Entry.{Entry}
+use Rattle.newt_engine_card.specs.Bounds.{FetchesAtMost, of_unit}
 use Rattle.newt_engine_units.specs.Stands.{Eight}
 use Rattle.newt_engine_units.proofs.Calls.{Called, mounted-bound, not-there, stop-cause, call-fetches, call-looks, call-reads, call-fails, place-is}
 use Rattle.newt_engine_units.proofs.Broken.{its-stops}
@@ -30,6 +36,12 @@ returns-in-Some g c =
       looks = call-looks laws call c.requires.stands c.entry.ensures.stands c.entry.ensures.looks;
       read = λ t blocks s on. c.entry.ensures.found t s (call-reads laws t eight call c.requires.stands blocks s on);
       fetches = λ t blocks s on. call-fetches laws call c.requires.stands (c.entry.ensures.costs t s (call-reads laws t eight call c.requires.stands blocks s on));
+      pages =
+          let most : Option Entry → ℕ = λ found. 512 * pages_of_entry (entry_said found) in
+          IfOk-weaker c.entry.result
+          (λ (found : Option Entry). Spends (g.C.Card.place c.in-Some.card) 0 (most found) o p)
+          (λ (found : Option Entry). FetchesAtMost (of_unit c.args.unit (most found)) o p)
+          (λ found read. call-fetches laws call c.requires.stands read) c.entry.ensures.pages;
       cause = stop-cause _ _ _ _ c.entry.ensures.cause;
       failed = its-stops (FailsAlone o p) (g.C.Card.place c.in-Some.card) o p c.entry.result (subst (FailsAlone o p) (sym (place-is laws call c.requires.stands)) (call-fails laws eight call c.requires.stands)) c.entry.ensures.cause;
       its = its-stops (λ u. u ≡ c.args.unit) (g.C.Card.place c.in-Some.card) o p c.entry.result (place-is laws call c.requires.stands) c.entry.ensures.cause;

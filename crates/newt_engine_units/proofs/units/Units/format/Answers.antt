@@ -24,11 +24,12 @@ use Rattle.newt_engine_units.specs.Stands.{Stands, due_in, world_of}
 use Rattle.newt_engine_units.proofs.Answering.{format-has-answers, format-answers, format-makes, format-blank, format-formats}
 use Rattle.newt_engine_units.proofs.Broken.{at-device-both, err-device-map, none-device}
 use Rattle.newt_engine_units.proofs.Costs.{alone-once, alone-refl, once-after, same-before, synced-once}
+use Rattle.newt_engine_units.proofs.Keeping.{keeps-refl}
 use Rattle.newt_engine_units.proofs.Marked.{free-card}
 use Rattle.newt_engine_units.specs.Looks.{IsFree, known_ready}
 use Rattle.newt_engine_units.proofs.Obeying.{breaks-behind, end-answers, handed, handed-ends, none-ends, none-refused, ends-after}
 use Rattle.newt_engine_units.proofs.Settings.{Setting, still, not-looked, ready-refused, ready-there}
-use Rattle.newt_engine_units.proofs.Sure.{as-seen, failed-device, failed-end, failed-moments, failed-stands, images-same, moments-behind, now-free, now-setting, now-stands, now-sure, sure-breaks, sure-read-breaks, sync-still}
+use Rattle.newt_engine_units.proofs.Sure.{as-seen, failed-device, failed-end, failed-keeps, failed-moments, failed-stands, images-same, moments-behind, now-free, now-setting, now-stands, now-sure, sure-breaks, sure-keeps, sure-read-breaks, sync-still}
 use Rattle.newt_engine_units.proofs.Turns.{world-still}
 use Rattle.newt_engine_units.proofs.units.Units.format.Given.{Over}
 use Rattle.newt_engine_units.proofs.units.Units.format.Goals as goal
@@ -60,6 +61,7 @@ returns-in_err-find_ready g c =
       open_after = λ t goes u. inr refl;
       ends = handed-ends _ p (none-ends {T = Unit {0}} _ none);
       broke = handed (AtDevice B) _ _ p (none-device B _ none);
+      kept = λ idle. keeps-refl c.args.self.now;
     }
 
 pub returns-in_err-make_sure : goal.returns-in_err-make_sure
@@ -77,6 +79,7 @@ returns-in_err-make_sure g c =
       ends = handed-ends _ p made.ends;
       broke = handed (AtDevice (BreaksIn g.C.Card.reads g.C.Card.place g.C.Card.stands g.H.Host.told format c.args.self.now c.make_sure.new.self (g.H.Host.outside c.args.host.now) (g.H.Host.outside c.make_sure.new.host)))
           _ _ p (failed-device at made format);
+      kept = λ idle. failed-keeps at made;
     }
 
 pub returns-in_err-has_store : goal.returns-in_err-has_store
@@ -102,6 +105,7 @@ returns-in_err-has_store g c =
       ends = ends-after made.ends tt (handed-ends _ p e.ends);
       broke = handed (AtDevice B) _ _ p (at-device-both (λ k. k ≡ c.args.unit) (FailsAlone m q) B _
           (λ k is failed. subst B (sym is) (sure-read-breaks at free made format may e.looks (subst (FailsAlone m q) is failed))) e.its e.ends.failed);
+      kept = λ idle. sure-keeps at free made;
     }
 
 pub returns-then-branch : goal.returns-then-branch
@@ -130,6 +134,7 @@ returns-then-branch g c =
       open_after = λ t goes u. inr (ap (image u) e.looks.moment ∙ images-same at free made t u);
       ends = ends-after made.ends tt (ends-after e.ends tt (none-ends {T = Unit {0}} _ tt));
       broke = tt;
+      kept = λ idle. sure-keeps at free made;
     }
 
 pub returns : goal.returns
@@ -183,6 +188,7 @@ returns g c =
             absurd (both-ways (sym empty ∙ ap (λ bytes. is_some (g.C.Card.reads bytes)) (images-same at free made t u)
             ∙ store (subst (λ (x : World). formats x format u ≡ true) (as-seen at free made format refl t) (format-formats mid mid u _ found c.args.name.now c.args.sig (ready t) refl empty))));
       })) c.make.ensures.broke;
+      kept = λ idle. sure-keeps at free made;
     }
 
 pub make_sure-requires : goal.make_sure-requires

@@ -3,6 +3,7 @@ use Rattle.std.proofs.Common.{◌≡◌, ap, sym, subst, ℕ, List, IsTrue}
 use Rattle.std.proofs.lemmas.Result.{err_from_is_err_and}
 use Rattle.newt_host.specs.Moments.{MayLeave, image, changes}
 use Rattle.newt_host.proofs.Histories.{history-leaves}
+use Rattle.newt_spec_graph.proofs.Lists.{both-ways}
 use Rattle.newt_spec_world.specs.Reply.{Reply}
 use Rattle.newt_spec_world.specs.declared.command.Command.TheVariants as command
 use Rattle.newt_laws_steps.specs.StandsFor.{seen_on}
@@ -19,7 +20,7 @@ use Rattle.newt_engine_units.proofs.Marked.{free-card}
 use Rattle.newt_engine_units.proofs.Mounts.{mount-unopened, mount-refuses, mount-answers, mounted-stands, admits-none}
 use Rattle.newt_engine_units.proofs.Obeying.{end-answers, ends-after, handed, handed-ends, none-ends, none-refused, refused-obeys}
 use Rattle.newt_engine_units.proofs.Settings.{Setting, is-err, not-looked, stand-told, ready-refused}
-use Rattle.newt_engine_units.proofs.Sure.{failed-device, failed-end, failed-moments, failed-stands, mount-obeys, now-free, now-setting, now-stands, now-sure, sure-read-breaks}
+use Rattle.newt_engine_units.proofs.Sure.{failed-device, failed-end, failed-keeps, failed-moments, failed-stands, mount-obeys, now-free, now-setting, now-stands, now-sure, sure-keeps, sure-read-breaks}
 use Rattle.newt_engine_units.proofs.units.Units.mount.Given.{Over}
 use Rattle.newt_engine_units.proofs.units.Units.mount.Goals as goal
 
@@ -58,6 +59,7 @@ returns-in_err-make_sure g c =
       broke = handed (AtDevice (BreaksIn g.C.Card.reads g.C.Card.place g.C.Card.stands g.H.Host.told (command.Mount c.args.unit) c.args.self.now c.make_sure.new.self (g.H.Host.outside c.args.host.now) (g.H.Host.outside c.make_sure.new.host)))
           _ _ p (failed-device at made (command.Mount c.args.unit));
       no_fault = ends.no_fault;
+      kept = λ idle. failed-keeps at made;
     }
 
 pub returns-in_err-card : goal.returns-in_err-card
@@ -81,6 +83,7 @@ returns-in_err-card g c =
     e.looks.moment e.looks.alone.cards g.H.Host.told t (λ card. g.C.Card.stands g.H.Host.told card q × (g.C.Card.place card ≡ c.args.unit)) _ e.opened))
     (handed (AtDevice B) _ _ p (at-device-both (λ k. k ≡ c.args.unit) (FailsAlone m q) B _
     (λ k is failed. subst B (sym is) (sure-read-breaks at free made (command.Mount c.args.unit) may e.looks (subst (FailsAlone m q) is failed))) e.its e.ends.failed))
+    (λ idle. sure-keeps at free made)
 
 pub returns-in_err-face : goal.returns-in_err-face
 returns-in_err-face g c =
@@ -104,6 +107,7 @@ returns-in_err-face g c =
     (mount-refuses at.laws c.make_sure.new.self c.args.unit c.in_ok-card.card m q then.eight (stand-told then t) (now-free at free made) (now-sure at free made)
     e.looks.moment e.looks.alone.cards (subst (λ b. g.C.Card.stands b c.in_ok-card.card q) t there.0) there.1 _ c.in_err-face.ensures))
     (handed (AtDevice B) _ _ p (none-device B _ none))
+    (λ idle. sure-keeps at free made)
 
 pub returns : goal.returns
 returns g c =
@@ -125,6 +129,7 @@ returns g c =
     e.looks.moment e.looks.alone.cards (subst (λ b. g.C.Card.stands b c.in_ok-card.card q) t there.0) there.1
     c.put.new.self c.in_ok-face.face c.put.ensures.slots c.put.ensures.default c.put.ensures.minute c.in_ok-face.ensures)
     tt
+    (λ idle. absurd (both-ways idle))
 
 pub make_sure-requires : goal.make_sure-requires
 make_sure-requires g c = record { stands = c.requires; free = c.in_ok-find_ready.ensures }

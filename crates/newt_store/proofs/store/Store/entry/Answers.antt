@@ -1,4 +1,4 @@
-use Rattle.std.proofs.Common.{◌≡◌, ◌*◌, ℕ, Some, refl, sym, ◌∙◌, ap, subst}
+use Rattle.std.proofs.Common.{arith, ◌≡◌, ◌*◌, ℕ, Some, refl, sym, ◌∙◌, ap, subst}
 use Rattle.newt_host.specs.Outside.{Spends}
 use Rattle.newt_host.proofs.Outside.{NoFault-refl, OnlyReads-refl}
 use Rattle.newt_objects_commit.specs.Names.{names_of}
@@ -38,6 +38,12 @@ returns-in_err-entry-in-Some-clause-costs g c = λ tells s stands.
     let o = g.H.Host.outside in
     subst (λ (n : ℕ). Spends (g.P.PageBook.place c.args.self.now.book) 0 (512 * n) (o c.args.host.now) (o c.read_whole.new.host)) (sym (ap pages_of_entry f.found))
     (c.read_whole.ensures.entry tells stands.texts c.args.soup f.entry (names_of cat.names c.in-Some.id) stands.holds f.laid).costs
+
+pub returns-in_ok-entry-in-Some-clause-pages : goal.returns-in_ok-entry-in-Some-clause-pages
+returns-in_ok-entry-in-Some-clause-pages g c = c.in_ok-entry-in-Some.ensures.pages
+
+pub returns-in-None-clause-pages : goal.returns-in-None-clause-pages
+returns-in-None-clause-pages g c = record { programmed = omega arith; fetched = omega arith }
 
 pub returns-in-None-clause-entry : goal.returns-in-None-clause-entry
 returns-in-None-clause-entry g c = λ tells s stands.

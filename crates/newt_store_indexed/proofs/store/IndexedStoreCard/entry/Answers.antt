@@ -24,6 +24,7 @@ returns g c =
       same_soups = ap (λ (catalog : Catalog). bare_store catalog.directory) e.reads.catalog;
       found = λ tells s reads. e.entry tells s (stands-for a.store.catalog a.ranges s img (c.requires.plain tells) reads);
       costs = λ tells s reads. e.costs tells s (stands-for a.store.catalog a.ranges s img (c.requires.plain tells) reads);
+      pages = e.pages;
       looks = e.reads.looks;
       cause = e.ends.cause;
       no_fault = e.ends.no_fault;
