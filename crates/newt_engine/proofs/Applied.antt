@@ -58,6 +58,7 @@ module _ {C : Type 0} {reads : List ℕ → Option Store} {place : C → ℕ} {s
       alone = e.alone;
       bound = λ t other. (e.costs t).bound other;
       format = λ t. (e.costs t).format;
+      fresh = e.fresh;
       settling = λ t. (e.costs t).fetched;
       step = e.step;
       shown = λ un quiet. e.shown un;
@@ -88,6 +89,7 @@ module _ {C : Type 0} {reads : List ℕ → Option Store} {place : C → ℕ} {s
     costs = λ t. let k = e.costs t in record { bound = k.bound; format = k.format; fetched = k.fetched; open_after = λ goes. k.open_after tt };
     step = e.step;
     shown = e.shown;
+    fresh = λ t u is says. absurd (cc);
     alone = e.alone;
     broke = tt;
     kept = λ idle. e.kept tt;
@@ -110,6 +112,7 @@ module _ {C : Type 0} {reads : List ℕ → Option Store} {place : C → ℕ} {s
       alone = e.alone;
       bound = λ t other. (e.costs t).bound other;
       format = λ t. (e.costs t).format;
+      fresh = λ t u is. tt;
       settling = λ t. (e.costs t).fetched;
       step = e.step;
       shown = λ un. tt;
@@ -137,6 +140,7 @@ module _ {C : Type 0} {reads : List ℕ → Option Store} {place : C → ℕ} {s
       alone = e.alone;
       bound = λ t other. (e.costs t).bound other;
       format = λ t. (e.costs t).format;
+      fresh = λ t k is says. absurd (cc);
       settling = λ t. (e.costs t).fetched;
       step = e.step;
       shown = λ un quiet. absurd (both-ways (sym (quiet u) ∙ eq-eqb u u refl));

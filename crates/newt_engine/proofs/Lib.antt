@@ -1,5 +1,6 @@
 pub mod Between
 pub mod Costing
+pub mod Forming
 pub mod Groups
 pub mod Handed
 pub mod Moving

@@ -10,7 +10,7 @@ use Rattle.newt_spec_graph.proofs.Lists.{both-ways}
 use Rattle.newt_spec_store.specs.Store.{Store}
 use Rattle.newt_spec_world.specs.declared.command.Command.{Command}
 use Rattle.newt_spec_world.specs.Refused.{checks}
-use Rattle.newt_spec_world.specs.Step.{looks_at}
+use Rattle.newt_spec_world.specs.Step.{is_format_of, looks_at}
 use Rattle.newt_spec_world.specs.Reply as plain
 use Rattle.newt_store_change.specs.declared.fault.StoreFault.{StoreFault}
 use Rattle.newt_laws_world.specs.Settled.{IsSettled}
@@ -42,6 +42,7 @@ use Rattle.newt_engine.specs.Ends.{takes_memory, uses_device}
 use Rattle.newt_engine.specs.Handed.{HandsOn}
 use Rattle.newt_engine.specs.declared.world.World.{World}
 use Rattle.newt_engine.proofs.Costing.{costs_on}
+use Rattle.newt_engine.proofs.Forming.{other-unformed}
 use Rattle.newt_engine.proofs.Keeping.{busy_on, idle_back, refused_back}
 use Rattle.newt_engine.proofs.Handed.{answered_on, err_on, fetched_on, goes_back, has_cause, moments_same, ok_on, quiet_on, unrefused_on}
 
@@ -57,6 +58,7 @@ handed_obeyed {reads = reads} {place} {standing} {told} {found = found} {result 
   unrefused = λ t moves. subst (λ x. OnOk result (first_of (checks (seen reads (world_of reads old.units o) o.now x) x) ≡ None)) (sym is)
       (ok_on on _ (unrefused_on _ _ _ _ never (call.answered t)));
   costs = λ t. costs_on on is other (call.costs t);
+  fresh = λ t u same. absurd (both-ways (sym (other-unformed _ u other) ∙ sym (ap (λ x. is_format_of x u) is) ∙ same));
   alone = call.alone;
   broke = subst (λ x. IfErr result (AtDevice (BreaksIn reads place standing told x old.units new.units o p))) (sym is) (err_on on _ call.broke);
   kept = λ idle. subst (λ (x : Command). KeepsUnits (looks_at x) old.units new.units) (sym is) (call.kept (idle_back on never is idle));

@@ -125,6 +125,7 @@ served_fault {reads = reads} laws told old new o p s eight c none fault e =
           (λ means. alone_few old.desk (world_of reads old.units o) c o p (whole_known laws told old o s t c none) ((e.costs t).fetched means));
       step = λ t unread. absurd (unread_uses_cursor (stood_for reads old o) c none unread);
       shown = λ walks. absurd (unread_uses_cursor (stood_for reads old o) c none (walks_steps (stood_for reads old o) c walks));
+      fresh = λ t u is. tt;
       alone = e.alone;
       broke = at-device-map _ _ fault (λ u b. inl (fails_with c none e.desk b)) e.broke;
       kept = λ idle. record { units = e.kept idle; desk = λ within. e.desk };
@@ -162,6 +163,7 @@ served_ended {reads = reads} {place} {stands = stands} laws told old new o p s e
       costs = λ t. let k = costs t in record { bound = k.bound; format = k.format; fetched = k.fetched; open_after = λ goes. k.open_after (fault-goes {T = Reply} S (Err fault) (fault, refl, refl) goes) };
       step = λ t unread. absurd (unread_uses_cursor (stood_for reads old o) c none unread);
       shown = λ walks. absurd (unread_uses_cursor (stood_for reads old o) c none (walks_steps (stood_for reads old o) c walks));
+      fresh = λ t u is. tt;
       alone = over.alone;
       broke = broke;
       kept = keeps;

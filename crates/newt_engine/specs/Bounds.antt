@@ -1,17 +1,22 @@
 -- How much a command programs and fetches, and that it leaves no bank closed.
-use Rattle.std.specs.Prelude.{◌≡◌, ◌*◌, ℕ, Bool, true, false, Result}
+use Rattle.std.specs.Prelude.{◌≡◌, ◌*◌, ℕ, Bool, true, false, Result, IfOk}
+use Rattle.newt_host.specs.Moments.{image}
 use Rattle.newt_host.specs.Outside.{Outside}
 use Rattle.newt_pagebook.specs.Book.{format_bytes}
+use Rattle.newt_reply.specs.Said.{said}
+use Rattle.newt_reply.specs.declared.reply.Reply.{Reply}
 use Rattle.newt_spec_store.specs.Cost.{cost}
 use Rattle.newt_spec_store.specs.Store.{new_store}
 use Rattle.newt_spec_world.specs.World.{World}
 use Rattle.newt_spec_world.specs.declared.command.Command.{Command}
 use Rattle.newt_spec_world.specs.declared.command.Command.TheVariants as command
 use Rattle.newt_spec_world.specs.Answer.{answer}
+use Rattle.newt_spec_world.specs.Reply as plain
+use Rattle.newt_spec_world.specs.Step.{is_format_of}
 use Rattle.newt_laws_answers.specs.Bounds.{most_programmed}
 use Rattle.newt_laws_answers.specs.Fetched.{means_entries, pages_meant, pages_shown}
 use Rattle.newt_store_change.specs.declared.fault.StoreFault.{StoreFault}
-use Rattle.newt_engine_card.specs.Bounds.{FetchesWithin, FormatsOnce, ProgramsAtMost, IsOpenOrSame}
+use Rattle.newt_engine_card.specs.Bounds.{FetchesWithin, FormatsOnce, IsFresh, ProgramsAtMost, IsOpenOrSame}
 use Rattle.newt_store_change.specs.Faults.{GoesOn}
 
 -- a device is made one with a store
@@ -23,6 +28,11 @@ is_format _ = false
 abbrev pub most_formatted : Command → ℕ
 most_formatted (command.Format _ name sig) = format_bytes (cost (new_store name sig))
 most_formatted _ = 0
+
+-- A format that is done leaves a fresh unit.
+abbrev pub FormatsFresh : {E : Type 0} → Command → Result Reply E → Outside → Type 0
+FormatsFresh command result after = (u : ℕ) → is_format_of command u ≡ true →
+    IfOk result (λ it. said it ≡ plain.Reply.done → IsFresh (image u after.now))
 
 -- What a command costs: but for a format, each unit is programmed by no more than the command may
 -- where there is room for that; a format wears once; where it is one of entries, no more is fetched

@@ -38,7 +38,7 @@ use Rattle.newt_engine_cursors.specs.Reached.{in_reach}
 use Rattle.newt_engine_cursors.specs.Unread.{steps_unread, walks_unread}
 use Rattle.newt_engine_cursors.specs.World.{world_with}
 use Rattle.newt_engine.specs.Bounds.{CommandCosts, is_format, most_formatted, most_settled}
-use Rattle.newt_engine.specs.Bounds.{most_stepped}
+use Rattle.newt_engine.specs.Bounds.{FormatsFresh, most_stepped}
 use Rattle.newt_engine.specs.Ends.{takes_memory, uses_device}
 use Rattle.newt_engine.specs.Kept.{KeepsWorld, LeavesAll, leaves_all}
 use Rattle.newt_engine.specs.Standing.{Standing, means, stood_for}
@@ -80,6 +80,7 @@ module _ {C : Type 0} (reads : List ℕ → Option Store) (place : C → ℕ)
         ≡ None)
     pub costs : IsTrue told → let w = world_of reads old.units before in
         CommandCosts w command (most_fetched w command) result before after
+    pub fresh : IsTrue told → FormatsFresh command result after
     pub alone : OnDevices before after
     pub broke : IfErr result
         (AtDevice (BreaksIn reads place standing told command old.units new.units before after))
@@ -187,6 +188,7 @@ module _ {C : Type 0} (reads : List ℕ → Option Store) (place : C → ℕ)
         steps_unread w command ≡ true → FetchesAtMost (most_stepped w command) before after
     pub shown : walks_unread old.desk command ≡ true
         → FetchesAnswered said result before after
+    pub fresh : IsTrue told → FormatsFresh command result after
     pub alone : OnDevices before after
     pub broke : IfErr result (AtDevice (λ u. Fails told command old new before after u
         ⊎ FailsHalfway told command old new before after u))
@@ -196,7 +198,7 @@ module _ {C : Type 0} (reads : List ℕ → Option Store) (place : C → ℕ)
 module _ {C : Type 0} (reads : List ℕ → Option Store) where
   -- How a command ends. What is attached, the input and the output are as they were. But for a
   -- format each unit that has room is programmed by no more than the command may, is not erased,
-  -- and is synced twice at most, and a format wears once; where the command is one of entries, for
+  -- and is synced twice at most; a format wears once, and leaves a fresh unit where it is done; where the command is one of entries, for
   -- each page of those that it means 1024 bytes at most are fetched there; one that opens, shows,
   -- moves or counts a cursor whose query asks for no words or texts fetches 512 for each page of
   -- the entry that it answers, and nothing where it answers none: where the host tells no bytes, by
@@ -209,6 +211,7 @@ module _ {C : Type 0} (reads : List ℕ → Option Store) where
     pub bound : IsTrue told → is_format command ≡ false → (u : ℕ) → ProgramsAtMost (most_programmed (stood_for reads old before) command u) u before after
     pub format : IsTrue told → is_format command ≡ true → (u : ℕ)
         → FormatsOnce (most_formatted command) 10 u before after
+    pub fresh : IsTrue told → FormatsFresh command result after
     pub settling : IsTrue told → means_entries command ≡ true → let w = stood_for reads old before in FetchesWithin (most_programmed w command) (most_settled w command) before after
     pub step : IsTrue told → let w = stood_for reads old before in steps_unread w command ≡ true → FetchesAtMost (most_stepped w command) before after
     pub shown : walks_unread old.desk command ≡ true

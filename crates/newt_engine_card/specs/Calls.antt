@@ -19,12 +19,14 @@ use Rattle.newt_store_change.specs.Faults.{Does, GoesOn, FaultsAt, IsRefused}
 use Rattle.newt_store_change.specs.declared.change.Change.{Change}
 use Rattle.newt_store_change.specs.declared.entry.Entry.{Entry}
 use Rattle.newt_store_change.specs.declared.fault.StoreFault.{StoreFault}
+use Rattle.newt_engine_card.specs.Bounds.{IsFresh}
 use Rattle.newt_engine_card.specs.Cards.{LeavesEither, OthersSame}
 
 module _ (reads : List ℕ → Option Store) where
-  -- A format: the unit's image is read as a store without soups; after out of memory nothing has happened.
+  -- A format: the unit's image is read as a store without soups, and is a fresh one; after out of memory nothing has happened.
   pub record Formats (told : Bool) (unit : ℕ) (name : List ℕ) (sig : ℕ) (before after : Outside) (result : Result (Unit {0}) Stop) : Type 0 where
     pub formatted : IsTrue told → OnOk result ((reads (image unit after.now) ≡ Some (new_store name sig)) × IsDurable unit after.now)
+    pub fresh : IsTrue told → OnOk result (IsFresh (image unit after.now))
     pub unchanged : IsErrOf result Memory → after.now ≡ before.now
     pub any_moment : IsTrue told → Leaves unit Anything before.now after.now
     -- each page of the store is written once, and nothing is read

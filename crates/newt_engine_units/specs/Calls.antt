@@ -1,7 +1,7 @@
 -- What calls on the units promise. All of it is this project's own.
 use Rattle.std.specs.Prelude.{◌≡◌, ◌≢◌, ◌*◌, ℕ, ◌≤◌, Bool, true, false, IsTrue, List, ◌∷◌, Option}
 use Rattle.std.specs.Prelude.{Some, None, IsSome, Result, IfOk, IfErr, OnOk, OnErr, if◌then◌else◌}
-use Rattle.newt_host.specs.Moments.{Always, On, Synced, changes}
+use Rattle.newt_host.specs.Moments.{image, Always, On, Synced, changes}
 use Rattle.newt_host.specs.Outside.{Outside, NoFault, OnDevices, Touches, Wears}
 use Rattle.newt_pagebook.specs.Book.{format_bytes}
 use Rattle.newt_pagebook.specs.Stops.{HasStopCause}
@@ -29,7 +29,7 @@ use Rattle.newt_store_change.specs.declared.entry.Entry.{Entry}
 use Rattle.newt_store_change.specs.declared.fault.StoreFault.{StoreFault}
 use Rattle.newt_store_change.specs.declared.fault.StoreFault.TheVariants.{Stop as Ends}
 use Rattle.newt_engine_card.specs.Bounds.{Costs, CostsOn, FetchesAtMost, FetchesOn, FormatsOnce}
-use Rattle.newt_engine_card.specs.Bounds.{IsOpenOrSame, LeftAlone, of_unit}
+use Rattle.newt_engine_card.specs.Bounds.{IsFresh, IsOpenOrSame, LeftAlone, of_unit}
 use Rattle.newt_engine_units.specs.Answers.{Answers}
 use Rattle.newt_engine_units.specs.Breaks.{AtDevice, AtStop, FailsAlone, HasStoreToFormat, Meanwhile}
 use Rattle.newt_engine_units.specs.Faces.{with_due}
@@ -207,6 +207,7 @@ module _ {C : Type 0} (reads : List ℕ → Option Store) (place : C → ℕ)
     pub stands : GoesOn result → Stands place standing told units after
     pub made : IsTrue told → OnOk result
         (world_of reads units after ≡ formatted (world_of reads units before) unit name sig)
+    pub fresh : IsTrue told → OnOk result (IsFresh (image unit after.now))
     pub only : IfErr result (λ fault. IsEnd fault)
     pub moments : IsTrue told → let w = world_of reads units before in
         (command : Command) (v : World) → IsBlankOn w unit → formats w command unit ≡ true
@@ -228,6 +229,7 @@ module _ {C : Type 0} (reads : List ℕ → Option Store) (place : C → ℕ)
     pub answered : IsTrue told → let c = command.Format unit name sig in
         Answers (seen reads (world_of reads old before) before.now c) (world_of reads new after) c
         (λ _. Reply.done) result
+    pub fresh : IsTrue told → OnOk result (IsFresh (image unit after.now))
     pub moments : IsTrue told → let w = world_of reads old before in
         let c = command.Format unit name sig in
         Always (Meanwhile reads (due_in old.slots.items) w c

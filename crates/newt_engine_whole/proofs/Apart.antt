@@ -25,7 +25,7 @@ use Rattle.newt_work.specs.Work.{Copy}
 use Rattle.newt_spec_world.specs.Alias.{Spot}
 use Rattle.newt_spec_world.specs.Answer.{or_nil}
 use Rattle.newt_spec_world.specs.Reply as replies
-use Rattle.newt_spec_world.specs.Step.{looks_at, unsure_look}
+use Rattle.newt_spec_world.specs.Step.{is_format_of, looks_at, unsure_look}
 use Rattle.newt_spec_world.specs.World.{World, stores_on}
 use Rattle.newt_spec_world.specs.declared.command.Command.{Command}
 use Rattle.newt_spec_world.specs.declared.command.Command.TheVariants as command
@@ -35,6 +35,7 @@ use Rattle.newt_laws_steps.specs.Thrown.{Threw}
 use Rattle.newt_laws_steps.proofs.Held.{stands-left}
 use Rattle.newt_laws_world.specs.Worlds.{is_plain}
 use Rattle.newt_engine_units.proofs.Costs.{alone-once, alone-refl}
+use Rattle.newt_engine.specs.Bounds.{FormatsFresh}
 use Rattle.newt_engine.specs.Calls.{IsNotThrown}
 use Rattle.newt_engine.specs.Standing.{IsStanding, marks_of}
 use Rattle.newt_engine.specs.declared.world.World.{World as Engine}
@@ -166,13 +167,20 @@ still-threw : (r : Result Reply AllocError) (faults : ℕ → ℕ) → IfOk r (�
 still-threw (Ok it) faults quiet = record { later = λ u. no-less (faults u); rose = λ u is. absurd (both-ways (sym (quiet u) ∙ is)) }
 still-threw (Err e) faults quiet = tt
 
+-- no format is answered apart
+apart-unformed : (c : Command) (u : ℕ) → is_plain c ≡ false → is_format_of c u ≡ false
+unfolding is_plain
+apart-unformed (command.Format unit name sig) u is = absurd (both-ways (sym is))
+apart-unformed _ u is = refl
+
 -- nothing happens to the devices
 pub rest-ended : {C : Type 0} (reads : List ℕ → Option Store) (told : Bool) (old : Whole C) (o : Outside) (c : Command) {asked : List Command} (result : Result Reply AllocError) → (whole_takes_memory c ≡ false → IsOk result)
-    → IfOk result (λ it. IsNotThrown it) → Ended reads told c asked old o o result
-rest-ended reads told old o c {asked} result memory quiet = record {
+    → IfOk result (λ it. IsNotThrown it) → FormatsFresh c result o → Ended reads told c asked old o o result
+rest-ended reads told old o c {asked} result memory quiet fresh = record {
   alone = OnDevices-refl o;
   bound = λ t other u. record { programmed = λ room. no-more (o.programmed u) _; wears = λ room. Wears-widen 0 0 0 (2 * length asked) (omega arith) (omega arith) (Wears-refl u o) };
   format = λ t is u. alone-once 10 (alone-refl u o);
+  fresh = λ t. fresh;
   fetched = λ t means u room. no-more (o.fetched u) _;
   step = λ t unread u. no-more (o.fetched u) _;
   shown = λ walks. each_ok result (λ it quiet u. no-more (o.fetched u) _);
@@ -194,7 +202,7 @@ apart-applied {C} {reads} {place} {stands} {told} {c} {old} {new} {o} {result} a
     drafts = λ t. a.drafts (s.drafts t);
   });
   stepped = λ t h m. apart-stepped reads old new o c h result apart m (a.answered o h m);
-  ended = rest-ended reads told old o c result a.memory a.quiet;
+  ended = rest-ended reads told old o c result a.memory a.quiet (λ x is. absurd (both-ways (sym (apart-unformed c x apart) ∙ is)));
   kept = whole-apart c old new result a.world a.kept;
 }
 

@@ -188,6 +188,6 @@ module _ {C : Type 0} {reads : List ℕ → Option Store} {place : C → ℕ} {s
     unasked-ends {new} error takes = record {
       stands = tt;
       stepped = λ t h m. asked-memory reads old o o c h error (Means reads new o) itself m (may t) (good t) (at-rest reads (marks_of old.world) o h.world m.world c _) (λ u. omega arith) (λ u. refl);
-      ended = rest-ended reads told old o c (Err error) (λ none. absurd (both-ways (sym none ∙ takes))) tt;
+      ended = rest-ended reads told old o c (Err error) (λ none. absurd (both-ways (sym none ∙ takes))) tt (λ x is. tt);
       kept = tt;
     }

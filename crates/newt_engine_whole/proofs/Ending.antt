@@ -52,6 +52,7 @@ ended-plain {C} {reads} {told} {c} {old} {o} {p} {result} plain f =
       alone = f.alone;
       bound = λ t other u. first-programs w c [] u (f.bound t other u);
       format = f.format;
+      fresh = f.fresh;
       fetched = λ t means u. first-fetches w c [] u o p (f.settling t (sym s.entries ∙ means) u);
       step = f.step;
       shown = f.shown;

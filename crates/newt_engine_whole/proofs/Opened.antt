@@ -52,6 +52,7 @@ use Rattle.newt_engine_whole.specs.Standing.{AreKept, Means, Standing, known_who
 use Rattle.newt_engine_whole.specs.declared.whole.Whole.{Whole}
 use Rattle.newt_engine_whole.proofs.Leaving.{no-refusal, refusal-leaves, whole-asked, world-as}
 use Rattle.newt_engine.proofs.Costing.{walks_steps}
+use Rattle.newt_engine.proofs.Forming.{other-unformed}
 use Rattle.newt_engine_whole.proofs.Costing.{first-fetches, first-programs}
 use Rattle.newt_engine_whole.proofs.Turns.{as-other}
 
@@ -70,6 +71,7 @@ reading-ended {C} {reads} {told} {c} {old} {o} {p} {inner} {result} u uid s unre
       alone = f.alone;
       bound = λ t other x. let k = turn t in subst (λ (ds : List Command). ProgramsInTurn w ds x o p) (sym k.1) (first-programs w get k.0 x (f.bound t refl x));
       format = λ t is. absurd (both-ways (sym other ∙ is));
+      fresh = λ t x is. absurd (both-ways (sym (other-unformed c x other) ∙ is));
       fetched = λ t entries x. let k = turn t in
           subst (λ (ds : List Command). IsOpenFor (most_put w ds x) (image x o.now) → p.fetched x ≤ o.fetched x + most_taken w ds x) (sym k.1) (first-fetches w get k.0 x o p (f.settling t refl x));
       step = λ t steps. absurd (both-ways (sym (unread w) ∙ steps));

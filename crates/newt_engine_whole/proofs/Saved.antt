@@ -183,6 +183,7 @@ module _ {C : Type 0} {reads : List ℕ → Option Store} {place : C → ℕ} {s
             (then-programs w get (turn t).0 x o p q (same-room t x) (a.finished.bound t refl x)
             (rest-of t (λ v ds. ProgramsInTurn v ds x p q) (b.ended.bound t refl x)));
         format = λ t is. absurd (both-ways is);
+        fresh = λ t x is. absurd (both-ways is);
         fetched = λ t entries x. subst (λ (ds : List Command). IsOpenFor (most_put w ds x) (image x o.now) → q.fetched x ≤ o.fetched x + most_taken w ds x) (sym (turn t).1)
             (then-fetches w get (turn t).0 x o p q (same-room t x) (a.finished.settling t refl x)
             (rest-of t (λ v ds. IsOpenFor (most_put v ds x) (image x p.now) → q.fetched x ≤ p.fetched x + most_taken v ds x) (b.ended.fetched t refl x)));

@@ -237,6 +237,7 @@ module _ {C : Type 0} {reads : List ℕ → Option Store} {place : C → ℕ} {s
           alone = a.finished.alone;
           bound = λ t other x. subst (λ (ds : List Command). ProgramsInTurn w ds x o p) (sym (last-turn n at draft base known t)) (first-programs w change [] x (a.finished.bound t refl x));
           format = λ t is. absurd (both-ways is);
+          fresh = λ t x is. absurd (both-ways is);
           fetched = λ t entries x. subst (λ (ds : List Command). IsOpenFor (most_put w ds x) (image x o.now) → p.fetched x ≤ o.fetched x + most_taken w ds x) (sym (last-turn n at draft base known t))
               (first-fetches w change [] x o p (a.finished.settling t refl x));
           step = λ t is. absurd (both-ways is);
@@ -307,7 +308,7 @@ unfolding is_plain
 rest-changed {C} {reads} {place} {stands} {told} {old} {o} {n} {time} {graph} {at} k there other begun read = record {
   stands = begun;
   stepped = λ t h m. apart-stepped reads old old o (command.Save n) h (Ok (reply.Changed time)) refl m (h, says h m (read t h m), m);
-  ended = rest-ended reads told old o (command.Save n) (Ok (reply.Changed time)) (λ none. refl) (λ u. refl);
+  ended = rest-ended reads told old o (command.Save n) (Ok (reply.Changed time)) (λ none. refl) (λ u. refl) (λ x is. absurd (both-ways is));
   kept = λ no. whole-refl (command.Save n) old;
 }
   where

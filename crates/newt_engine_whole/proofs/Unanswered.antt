@@ -72,7 +72,7 @@ module _ {C : Type 0} {reads : List ℕ → Option Store} {place : C → ℕ} {s
   rest-refused r is = record {
     stands = begun;
     stepped = λ t h m. apart-stepped reads old old o c h (Ok (reply.Refused r)) apart m (h, is t h m, m);
-    ended = rest-ended reads told old o c (Ok (reply.Refused r)) (λ none. refl) (λ u. refl);
+    ended = rest-ended reads told old o c (Ok (reply.Refused r)) (λ none. refl) (λ u. refl) (λ x is says. absurd (cc));
     kept = λ no. whole-refl c old;
   }
 
@@ -80,7 +80,7 @@ module _ {C : Type 0} {reads : List ℕ → Option Store} {place : C → ℕ} {s
   rest-memory {new} error takes = record {
     stands = tt;
     stepped = λ t h m. apart-stepped reads old new o c h (Err error) apart m tt;
-    ended = rest-ended reads told old o c (Err error) (λ none. absurd (both-ways (sym none ∙ takes))) tt;
+    ended = rest-ended reads told old o c (Err error) (λ none. absurd (both-ways (sym none ∙ takes))) tt (λ x is. tt);
     kept = tt;
   }
 

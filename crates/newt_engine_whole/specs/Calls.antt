@@ -18,7 +18,7 @@ use Rattle.newt_laws_whole.specs.Runs.{DraftsFit}
 use Rattle.newt_engine_card.specs.Bounds.{FetchesAtMost, FetchesWithin, FormatsOnce, IsOpenOrSame}
 use Rattle.newt_engine_cursors.specs.Calls.{FetchesShown}
 use Rattle.newt_engine_cursors.specs.Unread.{steps_unread, walks_unread}
-use Rattle.newt_engine.specs.Bounds.{is_format, most_formatted, most_stepped}
+use Rattle.newt_engine.specs.Bounds.{FormatsFresh, is_format, most_formatted, most_stepped}
 use Rattle.newt_engine.specs.Calls.{IsNotThrown}
 use Rattle.newt_engine.specs.Standing.{stood_for}
 use Rattle.newt_engine_whole.specs.Bounds.{ProgramsInTurn, most_put, most_taken}
@@ -36,14 +36,14 @@ rest_asked reads old before command = drop 1 (asked_in_turn (known_whole reads o
 module _ {C : Type 0} (reads : List ℕ → Option Store) where
   -- How a command ends that asks these commands of the world, one after another. What is attached,
   -- the input and the output are as they were. But for a format each unit that has room is
-  -- programmed by no more than what is asked may, and a format wears once; where what is asked is
-  -- of entries, no more is fetched there than by it; one that opens, shows, moves or counts a
-  -- cursor fetches no more than it does in the world: where the host tells no bytes, by the reply
-  -- that is given, and of a cursor that is open. After a reply each bank is not closed or is as it
-  -- was, but for a unit that was thrown out. No fault was counted but of a unit that the reply says
-  -- was thrown out, and of that one a fault was, also where the devices do not tell their bytes.
-  -- Want of memory hides none, and only what may take memory ends in it; and only what uses a
-  -- device throws a unit out.
+  -- programmed by no more than what is asked may; a format wears once, and leaves a fresh unit where
+  -- it is done. Where what is asked is of entries, no more is fetched there than by it; one that
+  -- opens, shows, moves or counts a cursor fetches no more than it does in the world: where the host
+  -- tells no bytes, by the reply that is given, and of a cursor that is open. After a reply each bank
+  -- is not closed or is as it was, but for a unit that was thrown out. No fault was counted but of a
+  -- unit that the reply says was thrown out, and of that one a fault was, also where the devices do
+  -- not tell their bytes. Want of memory hides none, and only what may take memory ends in it; and
+  -- only what uses a device throws a unit out.
   pub record Ended (told : Bool) (command : Command) (asked : List Command) (old : Whole C)
       (before after : Outside) (result : Result Reply AllocError) : Type 0 where
     pub alone : OnDevices before after
@@ -51,6 +51,7 @@ module _ {C : Type 0} (reads : List ℕ → Option Store) where
         (u : ℕ) → ProgramsInTurn (stood_for reads old.world before) asked u before after
     pub format : IsTrue told → is_format command ≡ true →
         (u : ℕ) → FormatsOnce (most_formatted command) 10 u before after
+    pub fresh : IsTrue told → FormatsFresh command result after
     pub fetched : IsTrue told → whole_means_entries command ≡ true →
         let w = stood_for reads old.world before in
         FetchesWithin (most_put w asked) (most_taken w asked) before after

@@ -1,16 +1,17 @@
 -- A fresh store.
-use Rattle.std.proofs.Common.{◌≡◌, ℕ, ◌+◌, ◌≤◌, true, false, List, [], length, Option, Some, None, refl, sym, ◌∙◌, ap, arith, Bool, not, ◌||◌, ◌==◌}
+use Rattle.std.proofs.Common.{◌≡◌, ℕ, suc, zero, ◌+◌, ◌≤◌, true, false, List, [], ◌∷◌, ◌++◌, length, take, Option, Some, None, refl, sym, subst, ◌∙◌, ap, arith, Bool, not, ◌||◌, ◌==◌}
 use Rattle.std.specs.FinMap as map
 use Rattle.std.proofs.lemmas.Bool.Decides.{nat_tests}
 use Rattle.std.specs.Ordering.{nat_cmp}
 use Rattle.std.specs.Option.{option_map}
 use Rattle.newt_base.specs.Names.{is_name}
 use Rattle.newt_spec_image.specs.Records.{and_then, version}
-use Rattle.newt_spec_image.specs.Pages.{Change, pages_after, after, cap}
-use Rattle.newt_spec_image.specs.Objects.{IsTableOf, joined, pages_for, Objects}
+use Rattle.newt_spec_image.specs.Pages.{Change, Put, pages_after, after, cap}
+use Rattle.newt_spec_image.specs.Objects.{Extent, IsTableOf, joined, pages_for, part_bytes, written_page, written_parts, Objects}
 use Rattle.newt_pagebook.specs.Batch.{no_change}
 use Rattle.newt_pagebook.specs.Book.{IsFormatted}
-use Rattle.newt_objects.specs.Held.{Held, held}
+use Rattle.newt_objects.specs.Extents.{free_below, numbers_of}
+use Rattle.newt_objects.specs.Held.{Held, free_numbers, held}
 use Rattle.newt_objects.specs.Changing.{HoldsObjects, IsUnderWay}
 use Rattle.newt_objects.proofs.Changing.{start_under_way, would_be_objects}
 use Rattle.newt_spec_store.specs.Store.{Store, new_store}
@@ -97,3 +98,33 @@ fresh-read name sig bytes image good short few many is holds =
 
 pub short-name : (name : List ℕ) → is_name name ≡ true → length name ≤ 39
 short-name name good = grind (arith, nat_tests, good)
+
+-- ---- the page of a fresh store
+
+-- the first number that is free where nothing is held is 0
+first-free : (n : ℕ) → (rest : List ℕ) × (free_below (suc n) [] no_change ≡ 0 ∷ rest)
+unfolding free_below
+first-free zero = ([], refl)
+first-free (suc n) = let (rest, is) = first-free n in (rest ++ suc n ∷ [], ap (λ (l : List ℕ). l ++ suc n ∷ []) is)
+
+-- a batch that puts its directory puts page 0 alone
+pub first-page : (name : List ℕ) (sig : ℕ) (bytes image : List ℕ) (objects : Held) (first last : Change) → is_name name ≡ true → bytes ≡ directory_bytes (new_store name sig)
+    → objects.rows ≡ [] → held objects 0 ≡ None → first ≡ no_change
+    → last.puts ≡ first.puts ++ written_parts 0 0 bytes (take (pages_for (length bytes)) (free_numbers objects first)) → last.deletes ≡ first.deletes ++ numbers_of (held objects 0)
+    → IsFormatted last image → (page : List ℕ) × IsFormatted (record { puts = (0, page) ∷ []; deletes = [] }) image
+first-page name sig bytes image objects first last named is none unheld start puts deletes formatted =
+    let (rest, free) = first-free 65535 in
+    let one : pages_for (length bytes) ≡ 1 = ap (λ (b : List ℕ). pages_for (length b)) is ∙ ap pages_for (fresh-bytes name sig) ∙ one-page (length name) (short-name name named) in
+    let numbers : take (pages_for (length bytes)) (free_numbers objects first) ≡ 0 ∷ [] =
+    ap (λ (n : ℕ). take n (free_numbers objects first)) one
+    ∙ ap (λ (rows : List (ℕ × Option Extent)). take 1 (free_below 65536 rows first)) none
+    ∙ ap (λ (change : Change). take 1 (free_below 65536 [] change)) start
+    ∙ ap (λ (l : List ℕ). take 1 l) free in
+    let page = written_page 0 0 (length bytes) (part_bytes 0 bytes) in
+    let put : last.puts ≡ (0, page) ∷ [] = puts ∙ ap (λ (c : Change). c.puts ++ written_parts 0 0 bytes (take (pages_for (length bytes)) (free_numbers objects first))) start
+    ∙ ap (λ (l : List ℕ). written_parts 0 0 bytes l) numbers in
+    let deleted : last.deletes ≡ [] = deletes ∙ ap (λ (c : Change). c.deletes ++ numbers_of (held objects 0)) start ∙ ap numbers_of unheld in
+    (page, subst (λ (change : Change). IsFormatted change image) (changes-are last ((0, page) ∷ []) put deleted) formatted)
+  where
+    changes-are : (change : Change) (l : List Put) → change.puts ≡ l → change.deletes ≡ [] → change ≡ record { puts = l; deletes = [] }
+    changes-are change l p d = ap {A = List Put} {B = Change} (λ x. record { puts = x; deletes = change.deletes }) p ∙ ap {A = List ℕ} {B = Change} (λ x. record { puts = l; deletes = x }) d

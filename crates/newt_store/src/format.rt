@@ -1,6 +1,8 @@
 // A fresh store.
-ghost use Rattle.std.specs.Prelude.{IsTrue, ◌≡◌, ◌≤◌, IfOk};
+ghost use Rattle.std.specs.Prelude.{IsTrue, ◌≡◌, ◌≤◌, ℕ, List, [], ◌∷◌, IfOk, OnOk};
 ghost use Rattle.newt_base.specs.Names.{is_name};
+ghost use Rattle.newt_host.specs.Moments.{image};
+ghost use Rattle.newt_pagebook.specs.Book.{IsFormatted};
 ghost use Rattle.newt_soupdir.specs.Bare.{bare_store};
 ghost use Rattle.newt_spec_store.specs.Cost.{directory_bytes};
 ghost use Rattle.newt_spec_store.specs.Store.{new_store};
@@ -37,7 +39,7 @@ fn new_bytes(alloc: Global, name: &Name, sig: Sig) -> Result<Vec<u8>, AllocError
     write_directory(alloc, &directory)
 }
 
-/// Makes a unit's image that of a store without soups.
+/// Makes a unit's image that of a store without soups: its one record puts page 0 alone.
 pub(crate) fn format_unit<P: PageBook, H: Host>(
     alloc: Global,
     host: &mut H,
@@ -48,8 +50,11 @@ pub(crate) fn format_unit<P: PageBook, H: Host>(
     requires enough { 13 ≤ (H.outside host.old).blocks unit }
     requires not_too_many { (H.outside host.old).blocks unit ≤ 4099 }
     requires few { sig ≤ 536_870_911 }
-    ensures { FormatsUnit H.told unit (new_store name.now sig)
+    ensures unit { FormatsUnit H.told unit (new_store name.now sig)
         (H.outside host.old) (H.outside host.new) result }
+    ensures fresh { IsTrue H.told → OnOk result ((page : List ℕ)
+        × IsFormatted (record { puts = (0, page) ∷ []; deletes = [] })
+        (image unit (H.outside host.new).now)) }
 {
     let bytes = new_bytes(alloc, name, sig)?;
     let mut objects = Objects::empty(alloc);

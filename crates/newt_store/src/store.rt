@@ -1,9 +1,10 @@
 // A store on one unit.
-ghost use Rattle.std.specs.Prelude.{IsTrue, ◌≡◌, ◌≤◌, ◌*◌, ℕ, Some, IfOk, IsErrOf, is_some, List};
+ghost use Rattle.std.specs.Prelude.{IsTrue, ◌≡◌, ◌≤◌, ◌*◌, ℕ, Some, IfOk, IsErrOf, is_some, List, []};
+ghost use Rattle.std.specs.Prelude.{◌∷◌, OnOk};
 ghost use Rattle.std.specs.Option.{option_map};
 ghost use Rattle.newt_host.specs.Moments.{image, IsDurable};
 ghost use Rattle.newt_host.specs.Outside.{Spends};
-ghost use Rattle.newt_pagebook.specs.Book.{IsOpenFor};
+ghost use Rattle.newt_pagebook.specs.Book.{IsFormatted, IsOpenFor};
 ghost use Rattle.newt_spec_store.specs.Store.{Store as PlainStore, soup_of, entry_at, count_in};
 ghost use Rattle.newt_spec_store.specs.Store.{new_store};
 ghost use Rattle.newt_spec_store.specs.OfImage.{blocks_of};
@@ -45,8 +46,9 @@ pub struct Store<P: PageBook> {
 }
 
 impl<P: PageBook> Store<P> {
-    /// Makes a unit's image that of a store of this name and signature, without soups. After want
-    /// of memory nothing has happened; after a fault of the device nothing is said of the unit.
+    /// Makes a unit's image that of a store of this name and signature, without soups: its one
+    /// record puts page 0 alone. After want of memory nothing has happened; after a fault of the
+    /// device nothing is said of the unit.
     pub fn format<H: Host>(
         alloc: Global,
         host: &mut H,
@@ -57,8 +59,11 @@ impl<P: PageBook> Store<P> {
         requires enough { 13 ≤ (H.outside host.old).blocks unit }
         requires not_too_many { (H.outside host.old).blocks unit ≤ 4099 }
         requires few { sig ≤ 536_870_911 }
-        ensures { FormatsUnit H.told unit (new_store name.now sig)
+        ensures unit { FormatsUnit H.told unit (new_store name.now sig)
             (H.outside host.old) (H.outside host.new) result }
+        ensures fresh { IsTrue H.told → OnOk result ((page : List ℕ)
+            × IsFormatted (record { puts = (0, page) ∷ []; deletes = [] })
+            (image unit (H.outside host.new).now)) }
     {
         format_unit::<P, H>(alloc, host, unit, name, sig)
     }

@@ -11,13 +11,13 @@ use Rattle.newt_spec_store.specs.Cost.{cost, directory_bytes}
 use Rattle.newt_spec_store.specs.OfImage.{blocks_of}
 use Rattle.newt_spec_store.specs.Store.{new_store}
 use Rattle.newt_objects_commit.proofs.Committing.{blocks-are}
-use Rattle.newt_store.proofs.Fresh.{start-empty, formatted-holds, fresh-pages, fresh-read, short-name}
+use Rattle.newt_store.proofs.Fresh.{start-empty, first-page, formatted-holds, fresh-pages, fresh-read, short-name}
 use Rattle.newt_store.proofs.Unanswered.{no-value}
 use Rattle.newt_store_catalog.proofs.Exits.{read-memory}
 use Rattle.newt_store.proofs.format.format_unit.Goals as goal
 
-pub returns-in_err-bytes : goal.returns-in_err-bytes
-returns-in_err-bytes g c =
+pub returns-in_err-bytes-clause-unit : goal.returns-in_err-bytes-clause-unit
+returns-in_err-bytes-clause-unit g c =
     let o = g.H.Host.outside c.args.host.now in
     record {
       formatted = λ tells. no-value c.from_residual.result _ c.from_residual.ensures.0;
@@ -32,8 +32,8 @@ returns-in_err-bytes g c =
       ends = read-memory c.from_residual.result (NoFault-refl o) c.from_residual.ensures.1;
     }
 
-pub returns-in_err-plan_put : goal.returns-in_err-plan_put
-returns-in_err-plan_put g c =
+pub returns-in_err-plan_put-clause-unit : goal.returns-in_err-plan_put-clause-unit
+returns-in_err-plan_put-clause-unit g c =
     let o = g.H.Host.outside c.args.host.now in
     record {
       formatted = λ tells. no-value c.from_residual-in_err-plan_put.result _ c.from_residual-in_err-plan_put.ensures.0;
@@ -48,8 +48,8 @@ returns-in_err-plan_put g c =
       ends = read-memory c.from_residual-in_err-plan_put.result (NoFault-refl o) c.from_residual-in_err-plan_put.ensures.1;
     }
 
-pub returns-in-Ok : goal.returns-in-Ok
-returns-in-Ok g c = record {
+pub returns-in-Ok-clause-unit : goal.returns-in-Ok-clause-unit
+returns-in-Ok-clause-unit g c = record {
   formatted = λ tells.
       let img : List ℕ = image c.args.unit (g.H.Host.outside c.format.new.host).now in
       let start : IsUnderWay c.empty-objects.result c.new-batch.result map.empty map.empty = subst (λ (b : Change). IsUnderWay c.empty-objects.result b map.empty map.empty) (sym c.new-batch.ensures) (start-empty c.empty-objects.result c.empty-objects.ensures.none c.empty-objects.ensures.no_plans) in
@@ -74,8 +74,8 @@ returns-in-Ok g c = record {
   ends = record { cause = tt; no_fault = c.in-Ok.ensures.no_fault };
 }
 
-pub returns : goal.returns
-returns g c = record {
+pub returns-clause-unit : goal.returns-clause-unit
+returns-clause-unit g c = record {
   formatted = λ tells. tt;
   laid = λ tells. tt;
   durable = λ tells. tt;
@@ -91,3 +91,22 @@ returns g c = record {
   alone = c.format.ensures.alone;
   ends = record { cause = c.in-Err.ensures.cause; no_fault = tt };
 }
+
+-- ---- page 0 alone is put
+
+pub returns-in_err-bytes-clause-fresh : goal.returns-in_err-bytes-clause-fresh
+returns-in_err-bytes-clause-fresh g c tells = no-value c.from_residual.result _ c.from_residual.ensures.0
+
+pub returns-in_err-plan_put-clause-fresh : goal.returns-in_err-plan_put-clause-fresh
+returns-in_err-plan_put-clause-fresh g c tells = no-value c.from_residual-in_err-plan_put.result _ c.from_residual-in_err-plan_put.ensures.0
+
+pub returns-in-Ok-clause-fresh : goal.returns-in-Ok-clause-fresh
+returns-in-Ok-clause-fresh g c tells =
+    let bytes : c.deref.result.now ≡ directory_bytes (new_store c.args.name.now c.args.sig) = c.deref.ensures.value ∙ c.in_ok-bytes.ensures.made in
+    let puts = c.in_ok-plan_put.ensures.puts.puts in
+    let deletes = c.in_ok-plan_put.ensures.plans.deletes in
+    first-page c.args.name.now c.args.sig c.deref.result.now (image c.args.unit (g.H.Host.outside c.format.new.host).now) c.empty-objects.result c.new-batch.result c.plan_put.new.batch
+    c.new_bytes.ensures.named bytes c.empty-objects.ensures.no_rows (c.empty-objects.ensures.none 0) c.new-batch.ensures puts deletes (c.in-Ok.ensures.formatted tells).0
+
+pub returns-clause-fresh : goal.returns-clause-fresh
+returns-clause-fresh g c tells = tt

@@ -256,6 +256,7 @@ returns g c name target both =
       costs = λ t. moved-costs (b t) first s.read (few t) second (λ goes. tt);
       step = λ t unread. absurd (unread_uses_cursor (with_cursors start.desk w) cmd none unread);
       shown = λ walks. absurd (unread_uses_cursor (with_cursors start.desk w) cmd none (walks_steps (with_cursors start.desk w) cmd walks));
+      fresh = λ t u is. absurd (both-ways is);
       alone = ends.alone;
       broke = tt;
       kept = λ idle. absurd (both-ways (sym (ap (λ (k : Shown). leaves_all cmd (said k)) s.same) ∙ idle));

@@ -6,7 +6,7 @@ use Rattle.newt_reply.specs.Said.{said}
 use Rattle.newt_reply.specs.declared.reply.Reply.TheVariants as reply
 use Rattle.newt_spec_graph.proofs.Lists.{both-ways}
 use Rattle.newt_spec_world.specs.Answer.{answer}
-use Rattle.newt_spec_world.specs.Step.{looks_at}
+use Rattle.newt_spec_world.specs.Step.{is_format_of, looks_at}
 use Rattle.newt_spec_world.specs.declared.command.Command.{Command}
 use Rattle.newt_laws_answers.proofs.Stores.{nsof-done, lit-done}
 use Rattle.std.specs.Prelude.{IfErr}
@@ -21,6 +21,7 @@ use Rattle.newt_laws_steps.specs.StandsFor.{seen}
 use Rattle.newt_engine.specs.Ends.{takes_memory, uses_device}
 use Rattle.newt_engine.specs.Laws.{laws_of}
 use Rattle.newt_engine.proofs.Costing.{format_costs, still_costs}
+use Rattle.newt_engine.proofs.Forming.{format-fresh, memory-unformed}
 use Rattle.newt_engine.proofs.Groups.{format_form, in_memory, index_form, tags_form, within_own}
 use Rattle.newt_engine.proofs.Handed.{answered_on, err_on, goes_back, has_cause, moments_same, quiet, quiet_on, seen_in_memory, told_stands}
 use Rattle.newt_laws_world.specs.Settled.{moves_keys}
@@ -41,6 +42,7 @@ returns-in-Nsof g c =
       kept = λ idle. keeps-refl c.args.self.now.units;
       busy = λ moves. absurd (moves_on_devices _ moves (ap uses_device c.in-Nsof.is));
       costs = λ t. still_costs (λ u. alone-refl u _) (λ means. idle-fetches _ _ o);
+      fresh = λ t u is. absurd (both-ways (sym (ap (λ x. is_format_of x u) c.in-Nsof.is) ∙ is));
       alone = OnDevices-refl o;
       broke = tt;
       ends = record {
@@ -64,6 +66,7 @@ returns-in-Lit g c =
       kept = λ idle. keeps-refl c.args.self.now.units;
       busy = λ moves. absurd (moves_on_devices _ moves (ap uses_device c.in-Lit.is));
       costs = λ t. still_costs (λ u. alone-refl u _) (λ means. idle-fetches _ _ o);
+      fresh = λ t u is. absurd (both-ways (sym (ap (λ x. is_format_of x u) c.in-Lit.is) ∙ is));
       alone = OnDevices-refl o;
       broke = tt;
       ends = record {
@@ -99,6 +102,7 @@ returns-in-Format g c =
       kept = λ idle. subst (λ (x : Command). KeepsUnits (looks_at x) c.args.self.now.units c.format.new.self) (sym c.in-Format.is) (call.kept (idle_back on (λ x r k. cc) c.in-Format.is idle));
       busy = λ moves. absurd (moves_no_format _ _ _ (subst (λ x. moves_keys x ≡ true) c.in-Format.is moves));
       costs = λ t. format_costs c.in-Format.is call.costs (λ goes. call.open_after t (goes_back on goes));
+      fresh = λ t u is. format-fresh p on c.in-Format.is u is (call.fresh t);
       alone = call.ends.alone;
       broke = subst (λ x. IfErr c.done.result (AtDevice (BreaksIn g.C.Card.reads g.C.Card.place g.C.Card.stands g.H.Host.told x c.args.self.now.units c.format.new.self o p))) (sym c.in-Format.is) (err_on on _ call.broke);
       ends = record {
@@ -190,6 +194,7 @@ returns-in_default g c =
       kept = λ idle. subst (λ x. KeepsUnits (looks_at c.args.command) c.args.self.now.units x) (sym (call.kept idle)) (keeps-refl c.args.self.now.units);
       busy = λ moves. absurd (moves_on_devices c.args.command moves no_device);
       costs = λ t. still_costs (λ u. alone-refl u _) (λ means. idle-fetches _ _ o);
+      fresh = λ t u is. absurd (both-ways (sym (memory-unformed c.args.command u no_device) ∙ is));
       alone = OnDevices-refl o;
       broke = none-devices _ _ call.device;
       ends = record {

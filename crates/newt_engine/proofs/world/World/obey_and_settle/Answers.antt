@@ -10,6 +10,7 @@ use Rattle.newt_laws_steps.specs.StandsFor.{seen}
 use Rattle.newt_laws_world.specs.Cursors.{with_cursors}
 use Rattle.newt_laws_world.specs.Settled.{IsSettled, MountedApart, moves_keys}
 use Rattle.newt_laws_answers.specs.Fetched.{meant, pages_there}
+use Rattle.newt_spec_graph.proofs.Lists.{both-ways}
 use Rattle.newt_spec_world.specs.Answer.{answer}
 use Rattle.newt_spec_world.specs.Changed.{changed}
 use Rattle.newt_spec_world.specs.Reply as plain
@@ -27,6 +28,7 @@ use Rattle.newt_engine.specs.Laws.{laws_of}
 use Rattle.newt_engine.specs.Standing.{stood_for}
 use Rattle.newt_engine.proofs.Costing.{alone_few, settled_costs, settled_few, unread_uses_cursor, walks_steps}
 use Rattle.newt_engine.proofs.Failing.{means-unlooked, seen-same, settling-fails, told-device}
+use Rattle.newt_engine.proofs.Forming.{moving-unformed}
 use Rattle.newt_engine.proofs.Handed.{told_stands}
 use Rattle.newt_engine.proofs.Keeping.{settled_busy}
 use Rattle.newt_engine.proofs.Reaching.{reaches-one}
@@ -83,6 +85,7 @@ returns-then-settles g c =
           reached_within a.desk sees k.0 k.1 k.2 k.3 command c.requires.no_cursor v (said c.in-Ok.reply) reached (done.unrefused t moves) (done.answered t) (is t) c.requires.form means u)));
       step = λ t unread. absurd (unread_uses_cursor (stood_for reads a o) command c.requires.no_cursor unread);
       shown = λ walks. absurd (unread_uses_cursor (stood_for reads a o) command c.requires.no_cursor (walks_steps (stood_for reads a o) command walks));
+      fresh = λ t u is. absurd (both-ways (sym (moving-unformed command u moves) ∙ is));
       alone = OnDevices-append e.alone s.read.alone;
       broke = err-device-both (λ u. FailsAlone m p u × (c.settled.new.self.desk ≡ c.obey.new.self.desk)) (λ u. IsTrue told → in_reach reached (mounted_store v u) ≡ true)
           (λ u. Fails reads g.C.Card.place g.C.Card.stands told command a c.settled.new.self o p u ⊎ FailsHalfway reads g.C.Card.place g.C.Card.stands told command a c.settled.new.self o p u) c.settled.result
@@ -130,6 +133,7 @@ returns-else-settles g c =
           (λ means. alone_few a.desk w command o m (whole_known laws told a o c.requires.stands t command c.requires.no_cursor) ((done.costs t).fetched means));
       step = λ t unread. absurd (unread_uses_cursor (stood_for reads a o) command c.requires.no_cursor unread);
       shown = λ walks. absurd (unread_uses_cursor (stood_for reads a o) command c.requires.no_cursor (walks_steps (stood_for reads a o) command walks));
+      fresh = done.fresh;
       alone = e.alone;
       broke = tt;
       kept = λ idle. record { units = done.kept idle; desk = λ within. e.desk };

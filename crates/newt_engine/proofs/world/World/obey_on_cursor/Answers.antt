@@ -1,12 +1,14 @@
 -- Devices are read alone.
-use Rattle.std.proofs.Common.{ap, subst, sym, inl, IsTrue}
+use Rattle.std.proofs.Common.{ap, subst, sym, inl, IsTrue, ◌∙◌}
 use Rattle.newt_reply.specs.Said.{said}
+use Rattle.newt_spec_graph.proofs.Lists.{both-ways}
 use Rattle.newt_spec_world.specs.World.{World}
 use Rattle.newt_engine_units.specs.Answers.{Answers}
 use Rattle.newt_engine_units.proofs.Keeping.{read-keeps}
 use Rattle.newt_engine_cursors.specs.World.{world_with}
 use Rattle.newt_engine.specs.Laws.{laws_of}
 use Rattle.newt_engine.proofs.Costing.{means_no_cursor, still_costs}
+use Rattle.newt_engine.proofs.Forming.{cursor-unformed}
 use Rattle.newt_engine.proofs.Serving.{err-device-both, fails_reading}
 use Rattle.newt_engine.proofs.Settling.{quiet_with, seen_cursors, stands_after}
 use Rattle.newt_engine.proofs.world.World.obey_on_cursor.Goals as goal
@@ -29,6 +31,7 @@ returns g c =
       costs = λ t. still_costs e.read.untouched (λ means. absurd (means_no_cursor c.args.command.now c.requires.on_cursor means));
       step = λ t. e.fetches t (c.requires.stands.apart t) (c.requires.stands.settled t);
       shown = e.shown;
+      fresh = λ t u is. absurd (both-ways (sym (cursor-unformed c.args.command.now u c.requires.on_cursor) ∙ is));
       alone = e.read.alone;
       broke = err-device-both _ _ _ c.walk.result (λ u failed kept. inl (fails_reading c.args.command.now e.read kept failed)) e.failed e.kept;
       kept = λ idle. record { units = read-keeps e.read; desk = λ within. e.refused idle };

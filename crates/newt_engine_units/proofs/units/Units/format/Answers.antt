@@ -1,6 +1,6 @@
 -- The unit is looked at and made sure of, its store is looked for, and it is formatted.
 use Rattle.std.proofs.Common.{◌≡◌, refl, sym, ap, ◌∙◌, subst, ℕ, IsTrue, true, inr, Err}
-use Rattle.std.specs.Prelude.{OnOk, is_some}
+use Rattle.std.specs.Prelude.{Result, Ok, OnOk, is_some}
 use Rattle.std.proofs.lemmas.Bool.{ne_eqb}
 use Rattle.std.proofs.lemmas.Result.{err_from_is_err_and}
 use Rattle.newt_base.specs.declared.Refusal.TheVariants.{Store as HasStore}
@@ -34,6 +34,11 @@ use Rattle.newt_engine_units.proofs.Turns.{world-still}
 use Rattle.newt_engine_units.proofs.units.Units.format.Given.{Over}
 use Rattle.newt_engine_units.proofs.units.Units.format.Goals as goal
 
+-- an error is no answer
+no-answer : {T E : Type 0} {Q : E → Type 0} (r : Result T E) (P : Type 0) → (y : E) × (r ≡ Err y) × Q y → OnOk r P
+no-answer (Ok x) P (y, is, q) = absurd (cc)
+no-answer (Err y) P is = tt
+
 -- where it begins
 begins : (g : Over) {units : _} {host : _} → Stands g.C.Card.place g.C.Card.stands g.H.Host.told units (g.H.Host.outside host)
     → Setting g.C.Card.reads g.C.Card.place g.C.Card.soups g.C.Card.stands g.H.Host.told units (g.H.Host.outside host)
@@ -56,6 +61,7 @@ returns-in_err-find_ready g c =
       stands = λ goes. c.requires.stands;
       answered = λ t. subst (λ k. Answers (seen_on g.C.Card.reads w o.now k) w format (λ _. Reply.done) c.from_residual.result) (sym (not-looked at t c.args.unit _ c.in_err-find_ready.ensures))
           (ready-refused at t c.args.unit _ _ (λ r k. format-not-ready w c.args.unit r k c.args.name.now c.args.sig) _ c.in_err-find_ready.ensures _ p);
+      fresh = λ t. no-answer _ _ p;
       moments = λ t. still at t _ _ _ refl;
       costs = λ u. alone-once 10 (alone-refl u o);
       open_after = λ t goes u. inr refl;
@@ -73,6 +79,7 @@ returns-in_err-make_sure g c =
     record {
       stands = λ goes. failed-stands at made;
       answered = λ t. end-answers _ _ _ _ _ _ p (failed-end at made);
+      fresh = λ t. no-answer _ _ p;
       moments = λ t. failed-moments at made t _ _;
       costs = synced-once made.alone made.costs (λ u. alone-once 9 (alone-refl u (g.H.Host.outside c.make_sure.new.host)));
       open_after = λ t goes u. inr (ap (image u) (made.nothing_done t));
@@ -99,6 +106,7 @@ returns-in_err-has_store g c =
     record {
       stands = λ goes. e.looks.stand;
       answered = λ t. end-answers _ _ _ _ _ _ p e.has;
+      fresh = λ t. no-answer _ _ p;
       moments = λ t. sync-still at free made t (may t) format _ refl _ e.looks.moment;
       costs = synced-once made.alone made.costs (λ u. alone-once 9 (e.looks.untouched u));
       open_after = λ t goes u. inr (ap (image u) e.looks.moment ∙ images-same at free made t u);
@@ -129,6 +137,7 @@ returns-then-branch g c =
           subst (λ x. Answers {T = Unit {0}} x (world_of g.C.Card.reads c.make_sure.new.self q) format (λ _. Reply.done) (Err (Refused HasStore))) (as-seen at free made format refl t)
           (format-has-answers mid _ c.args.unit _ (g.C.Card.reads (image c.args.unit m.now)) c.args.name.now c.args.sig (ready-there then t c.args.unit (now-free at free made) (now-sure at free made)) refl
           (sym (e.has t) ∙ c.if-branch.true) same);
+      fresh = λ t. tt;
       moments = λ t. sync-still at free made t (may t) format _ refl _ e.looks.moment;
       costs = synced-once made.alone made.costs (λ u. alone-once 9 (e.looks.untouched u));
       open_after = λ t goes u. inr (ap (image u) e.looks.moment ∙ images-same at free made t u);
@@ -165,6 +174,7 @@ returns g c =
           (format-answers mid (world_of g.C.Card.reads c.make_sure.new.self p) c.args.unit _ found c.args.name.now c.args.sig (ready t) refl
           (sym (e.has t) ∙ c.if-branch.false) _
           (subst (λ (x : World). OnOk c.make.result (world_of g.C.Card.reads c.make_sure.new.self p ≡ formatted x c.args.unit c.args.name.now c.args.sig)) same (c.make.ensures.made t)) c.make.ensures.only);
+      fresh = c.make.ensures.fresh;
       moments = λ t.
           let empty = sym (e.has t) ∙ c.if-branch.false in
           let v : World = (answer mid format).0 in

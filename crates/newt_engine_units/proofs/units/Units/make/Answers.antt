@@ -34,6 +34,7 @@ returns-in-Ok g c =
       stands = λ goes. stands-beside g.C.Card.place g.C.Card.stands g.met.C.Card.kept g.met.C.Card.durable g.H.Host.told c.args.self.now c.args.unit o p e.alone.cards
           (λ t. Leaves-others (e.any_moment t)) free (λ t. (c.in-Ok.ensures.formatted t).1) c.requires.stands;
       made = λ t. world-formatted g.C.Card.reads c.args.self.now c.args.unit o p c.args.name.now c.args.sig e.alone.cards (Leaves-others (e.any_moment t)) c.requires.sure free (c.in-Ok.ensures.formatted t).0;
+      fresh = λ t. c.in-Ok.ensures.fresh t;
       only = tt;
       moments = λ t command v has formatting makes. anything-moments at.laws c.args.self.now o at.eight (stand-told at t) c.args.unit _ command v _ has formatting makes c.requires.sure (e.any_moment t);
       costs = format-once e.costs e.wears e.alone;
@@ -53,6 +54,7 @@ returns-in-Err g c =
     record {
       stands = λ goes. absurd goes;
       made = λ t. tt;
+      fresh = λ t. tt;
       only = tt;
       moments = λ t command v has formatting makes. anything-moments at.laws c.args.self.now o at.eight (stand-told at t) c.args.unit _ command v _ has formatting makes c.requires.sure (e.any_moment t);
       costs = format-once e.costs e.wears e.alone;
