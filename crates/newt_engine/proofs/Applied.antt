@@ -38,7 +38,7 @@ use Rattle.newt_engine.specs.Calls.{Applied, Fails, FailsHalfway, Finished, Serv
 use Rattle.newt_engine.specs.Laws.{units_kept}
 use Rattle.newt_engine.specs.Standing.{IsStanding, Standing, marks_of, stood_for}
 use Rattle.newt_engine.specs.declared.world.World.{World}
-use Rattle.newt_engine.proofs.Applying.{known-formed, out-apart, quiet-threw, refused-leaves, standing-told, thrown-failed, thrown-known, thrown-standing, thrown-threw}
+use Rattle.newt_engine.proofs.Applying.{known-formed, out-apart, quiet-threw, refused-leaves, standing-told, thrown-broke, thrown-failed, thrown-known, thrown-standing, thrown-threw}
 use Rattle.newt_engine.proofs.Halfway.{lift-halfway}
 use Rattle.newt_engine.proofs.Lifting.{lift-answer, lift-memory}
 use Rattle.newt_engine.proofs.Outcast.{out-settled}
@@ -64,6 +64,7 @@ module _ {C : Type 0} {reads : List ℕ → Option Store} {place : C → ℕ} {s
       shown = λ un quiet. e.shown un;
       open_after = λ t u other. (e.costs t).open_after tt u;
       threw = quiet-threw it o p e.ends.quiet e.alone;
+      broke = λ u h. absurd (both-ways (sym (e.ends.quiet u) ∙ h));
       failed = λ u h. (e.ends.no_fault tt).dev_faults u;
       unhidden = tt;
       later = e.alone.dev_faults;
@@ -118,6 +119,7 @@ module _ {C : Type 0} {reads : List ℕ → Option Store} {place : C → ℕ} {s
       shown = λ un. tt;
       open_after = λ t. tt;
       threw = tt;
+      broke = tt;
       failed = tt;
       unhidden = e.ends.cause.dev_faults;
       later = e.alone.dev_faults;
@@ -146,6 +148,7 @@ module _ {C : Type 0} {reads : List ℕ → Option Store} {place : C → ℕ} {s
       shown = λ un quiet. absurd (both-ways (sym (quiet u) ∙ eq-eqb u u refl));
       open_after = λ t n other. opens t n (λ is. other (ap {B = Reply} (λ k. reply.Thrown k) (sym is)));
       threw = thrown-threw u o p e.alone e.ends.cause;
+      broke = thrown-broke u o p e.ends.cause;
       failed = thrown-failed u o p failed;
       unhidden = tt;
       later = e.alone.dev_faults;

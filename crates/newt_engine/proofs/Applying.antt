@@ -6,7 +6,8 @@ use Rattle.std.specs.Prelude.{IsSome, is_some, Result, Ok, Err, IfErr, IfOk}
 use Rattle.newt_base.specs.Refusals.{first_of}
 use Rattle.newt_base.specs.declared.Refusal.{Refusal}
 use Rattle.newt_host.specs.Moments.{Moment, image}
-use Rattle.newt_host.specs.Outside.{Outside, NoFault, OnDevices, Rose, SameCards}
+use Rattle.newt_host.specs.Outside.{Outside, Broke, NoFault, OnDevices, Rose, SameCards}
+use Rattle.newt_host.proofs.Outside.{Broke-on, Broke-rose}
 use Rattle.newt_pagebook.specs.Stops.{HasStopCause}
 use Rattle.newt_pagebook.specs.declared.book.Stop.TheVariants as stops
 use Rattle.newt_reply.specs.Said.{said}
@@ -34,6 +35,7 @@ use Rattle.newt_engine_units.specs.declared.units.Units.{Units}
 use Rattle.newt_engine_units.proofs.Known.{Laws, at-card, at-none}
 use Rattle.newt_engine_cursors.specs.Fits.{DeskFits}
 use Rattle.newt_engine_cursors.specs.World.{world_with}
+use Rattle.newt_engine.specs.Calls.{ThrownBroke}
 use Rattle.newt_engine.specs.Standing.{Standing}
 use Rattle.newt_engine.proofs.Refusing.{refused_stays}
 use Rattle.newt_engine.proofs.Outcast.{out-settled}
@@ -78,8 +80,12 @@ refused-leaves reads P w c old next it r is turned p =
 pub quiet-threw : (it : Reply) (o p : Outside) → ((u : ℕ) → throws u (said it) ≡ false) → OnDevices o p → Threw (said it) o.dev_faults p.dev_faults
 quiet-threw it o p quiet alone = record { later = alone.dev_faults; rose = λ u h. absurd (both-ways (sym (quiet u) ∙ h)) }
 
-pub thrown-threw : (u : ℕ) (o p : Outside) → OnDevices o p → Rose (o.dev_faults u) (p.dev_faults u) → Threw (plain.Reply.thrown u) o.dev_faults p.dev_faults
-thrown-threw u o p alone rose = record { later = alone.dev_faults; rose = λ n h. subst (λ k. Rose (o.dev_faults k) (p.dev_faults k)) (sym (eqb-true n u h)) rose }
+pub thrown-threw : (u : ℕ) (o p : Outside) → OnDevices o p → Broke u o p → Threw (plain.Reply.thrown u) o.dev_faults p.dev_faults
+thrown-threw u o p alone broke = record { later = alone.dev_faults; rose = λ n h. subst (λ k. Rose (o.dev_faults k) (p.dev_faults k)) (sym (eqb-true n u h)) (Broke-rose broke) }
+
+-- it broke, and no other is named
+pub thrown-broke : (u : ℕ) (o p : Outside) → Broke u o p → ThrownBroke (reply.Thrown u) o p
+thrown-broke u o p broke n h = Broke-on (sym (eqb-true n u h)) broke
 
 pub thrown-failed : (u : ℕ) (o p : Outside) → FailsAlone o p u → Failed (plain.Reply.thrown u) o.dev_faults p.dev_faults
 thrown-failed u o p failed n h = failed.others n (λ is. both-ways (sym h ∙ eq-eqb n u is))

@@ -3,7 +3,7 @@ use Rattle.std.specs.Prelude.{◌≡◌, ◌≢◌, ◌⊎◌, ◌*◌, ℕ, ◌
 use Rattle.newt_base.specs.Refusals.{first_of}
 use Rattle.newt_base.specs.declared.Refusal.{Refusal}
 use Rattle.newt_host.specs.Moments.{Always, changes}
-use Rattle.newt_host.specs.Outside.{Outside, NoFault, OnDevices}
+use Rattle.newt_host.specs.Outside.{Outside, Broke, NoFault, OnDevices}
 use Rattle.newt_laws_steps.specs.StandsFor.{Obeys, seen}
 use Rattle.newt_laws_steps.specs.Thrown.{Failed, Threw}
 use Rattle.newt_reply.specs.Said.{said}
@@ -48,6 +48,10 @@ use Rattle.std.specs.declared.alloc.AllocError.{AllocError}
 -- the reply says of no unit that its device failed
 abbrev pub IsNotThrown : Reply → Type 0
 IsNotThrown it = (u : ℕ) → throws u (said it) ≡ false
+
+-- a unit that the reply says was thrown out broke: one call of it failed, and none came after it
+abbrev pub ThrownBroke : Reply → Outside → Outside → Type 0
+ThrownBroke it before after = (u : ℕ) → throws u (said it) ≡ true → Broke u before after
 
 -- How a command ends: with its cause, and where it goes on, no fault was counted; only what may take
 -- memory ends in want of it, only what uses a device ends at one, and a reply says of no unit that it
@@ -204,7 +208,8 @@ module _ {C : Type 0} (reads : List ℕ → Option Store) where
   -- the entry that it answers, and nothing where it answers none: where the host tells no bytes, by
   -- the reply that is given, and of a cursor that is open. After a reply each bank is not closed or
   -- is as it was, but for a unit that was thrown out. No fault was counted but of a unit that the
-  -- reply says was thrown out, and of that one a fault was; want of memory hides none, and only what
+  -- reply says was thrown out, and of that one just one was, after which it was not called; want of
+  -- memory hides none, and only what
   -- may take memory ends in it; and only what uses a device throws a unit out.
   pub record Finished (told : Bool) (command : Command) (old : World C) (before after : Outside) (result : Result Reply AllocError) : Type 0 where
     pub alone : OnDevices before after
@@ -218,6 +223,7 @@ module _ {C : Type 0} (reads : List ℕ → Option Store) where
         → IfOk result (λ it. IsNotThrown it → FetchesShown (said it) before after)
     pub open_after : IsTrue told → IfOk result (λ it. (u : ℕ) → it ≢ reply.Thrown u → IsOpenOrSame u before.now after.now)
     pub threw : IfOk result (λ it. Threw (said it) before.dev_faults after.dev_faults)
+    pub broke : IfOk result (λ it. ThrownBroke it before after)
     pub failed : IfOk result (λ it. Failed (said it) before.dev_faults after.dev_faults)
     pub unhidden : OnErr result ((u : ℕ) → after.dev_faults u ≡ before.dev_faults u)
     pub later : (u : ℕ) → before.dev_faults u ≤ after.dev_faults u

@@ -2,7 +2,7 @@
 use Rattle.std.specs.Prelude.{◌≡◌, ◌+◌, ◌*◌, ℕ, Bool, IsTrue, List, Option, Some, None, IsSome, Result, OnOk, IfOk, IfErr, IsErrOf}
 use Rattle.newt_base.specs.Refusals.{first_of}
 use Rattle.newt_host.specs.Moments.{image, IsDurable, Leaves, Anything}
-use Rattle.newt_host.specs.Outside.{Outside, NoFault, OnlyReads, Rose, Spends, Touches, Wears}
+use Rattle.newt_host.specs.Outside.{Outside, Broke, NoFault, OnlyReads, Spends, Touches, Wears}
 use Rattle.newt_spec_image.specs.Records.{bank_blocks}
 use Rattle.newt_pagebook.specs.Book.{IsOpenFor, format_bytes}
 use Rattle.newt_pagebook.specs.Stops.{BlamesNone, StopsAt}
@@ -49,7 +49,7 @@ module _ {C : Type 0} (reads : List ℕ → Option Store) (place : C → ℕ) (s
     pub place_is : IfOk result (λ card. place card ≡ unit)
     pub not_store : IsErrOf result NotStore → IsTrue told → reads (image unit before.now) ≡ None
     pub looks : OnlyReads unit before after
-    pub cause : IsErrOf result DeviceFault → Rose (before.dev_faults unit) (after.dev_faults unit)
+    pub cause : IsErrOf result DeviceFault → Broke unit before after
     pub no_fault : BlamesNone result → NoFault before after
 
   -- A change at a minute: it makes of the unit's store what it makes of the plain store, and answers so, or is refused by the first of its refusals, and then

@@ -6,7 +6,8 @@ use Rattle.std.proofs.lemmas.Bool.{eq-eqb}
 use Rattle.std.proofs.lemmas.Option.{slice_get_read, slice_get_within}
 use Rattle.newt_base.specs.Refusals.{Checks, first_of}
 use Rattle.newt_host.specs.Moments.{changes, image, Always, IsDurable, Leaves}
-use Rattle.newt_host.specs.Outside.{Outside, NoFault, OnlyReads, Touches, Rose, OnDevices, Spends}
+use Rattle.newt_host.specs.Outside.{Outside, NoFault, OnlyReads, Touches, OnDevices, Spends}
+use Rattle.newt_host.proofs.Outside.{Broke-on}
 use Rattle.newt_pagebook.specs.Book.{IsOpenFor, IsSameFor}
 use Rattle.newt_pagebook.specs.Stops.{BlamesNone, StopsAt, HasStopCause}
 use Rattle.newt_pagebook.specs.declared.book.BookFault.{BookFault}
@@ -81,12 +82,12 @@ pub cause-of : {T : Type 0} (u : ℕ) (o p : Outside) (result : Result T StoreFa
 cause-of u o p (Ok x) h = h
 cause-of u o p (Err (Refused refusal)) h = tt
 cause-of u o p (Err (Stop stops.Memory)) h = h
-cause-of u o p (Err (Stop (stops.Device at))) h = subst (λ k. Rose (o.dev_faults k) (p.dev_faults k)) (sym h.0) h.1
+cause-of u o p (Err (Stop (stops.Device at))) h = Broke-on (sym h.0) h.1
 
 pub stop-cause : {T : Type 0} (u : ℕ) (o p : Outside) (result : Result T Ends) → IfErr result (StopsAt u o p) → IfErr result (λ stop. HasStopCause stop o p)
 stop-cause u o p (Ok x) h = h
 stop-cause u o p (Err stops.Memory) h = h
-stop-cause u o p (Err (stops.Device at)) h = subst (λ k. Rose (o.dev_faults k) (p.dev_faults k)) (sym h.0) h.1
+stop-cause u o p (Err (stops.Device at)) h = Broke-on (sym h.0) h.1
 
 -- no device has fewer faults
 pub on-devices : {u : ℕ} {o p : Outside} → Touches u o p → OnDevices o p

@@ -3,8 +3,8 @@ use Rattle.std.proofs.Common.{◌≡◌, refl, ap, sym, ◌∙◌, subst, ℕ, L
 use Rattle.std.specs.Prelude.{Result, Ok, Err, IfErr}
 use Rattle.newt_base.specs.Refusals.{Checks}
 use Rattle.newt_host.specs.Moments.{changes}
-use Rattle.newt_host.specs.Outside.{Outside, NoFault, Rose}
-use Rattle.newt_host.proofs.Outside.{NoFault-append, NoFault-refl, OnDevices-append, OnDevices-refl}
+use Rattle.newt_host.specs.Outside.{Outside, NoFault}
+use Rattle.newt_host.proofs.Outside.{Broke-since, NoFault-append, NoFault-refl, OnDevices-append, OnDevices-refl}
 use Rattle.newt_path.specs.declared.fault.SetFault.{SetFault}
 use Rattle.newt_path.specs.declared.fault.SetFault.TheVariants as put
 use Rattle.newt_pagebook.specs.declared.book.Stop.TheVariants.{Memory, Device}
@@ -78,10 +78,7 @@ pub cause-after : {T : Type 0} (result : Result T StoreFault) {o m : Outside} (p
 cause-after (Ok x) p before h = tt
 cause-after (Err (Refused refusal)) p before h = tt
 cause-after (Err (Stop Memory)) p before h = NoFault-append before h
-cause-after (Err (Stop (Device unit))) {o} {m} p before h = go (o.dev_faults unit) (m.dev_faults unit) (p.dev_faults unit) (before.dev_faults unit) h
-  where
-    go : (a b c : ℕ) → b ≡ a → Rose b c → Rose a c
-    go a b c same rose = omega (arith, same, rose)
+cause-after (Err (Stop (Device unit))) {o} {m} p before h = Broke-since (before.dev_faults unit) h
 
 -- a call that did nothing
 pub none-ends : {T : Type 0} {o : Outside} (result : Result T StoreFault) → IfErr result (λ fault. NoDevice fault) → Ended result o o

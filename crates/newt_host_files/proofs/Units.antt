@@ -1,10 +1,10 @@
 -- One unit of several changes.
-use Rattle.std.proofs.Common.{◌≡◌, ◌≢◌, ℕ, zero, suc, ◌+◌, ◌<◌, ◌≤◌, false, List, [], ◌∷◌, length, get_or, Option, Some, None, IsSome, option_map, Result, slice_get, slice_set, refl, sym, ◌∙◌, ap, subst, arith}
+use Rattle.std.proofs.Common.{◌≡◌, ◌≢◌, ℕ, zero, suc, ◌+◌, ◌<◌, ◌≤◌, false, List, [], ◌∷◌, length, get_or, Option, Some, None, IsSome, option_map, IsFalse, Result, Ok, Err, OnOk, slice_get, slice_set, refl, sym, ◌∙◌, ap, subst, arith}
 use Rattle.std.proofs.lemmas.Bool.{false≢true}
 use Rattle.std.proofs.lemmas.Option.{get_or_from_slice_get}
 use Rattle.std.proofs.Math.ListN.{length-set}
-use Rattle.newt_host.specs.Outside.{AttachCall, Attaches, Counted, SameCards, Touches, UnitCall, Work}
-use Rattle.newt_host_files.specs.Cards.{HasFile, OnCard, SameCard, name_of, blocks_of, faults_of, programmed_of, fetched_of, erased_of, synced_of}
+use Rattle.newt_host.specs.Outside.{AttachCall, Attaches, SameCards, StopsAtFault, Touches, UnitCall, Work}
+use Rattle.newt_host_files.specs.Cards.{CardStops, HasFile, OnCard, SameCard, name_of, blocks_of, faults_of, programmed_of, fetched_of, erased_of, synced_of, broken_of}
 use Rattle.newt_host_files.specs.Laws.{untold}
 use Rattle.newt_host_files.specs.Outside.{told_by}
 use Rattle.newt_host_files.specs.declared.card.Card.{Card}
@@ -80,9 +80,23 @@ module _ (cards : List Card) (i unit : ℕ) (b c : Card) (same : i ≡ unit) (is
   count-most : (g : Option Card → ℕ) (more : ℕ) → g (Some c) ≤ g (Some b) + more → g (slice_get (slice_set cards i c) unit) ≤ g (slice_get cards unit) + more
   count-most g more most = omega (arith, most, ap g at-old, ap g at-new)
 
-  faults-at : {T E : Type 0} (r : Result T E) → Counted r b.faults c.faults → Counted r (faults_of (slice_get cards unit)) (faults_of (slice_get (slice_set cards i c) unit))
-  faults-at r counted = subst (λ (o : Option Card). Counted r (faults_of o) (faults_of (slice_get (slice_set cards i c) unit))) (sym at-old)
-      (subst (λ (o : Option Card). Counted r b.faults (faults_of o)) (sym at-new) counted)
+  broken-at : c.broken ≡ broken_of (slice_get (slice_set cards i c) unit)
+  broken-at = sym (ap broken_of at-new)
+
+  stops-at : {T E : Type 0} (r : Result T E) → CardStops r b c → (in_faults out_faults : ℕ) → StopsAtFault unit r (told_by cards in_faults out_faults) (told_by (slice_set cards i c) in_faults out_faults)
+      × OnOk r (IsFalse (broken_of (slice_get (slice_set cards i c) unit)))
+  stops-at (Ok x) stops in_faults out_faults = (
+    record { later = count-later faults_of stops.later; cause = tt; no_fault = ap faults_of at-new ∙ stops.no_fault ∙ ap faults_of (sym at-old) },
+    sym broken-at ∙ stops.broken,
+  )
+  stops-at (Err e) stops in_faults out_faults = (
+    record {
+      later = count-later faults_of stops.later;
+      cause = record { count = omega (arith, stops.cause, ap faults_of at-old, ap faults_of at-new); last = sym broken-at ∙ stops.broken };
+      no_fault = tt;
+    },
+    tt,
+  )
 
   module _ {work : Work} (on : OnCard work b c) (in_faults out_faults : ℕ) where
     touches : Touches unit (told_by cards in_faults out_faults) (told_by (slice_set cards i c) in_faults out_faults)
@@ -101,6 +115,7 @@ module _ (cards : List Card) (i unit : ℕ) (b c : Card) (same : i ≡ unit) (is
         fetched = elsewhere fetched_of u other;
         erased = elsewhere erased_of u other;
         synced = elsewhere synced_of u other;
+        broken = elsewhere broken_of u other;
       };
       faults_later = count-later faults_of on.faults;
       later = record {
@@ -112,8 +127,8 @@ module _ (cards : List Card) (i unit : ℕ) (b c : Card) (same : i ≡ unit) (is
     }
 
     -- what every call on a unit promises
-    pub unit-call : {T E : Type 0} (r : Result T E) → Counted r b.faults c.faults → UnitCall unit work r (told_by cards in_faults out_faults) (told_by (slice_set cards i c) in_faults out_faults)
-    unit-call r counted = record {
+    pub unit-call : {T E : Type 0} (r : Result T E) → CardStops r b c → UnitCall unit work r (told_by cards in_faults out_faults) (told_by (slice_set cards i c) in_faults out_faults)
+    unit-call r stops = record {
       alone = touches;
       costs = record {
         programmed = count-most programmed_of work.programs on.programmed_most;
@@ -123,7 +138,8 @@ module _ (cards : List Card) (i unit : ℕ) (b c : Card) (same : i ≡ unit) (is
         erased = count-most erased_of work.erases on.erased_most;
         synced = count-most synced_of work.syncs on.synced_most;
       };
-      faults = faults-at r counted;
+      faults = (stops-at r stops in_faults out_faults).0;
+      answered = (stops-at r stops in_faults out_faults).1;
     }
 
   module _ (name : List ℕ) (has : HasFile name c) (in_faults out_faults : ℕ) where
@@ -147,6 +163,7 @@ module _ (cards : List Card) (i unit : ℕ) (b c : Card) (same : i ≡ unit) (is
         fetched = same-field fetched_of b c same.fetched cards i is u;
         erased = same-field erased_of b c same.erased cards i is u;
         synced = same-field synced_of b c same.synced cards i is u;
+        broken = same-field broken_of b c same.broken cards i is u;
       };
     };
     in_faults = refl;

@@ -1,5 +1,5 @@
 -- What the units tell.
-use Rattle.std.specs.Prelude.{◌≡◌, ℕ, ◌+◌, ◌≤◌, List, Option, Some, None, IsSome, option_map}
+use Rattle.std.specs.Prelude.{◌≡◌, ℕ, ◌+◌, ◌-◌, ◌^◌, ◌≤◌, min, Bool, false, List, Option, Some, None, IsSome, option_map, Result, OnOk, OnErr, is_err}
 use Rattle.newt_host.specs.Outside.{Work}
 use Rattle.newt_host_files.specs.declared.card.Card.{Card}
 
@@ -38,6 +38,11 @@ abbrev pub synced_of : Option Card → ℕ
 synced_of None = 0
 synced_of (Some c) = c.synced
 
+-- whether its last call failed
+abbrev pub broken_of : Option Card → Bool
+broken_of None = false
+broken_of (Some c) = c.broken
+
 -- A call on a unit leaves its file open. No count falls, and none rises by more than what was to be
 -- done.
 pub record OnCard (work : Work) (old new : Card) : Type 0 where
@@ -54,15 +59,23 @@ pub record OnCard (work : Work) (old new : Card) : Type 0 where
   pub synced : old.synced ≤ new.synced
   pub synced_most : new.synced ≤ old.synced + work.syncs
 
+-- With an error one fault more is counted, and with an answer none; and whether it failed is kept.
+pub record CardStops {T E : Type 0} (result : Result T E) (old new : Card) : Type 0 where
+  pub later : old.faults ≤ new.faults
+  pub cause : OnErr result (new.faults ≡ min (old.faults + 1) (2 ^ 64 - 1))
+  pub no_fault : OnOk result (new.faults ≡ old.faults)
+  pub broken : new.broken ≡ is_err result
+
 -- the unit has an open file, which has this name
 pub record HasFile (named : List ℕ) (card : Card) : Type 0 where
   pub file : IsSome card.file
   pub name : card.name.items ≡ named
 
--- the counts are as they were
+-- the counts are as they were, and whether the last call failed
 pub record SameCard (old new : Card) : Type 0 where
   pub faults : new.faults ≡ old.faults
   pub programmed : new.programmed ≡ old.programmed
   pub fetched : new.fetched ≡ old.fetched
   pub erased : new.erased ≡ old.erased
   pub synced : new.synced ≡ old.synced
+  pub broken : new.broken ≡ old.broken

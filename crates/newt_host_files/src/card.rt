@@ -1,5 +1,5 @@
 //! What is kept of a unit.
-ghost use Rattle.std.specs.Prelude.{◌≡◌, ◌≤◌, ◌+◌, ◌<◌, ◌^◌, None, IfOk, vec_capacity};
+ghost use Rattle.std.specs.Prelude.{◌≡◌, ◌≤◌, ◌+◌, ◌-◌, ◌<◌, ◌^◌, min, None, IfOk, vec_capacity};
 ghost use Rattle.newt_host.specs.Outside.{Rose};
 
 use std::alloc::{AllocError, Global};
@@ -10,8 +10,8 @@ pub(crate) const MOST_NAME: usize = 4095;
 
 /// A unit: its open file, which it has while it is attached, the name of it, its whole blocks of
 /// 4,096 bytes, and its counts: of faults, of bytes that it was to program and to fetch, of blocks
-/// that it was to erase, and of syncs. Without a file it has no blocks. It has room for any name,
-/// so that an attach takes no memory.
+/// that it was to erase, and of syncs; and whether its last call failed. Without a file it has no
+/// blocks. It has room for any name, so that an attach takes no memory.
 #[derive(Drop)]
 pub(crate) struct Card {
     pub file: Option<File>,
@@ -22,6 +22,7 @@ pub(crate) struct Card {
     pub fetched: u64,
     pub erased: u64,
     pub synced: u64,
+    pub broken: bool,
     ghost free: { file ≡ None → blocks ≡ 0 },
     ghost few: { blocks < 2 ^ 32 },
     ghost room: { 4095 ≤ vec_capacity name },
@@ -41,6 +42,7 @@ impl Card {
             fetched: 0,
             erased: 0,
             synced: 0,
+            broken: false,
         })
     }
 }
@@ -48,7 +50,7 @@ impl Card {
 /// Another fault. The count stays at its last value.
 pub(crate) fn count(faults: &mut u64)
     ensures rose { Rose faults.old faults.new }
-    ensures one { faults.old + 1 < 2 ^ 64 → faults.new ≡ faults.old + 1 }
+    ensures one { faults.new ≡ min (faults.old + 1) (2 ^ 64 - 1) }
     ensures later { faults.old ≤ faults.new }
 {
     *faults = faults.saturating_add(1);

@@ -1,7 +1,7 @@
 //! The counts of a unit.
 ghost use Rattle.std.specs.Prelude.{◌≡◌, ◌+◌, ◌<◌, ◌^◌, IsTrue, IsFalse, OnOk, OnErr};
-ghost use Rattle.newt_host.specs.Outside.{Counted, fetching, one_erase, one_sync, programming};
-ghost use Rattle.newt_host_files.specs.Cards.{OnCard};
+ghost use Rattle.newt_host.specs.Outside.{fetching, one_erase, one_sync, programming};
+ghost use Rattle.newt_host_files.specs.Cards.{CardStops, OnCard};
 
 use crate::card::{Card, count};
 use newt_host::Failed;
@@ -9,10 +9,11 @@ use newt_host::Failed;
 // A call on the unit was done, or is another fault.
 fn touched(card: &mut Card, done: bool) -> Result<(), Failed>
     ensures card { OnCard (fetching 0) card.old card.new }
-    ensures faults { Counted result card.old.faults card.new.faults }
+    ensures faults { CardStops result card.old card.new }
     ensures done { IsTrue done → OnErr result ⊥ }
     ensures failed { IsFalse done → OnOk result ⊥ }
 {
+    card.broken = !done;
     if !done {
         count(&mut card.faults);
         return Err(Failed);
@@ -23,7 +24,7 @@ fn touched(card: &mut Card, done: bool) -> Result<(), Failed>
 /// The call was to fetch so many bytes: it was done, or is another fault.
 pub(crate) fn fetched(card: &mut Card, bytes: u64, done: bool) -> Result<(), Failed>
     ensures card { OnCard (fetching bytes) card.old card.new }
-    ensures faults { Counted result card.old.faults card.new.faults }
+    ensures faults { CardStops result card.old card.new }
     ensures done { IsTrue done → OnErr result ⊥ }
     ensures failed { IsFalse done → OnOk result ⊥ }
     ensures count { card.old.fetched + bytes < 2 ^ 64
@@ -36,7 +37,7 @@ pub(crate) fn fetched(card: &mut Card, bytes: u64, done: bool) -> Result<(), Fai
 /// The same of one that was to program so many bytes.
 pub(crate) fn programmed(card: &mut Card, bytes: u64, done: bool) -> Result<(), Failed>
     ensures card { OnCard (programming bytes) card.old card.new }
-    ensures faults { Counted result card.old.faults card.new.faults }
+    ensures faults { CardStops result card.old card.new }
     ensures done { IsTrue done → OnErr result ⊥ }
     ensures failed { IsFalse done → OnOk result ⊥ }
     ensures count { card.old.programmed + bytes < 2 ^ 64
@@ -49,7 +50,7 @@ pub(crate) fn programmed(card: &mut Card, bytes: u64, done: bool) -> Result<(), 
 /// The same of one that was to erase a block.
 pub(crate) fn erased(card: &mut Card, done: bool) -> Result<(), Failed>
     ensures card { OnCard one_erase card.old card.new }
-    ensures faults { Counted result card.old.faults card.new.faults }
+    ensures faults { CardStops result card.old card.new }
     ensures done { IsTrue done → OnErr result ⊥ }
     ensures failed { IsFalse done → OnOk result ⊥ }
     ensures count { card.old.erased + 1 < 2 ^ 64 → card.new.erased ≡ card.old.erased + 1 }
@@ -61,7 +62,7 @@ pub(crate) fn erased(card: &mut Card, done: bool) -> Result<(), Failed>
 /// The same of a sync.
 pub(crate) fn synced(card: &mut Card, done: bool) -> Result<(), Failed>
     ensures card { OnCard one_sync card.old card.new }
-    ensures faults { Counted result card.old.faults card.new.faults }
+    ensures faults { CardStops result card.old card.new }
     ensures done { IsTrue done → OnErr result ⊥ }
     ensures failed { IsFalse done → OnOk result ⊥ }
     ensures count { card.old.synced + 1 < 2 ^ 64 → card.new.synced ≡ card.old.synced + 1 }

@@ -4,7 +4,7 @@ use Rattle.std.specs.Prelude.{IsErr}
 use Rattle.std.proofs.lemmas.Bool.{false≢true}
 use Rattle.std.proofs.lemmas.Bool.Decides.{nat_tests}
 use Rattle.newt_host.specs.Moments.{Leaves}
-use Rattle.newt_host.specs.Outside.{Outside, Counted, Rose, Spends, Touches, UnitCall, Wears, Work}
+use Rattle.newt_host.specs.Outside.{Outside, Spends, Touches, UnitCall, Wears, Work}
 use Rattle.newt_host.proofs.Outside.{Touches-append, Spends-append, Spends-widen, Wears-append, Wears-widen}
 use Rattle.newt_journal.specs.Calls.{Programs, Reads}
 
@@ -42,16 +42,3 @@ pub widen-by : {unit p f e s : ℕ} {a b : Outside} → Did unit p f e s a b →
     → Did unit programs fetches erases syncs a b
 widen-by {p = p} {f = f} {e = e} {s = s} x programs fetches erases syncs low few rare calm =
     record { alone = x.alone; costs = Spends-widen p f programs fetches low few x.costs; wears = Wears-widen e s erases syncs rare calm x.wears }
-
--- An error of the last call is counted, and no call before it counted one.
-pub counted-err : {T E U F : Type 0} {was : Result U F} (r : Result T E) {x y z : ℕ} → IsErr r → y ≡ x → Counted was y z → Rose y z → Counted r x z
-counted-err (Ok v) is same counted rose = absurd (false≢true is)
-counted-err (Err e) {z = z} is same counted rose = record {
-  later = omega (arith, same, counted.later);
-  cause = subst (λ n. Rose n z) same rose;
-  no_fault = tt;
-}
-
--- no call counted one
-pub counted-ok : {T E : Type 0} {x z : ℕ} (value : T) → z ≡ x → Counted {T = T} {E = E} (Ok value) x z
-counted-ok value same = record { later = omega (arith, same); cause = tt; no_fault = same }

@@ -1,7 +1,8 @@
 -- An opening of a journal reads so much at most.
 use Rattle.std.proofs.Common.{◌≡◌, ◌+◌, ◌-◌, ◌≤◌, ℕ, Result, Ok, Err, sym, ap, ◌∙◌, subst, arith}
 use Rattle.std.specs.Prelude.{IsErrAnd}
-use Rattle.newt_host.specs.Outside.{Outside, Rose}
+use Rattle.newt_host.specs.Outside.{Broke, Outside}
+use Rattle.newt_host.proofs.Outside.{Broke-since}
 use Rattle.newt_spec_image.specs.Records.{bank_size}
 use Rattle.newt_journal.specs.Bank.{start_of, limit_of}
 use Rattle.newt_journal.specs.Calls.{OpensJournal}
@@ -11,16 +12,16 @@ use Rattle.newt_journal.specs.declared.fault.JournalFault.TheVariants.{NotStore,
 use Rattle.newt_journal.proofs.Adding.{Did}
 
 -- a fault of the device is counted
-pub opens-fault : {T : Type 0} (r : Result T JournalFault) {unit f x : ℕ} {a b : Outside} → IsErrAnd r (λ e. e ≡ Device) → b.now ≡ a.now → Did unit 0 f 0 0 a b → (most : ℕ) → f ≤ most
-    → x ≡ a.dev_faults unit → Rose x (b.dev_faults unit) → OpensJournal unit most r a b
-opens-fault (Ok journal) is now did most few same rose = absurd is
-opens-fault (Err NotStore) is now did most few same rose = absurd (cc)
-opens-fault (Err Device) {unit = unit} {f = f} {a = a} {b = b} is now did most few same rose = record {
+pub opens-fault : {T : Type 0} (r : Result T JournalFault) {unit f : ℕ} {a m b : Outside} → IsErrAnd r (λ e. e ≡ Device) → b.now ≡ a.now → Did unit 0 f 0 0 a b → (most : ℕ) → f ≤ most
+    → m.dev_faults unit ≡ a.dev_faults unit → Broke unit m b → OpensJournal unit most r a b
+opens-fault (Ok journal) is now did most few same broke = absurd is
+opens-fault (Err NotStore) is now did most few same broke = absurd (cc)
+opens-fault (Err Device) is now did most few same broke = record {
   moment = now;
   alone = did.alone;
   costs = record { programmed = did.costs.programmed; fetched = omega (arith, did.costs.fetched, few) };
   wears = did.wears;
-  cause = λ e. subst (λ n. Rose n (b.dev_faults unit)) same rose;
+  cause = λ e. Broke-since same broke;
   no_fault = λ e. absurd e;
 }
 

@@ -1,7 +1,7 @@
 -- What calls on a unit promise beside their own effect. All of it is this project's own.
 use Rattle.std.specs.Prelude.{◌≡◌, ◌≤◌, ℕ, ◌*◌, Bool, IsTrue, List, Result, Ok, Err, IsErrOf}
 use Rattle.newt_host.specs.Moments.{IsDurable, Leaves}
-use Rattle.newt_host.specs.Outside.{Outside, Counted, HasBlocks, Rose, Spends, Touches, Wears, Work}
+use Rattle.newt_host.specs.Outside.{Outside, Broke, HasBlocks, Spends, StopsAtFault, Touches, Wears, Work}
 use Rattle.newt_journal.specs.declared.fault.JournalFault.{JournalFault}
 use Rattle.newt_journal.specs.declared.fault.JournalFault.TheVariants.{NotStore, Device}
 
@@ -41,24 +41,24 @@ pub record IsWithin (unit : ℕ) (work : Work) (old new : Outside) : Type 0 wher
   pub wears : Wears unit work.erases work.syncs old new
 
 -- A call that reads: nothing happens, at most so many bytes are fetched, nothing is erased or
--- synced, nothing else is touched, and a fault is counted and told.
+-- synced, nothing else is touched, and it stops at a fault and tells it.
 pub record Reads {T E : Type 0} (unit fetches : ℕ) (result : Result T E) (old new : Outside)
     : Type 0 where
   pub moment : new.now ≡ old.now
   pub alone : Touches unit old new
   pub costs : Spends unit 0 fetches old new
   pub wears : Wears unit 0 0 old new
-  pub faults : Counted result (old.dev_faults unit) (new.dev_faults unit)
+  pub faults : StopsAtFault unit result old new
 
 -- A call that writes: whenever it is cut off, a crash leaves one of these images, at most so much
--- is done to the unit, nothing else is touched, and a fault is counted and told.
+-- is done to the unit, nothing else is touched, and it stops at a fault and tells it.
 pub record Programs {T E : Type 0} (told : Bool) (unit : ℕ) (work : Work) (leaves : List ℕ → Type 0)
     (result : Result T E) (old new : Outside) : Type 0 where
   pub any_moment : IsTrue told → Leaves unit leaves old.now new.now
   pub alone : Touches unit old new
   pub costs : Spends unit work.programs work.fetches old new
   pub wears : Wears unit work.erases work.syncs old new
-  pub faults : Counted result (old.dev_faults unit) (new.dev_faults unit)
+  pub faults : StopsAtFault unit result old new
 
 -- a journal was opened, or the image holds none: the answer is no end of the run
 abbrev pub IsOpening : {T : Type 0} → Result T JournalFault → Type 0
@@ -66,12 +66,12 @@ IsOpening (Ok journal) = Unit {0}
 IsOpening (Err NotStore) = Unit {0}
 IsOpening (Err Device) = ⊥
 
--- An opening of a journal reads, and a fault is counted and told.
+-- An opening of a journal reads, and it stops at a fault and tells it.
 pub record OpensJournal {T : Type 0} (unit fetches : ℕ) (result : Result T JournalFault)
     (old new : Outside) : Type 0 where
   pub moment : new.now ≡ old.now
   pub alone : Touches unit old new
   pub costs : Spends unit 0 fetches old new
   pub wears : Wears unit 0 0 old new
-  pub cause : IsErrOf result Device → Rose (old.dev_faults unit) (new.dev_faults unit)
+  pub cause : IsErrOf result Device → Broke unit old new
   pub no_fault : IsOpening result → new.dev_faults unit ≡ old.dev_faults unit

@@ -1,15 +1,15 @@
 -- One card of several changes.
-use Rattle.std.proofs.Common.{◌≡◌, ◌≢◌, inl, inr, ℕ, zero, suc, ◌+◌, ◌*◌, ◌/◌, ◌<◌, ◌≤◌, ◌&&◌, Bool, true, false, cond, List, [], ◌∷◌, length, get_or, Option, Some, None, IsSome, is_some, Result, Ok, Err, OnErr, slice_get, slice_set, refl, sym, ◌∙◌, ap, subst, arith}
+use Rattle.std.proofs.Common.{◌≡◌, ◌≢◌, inl, inr, ℕ, zero, suc, ◌+◌, ◌*◌, ◌/◌, ◌<◌, ◌≤◌, ◌&&◌, Bool, true, false, cond, List, [], ◌∷◌, length, get_or, Option, Some, None, IsSome, is_some, IsFalse, Result, Ok, Err, is_err, OnOk, OnErr, slice_get, slice_set, refl, sym, ◌∙◌, ap, subst, arith}
 use Rattle.std.proofs.lemmas.Bool.{cases_eq, false≢true}
 use Rattle.std.proofs.lemmas.Option.{same_Some, get_or_from_slice_get, slice_get-get_or}
 use Rattle.std.proofs.Math.ListN.{length-set}
 use Rattle.std.specs.Str.{bytes_eq}
 use Rattle.newt_host.specs.Moments.{Change, Attached, Wrote, Synced, On, Moment, bytes_after, changes, output, IsHistory}
-use Rattle.newt_host.specs.Outside.{Outside, Counted, Rose, Touches, UnitCall, Work, Writes, Syncs}
+use Rattle.newt_host.specs.Outside.{Outside, Rose, StopsAtFault, Touches, UnitCall, Work, Writes, Syncs}
 use Rattle.newt_host.proofs.Moments.{changes-same, changes-other}
 use Rattle.newt_memhost.specs.Calls.{OnCard, faults_after, moved_after, raised, worn}
 use Rattle.newt_memhost.specs.Room.{IsCounted}
-use Rattle.newt_memhost.specs.Cards.{IsTold, Stands, StandsAs, name_of, blocks_of, faults_of, programmed_of, fetched_of, erased_of, synced_of, attached_device, free_device, or_else, device_of}
+use Rattle.newt_memhost.specs.Cards.{IsTold, Stands, StandsAs, name_of, blocks_of, faults_of, programmed_of, fetched_of, erased_of, synced_of, broken_of, attached_device, free_device, or_else, device_of}
 use Rattle.newt_memhost.specs.declared.card.Card.{Card}
 use Rattle.newt_memhost.specs.declared.card.Device.{Device}
 
@@ -28,6 +28,7 @@ told-by cs now input shelf in_faults out_faults = record {
   fetched = λ u. fetched_of (slice_get cs u);
   erased = λ u. erased_of (slice_get cs u);
   synced = λ u. synced_of (slice_get cs u);
+  broken = λ u. broken_of (slice_get cs u);
 }
 
 pub get-set-same : (cards : List Card) (i : ℕ) (b c : Card) → slice_get cards i ≡ Some b → slice_get (slice_set cards i c) i ≡ Some c
@@ -145,9 +146,10 @@ pub rises : (before now : ℕ) → now ≡ raised 1 before → Rose before now
 rises before now is = omega (arith, is)
 
 -- with an error a fault is counted, and with an answer none
-pub counted-fault : {T E : Type 0} (r : Result T E) (before now : ℕ) → before ≤ now → now ≡ faults_after r before → Counted r before now
-counted-fault (Ok x) before now later is = record { later = later; cause = tt; no_fault = is }
-counted-fault (Err e) before now later is = record { later = later; cause = rises before now is; no_fault = tt }
+pub stops-there : {T E : Type 0} (r : Result T E) (unit : ℕ) (old new : Outside) → old.dev_faults unit ≤ new.dev_faults unit → new.dev_faults unit ≡ faults_after r (old.dev_faults unit) → new.broken unit ≡ is_err r
+    → StopsAtFault unit r old new × OnOk r (IsFalse (new.broken unit))
+stops-there (Ok x) unit old new later is broken = (record { later = later; cause = tt; no_fault = is }, broken)
+stops-there (Err e) unit old new later is broken = (record { later = later; cause = record { count = is; last = broken }; no_fault = tt }, tt)
 
 module _ (cards : List Card) (i unit : ℕ) (b c : Card) (same : i ≡ unit) (is : slice_get cards i ≡ Some b) where
   at-old : slice_get cards unit ≡ Some b
@@ -255,6 +257,7 @@ module _ (cards : List Card) (i unit : ℕ) (b c : Card) (same : i ≡ unit) (is
           fetched = elsewhere fetched_of u other;
           erased = elsewhere erased_of u other;
           synced = elsewhere synced_of u other;
+          broken = elsewhere broken_of u other;
         };
         faults_later = count-later faults_of on.faults;
         later = record {
@@ -264,6 +267,9 @@ module _ (cards : List Card) (i unit : ℕ) (b c : Card) (same : i ≡ unit) (is
           synced = count-later synced_of on.synced;
         };
       }
+
+      stops : StopsAtFault unit result (told-by cards old_now input shelf in_faults out_faults) (told-by (slice_set cards i c) now input shelf in_faults out_faults) × OnOk result (IsFalse (broken_of (slice_get (slice_set cards i c) unit)))
+      stops = stops-there result unit _ _ (count-later faults_of on.faults) (count-is faults_of (faults_after result) on.faults_are) (ap broken_of at-new ∙ on.broken_is)
 
       -- what every call on a unit promises
       pub unit-call : UnitCall unit work result (told-by cards old_now input shelf in_faults out_faults) (told-by (slice_set cards i c) now input shelf in_faults out_faults)
@@ -277,7 +283,8 @@ module _ (cards : List Card) (i unit : ℕ) (b c : Card) (same : i ≡ unit) (is
           erased = count-most erased_of work.erases (omega (arith, on.erased_is, worn-most work.erases b.erased));
           synced = count-most synced_of work.syncs (omega (arith, on.synced_is, worn-most work.syncs b.synced));
         };
-        faults = counted-fault result _ _ (count-later faults_of on.faults) (count-is faults_of (faults_after result) on.faults_are);
+        faults = stops.0;
+        answered = stops.1;
       }
 
       pub counted : IsCounted unit work result (told-by cards old_now input shelf in_faults out_faults) (told-by (slice_set cards i c) now input shelf in_faults out_faults)

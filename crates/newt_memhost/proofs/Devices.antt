@@ -6,7 +6,7 @@ use Rattle.std.proofs.lemmas.Option.{same_Some}
 use Rattle.std.proofs.lemmas.Slice.Eq.{bytes_eq-Decides}
 use Rattle.std.specs.Str.{bytes_eq}
 use Rattle.newt_memhost.specs.Calls.{HasMoved, IsPlaceOf}
-use Rattle.newt_memhost.specs.Cards.{name_of, blocks_of, faults_of, programmed_of, fetched_of, erased_of, synced_of, attached_device, free_device, or_else, device_of}
+use Rattle.newt_memhost.specs.Cards.{name_of, blocks_of, faults_of, programmed_of, fetched_of, erased_of, synced_of, broken_of, attached_device, free_device, or_else, device_of}
 use Rattle.newt_host.specs.Moments.{Attached, On, Moment}
 use Rattle.newt_host.specs.Outside.{AttachCall, Attaches}
 use Rattle.newt_memhost.proofs.Cards.{told-by, get-set-same, get-set-other, same-field}
@@ -126,6 +126,7 @@ module _ (name : List ℕ) (cards : List Card) (shelf left : List Device) (i uni
           fetched = same-field fetched_of b c moved.fetched cards i is u;
           erased = same-field erased_of b c moved.erased cards i is u;
           synced = same-field synced_of b c moved.synced cards i is u;
+          broken = same-field broken_of b c moved.broken cards i is u;
         };
       };
       in_faults = refl;

@@ -3,7 +3,7 @@ use Rattle.std.proofs.Common.{◌≡◌, ℕ, List, refl, ap}
 use Rattle.std.specs.Prelude.{slice_get}
 use Rattle.newt_host.specs.Moments.{Moment}
 use Rattle.newt_host.specs.Outside.{SameCounts, SameCards}
-use Rattle.newt_memhost.specs.Cards.{name_of, faults_of, programmed_of, fetched_of, erased_of, synced_of}
+use Rattle.newt_memhost.specs.Cards.{name_of, faults_of, programmed_of, fetched_of, erased_of, synced_of, broken_of}
 use Rattle.newt_memhost.specs.Log.{SamePast}
 use Rattle.newt_memhost.specs.Room.{SetsUp}
 use Rattle.newt_memhost.specs.declared.card.Card.{Card}
@@ -13,7 +13,7 @@ use Rattle.newt_memhost.proofs.Cards.{told-by}
 
 -- no count of a unit moved
 pub same-counts : (cards : List Card) (shelf rest : List Device) {old now : Moment} {input left : List ℕ} {i j o p : ℕ} → SameCounts (told-by cards old input shelf i o) (told-by cards now left rest j p)
-same-counts cards shelf rest = record { dev_faults = λ u. refl; work = λ u. record { programmed = refl; fetched = refl; erased = refl; synced = refl } }
+same-counts cards shelf rest = record { dev_faults = λ u. refl; work = λ u. record { programmed = refl; fetched = refl; erased = refl; synced = refl; broken = refl } }
 
 -- nor did a device
 pub same-cards : (cards : List Card) (shelf : List Device) {old now : Moment} {input left : List ℕ} {i j o p : ℕ} → SameCards (told-by cards old input shelf i o) (told-by cards now left shelf j p)
@@ -33,6 +33,7 @@ sets-up old new past same in_same out_same = record {
       fetched = ap (λ (cs : List Card). fetched_of (slice_get cs u)) same;
       erased = ap (λ (cs : List Card). erased_of (slice_get cs u)) same;
       synced = ap (λ (cs : List Card). synced_of (slice_get cs u)) same;
+      broken = ap (λ (cs : List Card). broken_of (slice_get cs u)) same;
     };
   };
   in_faults = in_same;

@@ -61,7 +61,8 @@ pub record Keeps {T E : Type 0} (waiting bytes : ℕ) (unit : Option ℕ) (fails
   pub bytes_left : vec_capacity old.store ≤ vec_capacity new.store
 
 -- A call on a card leaves what is attached. It counts its fault where it failed, and else the
--- bytes that it programmed and fetched; and it counts an erase and a sync. No count falls.
+-- bytes that it programmed and fetched; and it counts an erase and a sync. No count falls. It keeps
+-- whether it failed.
 pub record OnCard {T E : Type 0} (work : Work) (result : Result T E) (old new : Card) : Type 0 where
   pub attached : new.attached ≡ old.attached
   pub name : new.name.items ≡ old.name.items
@@ -76,6 +77,7 @@ pub record OnCard {T E : Type 0} (work : Work) (result : Result T E) (old new : 
   pub erased_is : new.erased ≡ worn work.erases old.erased
   pub synced : old.synced ≤ new.synced
   pub synced_is : new.synced ≡ worn work.syncs old.synced
+  pub broken_is : new.broken ≡ is_err result
 
 -- the first device of this name stands there
 pub record IsPlaceOf (name : List ℕ) (shelf : List Device) (place : ℕ) : Type 0 where
@@ -94,6 +96,7 @@ pub record HasMoved (device : Device) (old new : Card) : Type 0 where
   pub fetched : new.fetched ≡ old.fetched
   pub erased : new.erased ≡ old.erased
   pub synced : new.synced ≡ old.synced
+  pub broken : new.broken ≡ old.broken
 
 -- there is room for so many entries and bytes in the log, and for as many bytes in the output
 pub record HasRoomFor (entries bytes : ℕ) (output : Vec ℕ Global) (log : Log) : Type 0 where

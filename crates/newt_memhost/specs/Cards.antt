@@ -34,6 +34,10 @@ abbrev pub synced_of : Option Card → ℕ
 synced_of None = 0
 synced_of (Some c) = c.synced
 
+abbrev pub broken_of : Option Card → Bool
+broken_of None = false
+broken_of (Some c) = c.broken
+
 -- the bytes that the device of a name had at first, where a unit has it, and where none has
 abbrev pub attached_device : List ℕ → List Card → Option (List ℕ)
 attached_device name [] = None
@@ -72,3 +76,4 @@ pub record IsEmpty (card : Card) : Type 0 where
   pub fetched : card.fetched ≡ 0
   pub erased : card.erased ≡ 0
   pub synced : card.synced ≡ 0
+  pub broken : card.broken ≡ false

@@ -1,5 +1,5 @@
 -- The room of the host, and what its calls do beside what a host promises.
-use Rattle.std.specs.Prelude.{◌≡◌, ◌≢◌, ℕ, ◌+◌, ◌-◌, ◌^◌, ◌==◌, min, Bool, List, [], length, Option, Some, None, Result, IfOk, OnOk, OnErr, vec_len}
+use Rattle.std.specs.Prelude.{◌≡◌, ◌≢◌, ℕ, ◌+◌, ◌-◌, ◌^◌, ◌==◌, min, Bool, false, List, [], length, Option, Some, None, Result, IfOk, OnOk, OnErr, vec_len}
 use Rattle.std.specs.List.{list_any}
 use Rattle.newt_host.specs.Meanings.{attached, held, left}
 use Rattle.newt_host.specs.Moments.{image}
@@ -101,7 +101,7 @@ pub record AddsDevice {T E : Type 0} (name bytes : List ℕ) (result : Result T 
   pub err : OnErr result (held new name ≡ None)
   pub others : (other : List ℕ) → other ≢ name → held new other ≡ held old other
 
--- nothing was counted yet
+-- nothing was counted yet, and no call failed
 pub record HasNoCounts (outside : Outside) : Type 0 where
   pub in_faults : outside.in_faults ≡ 0
   pub out_faults : outside.out_faults ≡ 0
@@ -110,6 +110,7 @@ pub record HasNoCounts (outside : Outside) : Type 0 where
   pub fetched : (unit : ℕ) → outside.fetched unit ≡ 0
   pub erased : (unit : ℕ) → outside.erased unit ≡ 0
   pub synced : (unit : ℕ) → outside.synced unit ≡ 0
+  pub broken : (unit : ℕ) → outside.broken unit ≡ false
 
 -- A host on which nothing has happened: no devices, no input, no calls that are to fail, and no
 -- limit on pieces.

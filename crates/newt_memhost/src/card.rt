@@ -47,6 +47,8 @@ pub struct Card {
     pub fetched: u64,
     pub erased: u64,
     pub synced: u64,
+    // Whether the last call failed.
+    pub broken: bool,
     ghost size: { length held.items ≡ length first.items },
     ghost whole: { length first.items ≡ length first.items / 4096 * 4096 },
     ghost few: { length first.items / 4096 < 2 ^ 32 },
@@ -69,6 +71,7 @@ impl Card {
             fetched: 0,
             erased: 0,
             synced: 0,
+            broken: false,
         }
     }
 }

@@ -44,5 +44,6 @@ pub fn give(card: &mut Card, log: &mut Log, unit: Unit, device: Device)
         fetched: card.fetched,
         erased: card.erased,
         synced: card.synced,
+        broken: card.broken,
     };
 }

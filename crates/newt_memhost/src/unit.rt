@@ -55,16 +55,19 @@ fn write(
 {
     if !log.reserve(waiting + 1, bytes.len()) {
         count(&mut card.faults);
+        card.broken = true;
         return Err(Failed);
     }
     let end = at + bytes.len();
     if fails {
         log.add(Happened::Write(unit, at, bytes.len()), &card.held[at..end]);
         count(&mut card.faults);
+        card.broken = true;
         return Err(Failed);
     }
     log.add(Happened::Write(unit, at, bytes.len()), bytes);
     card.held[at..end].copy_from_slice(bytes);
+    card.broken = false;
     Ok(())
 }
 
@@ -131,13 +134,16 @@ pub fn sync(
     card.synced = card.synced.saturating_add(1);
     if !log.reserve(waiting + 1, 0) {
         count(&mut card.faults);
+        card.broken = true;
         return Err(Failed);
     }
     log.add(Happened::Sync(unit, !fails), &[]);
     if fails {
         count(&mut card.faults);
+        card.broken = true;
         return Err(Failed);
     }
+    card.broken = false;
     Ok(())
 }
 
@@ -162,10 +168,12 @@ pub fn read(
 {
     if keep(log, waiting, fails, Happened::Read(unit)).is_err() {
         count(&mut card.faults);
+        card.broken = true;
         return Err(Failed);
     }
     let end = at + buf.len();
     buf.copy_from_slice(&card.held[at..end]);
     card.fetched = card.fetched.saturating_add(buf.len() as u64);
+    card.broken = false;
     Ok(())
 }

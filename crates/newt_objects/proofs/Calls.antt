@@ -1,8 +1,8 @@
 -- What a reading leaves, and one after another.
 use Rattle.std.proofs.Common.{◌≡◌, ℕ, ◌+◌, ◌*◌, ◌≤◌, Bool, Result, Ok, Err, IfErr, OnOk, IsErrAnd, refl, sym, ◌∙◌, ap, subst, arith}
 use Rattle.newt_host.specs.Moments.{changes, image, Moment}
-use Rattle.newt_host.specs.Outside.{Outside, NoFault, OnlyReads, Rose, Spends, Touches}
-use Rattle.newt_host.proofs.Outside.{NoFault-append, OnlyReads-refl, OnlyReads-append}
+use Rattle.newt_host.specs.Outside.{Outside, Broke, NoFault, OnlyReads, Spends}
+use Rattle.newt_host.proofs.Outside.{Broke-on, Broke-since, NoFault-append, OnlyReads-refl, OnlyReads-append}
 use Rattle.newt_pagebook.specs.Book.{Numbers, Shown}
 use Rattle.newt_pagebook.specs.Calls.{Loads}
 use Rattle.newt_pagebook.specs.Stops.{StopsAt}
@@ -12,26 +12,15 @@ use Rattle.newt_objects.specs.Held.{AreOf}
 use Rattle.newt_objects.specs.Calls.{Looks, Reads}
 use Rattle.newt_objects.proofs.Changing.{are_still}
 
--- a count that rose had not fallen before
-pub rose_later : (a b c : ℕ) → a ≤ b → Rose b c → Rose a c
-rose_later a b c low rose = omega (arith, low, rose)
-
--- a fault of a later call, on the unit that is the same, was counted since the first
-pub rose_since : (unit mid : ℕ) (old between new : Outside) → mid ≡ unit → Touches unit old between →
-    Rose (between.dev_faults mid) (new.dev_faults mid) → Rose (old.dev_faults unit) (new.dev_faults unit)
-rose_since unit mid old between new same touches rose =
-    rose_later (old.dev_faults unit) (between.dev_faults unit) (new.dev_faults unit) touches.faults_later
-    (subst (λ (u : ℕ). Rose (between.dev_faults u) (new.dev_faults u)) same rose)
+-- a unit, which is the same, broke in a later call, where no fault was counted before
+pub broke_since : (unit mid : ℕ) (old between new : Outside) → mid ≡ unit → NoFault old between → Broke mid between new → Broke unit old new
+broke_since unit mid old between new same none broke = Broke-since (none.dev_faults unit) (Broke-on same broke)
 
 -- why a later call stops, where no fault was counted before
 pub stop_since : (unit mid : ℕ) (old between new : Outside) (stop : Stop) → mid ≡ unit → NoFault old between →
     StopsAt mid between new stop → StopsAt unit old new stop
 stop_since unit mid old between new Memory same none cause = NoFault-append none cause
-stop_since unit mid old between new (Device at) same none cause = (
-  cause.0 ∙ same,
-  rose_later (old.dev_faults unit) (between.dev_faults unit) (new.dev_faults unit) (omega (arith, none.dev_faults unit))
-      (subst (λ (u : ℕ). Rose (between.dev_faults u) (new.dev_faults u)) same cause.1),
-)
+stop_since unit mid old between new (Device at) same none cause = (cause.0 ∙ same, broke_since unit mid old between new same none cause.1)
 
 pub stops_since : {T : Type 0} (r : Result T Stop) (unit mid : ℕ) (old between new : Outside) → mid ≡ unit → NoFault old between →
     IfErr r (StopsAt mid between new) → IfErr r (StopsAt unit old new)

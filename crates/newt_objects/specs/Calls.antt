@@ -1,6 +1,6 @@
 -- What calls that read objects promise beside their own effect. All of it is this project's own.
 use Rattle.std.specs.Prelude.{◌≡◌, ℕ, Bool, Result, Ok, Err, OnOk, IfErr, IsErrOf}
-use Rattle.newt_host.specs.Outside.{Outside, NoFault, OnlyReads, Rose}
+use Rattle.newt_host.specs.Outside.{Outside, Broke, NoFault, OnlyReads}
 use Rattle.newt_spec_image.specs.Objects.{Table}
 use Rattle.newt_pagebook.specs.Book.{Numbers}
 use Rattle.newt_pagebook.specs.Stops.{StopsAt}
@@ -30,8 +30,8 @@ module _ {B : Type 0} (place : B → ℕ) (numbers : B → Numbers) (spare : B �
         AreOf told table (numbers new) (place old) after
     pub looks : OnlyReads (place old) before after
 
-  -- A reading: the book is only looked at. A fault of the device is one of its unit and was
-  -- counted; with an answer, or where memory is wanting, none was.
+  -- A reading: the book is only looked at. A fault of the device is one of its unit, which
+  -- broke; with an answer, or where memory is wanting, none was counted.
   pub record Reads {T : Type 0} (told : Bool) (old new : B) (before after : Outside)
       (result : Result T Stop) : Type 0 where
     pub book : Looks told old new before after
@@ -42,6 +42,5 @@ module _ {B : Type 0} (place : B → ℕ) (numbers : B → Numbers) (spare : B �
   pub record Scans {T : Type 0} (told : Bool) (old new : B) (before after : Outside)
       (result : Result T ScanFault) : Type 0 where
     pub book : Looks told old new before after
-    pub cause : IsErrOf result scan.Device →
-        Rose (before.dev_faults (place old)) (after.dev_faults (place old))
+    pub cause : IsErrOf result scan.Device → Broke (place old) before after
     pub no_fault : BlamesNone result → NoFault before after

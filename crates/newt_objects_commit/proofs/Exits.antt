@@ -1,7 +1,7 @@
 -- What an exit says of its answer, and what is handed on over calls that only read.
 use Rattle.std.proofs.Common.{◌≡◌, inr, ℕ, ◌+◌, ◌/◌, ◌≤◌, List, length, Result, Ok, Err, IfOk, IfErr, IsErrAnd, IsErrOf, sym, ◌∙◌, ap, subst, arith}
-use Rattle.newt_host.specs.Outside.{NoFault, Outside, Rose, Spends}
-use Rattle.newt_host.proofs.Outside.{NoFault-append, Spends-refl, Spends-widen, Spends-append}
+use Rattle.newt_host.specs.Outside.{NoFault, Outside, Spends}
+use Rattle.newt_host.proofs.Outside.{Broke-on, Broke-since, NoFault-append, Spends-refl, Spends-widen, Spends-append}
 use Rattle.newt_spec_image.specs.Pages.{Change}
 use Rattle.newt_pagebook.specs.Batch.{no_change}
 use Rattle.newt_pagebook.specs.Book.{IsOpenFor, batch_bytes}
@@ -55,17 +55,12 @@ or-range (Err (Stop stop)) only = tt
 pub spends-nothing : (unit programs fetches : ℕ) (outside : Outside) → Spends unit programs fetches outside outside
 spends-nothing unit programs fetches outside = Spends-widen 0 0 programs fetches (omega arith) (omega arith) (Spends-refl unit outside)
 
--- a fault of a later call was counted since the first, which counted none
-pub rose-since : (unit mid : ℕ) (old between new : Outside) → mid ≡ unit → NoFault old between → Rose (between.dev_faults mid) (new.dev_faults mid) → Rose (old.dev_faults unit) (new.dev_faults unit)
-rose-since unit mid old between new same none rose = go (subst (λ (u : ℕ). Rose (between.dev_faults u) (new.dev_faults u)) same rose) where
-  go : Rose (between.dev_faults unit) (new.dev_faults unit) → Rose (old.dev_faults unit) (new.dev_faults unit)
-  go since = omega (arith, since, none.dev_faults unit)
-
+-- a fault of a later call, where none was counted before
 pub faults-since : {T : Type 0} (r : Result T StoreFault) (unit mid : ℕ) (old between new : Outside) → mid ≡ unit → NoFault old between → IfErr r (FaultsAt mid between new) → IfErr r (FaultsAt unit old new)
 faults-since (Ok x) unit mid old between new same none cause = tt
 faults-since (Err (Refused refusal)) unit mid old between new same none cause = tt
 faults-since (Err (Stop Memory)) unit mid old between new same none cause = NoFault-append none cause
-faults-since (Err (Stop (Device at))) unit mid old between new same none cause = (cause.0 ∙ same, rose-since unit mid old between new same none cause.1)
+faults-since (Err (Stop (Device at))) unit mid old between new same none cause = (cause.0 ∙ same, Broke-since (none.dev_faults unit) (Broke-on same cause.1))
 
 -- the bytes of the batch of a patch
 pub few-bytes : (batch first : Change) (count : ℕ) → first ≡ no_change → length batch.puts ≤ length first.puts + ((count + 499) / 500 + 1) → batch.deletes ≡ first.deletes → batch_bytes batch ≤ patch_bytes count

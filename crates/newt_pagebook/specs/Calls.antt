@@ -2,7 +2,7 @@
 use Rattle.std.specs.Prelude.{◌≡◌, ℕ, ◌+◌, ◌*◌, ◌<◌, max, Bool, IsTrue, List, length, None, Result, OnOk, IfOk, IfErr, IsErrOf}
 use Rattle.std.specs.FinSet as set
 use Rattle.newt_host.specs.Moments.{image, IsDurable, Leaves}
-use Rattle.newt_host.specs.Outside.{Outside, Counted, NoFault, OnlyReads, Rose, Spends, Touches, Wears}
+use Rattle.newt_host.specs.Outside.{Outside, Broke, NoFault, OnlyReads, Spends, StopsAtFault, Touches, Wears}
 use Rattle.newt_spec_image.specs.Pages.{Change, cap as cap_of, pages}
 use Rattle.newt_spec_image.specs.Records.{bank_blocks, bank_start}
 use Rattle.newt_pagebook.specs.Book.{Numbers, Shown, HasPage, IsBeforeOrAfter, IsFormatted, IsLeftFrom, IsOpenFor, ReadsChanged, batch_bytes, changed_numbers, format_bytes, switch_bytes}
@@ -36,7 +36,7 @@ module _ {B : Type 0} (place : B → ℕ) (standing : Bool → B → Outside →
     pub place_is : IfOk result (λ book. place book ≡ unit)
     pub not_store : IsErrOf result NotStore → IsTrue told → pages (image unit before.now) ≡ None
     pub reads : OnlyReads unit before after
-    pub cause : IsErrOf result BookDevice → Rose (before.dev_faults unit) (after.dev_faults unit)
+    pub cause : IsErrOf result BookDevice → Broke unit before after
     pub no_fault : BlamesNone result → NoFault before after
 
 module _ {B : Type 0} (place : B → ℕ) (numbers : B → Numbers) (shown : B → Shown) (spare : B → ℕ) (standing : Bool → B → Outside → Type 0) where
@@ -49,7 +49,7 @@ module _ {B : Type 0} (place : B → ℕ) (numbers : B → Numbers) (shown : B �
     pub same_spare : spare new ≡ spare old
     pub reads : OnlyReads (place old) before after
     pub costs : Spends (place old) 0 512 before after
-    pub faults : Counted result (before.dev_faults (place old)) (after.dev_faults (place old))
+    pub faults : StopsAtFault (place old) result before after
 
   -- Nothing is done, and the book is what it was.
   pub record Keeps (told : Bool) (old new : B) (before after : Outside) : Type 0 where
@@ -84,5 +84,5 @@ module _ {B : Type 0} (place : B → ℕ) (numbers : B → Numbers) (shown : B �
     pub wears_most : Wears (place old) (bank_blocks (before.blocks (place old)) + 6) 14 before after
     pub open_after : IsTrue told → OnOk result (IsOpenFor 0 (image (place old) after.now))
     pub alone : Touches (place old) before after
-    pub cause : IsErrOf result CommitDevice → Rose (before.dev_faults (place old)) (after.dev_faults (place old))
+    pub cause : IsErrOf result CommitDevice → Broke (place old) before after
     pub no_fault : OnOk result (NoFault before after)

@@ -1,7 +1,7 @@
 -- What a commit has done to the unit of a book.
 use Rattle.std.proofs.Common.{IsTrue, ◌≡◌, ℕ, ◌+◌, ◌*◌, max, Bool, List, Result, Ok, Err, IsErr, ◌≤◌, refl, sym, subst, arith}
 use Rattle.newt_host.specs.Moments.{image, Leaves}
-use Rattle.newt_host.specs.Outside.{Outside, Counted, OnlyReads, Spends, Touches, Wears}
+use Rattle.newt_host.specs.Outside.{Outside, OnlyReads, Spends, StopsAtFault, Touches, Wears}
 use Rattle.newt_host.proofs.Outside.{OnlyReads-append, Spends-widen}
 use Rattle.newt_spec_image.specs.Pages.{Change}
 use Rattle.newt_spec_image.specs.Records.{bank_blocks}
@@ -9,7 +9,7 @@ use Rattle.newt_journal.specs.Calls.{Programs, Reads}
 use Rattle.newt_pagebook.specs.Book.{IsBeforeOrAfter, IsOpenFor, batch_bytes, switch_bytes}
 use Rattle.newt_pagelog.specs.Commits.{AppendsWhereOpen, commit_work}
 use Rattle.newt_pagelog.proofs.Placing.{looks-read}
-use Rattle.newt_pagelog.proofs.Stepping.{counted-failed}
+use Rattle.newt_pagelog.proofs.Stepping.{stops-failed}
 
 -- nothing was done, which is no more than so much
 pub spent-nothing : (u programs fetches : ℕ) (a : Outside) → Spends u programs fetches a a
@@ -22,10 +22,6 @@ worn-nothing u erases syncs a = record { erased = omega arith; synced = omega ar
 pub looks-two : {u v : ℕ} {a b c : Outside} → v ≡ u → OnlyReads u a b → OnlyReads v b c → OnlyReads u a c
 looks-two {b = b} {c = c} on first second =
     OnlyReads-append first (subst (λ (w : ℕ). OnlyReads w b c) on second)
-
--- no fault was counted by a call that did nothing
-pub counted-nothing : {T E : Type 0} (x : T) (n : ℕ) → Counted {E = E} (Ok x) n n
-counted-nothing x n = record { later = omega arith; cause = tt; no_fault = refl }
 
 -- a count under two names of a unit
 pub opened-same : {u v : ℕ} (a b : Outside) → v ≡ u → b.dev_faults v ≡ a.dev_faults v
@@ -40,7 +36,7 @@ reads-failed r failed reads = record {
   alone = reads.alone;
   costs = reads.costs;
   wears = reads.wears;
-  faults = counted-failed r failed reads.faults;
+  faults = stops-failed r failed reads.faults;
 }
 
 pub reads-well : {T E T' E' : Type 0} {x : T} {y : T'} {u n : ℕ} {a b : Outside}
@@ -57,7 +53,7 @@ reads-well reads = record {
 pub record Brought {T E : Type 0} (unit : ℕ) (result : Result T E) (old new : Outside) : Type 0 where
   pub looks : OnlyReads unit old new
   pub costs : Spends unit 0 512 old new
-  pub faults : Counted result (old.dev_faults unit) (new.dev_faults unit)
+  pub faults : StopsAtFault unit result old new
 
 pub brought-on : {T E : Type 0} {r : Result T E} {a b : Outside} (its unit n : ℕ) → its ≡ unit → n ≤ 512
     → Reads its n r a b → Brought unit r a b
@@ -75,7 +71,7 @@ pub record Done {T E : Type 0} (told : Bool) (unit : ℕ) (batch : Change) (live
   pub most : Spends unit (max (batch_bytes batch) (switch_bytes live)) (4 + 512 * live) old new
   pub wears_most : Wears unit (bank_blocks (old.blocks unit) + 6) 14 old new
   pub alone : Touches unit old new
-  pub faults : Counted result (old.dev_faults unit) (new.dev_faults unit)
+  pub faults : StopsAtFault unit result old new
 
 pub done-at : {T E : Type 0} {told : Bool} {batch : Change} {r : Result T E} {old new : Outside}
     (its unit blocks live : ℕ) → its ≡ unit → old.blocks its ≡ blocks

@@ -6,7 +6,8 @@ use Rattle.newt_pagebook.specs.declared.book.BookFault.TheVariants.{Device, Memo
 use Rattle.newt_pagebook.specs.declared.book.Stop.{Stop}
 use Rattle.newt_pagebook.specs.declared.book.Stop.TheVariants as stops
 use Rattle.newt_pagebook.specs.Stops.{BlamesNone, StopsAt}
-use Rattle.newt_host.specs.Outside.{NoFault, Outside, Rose, Touches}
+use Rattle.newt_host.specs.Outside.{Broke, NoFault, Outside}
+use Rattle.newt_host.proofs.Outside.{Broke-on, Broke-since}
 
 -- an error is no value
 pub no-value : {T E : Type 0} (r : Result T E) (P : T → Type 0) → IsErr r → IfOk r P
@@ -41,12 +42,9 @@ device-not-store r is so = let no = same-err r Device NotStore is so in (cc)
 pub store-not-device : {T : Type 0} (r : Result T BookFault) → IsErrAnd r (λ x. x ≡ NotStore) → IsErrOf r Device → ⊥
 store-not-device r is so = let no = same-err r NotStore Device is so in (cc)
 
--- a count that rose in a later call
-pub rose-before : (old mid new : ℕ) → old ≤ mid → Rose mid new → Rose old new
-rose-before old mid new low rose = omega (arith, low, rose)
-
-pub rose-over : (u v : ℕ) (a b c : Outside) → u ≡ v → Touches v a b → Rose (b.dev_faults u) (c.dev_faults u) → Rose (a.dev_faults v) (c.dev_faults v)
-rose-over u v a b c on touched rose = rose-before (a.dev_faults v) (b.dev_faults v) (c.dev_faults v) touched.faults_later (subst (λ (w : ℕ). Rose (b.dev_faults w) (c.dev_faults w)) on rose)
+-- a unit that broke in a later call, where no call before it counted a fault
+pub broke-over : (u v : ℕ) (a b c : Outside) → u ≡ v → b.dev_faults v ≡ a.dev_faults v → Broke u b c → Broke v a c
+broke-over u v a b c on same broke = Broke-since same (Broke-on on broke)
 
 -- an error that was handed on
 pub blames-as : {T : Type 0} (T' : Type 0) (r : Result T BookFault) (e : BookFault)

@@ -1,11 +1,11 @@
 -- One write after another.
 use Rattle.std.proofs.Common.{IsTrue, IsErr, Result, Ok, Err, ◌≡◌, ℕ, ◌+◌, ◌*◌, ◌≤◌, Bool, true, cond, List, [], ◌∷◌, ◌++◌, length, take, drop, take-append-drop, refl, sym, ◌∙◌, ap, subst, arith, append_assoc, append-nil, length-append}
 use Rattle.newt_host.specs.Moments.{Moment, image, Leaves}
-use Rattle.newt_host.specs.Outside.{Outside, Counted, Work}
+use Rattle.newt_host.specs.Outside.{Outside, StopsAtFault, Work}
 use Rattle.std.specs.List.{flat_map, filter}
 use Rattle.std.specs.Int.{to_be_bytes, w16, w32}
 use Rattle.std.proofs.lemmas.List.Elements.{filter-append}
-use Rattle.newt_host.proofs.Outside.{Touches-refl, Touches-append, Spends-refl, Spends-append, Spends-widen, Wears-refl, Wears-append, Wears-widen}
+use Rattle.newt_host.proofs.Outside.{Broke-since, Touches-refl, Touches-append, Spends-refl, Spends-append, Spends-widen, Wears-refl, Wears-append, Wears-widen}
 use Rattle.newt_host.proofs.Moments.{Always-last, Leaves-append, Leaves-weaken, Leaves-start}
 use Rattle.newt_spec_image.specs.Pages.{Change, written_put, written_delete, written_change}
 use Rattle.newt_journal.specs.Calls.{Programs, writing}
@@ -15,15 +15,16 @@ use Rattle.newt_journal.specs.declared.draft.Draft.{Draft}
 use Rattle.newt_pagelog.specs.Steps.{IsSteady, Stays, Keeps, WritesMore, done}
 use Rattle.newt_pagelog.proofs.Failing.{no-ok, on-err}
 
--- a count after calls that all went well, and then another one
-pub counted-over : {T E : Type 0} {r : Result T E} {a b c : ℕ} → b ≡ a → Counted r b c → Counted r a c
-counted-over {r = r} {c = c} same counted = subst (λ (n : ℕ). Counted r n c) same counted
+-- calls that all went well, and then another one
+pub stops-over : {T E : Type 0} {r : Result T E} {u : ℕ} {a b c : Outside} → b.dev_faults u ≡ a.dev_faults u → StopsAtFault u r b c → StopsAtFault u r a c
+stops-over {r = Ok x} same stops = record { later = omega (arith, same, stops.later); cause = tt; no_fault = stops.no_fault ∙ same }
+stops-over {r = Err e} same stops = record { later = omega (arith, same, stops.later); cause = Broke-since same stops.cause; no_fault = tt }
 
-pub counted-failed : {T E T' E' : Type 0} {e : E} {a b : ℕ} (r : Result T' E') → IsErr r
-    → Counted {T = T} (Err e) a b → Counted r a b
-counted-failed r failed counted = record {
-  later = counted.later;
-  cause = on-err r counted.cause;
+pub stops-failed : {T E T' E' : Type 0} {e : E} {u : ℕ} {a b : Outside} (r : Result T' E') → IsErr r
+    → StopsAtFault {T = T} u (Err e) a b → StopsAtFault u r a b
+stops-failed r failed stops = record {
+  later = stops.later;
+  cause = on-err r stops.cause;
   no_fault = no-ok r _ failed;
 }
 
@@ -73,7 +74,7 @@ module _ {told : Bool} {unit : ℕ} where
     alone = p.alone;
     costs = p.costs;
     wears = p.wears;
-    faults = counted-failed r failed p.faults;
+    faults = stops-failed r failed p.faults;
   }
 
   pub writes-done : {T E : Type 0} {x : T} {w : Work} {P : List ℕ → Type 0} {a b : Outside}
@@ -104,7 +105,7 @@ module _ {told : Bool} {unit : ℕ} where
     alone = Touches-append p.alone q.alone;
     costs = Spends-append w.programs w.fetches v.programs v.fetches p.costs q.costs;
     wears = Wears-append w.erases w.syncs v.erases v.syncs p.wears q.wears;
-    faults = counted-over p.faults.no_fault q.faults;
+    faults = stops-over p.faults.no_fault q.faults;
   }
 
   -- calls that leave the records as they were

@@ -8,7 +8,7 @@ use Rattle.std.specs.HashMap as hash
 use Rattle.std.specs.declared.hash.FoldHasher.{FoldHasher}
 use Rattle.std.specs.declared.hash.BuildHasherDefault.{BuildHasherDefault}
 use Rattle.newt_host.specs.Moments.{image}
-use Rattle.newt_host.specs.Outside.{Outside, OnlyReads, Rose}
+use Rattle.newt_host.specs.Outside.{Outside, Broke, OnlyReads}
 use Rattle.newt_spec_image.specs.Records.{records}
 use Rattle.newt_spec_image.specs.Pages.{Change, pages, puts_from, after, change_in}
 use Rattle.newt_journal.specs.Journal.{Stands}
@@ -98,11 +98,11 @@ pub record HoldsAt (j : Journal) (image : List ℕ) (places : Places) : Type 0 w
   pub holds : pages image ≡ Some (map_of (lifted (page_of j payloads) places))
 
 -- A call that reads a journal for a book: nothing has happened but reads of this unit. Where it
--- names the device, a fault of it was counted, and else none was (this project's own).
+-- names the device, it broke, and else no fault was counted (this project's own).
 pub record ReadsBook {T : Type 0} (unit : ℕ) (result : Result T BookFault) (old new : Outside)
     : Type 0 where
   pub looks : OnlyReads unit old new
-  pub cause : IsErrOf result Device → Rose (old.dev_faults unit) (new.dev_faults unit)
+  pub cause : IsErrOf result Device → Broke unit old new
   pub no_fault : BlamesNone result → new.dev_faults unit ≡ old.dev_faults unit
 
 -- A call that reads a part of it, and may want memory: the same, and it never answers that the
@@ -111,7 +111,7 @@ pub record ReadsUnit {T : Type 0} (unit : ℕ) (result : Result T BookFault) (ol
     : Type 0 where
   pub looks : OnlyReads unit old new
   pub no_other : IsErrOf result NotStore → ⊥
-  pub cause : IsErrOf result Device → Rose (old.dev_faults unit) (new.dev_faults unit)
+  pub cause : IsErrOf result Device → Broke unit old new
   pub no_fault : BlamesNone result → new.dev_faults unit ≡ old.dev_faults unit
 
 -- the places after a change are those of the pages after it, and these numbers were seen

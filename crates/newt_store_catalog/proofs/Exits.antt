@@ -1,8 +1,8 @@
 -- What an exit by a fault says of its answer, and what the calls before an exit have done together.
 use Rattle.std.proofs.Common.{◌≡◌, ℕ, Bool, IsTrue, None, Result, Err, Ok, IfOk, OnOk, IsErrAnd, IsErrOf, sym, ◌∙◌, ap, subst, arith}
 use Rattle.newt_host.specs.Moments.{image}
-use Rattle.newt_host.specs.Outside.{Outside, NoFault, OnlyReads, Rose}
-use Rattle.newt_host.proofs.Outside.{NoFault-append, OnlyReads-append, OnlyReads-refl}
+use Rattle.newt_host.specs.Outside.{Outside, Broke, NoFault, OnlyReads}
+use Rattle.newt_host.proofs.Outside.{Broke-on, Broke-since, NoFault-append, OnlyReads-append, OnlyReads-refl}
 use Rattle.newt_pagebook.specs.Book.{Numbers}
 use Rattle.newt_pagebook.specs.Stops.{BlamesNone, StopsAt}
 use Rattle.newt_pagebook.specs.declared.book.BookFault.{BookFault}
@@ -57,15 +57,13 @@ on-done (Err e) A B done more = tt
 pub looks-on : {unit unit' : ℕ} {old mid new : Outside} → unit' ≡ unit → OnlyReads unit old mid → OnlyReads unit' mid new → OnlyReads unit old new
 looks-on {mid = mid} {new = new} same one two = OnlyReads-append one (subst (λ (u : ℕ). OnlyReads u mid new) same two)
 
--- a fault of the later ones was counted since the first
-pub rose-on : {unit unit' : ℕ} {old mid : Outside} (new : Outside) → unit' ≡ unit → OnlyReads unit old mid → Rose (mid.dev_faults unit') (new.dev_faults unit') → Rose (old.dev_faults unit) (new.dev_faults unit)
-rose-on {unit = unit} {old = old} {mid = mid} new same one rose = go (subst (λ (u : ℕ). Rose (mid.dev_faults u) (new.dev_faults u)) same rose) where
-  go : Rose (mid.dev_faults unit) (new.dev_faults unit) → Rose (old.dev_faults unit) (new.dev_faults unit)
-  go since = omega (arith, since, one.alone.faults_later)
+-- a unit that broke in the later ones broke since the first
+pub broke-on : {unit unit' : ℕ} {old mid : Outside} (new : Outside) → unit' ≡ unit → NoFault old mid → Broke unit' mid new → Broke unit old new
+broke-on {unit = unit} new same none broke = Broke-since (none.dev_faults unit) (Broke-on same broke)
 
 pub stops-on : (stop : Stop) {unit unit' : ℕ} {old mid : Outside} (new : Outside) → unit' ≡ unit → OnlyReads unit old mid → NoFault old mid → StopsAt unit' mid new stop → StopsAt unit old new stop
 stops-on stops.Memory new same one none at = NoFault-append none at
-stops-on (stops.Device unit) new same one none at = (at.0 ∙ same, rose-on new same one at.1)
+stops-on (stops.Device unit) new same one none at = (at.0 ∙ same, broke-on new same none at.1)
 
 pub book-on : {B : Type 0} {place : B → ℕ} {numbers : B → Numbers} {stands : Bool → B → Outside → Type 0} {told : Bool} {a b c : B} {before between after : Outside}
     → BookReads place numbers stands told a b before between → BookReads place numbers stands told b c between after → BookReads place numbers stands told a c before after
@@ -157,10 +155,10 @@ search-memory {T = T} none = record {
   no_fault = λ opening. none;
 }
 
-pub search-device : {T : Type 0} {told : Bool} {unit : ℕ} {before after : Outside} → Rose (before.dev_faults unit) (after.dev_faults unit) → SearchEnds {T = T} told unit before after (Err Device)
-search-device {T = T} rose = record {
+pub search-device : {T : Type 0} {told : Bool} {unit : ℕ} {before after : Outside} → Broke unit before after → SearchEnds {T = T} told unit before after (Err Device)
+search-device {T = T} broke = record {
   not_store = λ is. absurd (store-device (sym (fault-is {T = T} (Err Device) Device NotStore (λ i. Device) is)));
-  cause = λ is. rose;
+  cause = λ is. broke;
   no_fault = λ opening. absurd opening;
 }
 
@@ -186,6 +184,6 @@ pub search-after : {T : Type 0} {told : Bool} {unit unit' : ℕ} {before mid aft
     → SearchEnds told unit' mid after r → SearchEnds told unit before after r
 search-after {after = after} same looks none e = record {
   not_store = λ is tells. (λ i. readable (image (sym same i) (sym looks.moment i))) ∙ e.not_store is tells;
-  cause = λ is. rose-on after same looks (e.cause is);
+  cause = λ is. broke-on after same none (e.cause is);
   no_fault = λ opening. NoFault-append none (e.no_fault opening);
 }

@@ -3,7 +3,7 @@
 use Rattle.std.specs.Prelude.{◌≡◌, ℕ, Bool, IsTrue, List, Some, None, map as list_map, Result, OnOk, IfErr, IsErrOf}
 use Rattle.std.specs.FinMap as map
 use Rattle.newt_host.specs.Moments.{image}
-use Rattle.newt_host.specs.Outside.{Outside, NoFault, OnlyReads, Rose}
+use Rattle.newt_host.specs.Outside.{Outside, Broke, NoFault, OnlyReads}
 use Rattle.newt_spec_image.specs.Objects.{Objects}
 use Rattle.newt_objects.specs.Held.{Held}
 use Rattle.newt_pagebook.specs.Book.{Numbers}
@@ -50,15 +50,15 @@ module _ {B : Type 0} (place : B → ℕ) (numbers : B → Numbers) (stands : Bo
     pub same_numbers : numbers new ≡ numbers old
     pub looks : OnlyReads (place old) before after
 
--- Why a reading of a unit stops: a device that failed is its own, and the fault was counted; with
--- an answer, and where memory is wanting, none was.
+-- Why a reading of a unit stops: a device that failed is its own, and broke; with an answer, and
+-- where memory is wanting, no fault was counted.
 pub record ReadEnds {T : Type 0} (unit : ℕ) (before after : Outside) (result : Result T Stop) : Type 0 where
   pub cause : IfErr result (StopsAt unit before after)
   pub no_fault : OnOk result (NoFault before after)
 
--- Why a search for a unit's store ends: its image is read as none, or its device failed, and the
--- fault was counted, and else none was.
+-- Why a search for a unit's store ends: its image is read as none, or it broke, and else no fault was
+-- counted.
 pub record SearchEnds {T : Type 0} (told : Bool) (unit : ℕ) (before after : Outside) (result : Result T BookFault) : Type 0 where
   pub not_store : IsErrOf result NotStore → IsTrue told → readable (image unit before.now) ≡ None
-  pub cause : IsErrOf result DeviceFault → Rose (before.dev_faults unit) (after.dev_faults unit)
+  pub cause : IsErrOf result DeviceFault → Broke unit before after
   pub no_fault : BlamesNone result → NoFault before after

@@ -6,7 +6,7 @@ use Rattle.newt_spec_image.specs.Objects.{Extent}
 use Rattle.newt_pagebook.specs.Book.{Numbers, Shown}
 use Rattle.newt_pagebook.specs.Calls.{Loads}
 use Rattle.newt_objects.specs.Calls.{Looks}
-use Rattle.newt_objects.proofs.Calls.{Looks-refl, Looks-append, looks-loaded, rose_since}
+use Rattle.newt_objects.proofs.Calls.{Looks-refl, Looks-append, looks-loaded, broke_since}
 use Rattle.newt_vbo.specs.Ranges.{parts_met}
 use Rattle.newt_vbo.specs.Calls.{BlamesNone, ReadsPart, ReadsRange}
 use Rattle.newt_vbo.specs.declared.fault.RangeFault.{RangeFault}
@@ -81,7 +81,7 @@ module _ {B : Type 0} (place : B → ℕ) (numbers : B → Numbers) (spare : B �
       range = λ same. absurd (never same);
       past = not_past object (at + count) (IsErrOf r Range) within;
       costs = costs;
-      cause = λ same. rose_since (place old) (place mid) before between after first.same_place first.looks.alone (part.cause (is ∙ ap Err (the_fault r f Device fails same)));
+      cause = λ same. broke_since (place old) (place mid) before between after first.same_place none (part.cause (is ∙ ap Err (the_fault r f Device fails same)));
       no_fault = λ free. NoFault-append none (part.no_fault (subst (λ (x : Result S RangeFault). BlamesNone x) (sym is) (blames_as S r f fails free)));
     } where
       never : IsErrOf r Range → ⊥

@@ -1,7 +1,7 @@
 -- What an exit by a fault says of its answer, and what it hands on of the calls before it.
 use Rattle.std.proofs.Common.{◌≡◌, ℕ, ◌+◌, ◌-◌, ◌*◌, ◌/◌, ◌<◌, ◌≤◌, Option, Some, None, IfSome, Result, Err, Ok, IfOk, OnOk, IsErrAnd, IsErrOf, sym, ◌∙◌, ap, subst, arith}
 use Rattle.std.proofs.lemmas.Result.{err_from_is_err_and}
-use Rattle.newt_host.specs.Outside.{Outside, Rose, Spends}
+use Rattle.newt_host.specs.Outside.{Outside, Spends}
 use Rattle.newt_host.proofs.Outside.{Spends-refl, Spends-widen}
 use Rattle.newt_spec_image.specs.Objects.{Extent}
 use Rattle.newt_vbo.specs.declared.fault.RangeFault.{RangeFault}
@@ -44,10 +44,6 @@ memory_range same = cc
 
 pub memory_device : Memory ≡ Device → ⊥
 memory_device same = cc
-
--- a count that rose had not fallen before
-pub rose_later : (a b c : ℕ) → a ≤ b → Rose b c → Rose a c
-rose_later a b c low rose = omega (arith, low, rose)
 
 -- past the object's end a call answers what it shall, and within it nothing is asked
 pub past_end : (o : Option Extent) (end : ℕ) (Answer : Type 0) → Answer → IfSome o (λ x. x.length < end → Answer)

@@ -7,7 +7,7 @@ use Rattle.newt_spec_image.specs.Pages.{is_change}
 use Rattle.newt_journal.specs.Bank.{limit_of}
 use Rattle.newt_journal.specs.Places.{payloads_from, IsPlace}
 use Rattle.newt_pagebook.specs.declared.book.BookFault.TheVariants.{Device, NotStore}
-use Rattle.newt_pagelog.proofs.Failing.{blames-as, not-err, rose-over, same-err}
+use Rattle.newt_pagelog.proofs.Failing.{blames-as, not-err, broke-over, same-err}
 use Rattle.newt_pagelog.proofs.Placing.{looks-stands, looks-image, looks-read}
 use Rattle.newt_pagelog.proofs.Replaying.{at_some, at_none, if_some}
 use Rattle.newt_check.proofs.Gates.{ended}
@@ -134,8 +134,8 @@ returns-in_err-found-clause-reads g c =
     record {
       looks = OnlyReads-append inv.looks (looks-read c.walk.ensures.reads);
       no_other = search rules;
-      cause = λ bad. rose-over u u (o c.args.host.now) (o c.loop-places.host) (o c.walk.new.host) refl
-          inv.looks.alone c.in_err-found.ensures.reads.faults.cause;
+      cause = λ bad. broke-over u u (o c.args.host.now) (o c.loop-places.host) (o c.walk.new.host) refl
+          inv.no_fault c.in_err-found.ensures.reads.faults.cause;
       no_fault = search rules;
     }
 
@@ -151,8 +151,8 @@ returns-in_err-replay_record-clause-reads g c =
     record {
       looks = OnlyReads-append before c.replay_record.ensures.reads.looks;
       no_other = λ bad. reads.no_other (ap Err (same-err r e NotStore is.1 bad));
-      cause = λ bad. rose-over u u (o c.args.host.now) (o c.walk.new.host) (o c.replay_record.new.host)
-          refl before.alone (reads.cause (ap Err (same-err r e Device is.1 bad)));
+      cause = λ bad. broke-over u u (o c.args.host.now) (o c.walk.new.host) (o c.replay_record.new.host)
+          refl (c.in_ok-found.ensures.reads.faults.no_fault ∙ c.loop-places.invariant.no_fault) (reads.cause (ap Err (same-err r e Device is.1 bad)));
       no_fault = λ none. reads.no_fault (blames-as Bool r e is.1 none)
           ∙ c.in_ok-found.ensures.reads.faults.no_fault ∙ c.loop-places.invariant.no_fault;
     }

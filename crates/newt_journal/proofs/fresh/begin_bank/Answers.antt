@@ -1,7 +1,8 @@
 use Rattle.std.proofs.Common.{◌*◌, ℕ, refl, ◌∙◌, ap, arith}
 use Rattle.newt_spec_image.specs.Records.{bank_blocks, header, length_bytes}
+use Rattle.newt_host.proofs.Outside.{stops-err, stops-ok}
 use Rattle.newt_journal.proofs.Beginning.{leaves_1, leaves_2, leaves_3, leaves_4, blank_2, blank_3, filled_4}
-use Rattle.newt_journal.proofs.Adding.{did-call, did-write, then, widen-by, counted-err, counted-ok}
+use Rattle.newt_journal.proofs.Adding.{did-call, did-write, then, widen-by}
 use Rattle.newt_journal.proofs.fresh.begin_bank.Goals as goal
 
 pub returns-in_err-erase_blocks-clause-writes : goal.returns-in_err-erase_blocks-clause-writes
@@ -11,7 +12,7 @@ returns-in_err-erase_blocks-clause-writes g c =
       alone = did.alone;
       costs = did.costs;
       wears = did.wears;
-      faults = counted-err c.from_residual.result c.from_residual.ensures.0 (refl)
+      faults = stops-err c.from_residual.result c.from_residual.ensures.0 (refl)
           c.erase_blocks.ensures.writes.faults c.in_err-erase_blocks.ensures.writes.faults.cause;
     }
 
@@ -22,7 +23,7 @@ returns-in_err-sync-clause-writes g c =
       alone = did.alone;
       costs = did.costs;
       wears = did.wears;
-      faults = counted-err c.from_residual-in_err-sync.result c.from_residual-in_err-sync.ensures.0 (c.in_ok-erase_blocks.ensures.writes.faults.no_fault)
+      faults = stops-err c.from_residual-in_err-sync.result c.from_residual-in_err-sync.ensures.0 (c.in_ok-erase_blocks.ensures.writes.faults.no_fault)
           c.sync.ensures.call.faults c.in_err-sync.ensures.call.faults.cause;
     }
 
@@ -38,7 +39,7 @@ returns-in_err-program_piece-clause-writes g c =
       alone = did.alone;
       costs = did.costs;
       wears = did.wears;
-      faults = counted-err c.from_residual-in_err-program_piece.result c.from_residual-in_err-program_piece.ensures.0 (c.in_ok-sync.ensures.call.faults.no_fault ∙ c.in_ok-erase_blocks.ensures.writes.faults.no_fault)
+      faults = stops-err c.from_residual-in_err-program_piece.result c.from_residual-in_err-program_piece.ensures.0 (c.in_ok-sync.ensures.call.faults.no_fault ∙ c.in_ok-erase_blocks.ensures.writes.faults.no_fault)
           c.program_piece.ensures.writes.faults c.in_err-program_piece.ensures.writes.faults.cause;
     }
 
@@ -54,7 +55,7 @@ returns-in_err-program_piece-2-clause-writes g c =
       alone = did.alone;
       costs = did.costs;
       wears = did.wears;
-      faults = counted-err c.from_residual-in_err-program_piece-2.result c.from_residual-in_err-program_piece-2.ensures.0 (c.in_ok-program_piece.ensures.writes.faults.no_fault ∙ c.in_ok-sync.ensures.call.faults.no_fault ∙ c.in_ok-erase_blocks.ensures.writes.faults.no_fault)
+      faults = stops-err c.from_residual-in_err-program_piece-2.result c.from_residual-in_err-program_piece-2.ensures.0 (c.in_ok-program_piece.ensures.writes.faults.no_fault ∙ c.in_ok-sync.ensures.call.faults.no_fault ∙ c.in_ok-erase_blocks.ensures.writes.faults.no_fault)
           c.program_piece-2.ensures.writes.faults c.in_err-program_piece-2.ensures.writes.faults.cause;
     }
 
@@ -70,5 +71,5 @@ returns-clause-writes g c =
       alone = did.alone;
       costs = did.costs;
       wears = did.wears;
-      faults = counted-ok tt (c.in_ok-program_piece-2.ensures.writes.faults.no_fault ∙ c.in_ok-program_piece.ensures.writes.faults.no_fault ∙ c.in_ok-sync.ensures.call.faults.no_fault ∙ c.in_ok-erase_blocks.ensures.writes.faults.no_fault);
+      faults = stops-ok tt (c.in_ok-program_piece-2.ensures.writes.faults.no_fault ∙ c.in_ok-program_piece.ensures.writes.faults.no_fault ∙ c.in_ok-sync.ensures.call.faults.no_fault ∙ c.in_ok-erase_blocks.ensures.writes.faults.no_fault);
     }

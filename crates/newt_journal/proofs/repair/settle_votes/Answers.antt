@@ -1,6 +1,7 @@
 use Rattle.std.proofs.Common.{◌∙◌, refl}
+use Rattle.newt_host.proofs.Outside.{stops-err, stops-ok}
 use Rattle.newt_journal.proofs.Repairing.{any_0, any_1, any_2, any_3, repaired, alike_now, order}
-use Rattle.newt_journal.proofs.Adding.{did-read, did-write, then, widen, counted-err, counted-ok}
+use Rattle.newt_journal.proofs.Adding.{did-read, did-write, then, widen}
 use Rattle.std.proofs.Common.{ℕ, ◌-◌, List, arith}
 use Rattle.newt_host.specs.Moments.{image}
 use Rattle.newt_journal.specs.Bank.{bank_number, other_bank}
@@ -15,7 +16,7 @@ returns-in_err-third-clause-writes g c =
       alone = did.alone;
       costs = did.costs;
       wears = did.wears;
-      faults = counted-err c.from_residual.result c.from_residual.ensures.0 (refl)
+      faults = stops-err c.from_residual.result c.from_residual.ensures.0 (refl)
           c.read_byte.ensures.reads.faults c.in_err-third.ensures.reads.faults.cause;
     }
 
@@ -26,7 +27,7 @@ returns-in_err-settle_vote-clause-writes g c =
       alone = did.alone;
       costs = did.costs;
       wears = did.wears;
-      faults = counted-err c.from_residual-in_err-settle_vote.result c.from_residual-in_err-settle_vote.ensures.0 (c.in_ok-third.ensures.reads.faults.no_fault)
+      faults = stops-err c.from_residual-in_err-settle_vote.result c.from_residual-in_err-settle_vote.ensures.0 (c.in_ok-third.ensures.reads.faults.no_fault)
           c.settle_vote.ensures.writes.faults c.in_err-settle_vote.ensures.writes.faults.cause;
     }
 
@@ -37,7 +38,7 @@ returns-in_err-settle_vote-2-clause-writes g c =
       alone = did.alone;
       costs = did.costs;
       wears = did.wears;
-      faults = counted-err c.from_residual-in_err-settle_vote-2.result c.from_residual-in_err-settle_vote-2.ensures.0 (c.in_ok-settle_vote.ensures.writes.faults.no_fault ∙ c.in_ok-third.ensures.reads.faults.no_fault)
+      faults = stops-err c.from_residual-in_err-settle_vote-2.result c.from_residual-in_err-settle_vote-2.ensures.0 (c.in_ok-settle_vote.ensures.writes.faults.no_fault ∙ c.in_ok-third.ensures.reads.faults.no_fault)
           c.settle_vote-2.ensures.writes.faults c.in_err-settle_vote-2.ensures.writes.faults.cause;
     }
 
@@ -48,7 +49,7 @@ returns-in_err-settle_vote-3-clause-writes g c =
       alone = did.alone;
       costs = did.costs;
       wears = did.wears;
-      faults = counted-err c.from_residual-in_err-settle_vote-3.result c.from_residual-in_err-settle_vote-3.ensures.0 (c.in_ok-settle_vote-2.ensures.writes.faults.no_fault ∙ c.in_ok-settle_vote.ensures.writes.faults.no_fault ∙ c.in_ok-third.ensures.reads.faults.no_fault)
+      faults = stops-err c.from_residual-in_err-settle_vote-3.result c.from_residual-in_err-settle_vote-3.ensures.0 (c.in_ok-settle_vote-2.ensures.writes.faults.no_fault ∙ c.in_ok-settle_vote.ensures.writes.faults.no_fault ∙ c.in_ok-third.ensures.reads.faults.no_fault)
           c.settle_vote-3.ensures.writes.faults c.in_err-settle_vote-3.ensures.writes.faults.cause;
     }
 
@@ -66,7 +67,7 @@ returns-clause-writes g c =
       alone = did.alone;
       costs = did.costs;
       wears = did.wears;
-      faults = counted-ok tt (c.in_ok-settle_vote-3.ensures.writes.faults.no_fault ∙ c.in_ok-settle_vote-2.ensures.writes.faults.no_fault ∙ c.in_ok-settle_vote.ensures.writes.faults.no_fault ∙ c.in_ok-third.ensures.reads.faults.no_fault);
+      faults = stops-ok tt (c.in_ok-settle_vote-3.ensures.writes.faults.no_fault ∙ c.in_ok-settle_vote-2.ensures.writes.faults.no_fault ∙ c.in_ok-settle_vote.ensures.writes.faults.no_fault ∙ c.in_ok-third.ensures.reads.faults.no_fault);
     }
 
 pub returns-in_err-third-clause-bounded : goal.returns-in_err-third-clause-bounded

@@ -1,10 +1,11 @@
 use Rattle.std.proofs.Common.{◌≤◌, length, arith, ◌∙◌, refl}
 use Rattle.newt_host.specs.Moments.{image}
 use Rattle.newt_host.proofs.Moments.{Leaves-append, Leaves-weaken}
+use Rattle.newt_host.proofs.Outside.{stops-err, stops-ok}
 use Rattle.newt_journal.specs.Bank.{bank_number}
 use Rattle.newt_journal.proofs.Steps.{bank-small}
 use Rattle.newt_journal.proofs.Casting.{cast_1, cast_2, cast_3, cast_alike, cast_kept, turn_1, turn_2, turn_3}
-use Rattle.newt_journal.proofs.Adding.{did-write, then, widen, counted-err, counted-ok}
+use Rattle.newt_journal.proofs.Adding.{did-write, then, widen}
 use Rattle.newt_journal.proofs.vote.cast_votes.Goals as goal
 
 pub returns-in_err-rewrite_vote-clause-writes : goal.returns-in_err-rewrite_vote-clause-writes
@@ -20,7 +21,7 @@ returns-in_err-rewrite_vote-clause-writes g c =
       alone = did.alone;
       costs = did.costs;
       wears = did.wears;
-      faults = counted-err c.from_residual.result c.from_residual.ensures.0 (refl)
+      faults = stops-err c.from_residual.result c.from_residual.ensures.0 (refl)
           c.rewrite_vote.ensures.writes.faults c.in_err-rewrite_vote.ensures.writes.faults.cause;
     }
 
@@ -47,7 +48,7 @@ returns-in_err-rewrite_vote-2-clause-writes g c =
       alone = did.alone;
       costs = did.costs;
       wears = did.wears;
-      faults = counted-err c.from_residual-in_err-rewrite_vote-2.result c.from_residual-in_err-rewrite_vote-2.ensures.0 (c.in_ok-rewrite_vote.ensures.writes.faults.no_fault)
+      faults = stops-err c.from_residual-in_err-rewrite_vote-2.result c.from_residual-in_err-rewrite_vote-2.ensures.0 (c.in_ok-rewrite_vote.ensures.writes.faults.no_fault)
           c.rewrite_vote-2.ensures.writes.faults c.in_err-rewrite_vote-2.ensures.writes.faults.cause;
     }
 
@@ -76,7 +77,7 @@ returns-in_err-rewrite_vote-3-clause-writes g c =
       alone = did.alone;
       costs = did.costs;
       wears = did.wears;
-      faults = counted-err c.from_residual-in_err-rewrite_vote-3.result c.from_residual-in_err-rewrite_vote-3.ensures.0 (c.in_ok-rewrite_vote-2.ensures.writes.faults.no_fault ∙ c.in_ok-rewrite_vote.ensures.writes.faults.no_fault)
+      faults = stops-err c.from_residual-in_err-rewrite_vote-3.result c.from_residual-in_err-rewrite_vote-3.ensures.0 (c.in_ok-rewrite_vote-2.ensures.writes.faults.no_fault ∙ c.in_ok-rewrite_vote.ensures.writes.faults.no_fault)
           c.rewrite_vote-3.ensures.writes.faults c.in_err-rewrite_vote-3.ensures.writes.faults.cause;
     }
 
@@ -106,7 +107,7 @@ returns-clause-writes g c =
       alone = did.alone;
       costs = did.costs;
       wears = did.wears;
-      faults = counted-ok tt (c.in_ok-rewrite_vote-3.ensures.writes.faults.no_fault ∙ c.in_ok-rewrite_vote-2.ensures.writes.faults.no_fault ∙ c.in_ok-rewrite_vote.ensures.writes.faults.no_fault);
+      faults = stops-ok tt (c.in_ok-rewrite_vote-3.ensures.writes.faults.no_fault ∙ c.in_ok-rewrite_vote-2.ensures.writes.faults.no_fault ∙ c.in_ok-rewrite_vote.ensures.writes.faults.no_fault);
     }
 
 pub returns-clause-turning : goal.returns-clause-turning

@@ -15,7 +15,7 @@ returns-then-is_err c =
       moment = moment;
       held = refl;
       kept = keeps-as c.args.waiting 0 (Some c.args.unit) c.args.fails c.keep.result _ _ _ (sym c.if-is_err.true ∙ c.is_err.ensures.value) c.keep.ensures.kept;
-      card = record { attached = refl; name = refl; first = refl; faults = c.count.ensures.later; faults_are = c.count.ensures.one; programmed = same-le _; programmed_is = refl; fetched = same-le _; fetched_is = refl; erased = same-le _; erased_is = refl; synced = same-le _; synced_is = refl };
+      card = record { attached = refl; name = refl; first = refl; faults = c.count.ensures.later; faults_are = c.count.ensures.one; programmed = same-le _; programmed_is = refl; fetched = same-le _; fetched_is = refl; erased = same-le _; erased_is = refl; synced = same-le _; synced_is = refl; broken_is = refl };
     }
 
 pub invariant_of-card : goal.invariant_of-card

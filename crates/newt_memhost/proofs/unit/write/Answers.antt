@@ -17,7 +17,7 @@ returns-then-not-reserve c =
         unchanged = refl;
       };
       kept = keeps-none c.args.waiting _ _ c.args.fails c.reserve.result c.args.log.now c.reserve.new.self r.past r.more c.requires.waits r.there c.if-not-reserve.true;
-      card = record { attached = refl; name = refl; first = refl; faults = c.count.ensures.later; faults_are = c.count.ensures.one; programmed = same-le _; programmed_is = refl; fetched = same-le _; fetched_is = refl; erased = same-le _; erased_is = refl; synced = same-le _; synced_is = refl };
+      card = record { attached = refl; name = refl; first = refl; faults = c.count.ensures.later; faults_are = c.count.ensures.one; programmed = same-le _; programmed_is = refl; fetched = same-le _; fetched_is = refl; erased = same-le _; erased_is = refl; synced = same-le _; synced_is = refl; broken_is = refl };
     }
 
 pub invariant_of-card : goal.invariant_of-card
@@ -41,7 +41,7 @@ returns-then-fails c =
       };
       kept = keeps-added c.args.waiting (length c.args.bytes.now) (Some c.args.unit) c.args.fails _ c.args.log.now c.reserve.new.self c.add.new.self
           r.past r.more (r.room c.if-not-reserve.false) c.add.ensures (omega (arith, long)) refl (sym c.if-fails.true);
-      card = record { attached = refl; name = refl; first = refl; faults = c.count-then-fails.ensures.later; faults_are = c.count-then-fails.ensures.one; programmed = same-le _; programmed_is = refl; fetched = same-le _; fetched_is = refl; erased = same-le _; erased_is = refl; synced = same-le _; synced_is = refl };
+      card = record { attached = refl; name = refl; first = refl; faults = c.count-then-fails.ensures.later; faults_are = c.count-then-fails.ensures.one; programmed = same-le _; programmed_is = refl; fetched = same-le _; fetched_is = refl; erased = same-le _; erased_is = refl; synced = same-le _; synced_is = refl; broken_is = refl };
     }
 
 pub invariant_of-card-then-fails : goal.invariant_of-card-then-fails

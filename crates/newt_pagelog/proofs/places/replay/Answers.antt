@@ -9,7 +9,7 @@ use Rattle.newt_journal.specs.Places.{payloads_from, IsPlace}
 use Rattle.newt_pagebook.specs.declared.book.BookFault.TheVariants.{Device}
 use Rattle.newt_pagelog.specs.Kept.{map_of}
 use Rattle.newt_pagelog.specs.Placed.{ReplaysRecord, lifted, page_from}
-use Rattle.newt_pagelog.proofs.Failing.{blames-as, not-err, rose-over, same-err}
+use Rattle.newt_pagelog.proofs.Failing.{blames-as, not-err, broke-over, same-err}
 use Rattle.newt_pagelog.proofs.Placing.{looks-stands, looks-image, looks-read, holds-from, numbered-placed, replay-step, replay-bad}
 use Rattle.newt_pagelog.proofs.Near.{end-near}
 use Rattle.newt_pagelog.proofs.Replaying.{at_some, at_none, if_some}
@@ -141,8 +141,8 @@ returns-in_err-found-clause-reads g c =
     let inv = c.loop-places.invariant in
     record {
       looks = OnlyReads-append inv.looks (looks-read c.walk.ensures.reads);
-      cause = λ bad. rose-over u u (o c.args.host.now) (o c.loop-places.host) (o c.walk.new.host) refl
-          inv.looks.alone c.in_err-found.ensures.reads.faults.cause;
+      cause = λ bad. broke-over u u (o c.args.host.now) (o c.loop-places.host) (o c.walk.new.host) refl
+          inv.no_fault c.in_err-found.ensures.reads.faults.cause;
       no_fault = search rules;
     }
 
@@ -157,8 +157,8 @@ returns-in_err-replay_record-clause-reads g c =
     let reads = c.in_err-replay_record.ensures.reads in
     record {
       looks = OnlyReads-append before c.replay_record.ensures.reads.looks;
-      cause = λ bad. rose-over u u (o c.args.host.now) (o c.walk.new.host) (o c.replay_record.new.host)
-          refl before.alone (reads.cause (ap Err (same-err r e Device is.1 bad)));
+      cause = λ bad. broke-over u u (o c.args.host.now) (o c.walk.new.host) (o c.replay_record.new.host)
+          refl (c.in_ok-found.ensures.reads.faults.no_fault ∙ c.loop-places.invariant.no_fault) (reads.cause (ap Err (same-err r e Device is.1 bad)));
       no_fault = λ none. reads.no_fault (blames-as Bool r e is.1 none)
           ∙ c.in_ok-found.ensures.reads.faults.no_fault ∙ c.loop-places.invariant.no_fault;
     }

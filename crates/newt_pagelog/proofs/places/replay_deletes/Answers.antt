@@ -8,7 +8,7 @@ use Rattle.newt_pagebook.specs.Batch.{deletes_one}
 use Rattle.newt_pagebook.specs.declared.book.BookFault.TheVariants.{Device}
 use Rattle.newt_pagelog.specs.Placed.{Replayed}
 use Rattle.newt_pagelog.specs.Replay.{IsRefused}
-use Rattle.newt_pagelog.proofs.Failing.{blames-as, rose-over, same-err}
+use Rattle.newt_pagelog.proofs.Failing.{blames-as, broke-over, same-err}
 use Rattle.newt_pagelog.proofs.Payloads.{delete_refused, delete_at}
 use Rattle.newt_pagelog.proofs.Placing.{shrunk, looks-stands, looks-image, placed-remove, replayed-delete, delete-there, word-piece}
 use Rattle.newt_pagelog.proofs.Replaying.{at_some, at_none, if_some}
@@ -34,7 +34,7 @@ returns-in_err-number-clause-reads g c = record {
   cause = λ bad.
       let o = g.H.Host.outside in
       let u = c.args.journal.now.unit in
-      rose-over u u (o c.args.host.now) (o c.loop-i.host) (o c.next_number.new.host) refl c.loop-i.invariant.looks.alone
+      broke-over u u (o c.args.host.now) (o c.loop-i.host) (o c.next_number.new.host) refl c.loop-i.invariant.no_fault
       (c.in_err-number.ensures.reads.cause (ap Err (same-err c.from_residual.result c.in_err-number.field-0.0 Device c.from_residual.ensures.1 bad)));
   no_fault = λ none. c.in_err-number.ensures.reads.no_fault
       (blames-as (Option ℕ) c.from_residual.result c.in_err-number.field-0.0 c.from_residual.ensures.1 none)

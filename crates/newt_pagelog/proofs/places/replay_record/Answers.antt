@@ -6,7 +6,7 @@ use Rattle.newt_host.proofs.Outside.{OnlyReads-append}
 use Rattle.newt_spec_image.specs.Pages.{Change, short_at, puts_from, said_by, is_change}
 use Rattle.newt_pagelog.specs.Placed.{Replayed}
 use Rattle.newt_pagebook.specs.declared.book.BookFault.TheVariants.{Device, NotStore}
-use Rattle.newt_pagelog.proofs.Failing.{blames-as, rose-over, same-err}
+use Rattle.newt_pagelog.proofs.Failing.{blames-as, broke-over, same-err}
 use Rattle.newt_pagelog.proofs.Placing.{looks-stands, looks-image, held-inside, length-piece, length-short, counts-there, bad-length, no_change_in, replayed-says, looks-read}
 use Rattle.newt_pagelog.proofs.places.replay_record.Goals as goal
 
@@ -155,7 +155,8 @@ returns-clause-reads g c =
     record {
       looks = OnlyReads-append before e.looks;
       no_other = e.no_other;
-      cause = λ bad. rose-over u u a last (o c.replay_deletes.new.host) refl before.alone (e.cause bad);
+      cause = λ bad. broke-over u u a last (o c.replay_deletes.new.host) refl
+          (c.in_ok-replay_puts.ensures.reads.no_fault tt ∙ c.in_ok-read_short-2.ensures.reads.faults.no_fault ∙ c.in_ok-read_short.ensures.reads.faults.no_fault) (e.cause bad);
       no_fault = λ none. e.no_fault none ∙ c.in_ok-replay_puts.ensures.reads.no_fault tt
           ∙ c.in_ok-read_short-2.ensures.reads.faults.no_fault ∙ c.in_ok-read_short.ensures.reads.faults.no_fault;
     }
@@ -172,7 +173,8 @@ returns-in_err-replay_puts-clause-reads g c =
     record {
       looks = OnlyReads-append counts c.replay_puts.ensures.reads.looks;
       no_other = λ bad. e.no_other (ap Err (same-err r fault NotStore is.1 bad));
-      cause = λ bad. rose-over u u (o c.args.host.now) (o c.read_short-2.new.host) (o c.replay_puts.new.host) refl counts.alone
+      cause = λ bad. broke-over u u (o c.args.host.now) (o c.read_short-2.new.host) (o c.replay_puts.new.host) refl
+          (c.in_ok-read_short-2.ensures.reads.faults.no_fault ∙ c.in_ok-read_short.ensures.reads.faults.no_fault)
           (e.cause (ap Err (same-err r fault Device is.1 bad)));
       no_fault = λ none. e.no_fault (blames-as Bool r fault is.1 none)
           ∙ c.in_ok-read_short-2.ensures.reads.faults.no_fault ∙ c.in_ok-read_short.ensures.reads.faults.no_fault;

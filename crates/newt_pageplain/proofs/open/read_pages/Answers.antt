@@ -15,7 +15,7 @@ use Rattle.newt_pagelog.specs.Kept.{Entries, page_in, numbers_in, is_kept, kept_
 use Rattle.newt_pagelog.specs.Placed.{Places, AreNumbered, lifted, page_from}
 use Rattle.newt_pagelog.proofs.Counts.{live-is}
 use Rattle.newt_pagebook.specs.declared.book.BookFault.TheVariants.{Device}
-use Rattle.newt_pagelog.proofs.Failing.{blames-as, rose-over, same-err}
+use Rattle.newt_pagelog.proofs.Failing.{blames-as, broke-over, same-err}
 use Rattle.newt_pagelog.proofs.Maps.{same_entries}
 use Rattle.newt_pagelog.proofs.Placing.{looks-image, lookup-lifted, pages-from}
 use Rattle.newt_pageplain.proofs.open.read_pages.Goals as goal
@@ -117,7 +117,7 @@ returns-in_err-read_number-clause-reads g c =
     let reads = c.in_err-read_number.ensures.reads in
     record {
       looks = OnlyReads-append inv.looks c.read_number.ensures.reads.looks;
-      cause = λ bad. rose-over u u (o c.args.host.now) (o c.loop-number.host) (o c.read_number.new.host)
-          refl inv.looks.alone (reads.cause (ap Err (same-err r e Device is.1 bad)));
+      cause = λ bad. broke-over u u (o c.args.host.now) (o c.loop-number.host) (o c.read_number.new.host)
+          refl inv.no_fault (reads.cause (ap Err (same-err r e Device is.1 bad)));
       no_fault = λ none. reads.no_fault (blames-as (Unit {0}) r e is.1 none) ∙ inv.no_fault;
     }

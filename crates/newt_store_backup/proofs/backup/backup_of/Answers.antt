@@ -9,7 +9,7 @@ use Rattle.newt_soupdir.specs.Bare.{bare_store}
 use Rattle.newt_spec_store.specs.Store.{Store}
 use Rattle.newt_spec_store.specs.Valid.{well_formed}
 use Rattle.newt_store_catalog.specs.Stands.{StandsFor}
-use Rattle.newt_store_catalog.proofs.Exits.{looks-on, rose-on, search-value, search-memory, search-device, search-after}
+use Rattle.newt_store_catalog.proofs.Exits.{looks-on, broke-on, search-value, search-memory, search-device, search-after}
 use Rattle.newt_store_catalog.proofs.Opening.{same-image}
 use Rattle.newt_backup.specs.Backup.{IsKept, backup}
 use Rattle.newt_entries.specs.Full.{told}
@@ -60,7 +60,7 @@ returns-in-Err-Device g c =
     record {
       backup_is = λ tells. tt;
       looks = looks-on opened.place_is opened.looks c.entries_of.ensures.reads.looks;
-      ends = search-device (rose-on (o c.entries_of.new.host) opened.place_is opened.looks at.1);
+      ends = search-device (broke-on (o c.entries_of.new.host) opened.place_is (opened.ends.no_fault tt) at.1);
     }
 
 pub returns-in_err-is_store : goal.returns-in_err-is_store

@@ -1,7 +1,7 @@
 use Rattle.std.proofs.Common.{Bool, List, ℕ, Option, map, Global, string_bytes, sym, ◌∙◌, subst, arith}
 use Rattle.std.proofs.lemmas.List.{length-map}
 use Rattle.newt_host_attach.specs.Named.{AreAttached}
-use Rattle.newt_host.proofs.Outside.{NoFault-append, SameWork-refl}
+use Rattle.newt_host.proofs.Outside.{Broke-rose, NoFault-append, SameWork-refl}
 use Rattle.newt_script_session.specs.Calls.{OutputFailed, WriteCall}
 use Rattle.newt_script_session.specs.Named.{held_by}
 use Rattle.newt_script_session.proofs.Beginning.{attached_faultless}
@@ -75,7 +75,7 @@ returns-in-Err-Device-clause-ends g c =
     let mid = o c.attach_names-attached.new.host in
     let free = free-read (o c.args.host.now) mid (o c.said.new.host) (attached_faultless _ _ _ _ c.attach_names-attached.ensures.attached) c.said.ensures.looks in
     let at = rw c.in-Err-Device.field-0-is at c.in-Err-Device.ensures.ends.cause in
-    ends-device c.args.reading (o c.args.host.now) mid (o c.said.new.host) free (c.attach_names-attached.ensures.attached.counts.dev_faults 0) at.1
+    ends-device c.args.reading (o c.args.host.now) mid (o c.said.new.host) free (c.attach_names-attached.ensures.attached.counts.dev_faults 0) (Broke-rose at.1)
 
 -- ---- the text was put out, or the output failed
 

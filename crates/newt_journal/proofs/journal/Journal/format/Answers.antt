@@ -1,11 +1,11 @@
 use Rattle.std.proofs.Common.{◌≤◌, ◌+◌, ◌-◌, ◌*◌, ℕ, length, replicate, refl, arith, sym, ◌∙◌, ap, subst}
 use Rattle.newt_host.specs.Moments.{image}
-use Rattle.newt_host.proofs.Outside.{same_cards}
+use Rattle.newt_host.proofs.Outside.{same_cards, stops-err, stops-ok}
 use Rattle.newt_spec_image.specs.Records.{bank_blocks, bank_size, bank_start}
 use Rattle.newt_journal.specs.Journal.{Reading}
 use Rattle.newt_journal.proofs.Opened.{has_blocks}
 use Rattle.newt_journal.proofs.Formatting.{after_sync, bank_begun, format_blank, format_reads, format_tail, format_stands, front_is, front_sure, front_voted, front_written, may_leave, then_front}
-use Rattle.newt_journal.proofs.Adding.{did-call, did-write, then, widen-by, counted-err, counted-ok}
+use Rattle.newt_journal.proofs.Adding.{did-call, did-write, then, widen-by}
 use Rattle.newt_journal.proofs.journal.Journal.format.Goals as goal
 
 pub returns-in_err-sync-clause-writes : goal.returns-in_err-sync-clause-writes
@@ -22,7 +22,7 @@ returns-in_err-sync-clause-writes g c =
       alone = did.alone;
       costs = did.costs;
       wears = did.wears;
-      faults = counted-err c.from_residual.result c.from_residual.ensures.0 (refl)
+      faults = stops-err c.from_residual.result c.from_residual.ensures.0 (refl)
           c.sync.ensures.call.faults c.in_err-sync.ensures.call.faults.cause;
     }
 
@@ -43,7 +43,7 @@ returns-in_err-begin_bank-clause-writes g c =
       alone = did.alone;
       costs = did.costs;
       wears = did.wears;
-      faults = counted-err c.from_residual-in_err-begin_bank.result c.from_residual-in_err-begin_bank.ensures.0 (c.in_ok-sync.ensures.call.faults.no_fault)
+      faults = stops-err c.from_residual-in_err-begin_bank.result c.from_residual-in_err-begin_bank.ensures.0 (c.in_ok-sync.ensures.call.faults.no_fault)
           c.begin_bank.ensures.writes.faults c.in_err-begin_bank.ensures.writes.faults.cause;
     }
 
@@ -73,7 +73,7 @@ returns-in_err-program_piece-clause-writes g c =
       alone = did.alone;
       costs = did.costs;
       wears = did.wears;
-      faults = counted-err c.from_residual-in_err-program_piece.result c.from_residual-in_err-program_piece.ensures.0 (c.in_ok-begin_bank.ensures.writes.faults.no_fault ∙ c.in_ok-sync.ensures.call.faults.no_fault)
+      faults = stops-err c.from_residual-in_err-program_piece.result c.from_residual-in_err-program_piece.ensures.0 (c.in_ok-begin_bank.ensures.writes.faults.no_fault ∙ c.in_ok-sync.ensures.call.faults.no_fault)
           c.program_piece.ensures.writes.faults c.in_err-program_piece.ensures.writes.faults.cause;
     }
 
@@ -96,7 +96,7 @@ returns-in_err-sync-2-clause-writes g c =
       alone = did.alone;
       costs = did.costs;
       wears = did.wears;
-      faults = counted-err c.from_residual-in_err-sync-2.result c.from_residual-in_err-sync-2.ensures.0 (c.in_ok-program_piece.ensures.writes.faults.no_fault ∙ c.in_ok-begin_bank.ensures.writes.faults.no_fault ∙ c.in_ok-sync.ensures.call.faults.no_fault)
+      faults = stops-err c.from_residual-in_err-sync-2.result c.from_residual-in_err-sync-2.ensures.0 (c.in_ok-program_piece.ensures.writes.faults.no_fault ∙ c.in_ok-begin_bank.ensures.writes.faults.no_fault ∙ c.in_ok-sync.ensures.call.faults.no_fault)
           c.sync-2.ensures.call.faults c.in_err-sync-2.ensures.call.faults.cause;
     }
 
@@ -119,7 +119,7 @@ returns-in_err-cast_votes-clause-writes g c =
       alone = did.alone;
       costs = did.costs;
       wears = did.wears;
-      faults = counted-err c.from_residual-in_err-cast_votes.result c.from_residual-in_err-cast_votes.ensures.0 (c.in_ok-sync-2.ensures.call.faults.no_fault ∙ c.in_ok-program_piece.ensures.writes.faults.no_fault ∙ c.in_ok-begin_bank.ensures.writes.faults.no_fault ∙ c.in_ok-sync.ensures.call.faults.no_fault)
+      faults = stops-err c.from_residual-in_err-cast_votes.result c.from_residual-in_err-cast_votes.ensures.0 (c.in_ok-sync-2.ensures.call.faults.no_fault ∙ c.in_ok-program_piece.ensures.writes.faults.no_fault ∙ c.in_ok-begin_bank.ensures.writes.faults.no_fault ∙ c.in_ok-sync.ensures.call.faults.no_fault)
           c.cast_votes.ensures.writes.faults c.in_err-cast_votes.ensures.writes.faults.cause;
     }
 
@@ -142,7 +142,7 @@ returns-clause-writes g c =
       alone = did.alone;
       costs = did.costs;
       wears = did.wears;
-      faults = counted-ok _ (c.in_ok-cast_votes.ensures.writes.faults.no_fault ∙ c.in_ok-sync-2.ensures.call.faults.no_fault ∙ c.in_ok-program_piece.ensures.writes.faults.no_fault ∙ c.in_ok-begin_bank.ensures.writes.faults.no_fault ∙ c.in_ok-sync.ensures.call.faults.no_fault);
+      faults = stops-ok _ (c.in_ok-cast_votes.ensures.writes.faults.no_fault ∙ c.in_ok-sync-2.ensures.call.faults.no_fault ∙ c.in_ok-program_piece.ensures.writes.faults.no_fault ∙ c.in_ok-begin_bank.ensures.writes.faults.no_fault ∙ c.in_ok-sync.ensures.call.faults.no_fault);
     }
 
 pub returns-clause-journal : goal.returns-clause-journal

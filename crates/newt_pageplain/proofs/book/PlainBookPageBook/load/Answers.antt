@@ -4,7 +4,7 @@ use Rattle.newt_host.proofs.Outside.{OnlyReads-refl}
 use Rattle.newt_spec_image.specs.Pages.{Pages}
 use Rattle.newt_pagebook.proofs.Tests.{some_inj}
 use Rattle.newt_pagelog.specs.Kept.{map_of, get_map, kept_number}
-use Rattle.newt_pagelog.proofs.Ending.{counted-nothing, spent-nothing}
+use Rattle.newt_pagelog.proofs.Ending.{spent-nothing}
 use Rattle.newt_pageplain.proofs.book.PlainBookPageBook.load.Goals as goal
 
 pub returns : goal.returns
@@ -24,5 +24,5 @@ returns g c =
       same_spare = refl;
       reads = OnlyReads-refl u outside;
       costs = spent-nothing u 0 512 outside;
-      faults = counted-nothing tt (outside.dev_faults u);
+      faults = stops-ok tt refl;
     }

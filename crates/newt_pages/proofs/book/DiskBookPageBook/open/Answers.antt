@@ -6,7 +6,7 @@ use Rattle.newt_journal.specs.declared.journal.Journal.{Journal}
 use Rattle.newt_pagebook.specs.declared.book.BookFault.TheVariants.{Device, Memory, NotStore}
 use Rattle.newt_pagelog.specs.Placed.{HoldsAt}
 use Rattle.newt_pagelog.proofs.Ending.{looks-two, opened-same}
-use Rattle.newt_pagelog.proofs.Failing.{blames-as, no-value, same-err, not-err, rose-over}
+use Rattle.newt_pagelog.proofs.Failing.{blames-as, no-value, same-err, not-err, broke-over}
 use Rattle.newt_pagelog.proofs.Replaying.{stands-on}
 use Rattle.newt_pages.proofs.Caching.{cached-none}
 use Rattle.newt_pages.proofs.book.DiskBookPageBook.open.Goals as goal
@@ -44,7 +44,7 @@ returns-in_err-places g c =
       not_store = λ bad tells. subst (λ (m : Moment). pages (image u m) ≡ None) opened.looks.moment
           (subst (λ (v : ℕ). pages (image v (o c.open_journal.new.host).now) ≡ None) its.1 (c.in_err-places.ensures.not_store (ap Err (same-err r e NotStore was.1 bad)) tells));
       reads = looks;
-      cause = λ bad. rose-over j.unit u (o c.args.host.now) (o c.open_journal.new.host) (o c.replay.new.host) its.1 opened.looks.alone (reads.cause (ap Err (same-err r e Device was.1 bad)));
+      cause = λ bad. broke-over j.unit u (o c.args.host.now) (o c.open_journal.new.host) (o c.replay.new.host) its.1 (opened.no_fault tt) (reads.cause (ap Err (same-err r e Device was.1 bad)));
       no_fault = λ so. Touches-no_fault looks.alone
           (opened-same (o c.open_journal.new.host) (o c.replay.new.host) its.1 (reads.no_fault (blames-as Journal r e was.1 so)) ∙ opened.no_fault tt);
     }
