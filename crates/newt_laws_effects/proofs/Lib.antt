@@ -1,0 +1,4 @@
+pub mod Found
+pub mod Telling
+pub mod Refusing
+pub mod Bounding
