@@ -4,10 +4,18 @@ use Rattle.std.specs.Prelude.{Ok, Err}
 use Rattle.newt_base.specs.declared.Refusal.{Refusal}
 use Rattle.newt_base.specs.declared.Refusal.TheVariants.{Unit as NoUnit, Notmounted, Soup as NoSoup, Entry as NoEntry}
 use Rattle.newt_spec_graph.proofs.Lists.{none-some, some-same}
-use Rattle.newt_spec_store.specs.Store.{Entry, Soup, Store, soup_named, entry_of}
-use Rattle.newt_spec_world.specs.World.{World, Device, Media, blank, one, two, lost, default_unit, device, store_of, store_if_mounted, mounted_store}
+use Rattle.newt_spec_store.specs.Store.{Entry, Soup, Store, soup_named, soup_of, entry_of}
+use Rattle.newt_spec_world.specs.World.{World, Device, Media, blank, one, two, lost, default_unit, device, store_of, store_if_mounted, mounted_store, soup_in}
+use Rattle.newt_store_change.specs.declared.change.Change.{Change}
+use Rattle.newt_laws_world.proofs.Kept.{Every, Wf}
+use Rattle.newt_laws_answers.proofs.Sigs.{named-name, soup-of-sig}
+use Rattle.newt_laws_answers.proofs.Units.{soup-named}
 use Rattle.newt_laws_answers.specs.There.{OnUnit}
 use Rattle.newt_laws_effects.specs.Effects.{Effect, Resolved, needs, passing, in_store, in_soup, in_entry, in_default, both, in_both}
+
+-- an effect
+abbrev pub at : ℕ → Change → Effect
+at u c = record { unit = u; change = c }
 
 pub err-ok : (r : Refusal) (es : List Effect) → ◌≡◌ {A = Resolved} (Err r) (Ok es) → ⊥
 err-ok r es h = cc
@@ -150,3 +158,15 @@ soup-found w u name blocks s p go h f =
 pub default-found : (w : World) (name : List ℕ) (s : Store) (p : Soup) (go : Soup → Resolved) → mounted_store w (default_unit w) ≡ Some s → soup_named name s ≡ Some p → in_default w name go ≡ go p
 default-found w name s p go h f =
     ap (λ o. needs Notmounted o (λ s. needs NoSoup (soup_named name s) go)) h ∙ ap (λ o. needs NoSoup o go) f
+
+-- ---- a soup that is there
+
+module _ (w : World) (all : Every Wf w) (u : ℕ) (name : List ℕ) (blocks : ℕ) (s : Store) (p : Soup) (h : OnUnit w u blocks s) (f : soup_named name s ≡ Some p) where
+  pub by-name : soup_in w u name ≡ Some p
+  by-name = soup-named w u blocks s name h ∙ f
+
+  pub by-sig : soup_of p.sig s ≡ Some p
+  by-sig = soup-of-sig s name p (all u tt _ h.device_is) f
+
+  pub name-is : p.name ≡ name
+  name-is = named-name s name p f

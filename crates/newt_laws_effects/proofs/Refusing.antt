@@ -48,8 +48,8 @@ use Rattle.newt_laws_effects.specs.Effects.{both, in_both, moves}
 use Rattle.newt_laws_effects.specs.Effects.{Resolved, effects, needs, passing, in_store, in_soup, in_entry, one as only}
 use Rattle.newt_laws_effects.specs.Derived.{refusal, tests_on}
 use Rattle.newt_laws_effects.specs.Tells.{is_of_stores}
-use Rattle.newt_laws_effects.proofs.Found.{on-unit, mounted-device}
-use Rattle.newt_laws_effects.proofs.Telling.{by-sig, name-is, large-there}
+use Rattle.newt_laws_effects.proofs.Found.{on-unit, mounted-device, by-sig, name-is}
+use Rattle.newt_laws_effects.proofs.Telling.{large-there}
 
 first-nil : (xs : Checks) → first_of (xs ++ []) ≡ first_of xs
 first-nil [] = refl
