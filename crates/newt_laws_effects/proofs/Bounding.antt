@@ -1,5 +1,5 @@
 -- What a command programs is what its changes program.
-use Rattle.std.proofs.Common.{arith, ◌≡◌, refl, ap, sym, ◌∙◌, subst, ℕ, ◌+◌, ◌==◌, List, [], ◌∷◌}
+use Rattle.std.proofs.Common.{arith, ◌≡◌, refl, ap, sym, ◌∙◌, ℕ, ◌+◌, ◌==◌, List, [], ◌∷◌}
 use Rattle.std.proofs.Common.{length, sum_by, Bool, true, false, cond, Option, Some, None, option_map}
 use Rattle.std.proofs.lemmas.Bool.{eqb-true}
 use Rattle.newt_graph.specs.Graph.{RawGraph}
@@ -19,7 +19,7 @@ use Rattle.newt_laws_answers.proofs.Most.{entry-after}
 use Rattle.newt_laws_answers.proofs.Refusals.{entry-there}
 use Rattle.newt_laws_answers.proofs.Tests.{replaced}
 use Rattle.newt_laws_answers.proofs.Units.{is-mounted, is-there, on-changed, on-other}
-use Rattle.newt_laws_answers.specs.Bounds.{bytes_between, bytes_done, copied_in, entries_of, listed, new_in}
+use Rattle.newt_laws_answers.specs.Bounds.{bytes_between, bytes_done, entries_of, listed, new_in}
 use Rattle.newt_laws_answers.specs.There.{OnUnit}
 use Rattle.newt_laws_effects.specs.Derived.{of_store, programmed_of, bytes_at}
 use Rattle.newt_laws_effects.specs.Effects.{Effect}

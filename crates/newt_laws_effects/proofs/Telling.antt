@@ -44,7 +44,6 @@ use Rattle.newt_laws_reach.specs.Reach.{Reach, nowhere, on_entry, on_soup, reach
 use Rattle.newt_laws_effects.specs.Effects.{Effect, Resolved, effects, needs, passing, one as only, moves}
 use Rattle.newt_laws_effects.specs.Derived.{applied, notes_by, notes_of, of_soup, of_store, on_store_of, entry_note, add_note, reach_by, reach_of, or_reach, moves_of}
 use Rattle.newt_laws_effects.specs.Tells.{Tells, is_of_stores}
-use Rattle.newt_spec_store.specs.Cost.{patch_bytes}
 use Rattle.newt_spec_world.specs.World.{store_on_unit, entry_in}
 use Rattle.newt_store_change.specs.Change.{writes_directory}
 use Rattle.newt_laws_answers.specs.Bounds.{bytes_between, bytes_done, new_in, listed, copied_in, entries_of}
@@ -407,20 +406,20 @@ module _ (w : World) (all : Every Wf w) where
       → Tells w (command.Move u s uid v t) (at v (change.Add q.sig e.graph) ∷ at u (change.Remove p.sig uid) ∷ [])
   unfolding events reach moves_keys
   move-between u s uid v t blocks a p other b q e differ h f k g entry = record {
-        writes_are = λ n. ends (v == n) (u == n);
-        events_are =
-            (λ i. told-add w all v t other b q k g i ++ told w all u s blocks a p h f kind.Remove uid i)
-            ∙ sym (λ i. (at-store w all v t other b q k g [] (λ s. notes_by v s adds) ∙ at-soup w all v t other b q k g (add_note v)) i
-            ++ one-note w all u s blocks a p h f goes (entry_note kind.Remove u uid p) (at-soup w all u s blocks a p h f (entry_note kind.Remove u uid)) i);
-        reach_is = λ x. reached w all v t other b q k g (λ s p. on_entry s.sig p.sig p.next_uid)
-            ∙ sym (ap (λ r. or_reach r (reach_of w (at u goes ∷ []))) (at-store w all v t other b q k g nowhere (λ s. reach_by s adds)
-            ∙ at-next w all v t other b q k g));
-        moves_are = λ x. refl;
-        world_is = λ x. world;
-        bytes_are = λ n. two-bytes w (command.Move u s uid v t) u v blocks other a b adds goes differ h k (new_entry w all v t other b q k g e.graph ∷ []) [] [] (e ∷ [])
-            (added-puts w all v t other b q k g e.graph) (removed-puts w all u s blocks a p h f uid e entry) world n (v == n) (touch (v == n) (u == n))
-            (λ x y. (x, (λ i. touch (x i) (y i)) ∙ touched)) (λ x y. (x, (λ i. touch (x i) (y i)) ∙ removed-touch w all u s blocks a p h f uid e entry))
-            (λ x y. λ i. touch (x i) (y i)) refl;
+    writes_are = λ n. ends (v == n) (u == n);
+    events_are =
+        (λ i. told-add w all v t other b q k g i ++ told w all u s blocks a p h f kind.Remove uid i)
+        ∙ sym (λ i. (at-store w all v t other b q k g [] (λ s. notes_by v s adds) ∙ at-soup w all v t other b q k g (add_note v)) i
+        ++ one-note w all u s blocks a p h f goes (entry_note kind.Remove u uid p) (at-soup w all u s blocks a p h f (entry_note kind.Remove u uid)) i);
+    reach_is = λ x. reached w all v t other b q k g (λ s p. on_entry s.sig p.sig p.next_uid)
+        ∙ sym (ap (λ r. or_reach r (reach_of w (at u goes ∷ []))) (at-store w all v t other b q k g nowhere (λ s. reach_by s adds)
+        ∙ at-next w all v t other b q k g));
+    moves_are = λ x. refl;
+    world_is = λ x. world;
+    bytes_are = λ n. two-bytes w (command.Move u s uid v t) u v blocks other a b adds goes differ h k (new_entry w all v t other b q k g e.graph ∷ []) [] [] (e ∷ [])
+        (added-puts w all v t other b q k g e.graph) (removed-puts w all u s blocks a p h f uid e entry) world n (v == n) (touch (v == n) (u == n))
+        (λ x y. (x, (λ i. touch (x i) (y i)) ∙ touched)) (λ x y. (x, (λ i. touch (x i) (y i)) ∙ removed-touch w all u s blocks a p h f uid e entry))
+        (λ x y. λ i. touch (x i) (y i)) refl;
   }
     where
       adds : Change

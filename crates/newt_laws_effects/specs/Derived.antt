@@ -11,6 +11,7 @@ use Rattle.newt_spec_world.specs.World.{World, Device, change_store, device, mou
 use Rattle.newt_store_change.specs.Change.{changed_by, refusals, bytes_of}
 use Rattle.newt_store_change.specs.declared.change.Change.{Change}
 use Rattle.newt_store_change.specs.declared.change.Change.TheVariants.{MakeSoup, DropSoup, Add, Remove, Move, Replace, Patch, AddIndex, SetTags}
+use Rattle.newt_laws_answers.specs.Bounds.{unless}
 use Rattle.newt_laws_reach.specs.Reach.{Reach, nowhere, on_soup, on_entry}
 use Rattle.newt_laws_effects.specs.Effects.{Effect, Resolved}
 
@@ -141,3 +142,10 @@ tests_of w (e ∷ es) = tests_on e.change w.minute (device w e.unit) ++ tests_of
 abbrev pub refusal : World → Resolved → Option Refusal
 refusal w (Err r) = Some r
 refusal w (Ok es) = first_of (tests_of w es)
+
+-- ---- what a command programs at most
+
+-- nothing where it is refused, else what its changes program (this project's own)
+abbrev pub most_of : World → Resolved → ℕ → ℕ
+most_of w (Err r) u = 0
+most_of w (Ok es) u = unless (tests_of w es) (programmed_of w es u)
