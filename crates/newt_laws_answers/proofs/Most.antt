@@ -144,7 +144,7 @@ module _ (w : World) (u blocks : ℕ) (s : Store) (name : List ℕ) (p : Soup) (
 
   module _ (g : RawGraph) where
     -- the entry afterwards
-    pub entry-after : entry_in (change_store w u (replaced w.minute name uid g)) u name uid ≡ Some (with_graph w.minute g e)
+    entry-after : entry_in (change_store w u (replaced w.minute name uid g)) u name uid ≡ Some (with_graph w.minute g e)
     entry-after =
         entry-named (change_store w u (replaced w.minute name uid g)) u blocks (replaced w.minute name uid g s) name (change_entry uid (with_graph w.minute g) p) uid
         (on-changed w u blocks s (replaced w.minute name uid g) h)

@@ -1,11 +1,13 @@
 -- What a command programs is what its changes program.
 use Rattle.std.proofs.Common.{arith, ◌≡◌, refl, ap, sym, ◌∙◌, ℕ, ◌+◌, ◌==◌, List, [], ◌∷◌}
-use Rattle.std.proofs.Common.{length, sum_by, Bool, true, false, cond, Option, Some, None, option_map}
+use Rattle.std.proofs.Common.{length, sum_by, Bool, true, false, cond, find, Option, Some, None, option_map}
 use Rattle.std.proofs.lemmas.Bool.{eqb-true}
+use Rattle.newt_base.specs.Names.{equal_text}
 use Rattle.newt_graph.specs.Graph.{RawGraph}
+use Rattle.newt_spec_graph.proofs.Lists.{none-some, some-same}
 use Rattle.newt_spec_store.specs.Cost.{entry_pages, pages_bytes, patch_bytes}
 use Rattle.newt_spec_store.specs.Store.{Entry, Soup, Store, soup_named, soup_of, entry_of, entry_at}
-use Rattle.newt_spec_store.specs.Store.{next_uid_of, with_graph}
+use Rattle.newt_spec_store.specs.Store.{change_entry, change_first, next_uid_of, with_graph}
 use Rattle.newt_spec_world.specs.Changed.{changed}
 use Rattle.newt_spec_world.specs.World.{World, change_store, mounted_store, store_on_unit, entry_in, soup_in}
 use Rattle.newt_spec_world.specs.declared.command.Command.{Command}
@@ -14,8 +16,8 @@ use Rattle.newt_store_change.specs.Change.{pages_gone, pages_removed, pages_if, 
 use Rattle.newt_store_change.specs.declared.change.Change.{Change}
 use Rattle.newt_store_change.specs.declared.change.Change.TheVariants as change
 use Rattle.newt_laws_world.proofs.Kept.{Every, Wf}
+use Rattle.newt_laws_world.proofs.Settled.{find-passes}
 use Rattle.newt_laws_answers.proofs.Answers.{entry-named}
-use Rattle.newt_laws_answers.proofs.Most.{entry-after}
 use Rattle.newt_laws_answers.proofs.Refusals.{entry-there}
 use Rattle.newt_laws_answers.proofs.Tests.{replaced}
 use Rattle.newt_laws_answers.proofs.Units.{is-mounted, is-there, on-changed, on-other}
@@ -119,6 +121,30 @@ module _ (w : World) (c : Command) (u blocks : ℕ) (s : Store) (d : Change) (h 
   bare-bytes x world done = one-bytes [] [] x (λ n. Some ([], [])) world (λ n e. refl) done
 
 -- ---- what is put and let go by each change
+
+-- the first that passes is found when it is changed, if it passes still
+find-changed : {X : Type 0} (test : X → Bool) (change : X → X) (xs : List X) (x : X) → find test xs ≡ Some x
+    → test (change x) ≡ true → find test (change_first test change xs) ≡ Some (change x)
+find-changed test change [] x h k = absurd (none-some x h)
+find-changed {X} test change (y ∷ ys) x h k = go (test y) refl h (λ i. find-changed test change ys x i k)
+  where
+    go : (b : Bool) → test y ≡ b → cond b (Some y) (find test ys) ≡ Some x
+        → (find test ys ≡ Some x → find test (change_first test change ys) ≡ Some (change x))
+        → find test (cond b (change y ∷ ys) (y ∷ change_first test change ys)) ≡ Some (change x)
+    go true e i more = ap (λ z. find test (change z ∷ ys)) (some-same y x i)
+        ∙ ap (λ b. cond b (Some (change x)) (find test ys)) k
+    go false e i more = ap (λ b. cond b (Some y) (find test (change_first test change ys))) e ∙ more i
+
+-- the entry of which the graph was replaced
+entry-after : (w : World) (u blocks : ℕ) (s : Store) (name : List ℕ) (p : Soup) (uid : ℕ) → OnUnit w u blocks s
+    → soup_named name s ≡ Some p → (e : Entry) → entry_of uid p ≡ Some e → (g : RawGraph)
+    → entry_in (change_store w u (replaced w.minute name uid g)) u name uid ≡ Some (with_graph w.minute g e)
+entry-after w u blocks s name p uid h f e here g =
+    let change : Soup → Soup = change_entry uid (with_graph w.minute g) in
+    entry-named (change_store w u (replaced w.minute name uid g)) u blocks (replaced w.minute name uid g s) name (change p) uid
+    (on-changed w u blocks s (replaced w.minute name uid g) h)
+    (find-changed (λ p. equal_text p.name name) change s.soups p f (find-passes (λ p. equal_text p.name name) s.soups p f).0)
+    ∙ find-changed (λ e. e.uid == uid) (with_graph w.minute g) p.entries e here (find-passes (λ e. e.uid == uid) p.entries e here).0
 
 module _ (w : World) (all : Every Wf w) (u : ℕ) (name : List ℕ) (blocks : ℕ) (s : Store) (p : Soup) (h : OnUnit w u blocks s) (f : soup_named name s ≡ Some p) where
   pub dropped-puts : Puts (change.DropSoup p.sig) w.minute s [] p.entries
