@@ -1,0 +1,5 @@
+pub mod Found
+pub mod Telling
+pub mod Refusing
+pub mod Bounding
+pub mod Most

@@ -1,0 +1,47 @@
+-- That the tables of commands follow from what a command resolves to.
+use Rattle.std.specs.Prelude.{◌≡◌, ℕ, Bool, true, false, List}
+use Rattle.newt_spec_whole.specs.Events.{events}
+use Rattle.newt_spec_world.specs.Changed.{changed}
+use Rattle.newt_spec_world.specs.Step.{writes}
+use Rattle.newt_spec_world.specs.World.{World}
+use Rattle.newt_spec_world.specs.declared.command.Command.{Command}
+use Rattle.newt_spec_world.specs.declared.command.Command.TheVariants as command
+use Rattle.newt_laws_answers.specs.Bounds.{bytes_done}
+use Rattle.newt_laws_reach.specs.Reach.{reach}
+use Rattle.newt_laws_world.specs.Settled.{moves_keys}
+use Rattle.newt_laws_effects.specs.Effects.{Effect}
+use Rattle.newt_laws_effects.specs.Derived.{applied, writes_of, notes_of, reach_of, moves_of}
+use Rattle.newt_laws_effects.specs.Derived.{programmed_of}
+
+-- the command has a row of `effects` (a word of these definitions)
+unfoldable pub is_of_stores : Command → Bool
+is_of_stores (command.Soup _ _) = true
+is_of_stores (command.Drop _ _) = true
+is_of_stores (command.Index _ _ _) = true
+is_of_stores (command.Unindex _ _ _) = true
+is_of_stores (command.SetTags _ _ _ _) = true
+is_of_stores (command.SetInfo _ _ _) = true
+is_of_stores (command.Add _ _ _) = true
+is_of_stores (command.Addx _ _ _) = true
+is_of_stores (command.Addu _ _) = true
+is_of_stores (command.Set _ _ _ _ _) = true
+is_of_stores (command.Change _ _ _ _) = true
+is_of_stores (command.Remove _ _ _) = true
+is_of_stores (command.Copy _ _ _ _ _) = true
+is_of_stores (command.Move _ _ _ _ _) = true
+is_of_stores (command.Vwrite _ _ _ _ _ _) = true
+is_of_stores _ = false
+
+-- a mount, which reaches its store and changes none (a word of these definitions)
+abbrev pub is_mount : Command → Bool
+is_mount (command.Mount _) = true
+is_mount _ = false
+
+-- each table of the commands is what follows from the changes (this project's own)
+pub record Tells (w : World) (c : Command) (es : List Effect) : Type 0 where
+  pub writes_are : (u : ℕ) → writes w c u ≡ writes_of es u
+  pub events_are : events w c ≡ notes_of w es
+  pub reach_is : is_mount c ≡ false → reach w c ≡ reach_of w es
+  pub moves_are : is_mount c ≡ false → moves_keys c ≡ moves_of es
+  pub world_is : is_of_stores c ≡ true → changed w c ≡ applied w es
+  pub bytes_are : (u : ℕ) → bytes_done w (changed w c) c u ≡ programmed_of w es u
