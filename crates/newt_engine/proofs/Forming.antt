@@ -4,6 +4,7 @@ use Rattle.std.specs.Prelude.{Result, OnOk, IfOk, ◌==◌}
 use Rattle.std.proofs.lemmas.Bool.{eqb-true}
 use Rattle.newt_host.specs.Moments.{image}
 use Rattle.newt_host.specs.Outside.{Outside}
+use Rattle.newt_pagebook.specs.Book.{IsFresh}
 use Rattle.newt_reply.specs.Said.{said}
 use Rattle.newt_reply.specs.declared.reply.Reply.{Reply}
 use Rattle.newt_spec_world.specs.Reply as plain
@@ -12,7 +13,6 @@ use Rattle.newt_spec_world.specs.declared.command.Command.{Command}
 use Rattle.newt_spec_world.specs.declared.command.Command.TheVariants as command
 use Rattle.newt_laws_world.specs.Cursors.{uses_cursors}
 use Rattle.newt_laws_world.specs.Settled.{moves_keys}
-use Rattle.newt_engine_card.specs.Bounds.{IsFresh}
 use Rattle.newt_store_change.specs.declared.fault.StoreFault.{StoreFault}
 use Rattle.newt_engine.specs.Bounds.{is_format}
 use Rattle.newt_engine.specs.Ends.{uses_device}

@@ -2,7 +2,7 @@
 use Rattle.std.specs.Prelude.{◌≡◌, ◌*◌, ℕ, Bool, true, false, Result, IfOk}
 use Rattle.newt_host.specs.Moments.{image}
 use Rattle.newt_host.specs.Outside.{Outside}
-use Rattle.newt_pagebook.specs.Book.{format_bytes}
+use Rattle.newt_pagebook.specs.Book.{IsFresh, format_bytes}
 use Rattle.newt_reply.specs.Said.{said}
 use Rattle.newt_reply.specs.declared.reply.Reply.{Reply}
 use Rattle.newt_spec_store.specs.Cost.{cost}
@@ -16,7 +16,7 @@ use Rattle.newt_spec_world.specs.Step.{is_format_of}
 use Rattle.newt_laws_answers.specs.Bounds.{most_programmed}
 use Rattle.newt_laws_answers.specs.Fetched.{means_entries, pages_meant, pages_shown}
 use Rattle.newt_store_change.specs.declared.fault.StoreFault.{StoreFault}
-use Rattle.newt_engine_card.specs.Bounds.{FetchesWithin, FormatsOnce, IsFresh, ProgramsAtMost, IsOpenOrSame}
+use Rattle.newt_engine_card.specs.Bounds.{FetchesWithin, FormatsOnce, ProgramsAtMost, IsOpenOrSame}
 use Rattle.newt_store_change.specs.Faults.{GoesOn}
 
 -- a device is made one with a store

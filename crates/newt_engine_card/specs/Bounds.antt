@@ -1,9 +1,9 @@
 -- How much a call programs, erases and syncs, and that it leaves no bank closed.
-use Rattle.std.specs.Prelude.{◌≡◌, ◌≢◌, ◌⊎◌, ℕ, ◌+◌, ◌≤◌, ◌==◌, if◌then◌else◌, Bool, true, List, [], ◌∷◌, Result}
+use Rattle.std.specs.Prelude.{◌≡◌, ◌≢◌, ◌⊎◌, ℕ, ◌+◌, ◌≤◌, ◌==◌, if◌then◌else◌, Bool, true, Result}
 use Rattle.newt_host.specs.Moments.{Moment, changes, image}
 use Rattle.newt_host.specs.Outside.{Outside, Wears}
 use Rattle.newt_spec_image.specs.Records.{bank_blocks}
-use Rattle.newt_pagebook.specs.Book.{IsFormatted, IsOpenFor}
+use Rattle.newt_pagebook.specs.Book.{IsOpenFor}
 use Rattle.newt_store_change.specs.declared.fault.StoreFault.{StoreFault}
 use Rattle.newt_store_change.specs.Faults.{GoesOn}
 
@@ -30,12 +30,6 @@ pub record FormatsOnce (n syncs unit : ℕ) (old new : Outside) : Type 0 where
 -- A unit's bank is not closed, or the unit is read as it was.
 abbrev pub IsOpenOrSame : ℕ → Moment → Moment → Type 0
 IsOpenOrSame unit old new = IsOpenFor 0 (image unit new) ⊎ (image unit new ≡ image unit old)
-
--- A unit was formatted: all three vote for bank 0, its one record puts page 0 alone, and blank bytes
--- stand after it.
-abbrev pub IsFresh : List ℕ → Type 0
-IsFresh image =
-    (page : List ℕ) × IsFormatted (record { puts = (0, page) ∷ []; deletes = [] }) image
 
 -- nothing has happened to a unit, and it was not programmed, erased or synced
 pub record LeftAlone (unit : ℕ) (old new : Outside) : Type 0 where

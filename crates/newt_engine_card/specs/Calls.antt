@@ -4,7 +4,7 @@ use Rattle.newt_base.specs.Refusals.{first_of}
 use Rattle.newt_host.specs.Moments.{image, IsDurable, Leaves, Anything}
 use Rattle.newt_host.specs.Outside.{Outside, Broke, NoFault, OnlyReads, Spends, Touches, Wears}
 use Rattle.newt_spec_image.specs.Records.{bank_blocks}
-use Rattle.newt_pagebook.specs.Book.{IsOpenFor, format_bytes}
+use Rattle.newt_pagebook.specs.Book.{IsFresh, IsOpenFor, format_bytes}
 use Rattle.newt_pagebook.specs.Stops.{BlamesNone, StopsAt}
 use Rattle.newt_pagebook.specs.declared.book.BookFault.{BookFault}
 use Rattle.newt_pagebook.specs.declared.book.BookFault.TheVariants.{NotStore, Device as DeviceFault}
@@ -19,7 +19,6 @@ use Rattle.newt_store_change.specs.Faults.{Does, GoesOn, FaultsAt, IsRefused}
 use Rattle.newt_store_change.specs.declared.change.Change.{Change}
 use Rattle.newt_store_change.specs.declared.entry.Entry.{Entry}
 use Rattle.newt_store_change.specs.declared.fault.StoreFault.{StoreFault}
-use Rattle.newt_engine_card.specs.Bounds.{IsFresh}
 use Rattle.newt_engine_card.specs.Cards.{LeavesEither, OthersSame}
 
 module _ (reads : List ℕ → Option Store) where

@@ -3,7 +3,7 @@ use Rattle.std.specs.Prelude.{◌≡◌, ◌≢◌, ◌*◌, ℕ, ◌≤◌, Boo
 use Rattle.std.specs.Prelude.{Some, None, IsSome, Result, IfOk, IfErr, OnOk, OnErr, if◌then◌else◌}
 use Rattle.newt_host.specs.Moments.{image, Always, On, Synced, changes}
 use Rattle.newt_host.specs.Outside.{Outside, NoFault, OnDevices, Touches, Wears}
-use Rattle.newt_pagebook.specs.Book.{format_bytes}
+use Rattle.newt_pagebook.specs.Book.{IsFresh, format_bytes}
 use Rattle.newt_pagebook.specs.Stops.{HasStopCause}
 use Rattle.newt_pagebook.specs.declared.book.Stop.{Stop}
 use Rattle.newt_pagebook.specs.declared.book.Stop.TheVariants.{Device as Broken}
@@ -29,7 +29,7 @@ use Rattle.newt_store_change.specs.declared.entry.Entry.{Entry}
 use Rattle.newt_store_change.specs.declared.fault.StoreFault.{StoreFault}
 use Rattle.newt_store_change.specs.declared.fault.StoreFault.TheVariants.{Stop as Ends}
 use Rattle.newt_engine_card.specs.Bounds.{Costs, CostsOn, FetchesAtMost, FetchesOn, FormatsOnce}
-use Rattle.newt_engine_card.specs.Bounds.{IsFresh, IsOpenOrSame, LeftAlone, of_unit}
+use Rattle.newt_engine_card.specs.Bounds.{IsOpenOrSame, LeftAlone, of_unit}
 use Rattle.newt_engine_units.specs.Answers.{Answers}
 use Rattle.newt_engine_units.specs.Breaks.{AtDevice, AtStop, FailsAlone, HasStoreToFormat, Meanwhile}
 use Rattle.newt_engine_units.specs.Faces.{with_due}

@@ -84,7 +84,7 @@ large_lengths g = flat_map large_length g.nodes
 abbrev pub skeleton_length : RawGraph → ℕ
 skeleton_length g = length (flat (skeleton g))
 
--- the pages of an entry's record, which is 12 bytes, the written skeleton and 12 bytes for each large binary (this project's own)
+-- the pages of an entry's record, which is 12 bytes, the flat text of its skeleton and 12 bytes for each large binary (this project's own)
 abbrev pub record_pages : Entry → ℕ
 record_pages e = pages_for (12 + skeleton_length e.graph + 12 * length (large_lengths e.graph))
 

@@ -9,7 +9,7 @@ use Rattle.newt_spec_image.specs.Records.{and_then, version}
 use Rattle.newt_spec_image.specs.Pages.{Change, Put, pages_after, after, cap}
 use Rattle.newt_spec_image.specs.Objects.{Extent, IsTableOf, joined, pages_for, part_bytes, written_page, written_parts, Objects}
 use Rattle.newt_pagebook.specs.Batch.{no_change}
-use Rattle.newt_pagebook.specs.Book.{IsFormatted}
+use Rattle.newt_pagebook.specs.Book.{IsFormatted, IsFresh}
 use Rattle.newt_objects.specs.Extents.{free_below, numbers_of}
 use Rattle.newt_objects.specs.Held.{Held, free_numbers, held}
 use Rattle.newt_objects.specs.Changing.{HoldsObjects, IsUnderWay}
@@ -111,7 +111,7 @@ first-free (suc n) = let (rest, is) = first-free n in (rest ++ suc n ∷ [], ap 
 pub first-page : (name : List ℕ) (sig : ℕ) (bytes image : List ℕ) (objects : Held) (first last : Change) → is_name name ≡ true → bytes ≡ directory_bytes (new_store name sig)
     → objects.rows ≡ [] → held objects 0 ≡ None → first ≡ no_change
     → last.puts ≡ first.puts ++ written_parts 0 0 bytes (take (pages_for (length bytes)) (free_numbers objects first)) → last.deletes ≡ first.deletes ++ numbers_of (held objects 0)
-    → IsFormatted last image → (page : List ℕ) × IsFormatted (record { puts = (0, page) ∷ []; deletes = [] }) image
+    → IsFormatted last image → IsFresh image
 first-page name sig bytes image objects first last named is none unheld start puts deletes formatted =
     let (rest, free) = first-free 65535 in
     let one : pages_for (length bytes) ≡ 1 = ap (λ (b : List ℕ). pages_for (length b)) is ∙ ap pages_for (fresh-bytes name sig) ∙ one-page (length name) (short-name name named) in

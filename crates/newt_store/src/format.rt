@@ -1,8 +1,8 @@
 // A fresh store.
-ghost use Rattle.std.specs.Prelude.{IsTrue, ◌≡◌, ◌≤◌, ℕ, List, [], ◌∷◌, IfOk, OnOk};
+ghost use Rattle.std.specs.Prelude.{IsTrue, ◌≡◌, ◌≤◌, IfOk, OnOk};
 ghost use Rattle.newt_base.specs.Names.{is_name};
 ghost use Rattle.newt_host.specs.Moments.{image};
-ghost use Rattle.newt_pagebook.specs.Book.{IsFormatted};
+ghost use Rattle.newt_pagebook.specs.Book.{IsFresh};
 ghost use Rattle.newt_soupdir.specs.Bare.{bare_store};
 ghost use Rattle.newt_spec_store.specs.Cost.{directory_bytes};
 ghost use Rattle.newt_spec_store.specs.Store.{new_store};
@@ -52,9 +52,8 @@ pub(crate) fn format_unit<P: PageBook, H: Host>(
     requires few { sig ≤ 536_870_911 }
     ensures unit { FormatsUnit H.told unit (new_store name.now sig)
         (H.outside host.old) (H.outside host.new) result }
-    ensures fresh { IsTrue H.told → OnOk result ((page : List ℕ)
-        × IsFormatted (record { puts = (0, page) ∷ []; deletes = [] })
-        (image unit (H.outside host.new).now)) }
+    ensures fresh { IsTrue H.told
+        → OnOk result (IsFresh (image unit (H.outside host.new).now)) }
 {
     let bytes = new_bytes(alloc, name, sig)?;
     let mut objects = Objects::empty(alloc);

@@ -1,10 +1,10 @@
 // A store on one unit.
-ghost use Rattle.std.specs.Prelude.{IsTrue, ◌≡◌, ◌≤◌, ◌*◌, ℕ, Some, IfOk, IsErrOf, is_some, List, []};
-ghost use Rattle.std.specs.Prelude.{◌∷◌, OnOk};
+ghost use Rattle.std.specs.Prelude.{IsTrue, ◌≡◌, ◌≤◌, ◌*◌, ℕ, Some, IfOk, IsErrOf, is_some, List};
+ghost use Rattle.std.specs.Prelude.{OnOk};
 ghost use Rattle.std.specs.Option.{option_map};
 ghost use Rattle.newt_host.specs.Moments.{image, IsDurable};
 ghost use Rattle.newt_host.specs.Outside.{Spends};
-ghost use Rattle.newt_pagebook.specs.Book.{IsFormatted, IsOpenFor};
+ghost use Rattle.newt_pagebook.specs.Book.{IsFresh, IsOpenFor};
 ghost use Rattle.newt_spec_store.specs.Store.{Store as PlainStore, soup_of, entry_at, count_in};
 ghost use Rattle.newt_spec_store.specs.Store.{new_store};
 ghost use Rattle.newt_spec_store.specs.OfImage.{blocks_of};
@@ -61,9 +61,8 @@ impl<P: PageBook> Store<P> {
         requires few { sig ≤ 536_870_911 }
         ensures unit { FormatsUnit H.told unit (new_store name.now sig)
             (H.outside host.old) (H.outside host.new) result }
-        ensures fresh { IsTrue H.told → OnOk result ((page : List ℕ)
-            × IsFormatted (record { puts = (0, page) ∷ []; deletes = [] })
-            (image unit (H.outside host.new).now)) }
+        ensures fresh { IsTrue H.told
+            → OnOk result (IsFresh (image unit (H.outside host.new).now)) }
     {
         format_unit::<P, H>(alloc, host, unit, name, sig)
     }
