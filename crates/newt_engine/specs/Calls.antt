@@ -202,15 +202,15 @@ module _ {C : Type 0} (reads : List ℕ → Option Store) (place : C → ℕ)
 module _ {C : Type 0} (reads : List ℕ → Option Store) where
   -- How a command ends. What is attached, the input and the output are as they were. But for a
   -- format each unit that has room is programmed by no more than the command may, is not erased,
-  -- and is synced twice at most; a format wears once, and leaves a fresh unit where it is done; where the command is one of entries, for
-  -- each page of those that it means 1024 bytes at most are fetched there; one that opens, shows,
-  -- moves or counts a cursor whose query asks for no words or texts fetches 512 for each page of
-  -- the entry that it answers, and nothing where it answers none: where the host tells no bytes, by
-  -- the reply that is given, and of a cursor that is open. After a reply each bank is not closed or
-  -- is as it was, but for a unit that was thrown out. No fault was counted but of a unit that the
-  -- reply says was thrown out, and of that one just one was, after which it was not called; want of
-  -- memory hides none, and only what
-  -- may take memory ends in it; and only what uses a device throws a unit out.
+  -- and is synced twice at most; a format wears once, and leaves a fresh unit where it is done.
+  -- Where the command is one of entries, for each page of those that it means 1024 bytes at most are
+  -- fetched there; one that opens, shows, moves or counts a cursor whose query asks for no words or
+  -- texts fetches 512 for each page of the entry that it answers, and nothing where it answers none:
+  -- where the host tells no bytes, by the reply that is given, and of a cursor that is open. After a
+  -- reply each bank is not closed or is as it was, but for a unit that was thrown out. No fault was
+  -- counted but of a unit that the reply says was thrown out, and of that one just one was, after
+  -- which it was not called. Want of memory hides none, and only what may take memory ends in it;
+  -- and only what uses a device throws a unit out.
   pub record Finished (told : Bool) (command : Command) (old : World C) (before after : Outside) (result : Result Reply AllocError) : Type 0 where
     pub alone : OnDevices before after
     pub bound : IsTrue told → is_format command ≡ false → (u : ℕ) → ProgramsAtMost (most_programmed (stood_for reads old before) command u) u before after
