@@ -2,7 +2,7 @@
 use Rattle.std.proofs.Common.{arith, ◌≡◌, refl, sym, ◌∙◌, ap, subst, ℕ, Bool, true, false, List, Option}
 use Rattle.std.specs.Prelude.{Result, Ok, Err, IfErr}
 use Rattle.newt_host.specs.Outside.{Outside, NoFault}
-use Rattle.newt_host.proofs.Outside.{NoFault-append, OnDevices-refl, OnDevices-append}
+use Rattle.newt_host.proofs.Outside.{Broke-since, NoFault-append, OnDevices-refl, OnDevices-append}
 use Rattle.newt_pagebook.specs.Stops.{HasStopCause}
 use Rattle.newt_pagebook.specs.declared.book.Stop.{Stop}
 use Rattle.newt_pagebook.specs.declared.book.Stop.TheVariants.{Memory, Device}
@@ -16,10 +16,10 @@ use Rattle.newt_engine_units.specs.Calls.{AreRead}
 use Rattle.newt_engine_units.proofs.Broken.{err-stop-map, fails-after}
 use Rattle.newt_engine_hits.specs.Calls.{IsReading}
 
--- why a run ends behind calls in which no fault was counted
+-- why a run ends after calls in which no fault was counted
 pub cause-since : (o p q : Outside) (stop : Stop) → NoFault o p → HasStopCause stop p q → HasStopCause stop o q
 cause-since o p q Memory f h = NoFault-append f h
-cause-since o p q (Device u) f h = let x = f.dev_faults u in omega (arith, h)
+cause-since o p q (Device u) f h = Broke-since (f.dev_faults u) h
 
 -- what holds of a device that failed, where the error is handed on
 pub handed-stop : {T : Type 0} (P : ℕ → Type 0) (stop : Stop) → AtStop P stop → (result : Result T Stop) → (e : Stop) × (result ≡ Err e) × (e ≡ stop) → IfErr result (AtStop P)
