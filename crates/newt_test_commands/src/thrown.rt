@@ -100,8 +100,8 @@ soups 0 => ok S 0 1
 #[test]
 fn tells_which_store_a_card_holds(rt: HostRuntime) -> Result<(), Fail> {
     let alloc = rt.alloc();
-    // The length, the counts and two pages, a sync, and what makes the record hold.
-    expect_each_failing(alloc, NOT_ADDED, Unit(0), 3, 6)?;
+    // All but the last sync: what is read, the record behind its gate, a sync, and the gate.
+    expect_each_failing(alloc, NOT_ADDED, Unit(0), 3, 7)?;
     expect_failing(alloc, ADDED, Unit(0), 3, Place::FromLast(0))
 }
 

@@ -35,7 +35,7 @@ get 1 N 0 => ok 0 {k: 1}
 #[test]
 fn tells_what_was_done_before_a_card_failed(rt: HostRuntime) -> Result<(), Fail> {
     let alloc = rt.alloc();
-    expect_each_failing(alloc, NOT_ADDED, Unit(0), 4, 6)?;
+    expect_each_failing(alloc, NOT_ADDED, Unit(0), 4, 7)?;
     expect_failing(alloc, MOVED, Unit(0), 8, Place::FromLast(1))
 }
 
