@@ -193,3 +193,35 @@ draft 15 => ok {}
 fn has_sixteen_copies(rt: HostRuntime) -> Result<(), Fail> {
     expect(rt.alloc(), "run a", PLACES)
 }
+
+/// Two copies of one entry within one minute, saved in turn, and what is no copy.
+const TWO: &str = "
+format 0 A 7 => ok
+mount 0 => ok 7 A
+soup 0 S => ok 0
+time 5 => ok
+add 0 S {a: 1} => ok 0
+open 0 S 0 => ok 0
+open 0 S 0 => ok 1
+edit 0 a 2 => ok
+draft 0 => ok {a: 2}
+save 0 => ok
+edit 1 a 3 => ok
+save 1 => error 45 changed 5
+revert 1 => ok
+draft 1 => ok {a: 2}
+edit 1 a 3 => ok
+save 1 => ok
+get 0 S 0 => ok 5 {a: 3}
+save 0 => error 45 changed 5
+edit 1 q.x 1 => error 38 path
+remove 0 S 0 => ok
+save 1 => error 32 entry
+draft 9 => error 46 copy
+draft 16 => error 11 line
+";
+
+#[test]
+fn saves_in_turn_within_a_minute(rt: HostRuntime) -> Result<(), Fail> {
+    expect(rt.alloc(), "run a", TWO)
+}

@@ -56,6 +56,25 @@ pub(crate) fn expect_failing(
     Ok(())
 }
 
+/// The same where each call of that line but the last one fails, in turn. There are so many.
+pub(crate) fn expect_each_failing(
+    alloc: Global,
+    table: &str,
+    unit: Unit,
+    replies: usize,
+    count: usize,
+) -> Result<(), Fail> {
+    let (script, _) = lines_of(alloc, table)?;
+    let calls = calls_behind(alloc, FIVE, &script, &[], unit, replies)?.len();
+    if calls != count.saturating_add(1) {
+        return Err(Fail::new(format_args!("{calls} calls")));
+    }
+    for back in 1..calls {
+        expect_failing(alloc, table, unit, replies, Place::FromLast(back))?;
+    }
+    Ok(())
+}
+
 /// The bytes of an entry do not come onto the card.
 const NOT_ADDED: &str = "
 format 0 Internal 7 => ok
@@ -81,7 +100,8 @@ soups 0 => ok S 0 1
 #[test]
 fn tells_which_store_a_card_holds(rt: HostRuntime) -> Result<(), Fail> {
     let alloc = rt.alloc();
-    expect_failing(alloc, NOT_ADDED, Unit(0), 3, Place::First)?;
+    // All but the last sync: what is read, the record behind its gate, a sync, and the gate.
+    expect_each_failing(alloc, NOT_ADDED, Unit(0), 3, 7)?;
     expect_failing(alloc, ADDED, Unit(0), 3, Place::FromLast(0))
 }
 

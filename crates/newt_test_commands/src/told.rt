@@ -1,6 +1,6 @@
 //! Watches and working copies where a card fails: what was not done is not told, and a copy stays.
 
-use crate::thrown::{Place, expect_failing};
+use crate::thrown::{Place, expect_each_failing, expect_failing};
 use newt_host::Unit;
 use std::test::Fail;
 
@@ -35,7 +35,7 @@ get 1 N 0 => ok 0 {k: 1}
 #[test]
 fn tells_what_was_done_before_a_card_failed(rt: HostRuntime) -> Result<(), Fail> {
     let alloc = rt.alloc();
-    expect_failing(alloc, NOT_ADDED, Unit(0), 4, Place::First)?;
+    expect_each_failing(alloc, NOT_ADDED, Unit(0), 4, 7)?;
     expect_failing(alloc, MOVED, Unit(0), 8, Place::FromLast(1))
 }
 
@@ -79,6 +79,6 @@ notes 0 => ok 0 change 0 0 0
 #[test]
 fn a_copy_outlives_its_card(rt: HostRuntime) -> Result<(), Fail> {
     let alloc = rt.alloc();
-    expect_failing(alloc, NOT_SAVED, Unit(0), 7, Place::First)?;
+    expect_each_failing(alloc, NOT_SAVED, Unit(0), 7, 6)?;
     expect_failing(alloc, SAVED, Unit(0), 7, Place::FromLast(0))
 }

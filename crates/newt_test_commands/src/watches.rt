@@ -126,3 +126,90 @@ unwatch 8 => error 11 line
 fn has_eight_watches(rt: HostRuntime) -> Result<(), Fail> {
     expect(rt.alloc(), "run a", PLACES)
 }
+
+/// A watch of two notes over five changes, its soup dropped, and what is no watch.
+const TWO: &str = "
+format 0 A 7 => ok
+mount 0 => ok 7 A
+soup 0 S => ok 0
+watch S 2 => ok 0
+add 0 S {} => ok 0
+add 0 S {} => ok 1
+add 0 S {} => ok 2
+remove 0 S 1 => ok
+notes 0 => ok 2 add 0 0 2, remove 0 0 1
+notes 0 => ok 0
+drop 0 S => ok
+notes 0 => ok 0 drop 0 0
+notes 5 => error 47 watch
+watch S 0 => error 11 line
+";
+
+#[test]
+fn keeps_two_notes(rt: HostRuntime) -> Result<(), Fail> {
+    expect(rt.alloc(), "run a", TWO)
+}
+
+/// A walk over the union of two cards, of which one comes, goes and comes back, and a move from the
+/// one to the other, which a watch is told of.
+const MOVED: &str = "
+format 0 A 7 => ok
+format 1 B 9 => ok
+mount 0 => ok 7 A
+mount 1 => ok 9 B
+soup 0 N => ok 0
+soup 1 N => ok 0
+index 0 N k:string:ascend => ok
+index 1 N k:string:ascend => ok
+add 0 N {k: \"a\"} => ok 0
+add 0 N {k: \"m\"} => ok 1
+add 1 N {k: \"m\"} => ok 0
+add 1 N {k: \"z\"} => ok 1
+unmount 1 => ok
+query * N {indexPath: 'k, beginExclKey: \"a\"} => ok 0
+entry 0 => ok 0 1 0 {k: \"m\"}
+mount 1 => ok 9 B
+next 0 => ok 1 0 0 {k: \"m\"}
+next 0 => ok 1 1 0 {k: \"z\"}
+next 0 => ok nil
+which 0 => ok end
+query * N {indexPath: 'k, beginExclKey: \"m\"} => ok 1
+count 1 => ok 1
+alias 1 N 1 => ok [alias: 9, 0, 1]
+unmount 1 => ok
+prev 0 => ok 0 1 0 {k: \"m\"}
+resolve [alias: 9, 0, 1] => ok nil
+mount 1 => ok 9 B
+resolve [alias: 9, 0, 1] => ok 1 N 1
+watch N 8 => ok 0
+move 0 N 0 1 N => ok 2
+notes 0 => ok 0 add 1 0 2, remove 0 0 0
+";
+
+#[test]
+fn tells_a_move_between_two_cards(rt: HostRuntime) -> Result<(), Fail> {
+    expect(rt.alloc(), "run a b", MOVED)
+}
+
+/// Nine watches of one name.
+const NINE: &str = "
+format 0 A 7 => ok
+mount 0 => ok 7 A
+soup 0 S => ok 0
+watch S 2 => ok 0
+watch S 2 => ok 1
+watch S 2 => ok 2
+watch S 2 => ok 3
+watch S 2 => ok 4
+watch S 2 => ok 5
+watch S 2 => ok 6
+watch S 2 => ok 7
+watch S 2 => error 36 limit
+add 0 S {} => ok 0
+notes 7 => ok 0 add 0 0 0
+";
+
+#[test]
+fn a_ninth_watch_is_refused(rt: HostRuntime) -> Result<(), Fail> {
+    expect(rt.alloc(), "run a", NINE)
+}

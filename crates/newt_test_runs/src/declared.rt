@@ -1,6 +1,7 @@
 //! Indexes and tags that are declared, with replies that were written by hand.
 
 use newt_test_scripts::expect;
+use std::alloc::Global;
 use std::test::Fail;
 
 /// Indexes are declared and removed, and found again.
@@ -142,6 +143,36 @@ tags 0 S => ok
 #[test]
 fn refuses_in_order(rt: HostRuntime) -> Result<(), Fail> {
     expect(rt.alloc(), "run a b", REFUSED)
+}
+
+/// Appends the rows that make so many soups `S000`, `S001` and so on.
+fn push_soups(alloc: Global, table: &mut String, count: u32) -> Result<(), Fail> {
+    for soup in 0..count {
+        let (hundreds, tens, ones) = (soup / 100, soup / 10 % 10, soup % 10);
+        let row = format!(in alloc; "soup 0 S{hundreds}{tens}{ones} => ok {soup}\n")?;
+        table.push_str(&row)?;
+    }
+    Ok(())
+}
+
+/// A store has 250 soups. One more is refused, also behind a mount, and comes where one has gone,
+/// with a number of its own.
+#[test]
+fn takes_250_soups(rt: HostRuntime) -> Result<(), Fail> {
+    let alloc = rt.alloc();
+    let mut table = String::from_str(alloc, "format 0 A 7 => ok\nmount 0 => ok 7 A\n")?;
+    push_soups(alloc, &mut table, 250)?;
+    table.push_str(
+        "soup 0 S250 => error 36 limit
+unmount 0 => ok
+mount 0 => ok 7 A
+soup 0 S250 => error 36 limit
+drop 0 S007 => ok
+soup 0 S250 => ok 250
+soup 0 S251 => error 36 limit
+",
+    )?;
+    expect(alloc, "run a", &table)
 }
 
 /// A soup has sixteen indexes.
