@@ -21,8 +21,8 @@ A name is looked for in each span of code outside of code blocks, and each name 
 - where it says "`A` of `B`", and B is declared in the crates, a crate or one that it names has both.
 """
 
+import os
 import re
-import subprocess
 import sys
 from collections import defaultdict
 from pathlib import Path
@@ -30,6 +30,7 @@ from typing import Iterator, NamedTuple
 
 TOP = Path(__file__).resolve().parent.parent
 COLUMNS, WORDS, AVERAGE = 100, 45, 25
+NO_SOURCE = {".git", "out", "__pycache__"}
 # What has been is told in these, by the names of then.
 OF_THE_PAST = ("CHANGELOG.md", "docs/TRIED.md")
 OF_THE_CODE = (
@@ -63,11 +64,15 @@ class Line(NamedTuple):
 # ---- the documents
 
 
-def documents() -> list[Path]:
-    listed = subprocess.run(
-        ["git", "ls-files", "-co", "--exclude-standard", "*.md"], cwd=TOP, capture_output=True, text=True, check=True
-    )
-    return [TOP / it for it in sorted(listed.stdout.split()) if (TOP / it).is_file()]
+def all_files() -> Iterator[str]:
+    """The files of the repository, without what was built."""
+    for folder, inner, files in os.walk(TOP):
+        inner[:] = sorted(it for it in inner if it not in NO_SOURCE)
+        yield from (str(Path(folder, it).relative_to(TOP)) for it in sorted(files))
+
+
+def documents(files: set) -> list[Path]:
+    return [TOP / it for it in sorted(files) if it.endswith(".md")]
 
 
 def kind_of(text: str) -> str:
@@ -147,6 +152,7 @@ class Code(NamedTuple):
     spoken: set
 
     def has_file(self, span: str) -> bool:
+        """Whether a file or folder has this name, from the top or from one of the folders."""
         parts = [r"[^/]*" if re.fullmatch(r"[A-Z]{1,8}", it) else re.escape(it).replace(r"\*", "[^/]*")
                  for it in span.strip("/").split("/")]
         form = re.compile(rf"(?:.*/)?{'/'.join(parts)}(?:\.rt|\.antt|/.*)?" if "/" not in span.strip("/") else
@@ -165,8 +171,7 @@ class Code(NamedTuple):
 
 
 def code() -> Code:
-    listed = subprocess.run(["git", "ls-files", "-co", "--exclude-standard"], cwd=TOP, capture_output=True, text=True)
-    files, crates, names, spoken, uses = set(listed.stdout.splitlines()), defaultdict(set), set(), set(), {}
+    files, crates, names, spoken, uses = set(all_files()), defaultdict(set), set(), set(), {}
     for file in files:
         path = TOP / file
         crate = file.split("/")[1] if file.startswith("crates/") else ""
@@ -324,7 +329,7 @@ def findings(path: Path, known: Code) -> Iterator[Finding]:
 def main(words: list) -> int:
     found = []
     known = code()
-    for path in documents():
+    for path in documents(known.files):
         found += findings(path, known)
         if words == ["--counts"]:
             counts = [it.words for it in sentences_of(list(lines_of(path.read_text(encoding="utf-8"))))]
