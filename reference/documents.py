@@ -18,7 +18,8 @@ A name is looked for in each span of code outside of code blocks, and each name 
 - in the documents on the code (`OF_THE_CODE`) each other span that is one word is a name that is declared in a crate or
   in a script, or a word of commands, modes, refusals and replies; in the other documents, where words of examples stand
   too, only a name in mixed case, or with `_`, is;
-- where it says "`A` of `B`", and B is declared in the crates, a crate or one that it names has both.
+- where it says "`A` of `B`", and B is declared in the crates, a crate that has B has A, or a crate that it names has;
+- in a table with the columns `call` and `clause`, a crate that has the call has the clause, or one that it names has.
 """
 
 import os
@@ -159,15 +160,9 @@ class Code(NamedTuple):
                           rf"(?:{'|'.join(FOLDERS[1:])}|crates/[^/]+)?/?{'/'.join(parts)}(?:\.rt|\.antt|/.*)?")
         return any(map(form.fullmatch, self.files))
 
-    def reaches(self, crate: str) -> set:
-        """A crate and all that it stands on."""
-        found, left = set(), [crate]
-        while left:
-            it = left.pop()
-            if it not in found:
-                found.add(it)
-                left += self.uses.get(it, ())
-        return found
+    def beside(self, crate: str) -> list[set]:
+        """The names that a crate declares, and those of each crate that it names."""
+        return [self.crates.get(it, set()) for it in (crate, *self.uses.get(crate, ()))]
 
 
 def code() -> Code:
@@ -238,15 +233,33 @@ def crates_named(lines: list[Line]) -> Iterator[tuple[int, str]]:
 
 
 def wrong_pairs(lines: list[Line], known: Code) -> Iterator[tuple[int, str]]:
-    """Where it says "`A` of `B`", and no crate that has B, nor one below it, declares A."""
+    """Where it says "`A` of `B`", and no crate that has B, nor one that it names, declares A."""
     text, numbers = "", []
     for line in lines:
         text += line.text + "\n"
         numbers += [line.number] * (len(line.text) + 1)
     for it in re.finditer(r"`(\w+)`\s+of\s+`([\w:]+)`", text):
         having = [name for name, has in known.crates.items() if set(re.findall(r"\w+", it[2])) <= has]
-        if having and not any(it[1] in known.crates.get(below, ()) for name in having for below in known.reaches(name)):
-            yield numbers[it.start()], f"`{it[1]}` of `{it[2]}`: no crate below has both"
+        if having and not any(it[1] in has for name in having for has in known.beside(name)):
+            yield numbers[it.start()], f"`{it[1]}` of `{it[2]}`: no crate that has the second declares the first"
+
+
+def wrong_rows(lines: list[Line], known: Code) -> Iterator[tuple[int, str]]:
+    """Rows of a table of calls and clauses whose clause no crate has that has the call, nor one that it names."""
+    heads: list[str] = []
+    calls: list[str] = []
+    for line in lines:
+        cells = [it.strip() for it in line.text.strip("|").split("|")] if line.kind == "table" else []
+        if not cells or "call" in cells and "clause" in cells:
+            heads, calls = cells, []
+        elif "call" in heads and len(cells) == len(heads):
+            cell = cells[heads.index("call")]
+            calls = re.findall(r"`([\w:]+)`", cell) + re.findall(r"\bnewt_\w+", cell) if cell else calls
+            having = {it for it, has in known.crates.items() for call in calls if set(re.findall(r"\w+", call)) <= has}
+            below = [has for crate in having for has in known.beside(crate)]
+            for clause in re.findall(r"`(\w+)`", cells[heads.index("clause")]):
+                if having and not any(clause in it for it in below):
+                    yield line.number, f"`{clause}`: no crate that has `{calls[0]}` has such a clause"
 
 
 def names_wrong(lines: list[Line], known: Code, is_of_the_code: bool) -> Iterator[tuple[int, str]]:
@@ -260,6 +273,7 @@ def names_wrong(lines: list[Line], known: Code, is_of_the_code: bool) -> Iterato
         if not name.endswith("..") and name.rstrip(".") not in known.crates:
             yield number, f"{name}: no such crate"
     yield from wrong_pairs(lines, known)
+    yield from wrong_rows(lines, known)
 
 
 # ---- links
