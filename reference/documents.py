@@ -1,4 +1,4 @@
-"""Looks through the documents: that the names in them exist, that links lead somewhere, and that lines and sentences are short.
+"""Looks through the documents: that names in them exist, that links lead somewhere, that lines and sentences are short.
 
     python3 reference/documents.py [--counts]
 
@@ -6,7 +6,7 @@ Each finding is printed as `file:line: what`, and it ends with 0 where there is 
 sentences of each document. That the examples of the documents run is looked at by `.ci/check` (examples.py, and the
 tests of tools/). The documents are the files *.md of the repository.
 
-Prose is all but headings, tables, code that is indented by four blanks or fenced, and the targets of links. A sentence
+Prose is all but headings, tables, code (fenced, or indented by four blanks behind a blank line), and link targets. A sentence
 ends at a point, a question mark or an exclamation mark with a blank behind it, and where a paragraph or the item of a
 list ends. Its words are what stands between blanks; a span of code is one word, whatever is in it.
 
@@ -76,23 +76,29 @@ def documents(files: set) -> list[Path]:
     return [TOP / it for it in sorted(files) if it.endswith(".md")]
 
 
+ITEM = r" {0,3}(?:[-*]|(\d+)\.) "
+
+
 def kind_of(text: str) -> str:
     for kind, form in (("blank", r"\s*$"), ("heading", r"#+ "), ("table", r"\|"), ("target", r"\[[^]]+\]: ")):
         if re.match(form, text):
             return kind
-    return "item" if re.match(r" {0,3}(?:[-*]|\d+\.) ", text) else "text"
+    return "item" if re.match(ITEM, text) else "text"
 
 
 def lines_of(text: str) -> Iterator[Line]:
-    """The lines that are no code."""
-    is_fenced = False
+    """The lines, those of code blank. What is indented within a paragraph or an item goes on with it."""
+    is_fenced, last, count = False, "blank", 0
     for number, line in enumerate(text.splitlines(), 1):
+        is_code = is_fenced or line.startswith("    ") and last not in ("text", "item")
         if line.startswith("```"):
-            is_fenced = not is_fenced
-        elif not is_fenced and not line.startswith("    "):
-            yield Line(number, kind_of(line), line)
-        else:
-            yield Line(number, "blank", "")
+            is_fenced = is_code = not is_fenced
+        last = "blank" if is_code or line.startswith("```") else kind_of(line)
+        numbered = re.match(ITEM, line) if last == "item" else None
+        if numbered and numbered[1]:
+            # A number that a line happens to begin with is none of an item.
+            count, last = (int(numbered[1]), last) if int(numbered[1]) in (1, count + 1) else (count, "text")
+        yield Line(number, last, "" if last == "blank" else line)
 
 
 def blocks_of(lines: list[Line]) -> Iterator[tuple[int, str]]:
