@@ -43,7 +43,7 @@ FOLDERS = ("", "crates", "docs", "reference", "tools", "tools/newton", "tools/te
 # last line, those of examples.
 FOREIGN = set(
     """
-    Vec String Global Result Option Ok Err None Some Debug PartialEq match find all map zip requires ensures ghost
+    Vec String Global RandomState Result Option Ok Err None Some Debug PartialEq match find all map zip requires ensures ghost
     search antt rattle rt lru circular_buffer indexmap hex byteorder caseless memchr itoa arrayvec ucd_case thiserror
     assert assert_eq format true nil chromium valgrind cc git bash rm date rlwrap
     rename same touch Top top abc Internal fullName vCard Names STRASSE TOOL
@@ -80,7 +80,7 @@ ITEM = r" {0,3}(?:[-*]|(\d+)\.) "
 
 
 def kind_of(text: str) -> str:
-    for kind, form in (("blank", r"\s*$"), ("heading", r"#+ "), ("table", r"\|"), ("target", r"\[[^]]+\]: ")):
+    for kind, form in (("blank", r"\s*$"), ("heading", r"#+ "), ("table", r" {0,3}\|"), ("target", r"\[[^]]+\]: ")):
         if re.match(form, text):
             return kind
     return "item" if re.match(ITEM, text) else "text"
@@ -255,7 +255,7 @@ def wrong_rows(lines: list[Line], known: Code) -> Iterator[tuple[int, str]]:
     heads: list[str] = []
     calls: list[str] = []
     for line in lines:
-        cells = [it.strip() for it in line.text.strip("|").split("|")] if line.kind == "table" else []
+        cells = [it.strip() for it in line.text.strip(" |").split("|")] if line.kind == "table" else []
         if not cells or "call" in cells and "clause" in cells:
             heads, calls = cells, []
         elif "call" in heads and len(cells) == len(heads):

@@ -58,9 +58,9 @@ module _ {T : Type 0} {made : T → plain.Reply} {found : Result T StoreFault} {
       go (Err f) (Ok y) s h = absurd s
 
   -- what was fetched for the answer was for the reply
-  pub fetched_on : {o p : Outside} → FetchesAnswered made found o p
+  pub fetched_on : (o p : Outside) → FetchesAnswered made found o p
       → FetchesAnswered said result o p
-  fetched_on {o} {p} h = go found result on.same h
+  fetched_on o p h = go found result on.same h
     where
       fault : (f : StoreFault) → FetchesAnswered made (Err f) o p → FetchesAnswered said (Err f) o p
       fault (Refused r) h = h

@@ -64,8 +64,8 @@ end_idle c (Stop stop) ends idle = idle
 
 -- what holds of each fault holds of a refusal
 pub err_refused : {T : Type 0} (P : Type 0) (f : Result T StoreFault) → IfErr f (λ fault. P) → IsRefused f → P
-err_refused P (Ok x) h no = absurd no
-err_refused P (Err fault) h no = h
+err_refused P (Ok x) h is = absurd is
+err_refused P (Err fault) h _ = h
 
 -- what is idle and shows no entry was refused
 idle_refused : {T : Type 0} (c : Command) (f : Result T StoreFault) → shows_entry c ≡ false → IsIdle c f → IsRefused f

@@ -90,13 +90,13 @@ pub handed_walked : {C : Type 0} {reads : List ℕ → Option Store} {place : C 
     {result : Result Reply StoreFault} {c d : Command} {old new : World C} {o p : Outside} → HandsOn made found result → c ≡ d → takes_memory d ≡ true → uses_device d ≡ true → shows_entry d ≡ false
     → ((x : T) (r : Refusal) → made x ≡ plain.Reply.refused r → ⊥) → ((x : T) (u : ℕ) → throws u (made x) ≡ false)
     → Walks reads place standing told d made old.units new.units old.desk new.desk o p found → Walked reads place standing told c old new o p result
-handed_walked {reads = reads} {old = old} {o = o} {p} on is memory device other never quiet call = record {
+handed_walked {reads = reads} {old = old} {o = o} {p = p} on is memory device other never quiet call = record {
   read = call.read;
   desk = call.desk;
   answered = λ t apart settled. answered_on on _ _ is (call.answered t apart settled);
   fetches = λ t apart settled. subst (λ x. steps_unread (world_with reads old.units old.desk o) x ≡ true → FetchesAtMost (most_stepped (world_with reads old.units old.desk o) x) o p) (sym is)
       (call.fetches t apart settled);
-  shown = λ un. fetched_on on (call.shown (sym (ap (walks_unread old.desk) is) ∙ un));
+  shown = λ un. fetched_on on o p (call.shown (sym (ap (walks_unread old.desk) is) ∙ un));
   failed = err_on on _ call.failed;
   kept = err_on on _ call.kept;
   refused = λ idle. call.refused (refused_back on never is other idle);

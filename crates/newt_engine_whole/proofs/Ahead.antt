@@ -94,7 +94,7 @@ module _ {C : Type 0} {reads : List ℕ → Option Store} {place : C → ℕ} {s
     stands = record { world = a.stands; watches = begun.watches; drafts = begun.drafts };
     stepped = λ t h m. go h m (found t h m) (a.obeyed t h.world m.world);
     ended = reading-ended at.unit at.uid at.name (λ w. refl) refl refl refl turn a.finished a.finished.open_after a.finished.threw a.finished.failed tt;
-    kept = λ no. whole-asked (world-as refl refl (a.kept (refusal-leaves _ (said it) no)));
+    kept = λ no. whole-asked (world-as refl refl (a.kept (refusal-leaves (command.Get at.unit at.name at.uid) (said it) no)));
   }
     where
       go : (h : plain.Whole) → Means reads old o h → AllFormed h.world × IsAt h n at → Obeys reads {R = Reply} {E = AllocError} said (means reads mid p) h.world (command.Get at.unit at.name at.uid) (Ok it) o.now p.now

@@ -195,7 +195,7 @@ apart-applied {C} {reads} {place} {stands} {told} {c} {old} {new} {o} {result} a
   });
   stepped = λ t h m. apart-stepped reads old new o c h result apart m (a.answered o h m);
   ended = rest-ended reads told old o c result a.memory a.quiet;
-  kept = whole-apart result a.world a.kept;
+  kept = whole-apart c old new result a.world a.kept;
 }
 
 -- what is promised of a command is promised of it by its other name

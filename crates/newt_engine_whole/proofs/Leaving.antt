@@ -23,17 +23,17 @@ use Rattle.newt_engine_whole.specs.declared.whole.Whole.{Whole}
 
 -- a refusal leaves all
 pub refusal-leaves : (c : Command) (r : replies.Reply) → is_refusal r ≡ true → leaves_all c r ≡ true
-refusal-leaves c (replies.Reply.refused refusal) no = refl
-refusal-leaves c _ no = absurd (both-ways no)
+refusal-leaves c (replies.Reply.refused refusal) is = refl
+refusal-leaves c _ is = absurd (both-ways is)
 
 -- and no note is due behind it
 pub refusal-told : {C : Type 0} (soups : C → Store) (units : Units C) (due : Due) (r : replies.Reply) → is_refusal r ≡ true → due_told soups units due r ≡ []
-refusal-told soups units due (replies.Reply.refused refusal) no = refl
-refusal-told soups units due _ no = absurd (both-ways no)
+refusal-told soups units due (replies.Reply.refused refusal) is = refl
+refusal-told soups units due _ is = absurd (both-ways is)
 
 -- a reply in other words
 pub no-refusal : {P : Type 0} {r q : replies.Reply} → r ≡ q → is_refusal q ≡ false → is_refusal r ≡ true → P
-no-refusal says never no = absurd (both-ways (sym never ∙ ap is_refusal (sym says) ∙ no))
+no-refusal says never is = absurd (both-ways (sym never ∙ ap is_refusal (sym says) ∙ is))
 
 module _ {C : Type 0} where
   pub world-refl : (c : Command) (a : World C) → KeepsWorld c a a
@@ -57,18 +57,18 @@ module _ {C : Type 0} where
   whole-asked k = record { world = k; watches = refl; works = refl }
 
   -- nothing of the world was
-  pub whole-apart : {c : Command} {old new : Whole C} (result : Result Reply AllocError) → new.world ≡ old.world
+  pub whole-apart : (c : Command) (old new : Whole C) (result : Result Reply AllocError) → new.world ≡ old.world
       → IfOk result (λ it. is_refusal (said it) ≡ true → (new.watches ≡ old.watches) × (new.works ≡ old.works))
       → IfOk result (λ it. is_refusal (said it) ≡ true → KeepsWhole c old new)
-  whole-apart {c} {old} (Ok it) world kept = λ no. record {
+  whole-apart c old new (Ok it) world kept = λ is. record {
     world = subst (λ (w : World C). KeepsWorld c old.world w) (sym world) (world-refl c old.world);
-    watches = (kept no).0;
-    works = (kept no).1;
+    watches = (kept is).0;
+    works = (kept is).1;
   }
-  whole-apart (Err error) world kept = tt
+  whole-apart c old new (Err error) world kept = tt
 
   -- the world was asked before
-  pub whole-behind : {c : Command} {old last : Whole C} {mid : World C} (result : Result Reply AllocError) → KeepsWorld c old.world mid
+  pub whole-behind : (c : Command) (old last : Whole C) (mid : World C) (result : Result Reply AllocError) → KeepsWorld c old.world mid
       → IfOk result (λ it. is_refusal (said it) ≡ true → KeepsWhole c (record old { world = mid }) last) → IfOk result (λ it. is_refusal (said it) ≡ true → KeepsWhole c old last)
-  whole-behind (Ok it) first kept = λ no. let k = kept no in record { world = world-append first k.world; watches = k.watches; works = k.works }
-  whole-behind (Err error) first kept = tt
+  whole-behind c old last mid (Ok it) first kept = λ is. let k = kept is in record { world = world-append first k.world; watches = k.watches; works = k.works }
+  whole-behind c old last mid (Err error) first kept = tt

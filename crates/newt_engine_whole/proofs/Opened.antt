@@ -169,7 +169,7 @@ module _ {C : Type 0} {reads : List ℕ → Option Store} {place : C → ℕ} {s
     stands = record { world = a.stands; watches = begun.watches; drafts = begun.drafts };
     stepped = λ t h m. go h m (a.obeyed t h.world m.world);
     ended = reading-ended u uid s (λ w. refl) refl refl refl (λ t. ([], open-turn (known_whole reads old o) u uid s)) a.finished a.finished.open_after a.finished.threw a.finished.failed tt;
-    kept = λ no. whole-asked (world-as refl refl (a.kept (refusal-leaves _ (said it) no)));
+    kept = λ no. whole-asked (world-as refl refl (a.kept (refusal-leaves (command.Get u s uid) (said it) no)));
   }
     where
       go : (h : plain.Whole) → Means reads old o h → Obeys reads {R = Reply} {E = AllocError} said (means reads mid p) h.world (command.Get u s uid) (Ok it) o.now p.now

@@ -196,7 +196,7 @@ module _ {C : Type 0} {reads : List ℕ → Option Store} {place : C → ℕ} {s
         never_memory = λ none. absurd (both-ways (sym none));
         never_thrown = λ none. absurd (both-ways (sym none));
       };
-      kept = whole-behind result (world-as refl refl (a.kept refl)) b.kept;
+      kept = whole-behind (command.Save n) old last mid result (world-as refl refl (a.kept refl)) b.kept;
     }
       where
         w : World

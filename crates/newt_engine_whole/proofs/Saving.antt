@@ -256,7 +256,7 @@ module _ {C : Type 0} {reads : List ℕ → Option Store} {place : C → ℕ} {s
       stands = record { world = a.stands; watches = begun.watches; drafts = begun.drafts };
       stepped = change-handed other a;
       ended = save-ended a;
-      kept = λ no. whole-asked (world-as refl refl (a.kept (refusal-leaves _ (said it) no)));
+      kept = λ no. whole-asked (world-as refl refl (a.kept (refusal-leaves (command.Change at.unit at.name at.uid draft) (said it) no)));
     }
 
     pub save-over : {mended new : Whole C} (k : Copy) → Some k ≡ copy_at n old.works → draft ≡ k.draft → Inner reads place stands told (command.Change at.unit at.name at.uid draft) old.world mid o p (Ok reply.Done)
