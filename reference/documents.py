@@ -1,4 +1,4 @@
-"""Looks through the documents: that names in them exist, that links lead somewhere, that lines and sentences are short.
+"""Looks through the documents: that their names exist, their links lead somewhere, their lines and sentences are short.
 
     python3 reference/documents.py [--counts]
 
@@ -6,18 +6,18 @@ Each finding is printed as `file:line: what`, and it ends with 0 where there is 
 sentences of each document. That the examples of the documents run is looked at by `.ci/check` (examples.py, and the
 tests of tools/). The documents are the files *.md of the repository.
 
-Prose is all but headings, tables, code (fenced, or indented by four blanks behind a blank line), and link targets. A sentence
+Prose is all but headings, tables, code (fenced, or indented by four blanks after a blank line), and link targets. A sentence
 ends at a point, a question mark or an exclamation mark with a blank behind it, and where a paragraph or the item of a
 list ends. Its words are what stands between blanks; a span of code is one word, whatever is in it.
 
 A name is looked for in each span of code outside of code blocks, and each name of a crate also elsewhere:
-- a span with a slash, and one that ends as files do, is a file: from the top, from `crates`, from a crate or from one of
-  the other folders, where `.rt` or `.antt` may be left out; a part in capitals, and `*`, stand for any name;
+- a span with a slash, and one that ends as files do, is a file: from the top, from `crates`, from a crate or from one
+  of the other folders, where `.rt` or `.antt` may be left out; a part in capitals, and `*`, stand for any name;
 - newt_.. is a crate, or with two points behind it the beginning of names of crates;
 - A::B is a B that a crate declares which declares A, or which is A;
-- in the documents on the code (`OF_THE_CODE`) each other span that is one word is a name that is declared in a crate or
-  in a script, or a word of commands, modes, refusals and replies; in the other documents, where words of examples stand
-  too, only a name in mixed case, or with `_`, is;
+- in the documents on the code (`OF_THE_CODE`) each other span that is one word is a name that is declared in a crate
+  or in a script, or a word of commands, modes, refusals and replies; in the other documents, where words of examples
+  stand too, only a name in mixed case, or with `_`, is;
 - where it says "`A` of `B`", and B is declared in the crates, a crate that has B has A, or a crate that it names has;
 - in a table with the columns `call` and `clause`, a crate that has the call has the clause, or one that it names has.
 """
@@ -39,17 +39,16 @@ OF_THE_CODE = (
     "docs/TESTING.md", "docs/THEOREM.md",
 )
 FOLDERS = ("", "crates", "docs", "reference", "tools", "tools/newton", "tools/tests")
-# Names that the repository does not declare: those of Rust, of the toolchain and its kit, of other programs; and in the
-# last line, those of examples.
+# The exceptions: words of Rust, crates of the kit, other programs, names in examples; and files that are elsewhere.
 FOREIGN = set(
     """
-    Vec String Global RandomState Result Option Ok Err None Some Debug PartialEq match find all map zip requires ensures ghost
-    search antt rattle rt lru circular_buffer indexmap hex byteorder caseless memchr itoa arrayvec ucd_case thiserror
-    assert assert_eq format true nil chromium valgrind cc git bash rm date rlwrap
-    rename same touch Top top abc Internal fullName vCard Names STRASSE TOOL
+    Debug PartialEq RandomState ensures ghost match requires zip
+    arrayvec byteorder caseless circular_buffer indexmap itoa lru memchr thiserror ucd_case
+    chromium rm
+    Internal Top abc fullName rename vCard
     """.split()
 )
-ELSEWHERE = {"crates/newton/out/newton", "cases/NAME", "START-HERE.md", "SHORTER_PROOFS.md", "READING.md"}
+ELSEWHERE = {"crates/newton/out/newton", "cases/NAME", "SHORTER_PROOFS.md"}
 
 Finding = tuple[str, int, str]
 
@@ -150,7 +149,7 @@ DECLARED = {
 
 
 class Code(NamedTuple):
-    """The files, the names that each crate declares, those of all crates and scripts, and the words that a script has."""
+    """The files, the names of each crate, the crates that each names, all names, and the words that scripts have."""
 
     files: set
     crates: dict
@@ -210,7 +209,8 @@ def spans_of(lines: list[Line]) -> Iterator[tuple[int, str]]:
 
 
 def wrong_span(span: str, known: Code, is_of_the_code: bool) -> str:
-    if span in ELSEWHERE or re.search(r"[^\w./:*()-]", span) or span.startswith(("-", ".", "/")) and "/" not in span[1:]:
+    is_mark = re.search(r"[^\w./:*()-]", span) or span.startswith(("-", ".", "/")) and "/" not in span[1:]
+    if span in ELSEWHERE or is_mark:
         return ""
     if re.fullmatch(r"\.?[\w*-]+(?:\.[\w*-]+)*(?:/[\w.*-]+)+/?|[\w-]+/", span) or re.fullmatch(
         r"[\w-]+\.(?:rt|antt|py|md|txt|c|svg|png|1|words|edit)", span
@@ -222,7 +222,8 @@ def wrong_span(span: str, known: Code, is_of_the_code: bool) -> str:
     if name[1].startswith("newt_"):
         if name[1] not in known.crates:
             return "no such crate"
-        return "" if all(it in known.crates[name[1]] for it in span.split("::")[1:]) else "that crate declares no such name"
+        has = known.crates[name[1]]
+        return "" if all(it in has for it in span.split("::")[1:]) else "that crate declares no such name"
     parts = re.findall(r"\w+", span.partition("(")[0])
     if len(parts) > 1:
         return "" if any(set(parts) <= it for it in known.crates.values()) else "no crate declares both"
@@ -320,8 +321,9 @@ def links_wrong(path: Path, text: str, lines: list[Line]) -> Iterator[tuple[int,
     whole = "\n".join(it.text for it in lines)
     for it in re.finditer(r"(README|CONTRIBUTING|docs/\w+\.md)`?,\s+\"([^\"]+)\"", whole):
         target = TOP / (it[1] if it[1].endswith(".md") else f"{it[1]}.md")
-        if target.is_file() and " ".join(it[2].split()) not in called_in(target):
-            yield lines[whole.count("\n", 0, it.start())].number, f'{it[1]}, "{" ".join(it[2].split())}": no such heading'
+        heading = " ".join(it[2].split())
+        if target.is_file() and heading not in called_in(target):
+            yield lines[whole.count("\n", 0, it.start())].number, f'{it[1]}, "{heading}": no such heading'
 
 
 # ---- a document
