@@ -6,14 +6,14 @@ Each finding is printed as `file:line: what`, and it ends with 0 where there is 
 sentences of each document. That the examples of the documents run is looked at by `.ci/check` (examples.py, and the
 tests of tools/). The documents are the files *.md of the repository.
 
-Prose is all but headings, tables, code (fenced, or indented by four blanks after a blank line), and link targets. A sentence
-ends at a point, a question mark or an exclamation mark with a blank behind it, and where a paragraph or the item of a
-list ends. Its words are what stands between blanks; a span of code is one word, whatever is in it.
+Prose is all but headings, tables, code (fenced, or indented by four blanks after a blank line), and link targets. A
+sentence ends at a point, a question mark or an exclamation mark with a blank after it, and where a paragraph or the
+item of a list ends. Its words are what stands between blanks; a span of code is one word, whatever is in it.
 
 A name is looked for in each span of code outside of code blocks, and each name of a crate also elsewhere:
 - a span with a slash, and one that ends as files do, is a file: from the top, from `crates`, from a crate or from one
   of the other folders, where `.rt` or `.antt` may be left out; a part in capitals, and `*`, stand for any name;
-- newt_.. is a crate, or with two points behind it the beginning of names of crates;
+- newt_.. is a crate, or with two points after it the beginning of names of crates;
 - A::B is a B that a crate declares which declares A, or which is A;
 - in the documents on the code (`OF_THE_CODE`) each other span that is one word is a name that is declared in a crate
   or in a script, or a word of commands, modes, refusals and replies; in the other documents, where words of examples
