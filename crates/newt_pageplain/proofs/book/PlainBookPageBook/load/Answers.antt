@@ -1,6 +1,6 @@
 use Rattle.std.proofs.Common.{refl, sym, ◌∙◌, ap, rules}
 use Rattle.std.specs.FinMap as map
-use Rattle.newt_host.proofs.Outside.{OnlyReads-refl}
+use Rattle.newt_host.proofs.Outside.{OnlyReads-refl, stops-ok}
 use Rattle.newt_spec_image.specs.Pages.{Pages}
 use Rattle.newt_pagebook.proofs.Tests.{some_inj}
 use Rattle.newt_pagelog.specs.Kept.{map_of, get_map, kept_number}
