@@ -23,6 +23,15 @@ pub struct Told {
 }
 
 impl Told {
+    /// Nothing yet.
+    fn none(alloc: Global) -> Told {
+        Told {
+            answers: Vec::new(alloc),
+            version: 0,
+            left: Vec::new(alloc),
+        }
+    }
+
     /// The same once more.
     fn copy(&self, alloc: Global) -> Result<Told, AllocError> {
         Ok(Told {
@@ -82,15 +91,28 @@ impl Counts {
     }
 }
 
-/// The version of the bank that the votes of a store choose: that of two, else that of block 0. The
-/// second bank begins behind half of the blocks that are no votes.
+/// A byte, or 0 where there is none.
+fn byte_at(bytes: &[u8], at: usize) -> u8 {
+    bytes.get(at).copied().unwrap_or(0)
+}
+
+/// Whether the votes of a store choose the second bank: two of them, or else that of block 0.
+fn is_second(bytes: &[u8]) -> bool {
+    let votes = [byte_at(bytes, 0), byte_at(bytes, 4096), byte_at(bytes, 8192)];
+    if votes[1] == votes[2] && votes[1] < 2 {
+        votes[1] == 1
+    } else {
+        votes[0] == 1
+    }
+}
+
+/// The version of the bank of a store. The second bank begins behind half of the blocks that are
+/// no votes.
 fn version_of(bytes: &[u8]) -> u8 {
-    let vote = |block: usize| bytes.get(block * 4096).copied().unwrap_or(0);
-    let agreed = vote(1) == vote(2) && vote(1) < 2;
-    let is_second = if agreed { vote(1) == 1 } else { vote(0) == 1 };
     let half = (bytes.len() / 4096).saturating_sub(3) / 2;
-    let bank = if is_second { half + 3 } else { 3 };
-    bytes.get(bank * 4096 + 7).copied().unwrap_or(0)
+    let before = if is_second(bytes) { half } else { 0 };
+    let bank = before.saturating_add(3).saturating_mul(4096);
+    byte_at(bytes, bank.saturating_add(7))
 }
 
 /// What a next run tells of a device of these bytes, which it mounts first. That is mounted exactly
@@ -281,7 +303,7 @@ pub fn expect_safe(
     let Crash { image: held, .. } = host.images(unit, 0, Pick::Old)?;
     let mut counts = Counts::none();
     let mut left = Vec::new(alloc);
-    let mut found = None;
+    let mut found = Told::none(alloc);
     for call in 0..host.calls() {
         let Crash { image, out } = host.images(unit, call, pick)?;
         let shown = host.output().len().min(out as usize);
@@ -291,13 +313,11 @@ pub fn expect_safe(
         if is_known {
             continue;
         }
-        let now = match found {
-            Some(told) if image == left => told,
-            _ => look(alloc, ask, &image)?,
-        };
-        left = image;
-        expect_found(replies, &left, &held, &now, looks)?;
-        found = Some(now);
+        if image != left {
+            found = look(alloc, ask, &image)?;
+            left = image;
+        }
+        expect_found(replies, &left, &held, &found, looks)?;
     }
     Ok(counts)
 }

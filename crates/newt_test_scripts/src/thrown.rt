@@ -78,7 +78,12 @@ fn row_of(table: &str, before: usize) -> Option<&str> {
 
 /// Whether a table has watches or working copies, which know more of a line than its stores show.
 fn is_watched(table: &str) -> bool {
-    table.lines().any(|row| row.starts_with("watch ") || row.starts_with("open "))
+    for row in table.lines() {
+        if row.starts_with("watch ") || row.starts_with("open ") {
+            return true;
+        }
+    }
+    false
 }
 
 /// What an output has behind so many lines.
@@ -279,7 +284,8 @@ impl Failing<'_> {
         let host = run_failing(alloc, "run a b", &script, &[self.call])?;
         let script = self.script_around(alloc, table, line, &[b"unmount 0\n", asks])?;
         let sound = run_failing(alloc, "run a b", &script, &[])?;
-        let skipped = self.replies() + usize::from(!line.is_empty()) + 1;
+        let played: usize = if line.is_empty() { 1 } else { 2 };
+        let skipped = self.replies().saturating_add(played);
         self.expect_output(alloc, &host, 1, behind(sound.output(), skipped))
     }
 
