@@ -27,7 +27,7 @@ soups 0
 getx 0 S 0
 getx 0 S 1
 vread 0 S 0 v 0 2
-time 0
+time 5
 soup 0 Next
 add 0 S {}
 add 0 Next {}

@@ -98,7 +98,7 @@ getx 0 \"To Do\" 2
 getx 0 \"To Do\" 3
 getx 0 \"To Do\" 4
 getx 0 \"To Do\" 5
-time 0
+time 5
 soup 0 Next
 add 0 Notes {}
 add 0 Old {}
