@@ -21,12 +21,16 @@ get 0 S 0
 soups 0
 ";
 
-/// What a next run reads, without a change.
+/// What a next run reads, and how it goes on, which tells the next numbers.
 const READ: &[u8] = b"mount 0
 soups 0
 getx 0 S 0
 getx 0 S 1
 vread 0 S 0 v 0 2
+time 5
+soup 0 Next
+add 0 S {}
+add 0 Next {}
 ";
 
 const PICKS: &[Pick] = &[Pick::Old, Pick::New, Pick::Half, Pick::Fill(0xFF)];

@@ -70,7 +70,8 @@ remove 0 Notes 2 => ok
 quit => ok
 ";
 
-/// What a next run is asked of a unit, which shows all of its store: no soup gives more ids.
+/// What a next run is asked of a unit: it shows the entries of each soup, of which none gives more
+/// ids, and goes on with a soup and an entry of each, whose replies tell the next numbers.
 pub(crate) const LISTING: &[u8] = b"mount 0
 soups 0
 indexes 0 Notes
@@ -97,6 +98,12 @@ getx 0 \"To Do\" 2
 getx 0 \"To Do\" 3
 getx 0 \"To Do\" 4
 getx 0 \"To Do\" 5
+time 5
+soup 0 Next
+add 0 Notes {}
+add 0 Old {}
+add 0 \"To Do\" {}
+add 0 Next {}
 ";
 
 /// What a second run does with an image that is left.

@@ -137,6 +137,6 @@ fn halts_at_each_call_of_a_stream_that_fails(rt: HostRuntime) -> Result<(), Fail
 
 #[test]
 fn goes_on_behind_each_call_of_a_device_that_fails(rt: HostRuntime) -> Result<(), Fail> {
-    expect_thrown(rt.alloc(), SHORT, b"mount 0\nsoups 0\nget 0 Notes 0\n")?;
+    expect_thrown(rt.alloc(), SHORT, LOOK)?;
     Ok(())
 }

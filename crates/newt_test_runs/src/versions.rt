@@ -4,7 +4,7 @@
 use newt_host::Unit;
 use newt_memhost::Pick;
 use newt_test_scripts::{
-    Counts, blocks, expect, expect_safe, image, looks_behind, run_over, run_table_on,
+    Counts, Looks, blocks, expect, expect_safe, image, looks_behind, run_over, run_table_on,
 };
 use newt_test_tables::bytes_of;
 use std::alloc::Global;
@@ -283,8 +283,27 @@ const PICKS: [Pick; 6] = [
 /// A first change of an old image, and what is asked behind a stop.
 const FIRST: &[u8] = b"mount 0\ninfo 0 S {ver: 2}\n";
 
-const ASK: &[u8] =
-    b"mount 0\nsoups 0\nindexes 0 S\ntags 0 S\ninfo 0 S\ngetx 0 S 0\ngetx 0 S 1\ngetx 0 \"To Do\" 0\n";
+const ASK: &[u8] = b"mount 0
+soups 0
+indexes 0 S
+tags 0 S
+info 0 S
+getx 0 S 0
+getx 0 S 1
+getx 0 \"To Do\" 0
+soup 0 Next
+add 0 S {}
+add 0 \"To Do\" {}
+add 0 Next {}
+";
+
+/// The version of the bank behind so many lines.
+fn version_behind(looks: &Looks, lines: usize) -> u8 {
+    match looks.told.get(lines) {
+        Some(told) => told.version,
+        None => 0,
+    }
+}
 
 /// A stop at each device call of the first change leaves the store before it, in version 1, or the
 /// store behind it, in version 2.
@@ -293,6 +312,7 @@ fn a_stop_within_the_first_change_loses_nothing(rt: HostRuntime) -> Result<(), F
     let alloc = rt.alloc();
     let (before, blank) = (bytes_of(alloc, BEFORE)?, blocks(alloc, 13)?);
     let looks = looks_behind(alloc, FIRST, [&before, &blank], ASK, Unit(0))?;
+    assert!(rt; [version_behind(&looks, 1), version_behind(&looks, 2)] == [1, 2]);
     let host = run_over(alloc, "run a b", FIRST, &before, &blank)?;
     let mut counts = Counts::none();
     for pick in PICKS {

@@ -4,20 +4,50 @@ ghost use Rattle.std.specs.Prelude.{◌<◌};
 ghost use Rattle.newt_memhost.specs.Words.{calls_of};
 
 use crate::hosts::{blocks, over};
-use crate::runs::{expect_status, has_device, is_clean, run_over, run_table};
+use crate::restores::backed_up;
+use crate::runs::{expect_status, has_device, image, is_clean, run_over, run_table};
 use crate::tables::lines_of;
 use newt_host::Unit;
 use newt_memhost::{Crash, MemHost, Pick};
 use newt_top::Status;
-use std::alloc::Global;
+use std::alloc::{AllocError, Global};
 use std::test::Fail;
 
+/// What a next run tells of a unit: its answers, the version of the bank that it found, which is 0
+/// where it found no store, and the backup of what it leaves.
+#[derive(Drop, PartialEq)]
+pub struct Told {
+    pub answers: Vec<u8>,
+    pub version: u8,
+    pub left: Vec<u8>,
+}
+
+impl Told {
+    /// Nothing yet.
+    fn none(alloc: Global) -> Told {
+        Told {
+            answers: Vec::new(alloc),
+            version: 0,
+            left: Vec::new(alloc),
+        }
+    }
+
+    /// The same once more.
+    fn copy(&self, alloc: Global) -> Result<Told, AllocError> {
+        Ok(Told {
+            answers: Vec::from_slice(alloc, &self.answers)?,
+            version: self.version,
+            left: Vec::from_slice(alloc, &self.left)?,
+        })
+    }
+}
+
 /// What a unit holds behind each number of first lines of a run that is not stopped, and what a
-/// next run answers over it.
+/// next run tells of it.
 #[derive(Drop)]
 pub struct Looks {
     pub images: Vec<Vec<u8>>,
-    pub answers: Vec<Vec<u8>>,
+    pub told: Vec<Told>,
 }
 
 /// How much was compared: the images that a stop may leave, and those of them that are neither just
@@ -61,14 +91,47 @@ impl Counts {
     }
 }
 
-/// What a next run answers over a device of these bytes, which it mounts first. That is mounted
-/// exactly where the mode `check` finds nothing damaged.
-pub fn look(alloc: Global, ask: &[u8], bytes: &[u8]) -> Result<Vec<u8>, Fail> {
+/// A byte, or 0 where there is none.
+fn byte_at(bytes: &[u8], at: usize) -> u8 {
+    bytes.get(at).copied().unwrap_or(0)
+}
+
+/// Whether the votes of a store choose the second bank: two of them, or else that of block 0.
+fn is_second(bytes: &[u8]) -> bool {
+    let votes = [
+        byte_at(bytes, 0),
+        byte_at(bytes, 4096),
+        byte_at(bytes, 8192),
+    ];
+    if votes[1] == votes[2] && votes[1] < 2 {
+        votes[1] == 1
+    } else {
+        votes[0] == 1
+    }
+}
+
+/// The version of the bank of a store. The second bank begins behind half of the blocks that are
+/// no votes.
+fn version_of(bytes: &[u8]) -> u8 {
+    let half = (bytes.len() / 4096).saturating_sub(3) / 2;
+    let before = if is_second(bytes) { half } else { 0 };
+    let bank = before.saturating_add(3).saturating_mul(4096);
+    byte_at(bytes, bank.saturating_add(7))
+}
+
+/// What a next run tells of a device of these bytes, which it mounts first. That is mounted exactly
+/// where the mode `check` finds nothing damaged.
+pub fn look(alloc: Global, ask: &[u8], bytes: &[u8]) -> Result<Told, Fail> {
     let host = run_over(alloc, "run a", ask, bytes, &[])?;
-    if is_clean(alloc, bytes)? != host.output().starts_with(b"ok ") {
+    let is_store = host.output().starts_with(b"ok ");
+    if is_clean(alloc, bytes)? != is_store {
         return Err(Fail::new("what is mounted is damaged, or what is clean is not mounted"));
     }
-    Ok(Vec::from_slice(alloc, host.output())?)
+    Ok(Told {
+        answers: Vec::from_slice(alloc, host.output())?,
+        version: if is_store { version_of(bytes) } else { 0 },
+        left: backed_up(alloc, &image(alloc, &host, Unit(0))?)?,
+    })
 }
 
 /// Whether a call is the last one before more is read behind a line: it reads on, or ends the run.
@@ -94,8 +157,8 @@ fn ends_with(images: &[Vec<u8>], image: &[u8]) -> bool {
     }
 }
 
-/// What a unit holds where a run of a script reads on behind a line, and what a next run answers
-/// over it.
+/// What a unit holds where a run of a script reads on behind a line, and what a next run tells of
+/// it.
 fn looks_of(
     alloc: Global,
     host: &MemHost,
@@ -107,19 +170,19 @@ fn looks_of(
         return Err(Fail::new("a unit without a device"));
     }
     let mut images: Vec<Vec<u8>> = Vec::new(alloc);
-    let mut answers = Vec::new(alloc);
-    let mut answer = Vec::new(alloc);
+    let mut all: Vec<Told> = Vec::new(alloc);
     for call in 0..host.calls() {
         if ends_line(host, script, call) {
             let Crash { image, .. } = host.images(unit, call, Pick::New)?;
-            if !ends_with(&images, &image) {
-                answer = look(alloc, ask, &image)?;
-            }
+            let told = match all.last() {
+                Some(last) if ends_with(&images, &image) => last.copy(alloc)?,
+                _ => look(alloc, ask, &image)?,
+            };
             images.push(image)?;
-            answers.push(Vec::from_slice(alloc, &answer)?)?;
+            all.push(told)?;
         }
     }
-    Ok(Looks { images, answers })
+    Ok(Looks { images, told: all })
 }
 
 /// The same of a script over the devices `a` and `b` of these bytes. The script is read a byte at a
@@ -163,47 +226,49 @@ pub fn begun(output: &[u8]) -> usize {
     }
 }
 
-/// Whether this is what stands behind so many lines.
-fn is_at(bytes: &[u8], lines: usize, all: &[Vec<u8>]) -> bool {
-    match all.get(lines) {
-        Some(one) => bytes == one.as_slice(),
-        None => false,
-    }
-}
-
-/// Of so many lines and one more the first behind which this is what stands.
-fn place_of(bytes: &[u8], lines: usize, all: &[Vec<u8>]) -> Option<usize> {
-    let next = lines.saturating_add(1);
-    if is_at(bytes, lines, all) {
-        return Some(lines);
-    }
-    if is_at(bytes, next, all) {
-        return Some(next);
-    }
-    None
-}
-
 impl Looks {
-    /// Behind how many lines a next run answers what was found: those whose replies have begun, or
+    /// Whether a next run tells this of the unit behind so many lines.
+    fn tells(&self, found: &Told, lines: usize) -> bool {
+        match self.told.get(lines) {
+            Some(told) => *told == *found,
+            None => false,
+        }
+    }
+
+    /// Behind how many lines a next run tells what was found: those whose replies have begun, or
     /// one more.
-    pub fn lines_before(&self, found: &[u8], replies: usize) -> Option<usize> {
-        place_of(found, replies, &self.answers)
+    pub fn lines_before(&self, found: &Told, replies: usize) -> Option<usize> {
+        let next = replies.saturating_add(1);
+        if self.tells(found, replies) {
+            return Some(replies);
+        }
+        if self.tells(found, next) {
+            return Some(next);
+        }
+        None
+    }
+
+    /// Whether the unit holds just this behind so many lines.
+    fn holds(&self, image: &[u8], lines: usize) -> bool {
+        match self.images.get(lines) {
+            Some(held) => image == held.as_slice(),
+            None => false,
+        }
     }
 
     /// Whether the unit holds just this behind the lines whose replies have begun, or one more.
     fn has_image(&self, image: &[u8], replies: usize) -> bool {
-        place_of(image, replies, &self.images).is_some()
+        self.holds(image, replies) || self.holds(image, replies.saturating_add(1))
     }
 
     /// Whether the store is still that from before the run, and the next line does not change it.
     fn is_untouched(&self, replies: usize) -> bool {
-        match (self.answers.first(), self.answers.get(replies)) {
-            (Some(none), Some(before)) => {
+        match self.told.first() {
+            Some(none) => {
                 let next = replies.saturating_add(1);
-                let after = self.answers.get(next).unwrap_or(before);
-                before == none && after == none
+                self.tells(none, replies) && (next >= self.told.len() || self.tells(none, next))
             }
-            _ => false,
+            None => false,
         }
     }
 }
@@ -214,7 +279,7 @@ pub(crate) fn expect_found(
     replies: usize,
     left: &[u8],
     held: &[u8],
-    found: &[u8],
+    found: &Told,
     looks: &Looks,
 ) -> Result<(), Fail> {
     if looks.lines_before(found, replies).is_none() {
@@ -227,7 +292,7 @@ pub(crate) fn expect_found(
 }
 
 /// The same for a crash within each call of a run: an image that is just what the unit holds before
-/// or after the next command, or else what a next run answers over it. Says how much was compared.
+/// or after the next command, or else what a next run tells of it. Says how much was compared.
 pub fn expect_safe(
     alloc: Global,
     host: &MemHost,
@@ -242,7 +307,7 @@ pub fn expect_safe(
     let Crash { image: held, .. } = host.images(unit, 0, Pick::Old)?;
     let mut counts = Counts::none();
     let mut left = Vec::new(alloc);
-    let mut found = Vec::new(alloc);
+    let mut found = Told::none(alloc);
     for call in 0..host.calls() {
         let Crash { image, out } = host.images(unit, call, pick)?;
         let shown = host.output().len().min(out as usize);

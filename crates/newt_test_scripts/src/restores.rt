@@ -37,9 +37,10 @@ pub fn expect_unrestored(
 /// with the same bytes, and mounted as the card is.
 pub fn copied(alloc: Global, card: &[u8], count: u32) -> Result<Vec<u8>, Fail> {
     let input = backed_up(alloc, card)?;
-    let reply = look(alloc, b"mount 0\n", card)?;
-    let copy = restored(alloc, &input, &blocks(alloc, count)?, &reply)?;
-    if backed_up(alloc, &copy)? != input || look(alloc, b"mount 0\n", &copy)? != reply {
+    let found = look(alloc, b"mount 0\n", card)?;
+    let copy = restored(alloc, &input, &blocks(alloc, count)?, &found.answers)?;
+    let again = look(alloc, b"mount 0\n", &copy)?;
+    if again.left != input || again.answers != found.answers {
         return Err(Fail::new("another store is restored"));
     }
     Ok(copy)

@@ -5,9 +5,10 @@ ghost use Rattle.newt_memhost.specs.Outside.{outside_of};
 ghost use Rattle.newt_memhost.specs.Words.{calls_of};
 ghost use Rattle.newt_test_scripts.specs.Free.{IsFree};
 
-use crate::crashes::{Looks, begun, look, looks_behind_blank};
+use crate::crashes::{Looks, Told, begun, look, looks_behind_blank};
 use crate::hosts::over_blank;
-use crate::runs::{expect_status, has_device, run_table};
+use crate::restores::backed_up;
+use crate::runs::{expect_status, image, run_table};
 use crate::tables::lines_of;
 use newt_host::Unit;
 use newt_memhost::MemHost;
@@ -39,21 +40,64 @@ fn push_asked(to: &mut Vec<u8>, ask: &[u8], unit: Unit) -> Result<(), AllocError
     Ok(())
 }
 
-/// The rows of a table through the one that has the next reply behind so many.
-fn rows_through(alloc: Global, table: &str, replies: usize) -> Result<String, Fail> {
-    let mut rows = String::new(alloc);
-    let mut left = replies.saturating_add(1);
+/// Appends the lines of a table from a row on and up to another.
+fn push_rows(
+    alloc: Global,
+    to: &mut Vec<u8>,
+    table: &str,
+    from: usize,
+    end: usize,
+) -> Result<(), Fail> {
+    let mut place: usize = 0;
     for row in table.lines() {
-        if left == 0 {
-            break;
+        if row.is_empty() {
+            continue;
         }
-        if row.split_once(" => ").is_some() {
+        if from <= place && place < end {
+            to.extend_from_slice(&lines_of(alloc, row)?.0)?;
+        }
+        place = place.saturating_add(1);
+    }
+    Ok(())
+}
+
+/// The row of a table behind so many.
+fn row_of(table: &str, before: usize) -> Option<&str> {
+    let mut left = before;
+    for row in table.lines() {
+        if row.is_empty() {
+            continue;
+        }
+        if left == 0 {
+            return Some(row);
+        }
+        left = left.saturating_sub(1);
+    }
+    None
+}
+
+/// Whether a table has watches or working copies, which know more of a line than its stores show.
+fn is_watched(table: &str) -> bool {
+    for row in table.lines() {
+        if row.starts_with("watch ") || row.starts_with("open ") {
+            return true;
+        }
+    }
+    false
+}
+
+/// What an output has behind so many lines.
+fn behind(output: &[u8], lines: usize) -> &[u8] {
+    let mut left = lines;
+    for place in 0..output.len() {
+        if left == 0 {
+            return &output[place..];
+        }
+        if output[place] == b'\n' {
             left = left.saturating_sub(1);
         }
-        rows.push_str(row)?;
-        rows.push_str("\n")?;
     }
-    Ok(rows)
+    &[]
 }
 
 /// Five devices `a` to `e` of 13 blocks of zero bytes, and calls that fail.
@@ -88,19 +132,6 @@ fn written_before(host: &MemHost, call: u64) -> &[u8]
     &host.output()[..end]
 }
 
-/// How often a card was thrown out in a run that wrote this.
-fn times_thrown(output: &[u8]) -> usize {
-    let mut count: usize = 0;
-    let mut is_begin = true;
-    for place in 0..output.len() {
-        if is_begin && output[place..].starts_with(b"error 50 ") {
-            count = count.saturating_add(1);
-        }
-        is_begin = output[place] == b'\n';
-    }
-    count
-}
-
 /// A call that fails: its unit, and what was written before it.
 #[derive(Clone, Copy)]
 struct Failing<'a> {
@@ -121,13 +152,44 @@ impl Failing<'_> {
         Ok(output)
     }
 
+    /// How many lines were answered before the call.
+    fn replies(&self) -> usize {
+        begun(self.written)
+    }
+
     /// The lines of a table through the one that fails, and these behind it, of its unit.
     fn script(&self, alloc: Global, table: &str, asks: &[&[u8]]) -> Result<Vec<u8>, Fail> {
-        let rows = rows_through(alloc, table, begun(self.written))?;
-        let (mut script, _) = lines_of(alloc, rows.as_str())?;
+        let mut script = Vec::new(alloc);
+        push_rows(
+            alloc,
+            &mut script,
+            table,
+            0,
+            self.replies().saturating_add(1),
+        )?;
         for ask in asks {
             push_asked(&mut script, ask, self.unit)?;
         }
+        Ok(script)
+    }
+
+    /// The lines of a table in which others stand in place of the one that fails, and then these of
+    /// its unit.
+    fn script_around(
+        &self,
+        alloc: Global,
+        table: &str,
+        line: &str,
+        asks: &[&[u8]],
+    ) -> Result<Vec<u8>, Fail> {
+        let mut script = Vec::new(alloc);
+        push_rows(alloc, &mut script, table, 0, self.replies())?;
+        script.extend_from_slice(&lines_of(alloc, line)?.0)?;
+        for ask in asks {
+            push_asked(&mut script, ask, self.unit)?;
+        }
+        let next = self.replies().saturating_add(1);
+        push_rows(alloc, &mut script, table, next, usize::MAX)?;
         Ok(script)
     }
 
@@ -147,63 +209,50 @@ impl Failing<'_> {
         Ok(())
     }
 
-    /// A run went on: each line has its reply, and one alone says that the card was thrown out.
-    fn has_gone_on(&self, host: &MemHost, sound: &MemHost) -> bool {
-        begun(host.output()) == begun(sound.output()) && times_thrown(host.output()) == 1
-    }
-
     /// The card was thrown out at the call of a run, and no other call of a device was made before
     /// that was written.
-    fn is_thrown_at_once(&self, host: &MemHost, first: &[u8]) -> bool {
+    fn expect_thrown_at_once(&self, alloc: Global, host: &MemHost) -> Result<(), Fail> {
         let next = self.call.saturating_add(1);
-        let is_next = next < host.calls() && host.unit_of(next).is_some();
-        host.output().starts_with(first) && !is_next
+        if next < host.calls() && host.unit_of(next).is_some() {
+            return Err(Fail::new(format_args!("a call of a device behind call {}", self.call)));
+        }
+        self.expect_output(alloc, host, 1, &[])
     }
 
-    /// The whole script goes on behind the call: each line has its reply, and one alone says that
-    /// the card was thrown out. No other call of a device is made before that is written.
-    fn expect_goes_on(&self, alloc: Global, sound: &MemHost, script: &[u8]) -> Result<(), Fail> {
-        let host = run_failing(alloc, "run a b", script, &[self.call])?;
-        let first = self.output(alloc, 1, &[])?;
-        if !self.is_thrown_at_once(&host, &first) || !self.has_gone_on(&host, sound) {
-            return Err(Fail::new(format_args!("not gone on behind call {}", self.call)));
+    /// What a next run tells of a unit behind the line that fails, which is what it tells of its
+    /// store before or after that line, and whether it is the later one.
+    fn found_on(
+        &self,
+        alloc: Global,
+        host: &MemHost,
+        unit: Unit,
+        trial: &Trial,
+    ) -> Result<Found, Fail> {
+        let found = look(alloc, trial.ask, &image(alloc, host, unit)?)?;
+        match trial.looks(unit).lines_before(&found, self.replies()) {
+            Some(lines) => Ok(Found {
+                told: found,
+                is_later: lines > self.replies(),
+            }),
+            None => Err(Fail::new(format_args!("another store behind call {}", self.call))),
+        }
+    }
+
+    /// The card has the store that was found, gone on as it goes on elsewhere.
+    fn expect_left(&self, alloc: Global, host: &MemHost, found: &Told) -> Result<(), Fail> {
+        if backed_up(alloc, &image(alloc, host, self.unit)?)? != found.left {
+            return Err(Fail::new(format_args!("goes on otherwise behind call {}", self.call)));
         }
         Ok(())
     }
 
-    /// What another run finds on the card behind a run that has mounted it again, which is its
-    /// store before or after the line.
-    fn found_behind(
-        &self,
-        alloc: Global,
-        host: &MemHost,
-        ask: &[u8],
-        looks: &Looks,
-    ) -> Result<Vec<u8>, Fail> {
-        if !has_device(host, self.unit) {
-            return Err(Fail::new("a unit without a device"));
-        }
-        let found = look(alloc, ask, host.bytes(self.unit))?;
-        if looks.lines_before(&found, begun(self.written)).is_none() {
-            return Err(Fail::new(format_args!("another store behind call {}", self.call)));
-        }
-        Ok(found)
-    }
-
-    /// A next mount tells which store the card holds, that before or after the line, and what it
-    /// says then is what another run finds on it.
-    fn expect_comes_back(
-        &self,
-        alloc: Global,
-        table: &str,
-        ask: &[u8],
-        looks: &Looks,
-    ) -> Result<Vec<u8>, Fail> {
-        let script = self.script(alloc, table, &[ask])?;
+    /// A next mount tells which store the card holds, and answers and goes on then as another run
+    /// does over it.
+    fn expect_comes_back(&self, alloc: Global, trial: &Trial, found: &Told) -> Result<(), Fail> {
+        let script = self.script(alloc, trial.table, &[trial.ask])?;
         let host = run_failing(alloc, "run a b", &script, &[self.call])?;
-        let found = self.found_behind(alloc, &host, ask, looks)?;
-        self.expect_output(alloc, &host, 1, &found)?;
-        Ok(found)
+        self.expect_output(alloc, &host, 1, &found.answers)?;
+        self.expect_left(alloc, &host, found)
     }
 
     /// The next call on the unit in a run of a script.
@@ -216,28 +265,94 @@ impl Failing<'_> {
     fn expect_comes_back_later(
         &self,
         alloc: Global,
-        table: &str,
-        ask: &[u8],
-        found: &[u8],
+        trial: &Trial,
+        found: &Told,
     ) -> Result<(), Fail> {
-        let script = self.script(alloc, table, &[b"mount 0\n", ask])?;
+        let script = self.script(alloc, trial.table, &[b"mount 0\n", trial.ask])?;
         let other = self.next_call(alloc, &script)?;
         let host = run_failing(alloc, "run a b", &script, &[self.call, other])?;
-        self.expect_output(alloc, &host, 2, found)
+        self.expect_output(alloc, &host, 2, &found.answers)?;
+        self.expect_left(alloc, &host, found)
     }
 
-    /// All three.
-    fn expect_all(
+    /// The whole script goes on behind the call, with these lines of the unit behind its line, and
+    /// answers what a run answers in which no call fails: it has a line, or none, in place of the
+    /// one that fails, and the unit is unmounted behind that.
+    fn expect_goes_on(
         &self,
         alloc: Global,
-        sound: &MemHost,
-        trial: &Trial,
-        looks: &Looks,
+        table: &str,
+        asks: &[u8],
+        line: &str,
     ) -> Result<(), Fail> {
-        self.expect_goes_on(alloc, sound, trial.script)?;
-        let found = self.expect_comes_back(alloc, trial.table, trial.ask, looks)?;
-        self.expect_comes_back_later(alloc, trial.table, trial.ask, &found)
+        let row = row_of(table, self.replies()).ok_or("no such row")?;
+        let script = self.script_around(alloc, table, row, &[asks])?;
+        let host = run_failing(alloc, "run a b", &script, &[self.call])?;
+        let script = self.script_around(alloc, table, line, &[b"unmount 0\n", asks])?;
+        let sound = run_failing(alloc, "run a b", &script, &[])?;
+        let played: usize = if line.is_empty() { 1 } else { 2 };
+        let skipped = self.replies().saturating_add(played);
+        self.expect_output(alloc, &host, 1, behind(sound.output(), skipped))
     }
+
+    /// The line in place of the one that fails, by what was found on its unit and on the other one:
+    /// none, that line, or a copy in place of a move whose entry has come to its place and was not
+    /// taken away.
+    fn line_found(
+        &self,
+        alloc: Global,
+        table: &str,
+        own: bool,
+        other: bool,
+    ) -> Result<String, Fail> {
+        let row = row_of(table, self.replies()).ok_or("no such row")?;
+        if !own && !other {
+            return Ok(String::new(alloc));
+        }
+        match row.strip_prefix("move ") {
+            Some(rest) if own != other => Ok(format!(in alloc; "copy {rest}")?),
+            _ => Ok(String::from_str(alloc, row)?),
+        }
+    }
+
+    /// The whole script goes on without the card, and where it is mounted again. No copy is saved,
+    /// and no watch is told, by a line whose unit was thrown out: what these answer then is no
+    /// matter of stores, and not played.
+    fn expect_all_goes_on(
+        &self,
+        alloc: Global,
+        trial: &Trial,
+        own: bool,
+        other: bool,
+    ) -> Result<(), Fail> {
+        let line = self.line_found(alloc, trial.table, own, other)?;
+        if is_watched(trial.table) && !line.is_empty() && !line.starts_with("format ") {
+            return self.expect_goes_on(alloc, trial.table, b"", "");
+        }
+        self.expect_goes_on(alloc, trial.table, b"", &line)?;
+        self.expect_goes_on(alloc, trial.table, b"mount 0\n", &line)
+    }
+
+    /// All of these.
+    fn expect_all(&self, alloc: Global, trial: &Trial) -> Result<(), Fail> {
+        let script = self.script(alloc, trial.table, &[])?;
+        let host = run_failing(alloc, "run a b", &script, &[self.call])?;
+        self.expect_thrown_at_once(alloc, &host)?;
+        let own = self.found_on(alloc, &host, self.unit, trial)?;
+        let beside = Unit(1u8.saturating_sub(self.unit.0));
+        let other = self.found_on(alloc, &host, beside, trial)?;
+        self.expect_comes_back(alloc, trial, &own.told)?;
+        self.expect_comes_back_later(alloc, trial, &own.told)?;
+        self.expect_all_goes_on(alloc, trial, own.is_later, other.is_later)
+    }
+}
+
+/// What a next run tells of a unit behind the line that failed, and whether that is of the store
+/// after the line, and not of that before it.
+#[derive(Drop)]
+struct Found {
+    told: Told,
+    is_later: bool,
 }
 
 /// The calls on a unit that a run of a script makes behind so many replies and before the next one,
@@ -270,22 +385,27 @@ fn next_of(host: &MemHost, unit: Unit, from: u64) -> Option<u64> {
     None
 }
 
-/// A table, its script, and what a next run is asked.
+/// A table, what a next run is asked, and what it tells of both units behind each line.
 #[derive(Clone, Copy)]
 struct Trial<'a> {
     table: &'a str,
-    script: &'a [u8],
     ask: &'a [u8],
+    first: &'a Looks,
+    second: &'a Looks,
+}
+
+impl Trial<'_> {
+    fn looks(&self, unit: Unit) -> &Looks {
+        if unit == Unit(0) {
+            self.first
+        } else {
+            self.second
+        }
+    }
 }
 
 /// Each call on a device of a sound run fails, once. Says how many there are.
-fn expect_each_thrown(
-    alloc: Global,
-    sound: &MemHost,
-    trial: &Trial,
-    first: &Looks,
-    second: &Looks,
-) -> Result<u32, Fail> {
+fn expect_each_thrown(alloc: Global, sound: &MemHost, trial: &Trial) -> Result<u32, Fail> {
     let mut count: u32 = 0;
     for call in 0..sound.calls() {
         let Some(unit) = sound.unit_of(call) else {
@@ -296,17 +416,18 @@ fn expect_each_thrown(
             unit,
             written: written_before(sound, call),
         };
-        let looks = if unit == Unit(0) { first } else { second };
-        failing.expect_all(alloc, sound, trial, looks)?;
+        failing.expect_all(alloc, trial)?;
         count = count.saturating_add(1);
     }
     Ok(count)
 }
 
 /// Runs a table over the devices `a` and `b` of 13 blocks of zero bytes, once for each call on a
-/// device, which fails. Its reply is then that the card was thrown out, and the run goes on; and
-/// where a mount and these questions stand behind it, or two mounts, whose first one fails, the
-/// card comes back with its store before or after the line. Says how many such calls there are.
+/// device, which fails. Its reply is then that the card was thrown out, with no other call of a
+/// device before it, and each unit has its store before or after the line. Where a mount and these
+/// questions stand behind it, or two mounts, whose first one fails, the card comes back with that
+/// store; and the run goes on, without the card and with it, as one in which no call fails does
+/// from there. Says how many such calls there are.
 pub fn expect_thrown(alloc: Global, table: &str, ask: &[u8]) -> Result<u32, Fail> {
     let sound = run_table(alloc, "run a b", table)?;
     let (script, _) = lines_of(alloc, table)?;
@@ -314,8 +435,9 @@ pub fn expect_thrown(alloc: Global, table: &str, ask: &[u8]) -> Result<u32, Fail
     let second = looks_behind_blank(alloc, &script, ask, Unit(1))?;
     let trial = Trial {
         table,
-        script: &script,
         ask,
+        first: &first,
+        second: &second,
     };
-    expect_each_thrown(alloc, &sound, &trial, &first, &second)
+    expect_each_thrown(alloc, &sound, &trial)
 }
