@@ -6,12 +6,11 @@ from typing import Iterator, NamedTuple, Optional
 
 from newton.found import Fate, Found
 from newton.history import Version, size_of
-from newton.script import part_text
 
 from graphs import Frame
 from literals import print_literal
 from queries import key_of, tags_of
-from replies import of_path
+from replies import of_path, of_spec
 from stores import Soup, paths_of
 
 MOST_COLUMNS = 6
@@ -129,7 +128,7 @@ def soup_told(member: Member) -> dict:
         "signature": soup.sig,
         "count": len(member.now()),
         "next": soup.next_uid,
-        "indexes": [" ".join(map(part_text, spec)) for spec in soup.specs],
+        "indexes": [*map(of_spec, soup.specs)],
         "tags": tags_told(member),
         "info": None if soup.info is None else print_literal(soup.info),
     }
@@ -140,7 +139,7 @@ def specs_of(members: list[Member]) -> dict[str, tuple]:
     found: dict[tuple, tuple] = {}
     for spec in (spec for member in members for spec in member.soup.specs):
         found.setdefault((paths_of(spec), tuple(kinds_of(spec))), spec)
-    return {" ".join(map(part_text, spec)): spec for spec in found.values()}
+    return {of_spec(spec): spec for spec in found.values()}
 
 
 def view(name: str, members: list[Member]) -> dict:

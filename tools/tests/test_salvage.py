@@ -133,7 +133,7 @@ class Salvaged(unittest.TestCase):
     def test_large_binaries_come_back_by_vwrite(self) -> None:
         card = self.large_card()
         script = self.salvaged(card)
-        self.assertIn("\nvwrite 0 Photos 0 of.bits 0 ", script)
+        self.assertIn("\nvwrite 0 Photos 0 of.bits 1 01", script)
         self.assertEqual(values(card), values(self.played(script)))
 
     def test_what_is_missing_of_a_large_binary_is_zeros_and_is_told(self) -> None:
