@@ -12,10 +12,9 @@ from newton.scripts import TooLong, addition, paths_to_larges, soup_lines
 from check import report
 from graphs import Frame, Walk, copied
 from replies import of_name
-from stores import LEAST_BLOCKS, MOST_BLOCKS, MOST_SIGNATURE, Soup, capacity
+from stores import LEAST_BLOCKS, MOST_BLOCKS, MOST_NAME, MOST_SIGNATURE, Soup, capacity
 from streams import pages
 
-MOST_NAME = 39
 OTHERS = b" (earlier)"
 
 
@@ -106,22 +105,16 @@ def added(found: Found, versions: list[Version], name: str, choice: Choice) -> I
         yield from lines
 
 
-def newest_name(found: Found) -> tuple[bytes, int]:
-    directory = found.directory()
-    return (directory.name, directory.sig) if directory else (b"Salvaged", 0)
-
-
 def chosen_soups(found: Found, choice: Choice) -> list[Soup]:
     """The soups of the newest directory, and each that entries are left of."""
-    directory, kept = found.directory(), found.all() if choice.is_all else found.newest()
-    numbers = {it.sig for it in kept} | {it.sig for it in (directory.soups if directory else [])}
-    return [found.soups[sig] for sig in sorted(numbers) if is_chosen(found.soups[sig], choice)]
+    kept = found.all() if choice.is_all else found.newest()
+    return [it for it in found.soups_of(kept) if is_chosen(it, choice)]
 
 
 def script(found: Found, choice: Choice) -> Iterator[str]:
     """The lines of the script, without their ends."""
     unit, names = choice.unit, Names()
-    name, sig = newest_name(found)
+    name, sig = found.name_and_signature()
     if choice.has_card:
         # Ids are given anew. So the store has another signature, and no old alias leads to another entry.
         yield f"format {unit} {of_name(name)} {(sig + 1) % (MOST_SIGNATURE + 1)}"

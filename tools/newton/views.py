@@ -32,15 +32,9 @@ class Card:
         self.first_row = first
         self.rows = {id(it): first + at for at, it in enumerate(self.versions)}
 
-    def signature(self) -> int:
-        directory = self.found.directory()
-        return directory.sig if directory else 0
-
     def soups(self) -> list[Soup]:
         """The soups of the newest directory, and others of which entries are left."""
-        directory = self.found.directory()
-        numbers = {it.sig for it in self.versions} | {it.sig for it in (directory.soups if directory else [])}
-        return [self.found.soups[sig] for sig in sorted(numbers)]
+        return self.found.soups_of(self.versions)
 
 
 class Member(NamedTuple):
@@ -59,7 +53,8 @@ class Member(NamedTuple):
         return [it for it in self.rows() if self.card.found.fate(it[0]) in fates]
 
     def identity(self, version: Version) -> tuple[int, int, int]:
-        return self.card.signature(), self.soup.sig, version.uid
+        _, signature = self.card.found.name_and_signature()
+        return signature, self.soup.sig, version.uid
 
 
 class Hit(NamedTuple):
