@@ -19,7 +19,6 @@ from typing import Callable, Optional
 from backups import backed, backup, restored
 from bench import Bench, Differs, over_seeds
 from check import report
-from commands import answer
 from damage import (
     TELLING_BYTES,
     TELLING_NUMBERS,
