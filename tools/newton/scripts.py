@@ -1,4 +1,4 @@
-"""Stores as scripts: the lines that make a store again on a blank card, and those that add one entry."""
+"""Stores as scripts: the lines that make a store on a blank card, those that make one soup, and those of one entry."""
 
 from dataclasses import dataclass, field
 from typing import Callable, Iterator
