@@ -17,11 +17,10 @@ from typing import Optional
 from graphs import Array, Binary, Frame, Ref, Symbol
 from images import BLOCK, NoStore, Record, flat_graph, is_same_store, store_of_image, wants
 from replies import Refused, of_name, of_refusal
-from stores import MOST_SKELETON, Entry, Soup, Store, capacity, cost, directory, entry_of
+from stores import LEAST_BLOCKS, MOST_BLOCKS, MOST_SKELETON, Entry, Soup, Store, capacity, cost, directory, entry_of
 from streams import Malformed, decode, encode, encode_flat
 
 PIECE = 500_000
-MOST_BLOCKS = 4099
 
 
 def full(soup: Soup, entry: Entry) -> bytes:
@@ -78,7 +77,7 @@ def of_device(image: Optional[bytes]) -> Optional[Store]:
     """The store of a device that is there and has as many blocks as one may have."""
     if image is None:
         raise Refused(20)
-    if not 13 <= len(image) // BLOCK <= MOST_BLOCKS:
+    if not LEAST_BLOCKS <= len(image) // BLOCK <= MOST_BLOCKS:
         raise Refused(27)
     return store_of_image(image)
 

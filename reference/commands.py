@@ -8,7 +8,7 @@ import lines
 from graphs import NIL, Array, Frame, Large, Ref, Walk, copied, integer, is_same_name, value_at, with_value
 from literals import NoLiteral, print_literal, read_literal
 from queries import Query, key_from, read_shape
-from replies import Changed, Refused, of_name, of_path, of_refusal
+from replies import Changed, Refused, of_name, of_path, of_refusal, of_spec
 from stores import (
     MOST_INDEXES,
     MOST_INFO,
@@ -29,7 +29,7 @@ from stores import (
 from streams import Malformed, decode, encode, encode_flat
 from world import FINISH, MOST_MOUNTED, START, Copy, Cursor, Watch, World
 
-MOST_LINE = 140_000
+MOST_LINE, MOST_INPUT = 140_000, 16_777_216
 COMMANDS = {}
 
 
@@ -196,7 +196,7 @@ def unindex(world: World, number: int, name: bytes, paths: tuple):
 @command(lines.unit, lines.name)
 def indexes(world: World, number: int, name: bytes):
     specs = world.soup(number, name).specs
-    return [", ".join(" ".join(f"{of_path(it.path)}:{it.kind}:{it.order}" for it in spec) for spec in specs)]
+    return [", ".join(map(of_spec, specs))]
 
 
 @command(lines.unit, lines.name, lines.declaration)

@@ -3,16 +3,15 @@
 import struct
 from typing import Callable
 
+from commands import MOST_INPUT
 from graphs import Frame, Large, String, Symbol
 from images import BLOCK, HEADER
 from layouts import BLANK, record
-from stores import ORDERS, Part, Soup, Store, capacity, directory
+from stores import MOST_BLOCKS, ORDERS, Part, Soup, Store, capacity, directory
 from streams import encode_flat, pages
 
 DEEPEST = 200
 SLOTS = 65_535
-MOST_INPUT = 16_777_216
-GREATEST = 4099
 LONG = b"\xff"
 
 Input = tuple[list, bytes, list]
@@ -120,9 +119,9 @@ def zeros() -> Input:
 
 
 def image(records: bytes) -> bytes:
-    size = BLOCK * ((GREATEST - 3) // 2)
+    size = BLOCK * ((MOST_BLOCKS - 3) // 2)
     heads = (b"\x00" + BLANK * (BLOCK - 1)) * 3
-    return (heads + (HEADER + records).ljust(size, BLANK)[:size]).ljust(BLOCK * GREATEST, BLANK)
+    return (heads + (HEADER + records).ljust(size, BLANK)[:size]).ljust(BLOCK * MOST_BLOCKS, BLANK)
 
 
 def mounted(records: Callable[[], bytes], more: bytes = b"") -> Callable[[], Input]:
@@ -140,7 +139,7 @@ def whole(objects: dict[int, bytes]) -> bytes:
 
 
 def room() -> int:
-    return BLOCK * ((GREATEST - 3) // 2) - len(HEADER)
+    return BLOCK * ((MOST_BLOCKS - 3) // 2) - len(HEADER)
 
 
 def fresh() -> bytes:
@@ -149,7 +148,7 @@ def fresh() -> bytes:
 
 def entries(specs: tuple, graph_of: Callable[[int], Frame]) -> bytes:
     """As many entries of one page each as a store can have."""
-    most = capacity(GREATEST)
+    most = capacity(MOST_BLOCKS)
     store = Store(b"C", 1, 1, (Soup(b"S", 0, most, specs),))
     count = most - pages(len(directory(store)))
     records = {2 * uid + 1: struct.pack(">HHII", 0, 0, uid, 0) + encode_flat(graph_of(uid)) for uid in range(count)}
@@ -189,7 +188,7 @@ def full_entries() -> bytes:
     """Entries with as many nodes as a text of 64,000 bytes has room for."""
     text = b"\x02\x06\x01\x07\x01a" + array([b"\x05\x00"] * 31_900)
     each = pages(12 + len(text))
-    number = capacity(GREATEST) // each - 1
+    number = capacity(MOST_BLOCKS) // each - 1
     store = Store(b"C", 1, 1, (Soup(b"S", 0, number),))
     records = {2 * uid + 1: struct.pack(">HHII", 0, 0, uid, 0) + text for uid in range(number)}
     return whole({0: directory(store), **records})
@@ -198,7 +197,7 @@ def full_entries() -> bytes:
 def large_binaries() -> bytes:
     """Entries that name a large binary of no bytes each."""
     graph = encode_flat(Frame([Symbol(b"v")], [Large(Symbol(b"w"), b"")]))
-    number = capacity(GREATEST) // 2 - 1
+    number = capacity(MOST_BLOCKS) // 2 - 1
     store = Store(b"C", 1, 1, (Soup(b"S", 0, number),))
     objects = {0: directory(store)}
     for uid in range(number):
@@ -289,7 +288,7 @@ def frame_of_names(names: list[bytes]) -> bytes:
 def entries_of_names(names: list[bytes]) -> bytes:
     """As many entries as a store has room for, each with these symbols."""
     text = b"\x02\x06\x01\x07\x01a" + array(spelt(names))
-    number = capacity(GREATEST) // pages(12 + len(text)) - 1
+    number = capacity(MOST_BLOCKS) // pages(12 + len(text)) - 1
     store = Store(b"C", 1, 1, (Soup(b"S", 0, number),))
     records = {2 * uid + 1: struct.pack(">HHII", 0, 0, uid, 0) + text for uid in range(number)}
     return whole({0: directory(store), **records})

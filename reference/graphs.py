@@ -9,6 +9,7 @@ from typing import Callable, Iterator, Optional, Union
 
 NIL = 2
 TRUE = 26
+LEAST_INTEGER, MOST_INTEGER = -536_870_912, 536_870_911
 MOST_NODES = 65_535
 MOST_OPEN = 200
 MOST_SLOTS = 65_535
@@ -117,11 +118,25 @@ def integer(value: Ref) -> Optional[int]:
     return (value if value < 1 << 31 else value - (1 << 32)) >> 2
 
 
+def word_of_integer(number: int) -> int:
+    return 4 * number & 0xFFFF_FFFF
+
+
 def character(value: Ref) -> Optional[int]:
     """The code of an immediate word that is a character."""
     if not isinstance(value, int) or value & 15 != 6 or value >> 4 > 65_535:
         return None
     return value >> 4
+
+
+def word_of_character(code: int) -> int:
+    return 16 * code + 6
+
+
+def units_of(text: str) -> list[int]:
+    """The units of a string with this text: a character past 65,535 is a pair of them."""
+    data = text.encode("utf-16-be", "surrogatepass")
+    return [int.from_bytes(data[at : at + 2], "big") for at in range(0, len(data), 2)]
 
 
 def objects_of(parts: list) -> Iterator[Node]:
@@ -164,6 +179,11 @@ class Walk:
     def larges(self) -> list[Large]:
         return [it for it in self.nodes if isinstance(it, Large)]
 
+    def labels(self) -> dict[int, int]:
+        """A label for each object but symbols that more references lead to, by its identity."""
+        shared = [it for it in self.nodes if id(it) in self.shared and not isinstance(it, Symbol)]
+        return {id(it): label for label, it in enumerate(shared)}
+
 
 def copied(root: Ref) -> Ref:
     """An equal graph of new objects."""
@@ -175,6 +195,20 @@ def copied(root: Ref) -> Ref:
     for node in new.values():
         node.renew(lambda it: new.get(id(it), it))
     return new.get(id(root), root)
+
+
+def with_symbols(root: Ref, symbols: dict[bytes, Symbol]) -> Ref:
+    """The graph with the known symbol in the place of each that has its name, without regard to case.
+
+    The graph itself is changed, and a name that was not known is known afterwards.
+    """
+
+    def known(it: Ref) -> Ref:
+        return symbols.setdefault(it.name.lower(), it) if isinstance(it, Symbol) else it
+
+    for node in Walk(root).nodes:
+        node.renew(known)
+    return known(root)
 
 
 def value_at(root: Ref, path: tuple) -> Optional[Ref]:
@@ -199,16 +233,11 @@ def with_value(root: Ref, path: tuple, value: Ref) -> Optional[Ref]:
         return None
     symbols = {it.name.lower(): it for it in Walk(root).nodes if isinstance(it, Symbol)}
     last = symbols.setdefault(path[-1].lower(), Symbol(path[-1]))
-
-    def known(it: Ref) -> Ref:
-        return symbols.setdefault(it.name.lower(), it) if isinstance(it, Symbol) else it
-
-    for node in Walk(value).nodes:
-        node.renew(known)
+    value = with_symbols(value, symbols)
     place = frame.slot(path[-1])
     if place is None:
         frame.tags.append(last)
-        frame.values.append(known(value))
+        frame.values.append(value)
     else:
-        frame.values[place] = known(value)
+        frame.values[place] = value
     return root

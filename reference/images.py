@@ -8,6 +8,8 @@ from lines import IDENTIFIER
 from scanner import Scanner
 from stores import (
     KINDS,
+    LEAST_BLOCKS,
+    MOST_BLOCKS,
     MOST_INDEXES,
     MOST_INFO,
     MOST_OLD_SOUPS,
@@ -120,7 +122,7 @@ class Record(Scanner):
 def bank_of(image: bytes) -> bytes:
     """The bank that the votes choose."""
     blocks = len(image) // BLOCK
-    wants(13 <= blocks <= 4099)
+    wants(LEAST_BLOCKS <= blocks <= MOST_BLOCKS)
     votes = [image[BLOCK * it] for it in range(3)]
     chosen = [bank for bank in (0, 1) if votes.count(bank) >= 2] or votes[:1]
     wants(chosen[0] in (0, 1))

@@ -3,7 +3,7 @@
 import re
 
 from scanner import Scanner
-from stores import KINDS, ORDERS, Part, Tags, is_name
+from stores import KINDS, MOST_PATH, ORDERS, Part, Tags, is_name
 
 BLANKS = re.compile(rb"[ \t]*")
 WORD = re.compile(rb"[^ \t]+")
@@ -90,7 +90,7 @@ def name(words: Words) -> bytes:
 
 def identifiers(words: Words, text: bytes) -> tuple:
     parts = text.split(b".")
-    words.wants(len(parts) <= 8 and all(IDENTIFIER.fullmatch(it) for it in parts))
+    words.wants(len(parts) <= MOST_PATH and all(IDENTIFIER.fullmatch(it) for it in parts))
     return tuple(parts)
 
 

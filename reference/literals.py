@@ -4,7 +4,9 @@ import re
 from typing import Callable, Optional
 
 from graphs import (
+    LEAST_INTEGER,
     MOST_BYTES,
+    MOST_INTEGER,
     MOST_OPEN,
     NIL,
     TRUE,
@@ -18,17 +20,22 @@ from graphs import (
     Walk,
     character,
     integer,
+    units_of,
+    word_of_character,
+    word_of_integer,
 )
 from scanner import Scanner
 
 IDENTIFIER = re.compile(r"[A-Za-z_][A-Za-z0-9_]*")
-BARRED = re.compile(r"\|((?:[ -\[\]-{}~]|\\[\\|])*)\|")
+IN_BARS = r"(?:[ -\[\]-{}~]|\\[\\|])*"
+BARRED = re.compile(rf"\|({IN_BARS})\|")
 INTEGER = re.compile(r"-?[0-9]{1,10}")
 BLANKS = re.compile(r"[ \t\r\n]*")
 PLAIN_CHARACTER = re.compile(r"\$([!-\[\]-~])")
 CODED_CHARACTER = re.compile(r"\$\\([0-9A-Fa-f]{4})")
 WORD = re.compile(r"&([0-9A-Fa-f]{8})")
-STRING = re.compile(r'"((?:[^\x00-\x1f"\\]|\\["\\]|\\u[0-9A-Fa-f]{4})*)"')
+IN_QUOTES = r'(?:[^\x00-\x1f"\\]|\\["\\]|\\u[0-9A-Fa-f]{4})*'
+STRING = re.compile(f'"({IN_QUOTES})"')
 STRING_PART = re.compile(r"\\u([0-9A-Fa-f]{4})|\\(.)|(.)", re.DOTALL)
 DATA = re.compile(r":((?:[0-9A-Fa-f]{2})*)>")
 LARGE_DATA = re.compile(r":((?:[0-9A-Fa-f]{2})*)>>")
@@ -90,15 +97,15 @@ class Reader(Scanner):
             self.wants(int(label[1]) in self.labels)
             return self.labels[int(label[1])]
         if number := self.found(INTEGER):
-            self.wants(-536_870_912 <= int(number[0]) <= 536_870_911)
-            return 4 * int(number[0]) & 0xFFFF_FFFF
+            self.wants(LEAST_INTEGER <= int(number[0]) <= MOST_INTEGER)
+            return word_of_integer(int(number[0]))
         return self.special()
 
     def special(self) -> int:
         if plain := self.found(PLAIN_CHARACTER):
-            return 16 * ord(plain[1]) + 6
+            return word_of_character(ord(plain[1]))
         if coded := self.found(CODED_CHARACTER):
-            return 16 * int(coded[1], 16) + 6
+            return word_of_character(int(coded[1], 16))
         if word := self.found(WORD):
             self.wants(int(word[1], 16) & 3 != 1)
             return int(word[1], 16)
@@ -123,12 +130,7 @@ class Reader(Scanner):
     def string(self, text: str) -> String:
         units = []
         for code, escaped, plain in STRING_PART.findall(text):
-            encoded = (escaped or plain).encode("utf-16-be", "surrogatepass")
-            units += (
-                [int(code, 16)]
-                if code
-                else [int.from_bytes(encoded[at : at + 2], "big") for at in range(0, len(encoded), 2)]
-            )
+            units += [int(code, 16)] if code else units_of(escaped or plain)
         return String(units)
 
     def binary(self, binary: Binary) -> Binary:
@@ -232,9 +234,7 @@ def of_data(binary: Binary) -> str:
 
 def print_literal(root: Ref, of_data: Callable[[Binary], str] = of_data) -> str:
     """The printed text of a graph, with a text for the bytes of each binary."""
-    walk = Walk(root)
-    shared = [it for it in walk.nodes if id(it) in walk.shared and not isinstance(it, Symbol)]
-    labels = {id(it): label for label, it in enumerate(shared)}
+    labels = Walk(root).labels()
     printed: set[int] = set()
 
     def labelled(value: Ref) -> str:

@@ -16,7 +16,7 @@ from typing import BinaryIO, Iterable, Iterator, Optional
 
 from backups import backed, restored
 from check import report
-from commands import run
+from commands import MOST_INPUT, run
 from graphs import Walk
 from images import BLOCK, HEADER, store_of_image
 from layouts import BLANK, record
@@ -27,7 +27,6 @@ from streams import Malformed, decode, encode, encode_flat, pages
 from world import Unit, World
 
 USAGE, TOO_LONG = 2, 7
-MOST_INPUT = 16_777_216
 MOST_NAMES = 10_000
 
 

@@ -68,3 +68,8 @@ def of_name(name: bytes) -> str:
 
 def of_path(path: tuple) -> str:
     return ".".join(name.decode() for name in path)
+
+
+def of_spec(spec: tuple) -> str:
+    """The parts of an index, as a command takes them and a reply lists them."""
+    return " ".join(f"{of_path(it.path)}:{it.kind}:{it.order}" for it in spec)

@@ -16,10 +16,9 @@ from dataclasses import replace
 from random import Random
 from typing import Callable, Optional
 
-from backups import MOST_BLOCKS, backed, backup, restored
+from backups import backed, backup, restored
 from bench import Bench, Differs, over_seeds
 from check import report
-from commands import answer
 from damage import (
     TELLING_BYTES,
     TELLING_NUMBERS,
@@ -34,7 +33,7 @@ from graphs import Array, Binary, Frame, Large, Ref, Symbol, copied
 from images import BLOCK, is_same_store, payloads, store_of_image
 from layouts import random_image
 from scripts import written
-from stores import Soup, Store, capacity, cost, entry_of
+from stores import MOST_BLOCKS, Soup, Store, capacity, cost, entry_of
 from streams import decode, encode, encode_flat
 from torn import STOPPED
 from world import Unit, World

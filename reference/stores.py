@@ -14,9 +14,11 @@ ORDERS = ("ascend", "descend")
 MOST_SIGNATURE = 536_870_911
 MOST_SOUP_SIGNATURE = 65_535
 MOST_SOUPS, MOST_INDEXES, MOST_TAGS = 250, 16, 64
+MOST_NAME, MOST_PATH = 39, 8
 MOST_OLD_SOUPS = 64  # in a directory of version 1
 
 MOST_SKELETON, MOST_INFO = 64_000, 4_000
+LEAST_BLOCKS, MOST_BLOCKS = 13, 4099  # of a unit
 
 Path = tuple
 
@@ -83,7 +85,7 @@ def entry_of(uid: int, time: int, graph: Ref) -> Entry:
 
 def is_name(text: bytes) -> bool:
     """Whether a text can be the name of a store or a soup."""
-    return 1 <= len(text) <= 39 and all(32 <= it <= 126 for it in text)
+    return 1 <= len(text) <= MOST_NAME and all(32 <= it <= 126 for it in text)
 
 
 def folded(paths) -> tuple:

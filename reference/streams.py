@@ -25,6 +25,8 @@ from graphs import (
     character,
     integer,
     is_same_name,
+    word_of_character,
+    word_of_integer,
 )
 from scanner import Scanner
 
@@ -124,7 +126,7 @@ class Reader(Scanner):
         frame = self.container(Frame(), is_open)
         sides = self.take(4)
         frame.tags = [self.named(it, False) for it in SIDES]
-        frame.values = [4 * it for it in sides]
+        frame.values = [word_of_integer(it) for it in sides]
         return frame
 
     def string(self) -> String:
@@ -171,8 +173,8 @@ class Reader(Scanner):
 # What reads an object, by its tag.
 OBJECTS: tuple[Callable[[Reader, int], Ref], ...] = (
     lambda it, _: it.immediate(),
-    lambda it, _: 16 * it.byte() + 6,
-    lambda it, _: 16 * it.number(2) + 6,
+    lambda it, _: word_of_character(it.byte()),
+    lambda it, _: word_of_character(it.number(2)),
     lambda it, _: it.binary(),
     lambda it, is_open: it.array(True, is_open),
     lambda it, is_open: it.array(False, is_open),

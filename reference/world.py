@@ -7,7 +7,7 @@ from typing import Iterator, Optional, Union
 from queries import Hit, Query, compare, key_of, passes
 from replies import Refused
 from graphs import Ref
-from stores import Entry, Soup, Store, capacity, cost, paths_of
+from stores import LEAST_BLOCKS, MOST_BLOCKS, Entry, Soup, Store, capacity, cost, paths_of
 
 UNITS = 8
 MOST_MOUNTED = 4
@@ -69,7 +69,7 @@ class World:
 
     def with_blocks(self, number: int) -> Unit:
         unit = self.attached(number)
-        if not 13 <= unit.blocks <= 4099:
+        if not LEAST_BLOCKS <= unit.blocks <= MOST_BLOCKS:
             raise Refused(27)
         if number in self.mounted:
             raise Refused(21)

@@ -12,7 +12,7 @@ from streams import decode
 
 from newton.loading import minute_now, mount, name_word
 from newton.run import Failed, Session, several
-from newton.scripts import Zeros, pieces
+from newton.scripts import pieces, zeros
 from newton.values import Symbols
 
 
@@ -35,10 +35,9 @@ class Slot:
         return value_at(decode(bytes.fromhex(stream))[0], self.path)
 
     def set(self, large: Large) -> None:
-        blank = Large(large.kind, Zeros(len(large.data)))
         words = f"{self.words} {b'.'.join(self.path).decode()}"
         self.session.ask(f"time {minute_now()}")
-        self.session.ask(f"set {words} {print_literal(blank)}")
+        self.session.ask(f"set {words} {print_literal(large, zeros)}")
         for at, data in pieces(large):
             self.session.ask(f"vwrite {words} {at} {data.hex().upper()}")
 

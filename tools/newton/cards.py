@@ -4,15 +4,14 @@ from pathlib import Path
 from typing import Optional
 
 from backups import store_of_backup
+from commands import MOST_INPUT
 from images import BLOCK
-from stores import Soup, Store
+from stores import LEAST_BLOCKS, MOST_BLOCKS, Soup, Store
 from streams import Malformed, decode
 
 from newton.run import Failed, output
 
 STREAM = b"\x02"
-MOST_STREAM = 16_777_216
-LEAST_BLOCKS, MOST_BLOCKS = 13, 4099
 REASONS = {
     "error 20 unit": "it can't be read and written, or another run has it",
     "error 22 nostore": "it holds no store that can be read (`newton check` tells what is damaged)",
@@ -26,7 +25,7 @@ def store_of(name: str) -> Store:
     if not path.is_file():
         raise Failed(f"{name}: there is no such file")
     with path.open("rb") as file:
-        kept = file.read(MOST_STREAM)
+        kept = file.read(MOST_INPUT)
     if kept[:1] == STREAM:
         # A card may begin so, where its first vote is lost.
         store = store_of_stream(kept)

@@ -6,8 +6,22 @@ import re
 from dataclasses import dataclass
 from typing import Iterator, Optional
 
-from graphs import NIL, TRUE, Binary, Frame, Ref, String, Symbol, Walk, character, integer
-from literals import NoLiteral, of_name, print_literal, read_literal
+from graphs import (
+    NIL,
+    TRUE,
+    Binary,
+    Frame,
+    Ref,
+    String,
+    Symbol,
+    Walk,
+    character,
+    integer,
+    units_of,
+    with_symbols,
+    word_of_character,
+)
+from literals import NoLiteral, Reader, of_name, print_literal, read_literal
 from streams import encode_flat
 
 from newton.values import (
@@ -21,14 +35,12 @@ from newton.values import (
     real_data,
     real_of,
     text_of,
-    units_of,
     wants,
     wants_entry,
 )
 
-NAME = r"(?:[A-Za-z_][A-Za-z0-9_]*|\|(?:[ -\[\]-{}~]|\\[\\|])+\|)"
 KINDS = ("string", "int", "real", "symbol", "char", "bool")
-HEADING = re.compile(rf"({NAME}(?:\.{NAME})*)(?::({'|'.join(KINDS)}))?")
+KIND = re.compile(f":({'|'.join(KINDS)})")
 ID, TIME = "$id", "$time"
 LITERAL = "\\"
 PLAIN_CONTROLS = "\t\r\n"
@@ -173,17 +185,23 @@ def columns_from(headings: list[str]) -> list[Optional[Column]]:
 
 
 def column_from(heading: str, number: int) -> Column:
-    found = HEADING.fullmatch(heading)
-    if found:
-        names = [it.strip("|") if it[0] != "|" else unbarred(it) for it in re.findall(NAME, found[1])]
-        return Column(tuple(it.encode() for it in names), found[2] or "string")
-    is_name = heading.isascii() and is_slot_name(heading.encode())
-    wants(is_name, f"line 1: the heading {heading!r} of column {number} is no name of a slot")
-    return Column((heading.encode(),))
+    """The column of a heading: a path with the type of its cells, or the name of one slot as it stands."""
+    try:
+        return typed_column(Reader(heading))
+    except NoLiteral as fault:
+        reason = f"line 1: the heading {heading!r} of column {number} is no name of a slot"
+        if not is_slot_name(heading):
+            raise NoValue(reason) from fault
+        return Column((heading.encode(),))
 
 
-def unbarred(name: str) -> str:
-    return re.sub(r"\\(.)", r"\1", name[1:-1])
+def typed_column(heading: Reader) -> Column:
+    path = [heading.name()]
+    while heading.passes("."):
+        path.append(heading.name())
+    kind = heading.found(KIND)
+    heading.wants(heading.left() == 0)
+    return Column(tuple(path), kind[1] if kind else "string")
 
 
 def value_of(text: str, kind: str) -> Ref:
@@ -202,7 +220,7 @@ def value_of(text: str, kind: str) -> Ref:
         return TRUE if word.lower() == "true" else NIL
     if kind == "char":
         wants(len(units_of(word)) == 1, f"{word} is not one character")
-        return 16 * ord(word) + 6
+        return word_of_character(ord(word))
     if kind == "int":
         wants(re.fullmatch("-?[0-9]+", word), f"{word} is no integer")
         return integer_word(int(word))
@@ -222,7 +240,7 @@ def graph_of(columns: list[Column], cells: list[str]) -> Frame:
         wants(frame.slot(column.path[-1]) is None, f"the slot {column.heading()} twice")
         frame.tags.append(Symbol(column.path[-1]))
         frame.values.append(value_of(cell, column.kind))
-    return Symbols().unify(root)
+    return with_symbols(root, {})
 
 
 def inner_frame(frame: Frame, name: bytes) -> Frame:

@@ -1,6 +1,6 @@
 """What is left of a store on a card: its soups, and of each entry every version, with what has become of it."""
 
-from dataclasses import dataclass, field
+from dataclasses import dataclass, field, replace
 from enum import Enum
 from typing import NamedTuple, Optional
 
@@ -104,6 +104,17 @@ class Found:
         """The newest directory."""
         return next((it for it in reversed(self.history.directories) if it.record.kind is not Kind.OPEN), None)
 
+    def name_and_signature(self) -> tuple[bytes, int]:
+        """Those of the store, by the newest directory."""
+        directory = self.directory()
+        return (directory.name, directory.sig) if directory else (b"Salvaged", 0)
+
+    def soups_of(self, versions: list[Version]) -> list[Soup]:
+        """The soups of the newest directory, and each other that one of these versions is of."""
+        directory = self.directory()
+        numbers = {it.sig for it in versions} | {it.sig for it in (directory.soups if directory else [])}
+        return [self.soups[sig] for sig in sorted(numbers)]
+
     def newest(self) -> list[Version]:
         """The version of each entry that is live, or the newest that can be read of one that is lost."""
         kept = [it for found in self.entries.values() for it in found if self.fate(it) in (Fate.LIVE, Fate.LOST)]
@@ -206,12 +217,11 @@ def store_of(found: Found) -> Store:
     """The store of the newest versions, under the numbers that they had."""
     directory = found.directory()
     soups = []
-    for sig in sorted({it.sig for it in found.newest()} | {it.sig for it in (directory.soups if directory else [])}):
-        soup = found.soups[sig]
-        entries = tuple(Entry(it.uid, it.time, found.graph(it), 0) for it in found.newest() if it.sig == sig)
+    for soup in found.soups_of(found.newest()):
+        entries = tuple(Entry(it.uid, it.time, found.graph(it), 0) for it in found.newest() if it.sig == soup.sig)
         next_uid = max([soup.next_uid, *(it.uid + 1 for it in entries)])
-        soups.append(Soup(soup.name, sig, next_uid, soup.specs, soup.tags, soup.info, entries))
-    name, sig = (directory.name, directory.sig) if directory else (b"Salvaged", 0)
+        soups.append(replace(soup, next_uid=next_uid, entries=entries))
+    name, sig = found.name_and_signature()
     next_soup = max([directory.next_soup if directory else 0, *(it.sig + 1 for it in soups)])
     return Store(name, sig, next_soup, tuple(soups))
 

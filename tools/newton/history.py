@@ -4,9 +4,9 @@ import struct
 from dataclasses import dataclass, field
 from typing import Iterable, Iterator, NamedTuple, Optional
 
-from newton.image import MOST_LARGE, PART, Bank, Image, Kind, Page, Record, begins_entry
+from newton.image import PART, Bank, Image, Kind, Page, Record, begins_entry
 
-from graphs import Frame, Walk
+from graphs import MOST_BYTES, Frame, Walk
 from images import NoStore
 from images import Record as Fields
 from stores import Soup
@@ -207,7 +207,7 @@ class History:
 
     def large(self, number: int, length: int) -> LargeAt:
         """A large binary, with what is missing of it now taken from wherever such a part is found."""
-        if length > MOST_LARGE:
+        if length > MOST_BYTES:
             return LargeAt(number, 0, (), 0)
         parts, borrowed = list(self.state.parts(number, length)), 0
         for part, page in enumerate(parts):

@@ -10,16 +10,17 @@ from dataclasses import dataclass, field
 from enum import Enum
 from typing import Iterator, NamedTuple, Optional
 
+from graphs import MOST_BYTES, MOST_NODES
 from images import BLOCK, VERSIONS
+from stores import MOST_SKELETON
 from streams import pages
 
 PAGE, PART = 512, 500
 PUT = 4 + PAGE
 HEADER = 16
-LEAST_BLOCKS, MOST_BLOCKS = 13, 4_099
 MOST_PAGE_NUMBERS = 65_536
 LEAST_DIRECTORY, LEAST_ENTRY = 8, 15
-MOST_ENTRY, MOST_LARGE = 64_012 + 12 * 65_535, 1_000_000
+MOST_ENTRY = 12 + MOST_SKELETON + 12 * MOST_NODES
 RECORD_HEAD = struct.Struct(">BIHH")
 PAGE_HEAD = struct.Struct(">IIII")
 SKELETON = b"\x02\x06"  # the first bytes of the text of a frame
@@ -96,7 +97,7 @@ def is_page(page: Page) -> bool:
     """Whether a page may be one of a store."""
     number, length = page.object, page.length
     least = LEAST_DIRECTORY if number == 0 else LEAST_ENTRY if number % 2 else 0
-    most = MOST_ENTRY if number % 2 else MOST_LARGE
+    most = MOST_ENTRY if number % 2 else MOST_BYTES
     return page.number < MOST_PAGE_NUMBERS and least <= length <= most and page.part < pages(length)
 
 

@@ -17,6 +17,8 @@ from graphs import (
     Walk,
     character,
     integer,
+    units_of,
+    word_of_character,
 )
 
 from newton.values import (
@@ -29,7 +31,6 @@ from newton.values import (
     real_data,
     real_of,
     text_of,
-    units_of,
     wants,
     wants_entry,
 )
@@ -53,9 +54,7 @@ class Writer:
     """Writes one graph."""
 
     def __init__(self, root: Ref):
-        walk = Walk(root)
-        shared = [it for it in walk.nodes if id(it) in walk.shared and not isinstance(it, Symbol)]
-        self.labels = {id(it): label for label, it in enumerate(shared)}
+        self.labels = Walk(root).labels()
         self.written: set[int] = set()
 
     def value(self, value: Ref) -> object:
@@ -175,7 +174,7 @@ def immediate(form: str, text: str) -> int:
     if form == "$char":
         units = units_of(text)
         wants(len(units) == 1, "$char wants one character up to 65,535")
-        return 16 * units[0] + 6
+        return word_of_character(units[0])
     wants(re.fullmatch("[0-9A-Fa-f]{8}", text), "$word wants eight hexadecimal digits")
     wants(int(text, 16) & 3 != 1, f"{text} is the word of no immediate")
     return int(text, 16)

@@ -5,12 +5,25 @@ for. `docs/FORMATS.md`, section 2, has the grammar.
 """
 
 import re
-from typing import Optional
+from functools import partial
+from typing import Callable, Optional
 
-from graphs import MOST_BYTES, MOST_BYTES_TOGETHER, MOST_NODES, MOST_OPEN, MOST_SLOTS, Node, Walk
+from graphs import (
+    MOST_BYTES,
+    MOST_BYTES_TOGETHER,
+    MOST_NODES,
+    MOST_OPEN,
+    MOST_SLOTS,
+    Node,
+    Symbol,
+    Walk,
+)
 from literals import (
     BARRED,
+    BLANKS,
     IDENTIFIER,
+    IN_BARS,
+    IN_QUOTES,
     INTEGER,
     LABEL,
     LABELLED,
@@ -20,25 +33,22 @@ from literals import (
     Reader,
 )
 
-from newton.mistakes import Mistake
+from newton.mistakes import Mistake, Placed, Telling
 
-BARS = re.compile(r"\|(?:[ -\[\]-{}~]|\\[\\|])*")
-QUOTED = re.compile(r'"(?:[^\x00-\x1f"\\]|\\["\\]|\\u[0-9A-Fa-f]{4})*')
+BARS = re.compile(rf"\|{IN_BARS}")
+QUOTED = re.compile(f'"{IN_QUOTES}')
 DIGITS = re.compile(r":[0-9A-Fa-f]*")
 ZEROS = re.compile(r":\*[0-9]*")
-BLANKS = re.compile(r"[ \t\r\n]*")
 
 
-class Found(NoLiteral):
-    """The reader gave up, at a place that is known."""
-
-    def __init__(self, place: int, reason: str):
-        super().__init__(reason)
-        self.mistake = Mistake(place, reason)
+class Found(Placed, NoLiteral):
+    """The text is no literal, and the place is known."""
 
 
-class Pointing(Reader):
+class Pointing(Telling, Reader):
     """The reader of literals, which tells where it gives up."""
+
+    placed = Found
 
     def __init__(self, text: str):
         super().__init__(text)
@@ -50,74 +60,48 @@ class Pointing(Reader):
 
     def name(self) -> bytes:
         self.name_at = self.at
-        try:
-            name = super().name()
-        except NoLiteral as fault:
-            raise Found(*self.bad_name(self.name_at)) from fault
+        name = self.told(super().name, lambda: self.bad_name(self.name_at))
         self.name_end = self.at
         return name
 
-    def symbol(self):
+    def noted(self, reading: Callable) -> Optional[Symbol]:
+        """The symbol that a reading gives; where it is a new one, its place is kept."""
         at, known = self.at, len(self.symbols)
-        symbol = super().symbol()
+        symbol = reading()
         self.made += [(symbol, at)] if len(self.symbols) > known else []
         return symbol
 
-    def class_of_array(self):
-        at, known = self.at, len(self.symbols)
-        kind = super().class_of_array()
-        self.made += [(kind, at)] if len(self.symbols) > known else []
-        return kind
+    def symbol(self) -> Symbol:
+        return self.noted(super().symbol)
+
+    def class_of_array(self) -> Optional[Symbol]:
+        return self.noted(super().class_of_array)
 
     def labelled(self, label: Optional[int], node):
         self.made.append((node, self.value_at))
-        try:
-            return super().labelled(label, node)
-        except NoLiteral as fault:
-            raise Found(self.value_at, f"the label {label} is given twice") from fault
+        given = partial(super().labelled, label, node)
+        return self.told(given, lambda: (self.value_at, f"the label {label} is given twice"))
 
     def value(self, is_open: int):
         self.blanks()
         start = self.value_at = self.at
-        try:
-            return super().value(is_open)
-        except Found:
-            raise
-        except NoLiteral as fault:
-            raise Found(*self.bad_value(start)) from fault
+        return self.told(partial(super().value, is_open), lambda: self.bad_value(start))
 
     def binary(self, binary):
-        try:
-            return super().binary(binary)
-        except Found:
-            raise
-        except NoLiteral as fault:
-            raise Found(*self.bad_digits(self.at, ">")) from fault
+        return self.told(partial(super().binary, binary), lambda: self.bad_digits(self.at, ">"))
 
     def large(self, large):
-        try:
-            return super().large(large)
-        except Found:
-            raise
-        except NoLiteral as fault:
-            raise Found(*self.bad_zeros(self.name_end)) from fault
+        return self.told(partial(super().large, large), lambda: self.bad_zeros(self.name_end))
 
     def array(self, array, is_open: int):
-        return self.within(lambda: super(Pointing, self).array(array, is_open), is_open, "]", array)
+        start = self.at - 1
+        reading = partial(super().array, array, is_open)
+        return self.told(reading, lambda: self.bad_container(start, is_open, "]", array))
 
     def frame(self, frame, is_open: int):
-        return self.within(lambda: super(Pointing, self).frame(frame, is_open), is_open, "}", frame)
-
-    def within(self, reading, is_open: int, closer: str, node):
         start = self.at - 1
-        try:
-            return reading()
-        except Found:
-            raise
-        except NoLiteral as fault:
-            if is_open >= MOST_OPEN:
-                raise Found(start, f"{MOST_OPEN} arrays and frames are open here already") from fault
-            raise Found(*self.bad_list(start, closer, node)) from fault
+        reading = partial(super().frame, frame, is_open)
+        return self.told(reading, lambda: self.bad_container(start, is_open, "}", frame))
 
     # Why a reader gave up.
 
@@ -184,6 +168,11 @@ class Pointing(Reader):
         if not 1 <= zeros.end() - start - 2 <= 7:
             return start + 2, "a count of bytes has 1 to 7 digits"
         return zeros.end(), f">> is wanted, not {self.here(zeros.end())}"
+
+    def bad_container(self, start: int, is_open: int, closer: str, node) -> tuple[int, str]:
+        if is_open >= MOST_OPEN:
+            return start, f"{MOST_OPEN} arrays and frames are open here already"
+        return self.bad_list(start, closer, node)
 
     def bad_list(self, start: int, closer: str, node) -> tuple[int, str]:
         if closer == "}" and len(node.tags) > len(node.values):

@@ -1,7 +1,9 @@
 """Places in a text or in bytes, and how they are shown: a caret under the line, with a reason."""
 
 import sys
-from typing import NamedTuple
+from typing import Callable, NamedTuple
+
+from scanner import Scanner
 
 WIDTH = 72
 ROW = 16
@@ -15,6 +17,29 @@ class Mistake(NamedTuple):
 
     place: int
     reason: str
+
+
+class Placed(Exception):
+    """A reader gave up, at a place that is known."""
+
+    def __init__(self, place: int, reason: str):
+        super().__init__(reason)
+        self.mistake = Mistake(place, reason)
+
+
+class Telling(Scanner):
+    """A reader that tells where it gives up."""
+
+    placed: type[Placed]
+
+    def told(self, reading: Callable, reason: Callable) -> object:
+        """What a reading gives; where it gives up without a place, the reason tells place and words."""
+        try:
+            return reading()
+        except Placed:
+            raise
+        except self.fault as fault:
+            raise self.placed(*reason()) from fault
 
 
 def window(line: str, column: int) -> str:

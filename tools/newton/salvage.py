@@ -9,16 +9,17 @@ from pathlib import Path
 from newton.found import find, store_of
 from newton.history import size_of
 from newton.image import BLOCK, read_image
-from newton.script import MOST_SCRIPT, Choice, blocks_for, heading, script, told_fate
+from newton.salvaged import Choice, blocks_for, heading, script, told_fate
 
 from backups import backup
+from commands import MOST_INPUT
 from replies import of_name
 from streams import encode
 
 TOO_LONG = "salvage: the script is longer than a run takes, and ends here: take --soup, or --backup"
 LATER = """
 The script goes to standard output, and `%` lines in it say what was found, where, and what has become of it. `time`,
-`soup`, `index`, `tags`, `info`, `addx`, `add` and `vwrite` lines put it on a fresh card:
+`soup`, `index`, `tags`, `info`, `add`, `addx`, `set` and `vwrite` lines put it on a fresh card:
 
     salvage card > kept
     head -c BYTES /dev/zero > fresh      (the script says how many)
@@ -60,7 +61,7 @@ def written(found, choice: Choice, told: list) -> str:
     lines.append(f"% a fresh card of {blocks} blocks has room: head -c {blocks * BLOCK} /dev/zero > fresh")
     for line in script(found, choice):
         length += len(line) + 1
-        if length > MOST_SCRIPT:
+        if length > MOST_INPUT:
             print(TOO_LONG, file=sys.stderr)
             lines.append(f"% {TOO_LONG}")
             break
@@ -70,7 +71,7 @@ def written(found, choice: Choice, told: list) -> str:
 
 def has_backup(found) -> bool:
     """Whether the backup is no longer than an input may be."""
-    return sum(size_of(it) for it in found.newest()) <= MOST_SCRIPT
+    return sum(size_of(it) for it in found.newest()) <= MOST_INPUT
 
 
 def main(words: list) -> int:

@@ -1,14 +1,14 @@
-"""Stores as scripts: the lines that make a store again on a blank card, and those that add one entry."""
+"""Stores as scripts: the lines that make a store on a blank card, those that make one soup, and those of one entry."""
 
 from dataclasses import dataclass, field
-from typing import Iterator
+from typing import Callable, Iterator
 
 from commands import MOST_LINE
-from graphs import NIL, Frame, Large, Walk, copied
+from graphs import NIL, Binary, Frame, Large, Walk, copied
 from lines import IDENTIFIER
-from literals import print_literal
-from replies import of_name, of_path
-from stores import Entry, Soup, Store
+from literals import of_data, print_literal
+from replies import of_name, of_path, of_spec
+from stores import MOST_PATH, Entry, Soup, Store
 from streams import encode_flat
 
 from newton.run import Failed, several
@@ -16,19 +16,11 @@ from newton.run import Failed, several
 MOST_INLINE = 500  # A large binary of more bytes is written by lines of its own.
 PIECE = 30_000  # How many bytes one such line has.
 ROOM = MOST_LINE - 120  # What a command, a unit, a soup's name in quotes and an id leave of a line.
-MOST_PATH = 8
 MOST_FILLERS = 10_000
 
 
 class TooLong(Exception):
     """No line has room for an entry."""
-
-
-class Zeros(bytes):
-    """Zero bytes, which are printed in the short form that a literal has for them."""
-
-    def hex(self) -> str:
-        return f"*{len(self)}"
 
 
 @dataclass
@@ -63,6 +55,11 @@ def paths_to_larges(root: Frame) -> dict[int, tuple]:
     return found
 
 
+def zeros(large: Large) -> str:
+    """The bytes of a large binary as zeros, in the short form that a literal has for them."""
+    return f"*{len(large.data)}"
+
+
 def pieces(large: Large) -> Iterator[tuple[int, bytes]]:
     """Where each piece of a large binary begins, and its bytes, without the zeros at its ends."""
     for at in range(0, len(large.data), PIECE):
@@ -74,37 +71,50 @@ def pieces(large: Large) -> Iterator[tuple[int, bytes]]:
 
 def addition(root: Frame) -> Addition:
     """An entry as commands: as a literal where a line has room for it, else as a stream."""
-    graph = copied(root)
-    paths, rest = paths_to_larges(graph), []
-    for large in Walk(graph).larges():
-        if len(large.data) > MOST_INLINE and id(large) in paths:
-            path = of_path(paths[id(large)])
-            rest += [("vwrite", f"{path} {at} {data.hex().upper()}") for at, data in pieces(large)]
-            large.data = Zeros(len(large.data))
-    literal = print_literal(graph)
+    paths = paths_to_larges(root)
+    long = [it for it in Walk(root).larges() if len(it.data) > MOST_INLINE]
+    apart = {id(it): it for it in long if id(it) in paths or not any(it.data)}
+
+    def data_text(binary: Binary) -> str:
+        return zeros(binary) if id(binary) in apart else of_data(binary)
+
+    literal = print_literal(root, data_text)
+    rest = [
+        ("vwrite", f"{of_path(paths[number])} {at} {data.hex().upper()}")
+        for number, large in apart.items()
+        for at, data in pieces(large)
+    ]
     if len(literal) <= ROOM:
         return Addition(literal, rest=rest)
     stream = encode_flat(root).hex().upper()
-    return Addition(stream, "addx") if len(stream) <= ROOM else in_steps(root, graph, paths, rest)
+    return Addition(stream, "addx") if len(stream) <= ROOM else in_steps(root, paths, data_text, rest)
 
 
-def in_steps(root: Frame, graph: Frame, paths: dict[int, tuple], rest: list) -> Addition:
+def in_steps(root: Frame, paths: dict[int, tuple], data_text: Callable[[Binary], str], rest: list) -> Addition:
     """An entry that is added without its large binaries, which are put into their slots afterwards."""
-    larges = Walk(graph).larges()
-    put = [("set", f"{of_path(paths[id(it)])} {print_literal(it)}") for it in larges if id(it) in paths]
-    bare = copied(graph)
+    walk = Walk(root)
+    larges = walk.larges()
+    if any(id(it) in walk.shared or id(it) not in paths for it in larges):
+        raise TooLong
+    put = [("set", f"{of_path(paths[id(it)])} {print_literal(it, data_text)}") for it in larges]
+    bare = copied(root)
     for node in Walk(bare).nodes:
         node.renew(lambda it: NIL if isinstance(it, Large) else it)
     text = encode_flat(bare).hex().upper()
-    is_apart = len(put) == len(larges) and not shared_larges(root)
-    if not is_apart or len(text) > ROOM or any(len(words) > ROOM for _, words in put):
+    if len(text) > ROOM or any(len(words) > ROOM for _, words in put):
         raise TooLong
     return Addition(text, "addx", put + rest)
 
 
-def shared_larges(root: Frame) -> bool:
-    walk = Walk(root)
-    return any(id(it) in walk.shared for it in walk.larges())
+def soup_lines(unit: int, name: str, soup: Soup) -> list[str]:
+    """The lines that make a soup under a name, with its indexes, its tags and its info frame."""
+    lines = [f"soup {unit} {name}", *(f"index {unit} {name} {of_spec(it)}" for it in soup.specs)]
+    if soup.tags is not None and soup.tags.symbols:
+        symbols = " ".join(it.decode() for it in soup.tags.symbols)
+        lines.append(f"tags {unit} {name} {of_path(soup.tags.path)} {symbols}")
+    if soup.info is not None:
+        lines.append(f"info {unit} {name} {print_literal(soup.info)}")
+    return lines
 
 
 class Script:
@@ -143,14 +153,9 @@ class Script:
 
     def of_soup(self, soup: Soup) -> Iterator[str]:
         name = of_name(soup.name)
-        yield f"soup 0 {name}"
-        for spec in soup.specs:
-            parts = [f"{of_path(it.path)}:{it.kind}:{it.order}" for it in spec]
-            yield f"index 0 {name} " + " ".join(parts)
-        if soup.tags is not None:
-            yield from self.of_tags(soup, name)
-        if soup.info is not None:
-            yield f"info 0 {name} {print_literal(soup.info)}"
+        yield from soup_lines(0, name, soup)
+        if soup.tags is not None and not soup.tags.symbols:
+            self.left_out.append(f"the tags of {name}, which have no symbols")
         given = 0
         for entry in soup.entries:
             yield from self.spare_entries(name, given, entry.uid)
@@ -159,13 +164,6 @@ class Script:
             yield from lines
             given += bool(lines)
         yield from self.spare_entries(name, given, soup.next_uid)
-
-    def of_tags(self, soup: Soup, name: str) -> Iterator[str]:
-        if soup.tags.symbols:
-            symbols = [it.decode() for it in soup.tags.symbols]
-            yield f"tags 0 {name} {of_path(soup.tags.path)} " + " ".join(symbols)
-        else:
-            self.left_out.append(f"the tags of {name}, which have no symbols")
 
     def spare_entries(self, name: str, given: int, wanted: int) -> Iterator[str]:
         for uid in range(given, wanted if self.keeps_ids else given):

@@ -5,39 +5,28 @@ for. `docs/FORMATS.md`, section 1, has the grammar.
 """
 
 import re
-from typing import Callable, Optional
+from typing import Optional
 
 from graphs import MOST_BYTES, MOST_BYTES_TOGETHER, MOST_NODES, MOST_OPEN, Symbol
 from streams import Malformed, Reader
 
-from newton.mistakes import Mistake
+from newton.mistakes import Mistake, Placed, Telling
 
 
-class Found(Malformed):
-    """The reader gave up, at a place that is known."""
-
-    def __init__(self, place: int, reason: str):
-        super().__init__(reason)
-        self.mistake = Mistake(place, reason)
+class Found(Placed, Malformed):
+    """The bytes spell no graph, and the place is known."""
 
 
-class Pointing(Reader):
+class Pointing(Telling, Reader):
     """The reader of streams, which tells where it gives up."""
+
+    placed = Found
 
     def __init__(self, stream: bytes):
         super().__init__(stream)
         self.compressed_at: Optional[int] = None
         self.object_at = 0
         self.symbols_at: list[tuple[Symbol, int]] = []
-
-    def told(self, reading: Callable, reason: Callable) -> object:
-        """What a reading gives; where it gives up without a place, the reason tells place and words."""
-        try:
-            return reading()
-        except Found:
-            raise
-        except Malformed as fault:
-            raise Found(*reason()) from fault
 
     def take(self, count: int) -> bytes:
         if count > self.left():

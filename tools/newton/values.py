@@ -4,11 +4,22 @@ import struct
 from math import isfinite
 from typing import NamedTuple, Optional
 
-from graphs import Binary, Frame, Large, Ref, String, Symbol, Walk
+from graphs import (
+    LEAST_INTEGER,
+    MOST_INTEGER,
+    Binary,
+    Frame,
+    Large,
+    Ref,
+    String,
+    Symbol,
+    Walk,
+    word_of_integer,
+)
+from streams import NAME
 
 from newton.run import Failed
 
-LEAST_INTEGER, MOST_INTEGER = -536_870_912, 536_870_911
 REAL = b"real"
 
 
@@ -35,11 +46,6 @@ def text_of(string: String) -> str:
     return data.decode("utf-16-be", "surrogatepass")
 
 
-def units_of(text: str) -> list[int]:
-    data = text.encode("utf-16-be", "surrogatepass")
-    return [int.from_bytes(data[at : at + 2], "big") for at in range(0, len(data), 2)]
-
-
 def is_writable(text: str) -> bool:
     """Whether a text can be written in UTF-8."""
     return not any(0xD800 <= ord(it) <= 0xDFFF for it in text)
@@ -47,7 +53,7 @@ def is_writable(text: str) -> bool:
 
 def integer_word(number: int) -> int:
     wants(LEAST_INTEGER <= number <= MOST_INTEGER, f"{number} is no integer of a Newton")
-    return 4 * number & 0xFFFF_FFFF
+    return word_of_integer(number)
 
 
 def real_of(value: Ref) -> Optional[float]:
@@ -65,8 +71,8 @@ def real_data(number: float) -> bytes:
     return struct.pack(">d", number)
 
 
-def is_slot_name(name: bytes) -> bool:
-    return 1 <= len(name) <= 254 and all(32 <= it <= 126 for it in name)
+def is_slot_name(name: str) -> bool:
+    return bool(NAME.fullmatch(name.encode(errors="surrogatepass")))
 
 
 class Symbols:
@@ -77,20 +83,9 @@ class Symbols:
 
     def of(self, name: str) -> Symbol:
         wants(isinstance(name, str), f"{name} is no name")
-        encoded = name.encode(errors="replace")
-        is_good = name.isascii() and is_slot_name(encoded)
-        wants(is_good, f"{name!r} is no name: 1 to 254 characters from the space to the tilde")
+        wants(is_slot_name(name), f"{name!r} is no name: 1 to 254 characters from the space to the tilde")
+        encoded = name.encode()
         return self.known.setdefault(encoded.lower(), Symbol(encoded))
-
-    def unify(self, root: Ref) -> Ref:
-        """The graph with these symbols in place of its own."""
-
-        def known(it: Ref) -> Ref:
-            return self.known.setdefault(it.name.lower(), it) if isinstance(it, Symbol) else it
-
-        for node in Walk(root).nodes:
-            node.renew(known)
-        return known(root)
 
 
 def wants_entry(root: Ref) -> Frame:

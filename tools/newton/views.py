@@ -6,12 +6,11 @@ from typing import Iterator, NamedTuple, Optional
 
 from newton.found import Fate, Found
 from newton.history import Version, size_of
-from newton.script import part_text
 
 from graphs import Frame
 from literals import print_literal
 from queries import key_of, tags_of
-from replies import of_path
+from replies import of_path, of_spec
 from stores import Soup, paths_of
 
 MOST_COLUMNS = 6
@@ -33,15 +32,9 @@ class Card:
         self.first_row = first
         self.rows = {id(it): first + at for at, it in enumerate(self.versions)}
 
-    def signature(self) -> int:
-        directory = self.found.directory()
-        return directory.sig if directory else 0
-
     def soups(self) -> list[Soup]:
         """The soups of the newest directory, and others of which entries are left."""
-        directory = self.found.directory()
-        numbers = {it.sig for it in self.versions} | {it.sig for it in (directory.soups if directory else [])}
-        return [self.found.soups[sig] for sig in sorted(numbers)]
+        return self.found.soups_of(self.versions)
 
 
 class Member(NamedTuple):
@@ -60,7 +53,8 @@ class Member(NamedTuple):
         return [it for it in self.rows() if self.card.found.fate(it[0]) in fates]
 
     def identity(self, version: Version) -> tuple[int, int, int]:
-        return self.card.signature(), self.soup.sig, version.uid
+        _, signature = self.card.found.name_and_signature()
+        return signature, self.soup.sig, version.uid
 
 
 class Hit(NamedTuple):
@@ -129,7 +123,7 @@ def soup_told(member: Member) -> dict:
         "signature": soup.sig,
         "count": len(member.now()),
         "next": soup.next_uid,
-        "indexes": [" ".join(map(part_text, spec)) for spec in soup.specs],
+        "indexes": [*map(of_spec, soup.specs)],
         "tags": tags_told(member),
         "info": None if soup.info is None else print_literal(soup.info),
     }
@@ -140,7 +134,7 @@ def specs_of(members: list[Member]) -> dict[str, tuple]:
     found: dict[tuple, tuple] = {}
     for spec in (spec for member in members for spec in member.soup.specs):
         found.setdefault((paths_of(spec), tuple(kinds_of(spec))), spec)
-    return {" ".join(map(part_text, spec)): spec for spec in found.values()}
+    return {of_spec(spec): spec for spec in found.values()}
 
 
 def view(name: str, members: list[Member]) -> dict:

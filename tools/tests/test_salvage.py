@@ -13,10 +13,12 @@ import measure
 from cards import BLOCK, PROGRAM, TOOLS, blank, check, made_card, run, stored, tool
 
 from newton.image import read_image
+from newton.salvaged import entry_lines
 
-from graphs import Frame, Large, Symbol
+from graphs import Frame, Large, String, Symbol
 from images import HEADER
 from layouts import record
+from literals import read_literal
 from streams import encode_flat
 
 LARGE = bytes(range(256)) * 800
@@ -133,8 +135,18 @@ class Salvaged(unittest.TestCase):
     def test_large_binaries_come_back_by_vwrite(self) -> None:
         card = self.large_card()
         script = self.salvaged(card)
-        self.assertIn("\nvwrite 0 Photos 0 of.bits 0 ", script)
+        self.assertIn("\nvwrite 0 Photos 0 of.bits 1 01", script)
         self.assertEqual(values(card), values(self.played(script)))
+
+    def test_a_large_binary_without_a_path_is_zeros_where_no_line_has_room_for_its_bytes(self) -> None:
+        graph = read_literal(b"{a: [<<raw:" + b"07" * 90_000 + b">>]}")
+        line, told = entry_lines(0, "Notes", 0, graph)
+        self.assertEqual("add 0 Notes {a: [<<raw:*90000>>]}", line)
+        self.assertIn("no path leads", told)
+        graph.tags.append(Symbol(b"more"))
+        graph.values.append(String([233] * 40_000))
+        (told,) = entry_lines(0, "Notes", 0, graph)
+        self.assertIn("no line has room", told)
 
     def test_what_is_missing_of_a_large_binary_is_zeros_and_is_told(self) -> None:
         card = self.large_card()

@@ -1,24 +1,20 @@
 """The script that puts what was salvaged on a fresh card, with a word on each entry before it."""
 
 from collections import Counter
+from contextlib import suppress
 from typing import Iterator, NamedTuple, Optional
 
 from newton.found import Fate, Found, pages_of
 from newton.history import Version
-from newton.image import BLOCK, LEAST_BLOCKS, MOST_BLOCKS, Image
+from newton.image import BLOCK, Image
+from newton.scripts import TooLong, addition, paths_to_larges, soup_lines
 
 from check import report
-from graphs import Binary, Frame, Large, Walk
-from lines import IDENTIFIER
-from literals import of_data, print_literal
-from replies import of_name, of_path
-from stores import MOST_SIGNATURE, Part, Soup, capacity
-from streams import encode, pages
+from graphs import Frame, Walk, copied
+from replies import of_name
+from stores import LEAST_BLOCKS, MOST_BLOCKS, MOST_NAME, MOST_SIGNATURE, Soup, capacity
+from streams import pages
 
-MOST_LINE, MOST_SCRIPT = 140_000, 16_777_216  # of a run
-PIECE = 60_000
-MOST_PATH = 8
-MOST_NAME = 39
 OTHERS = b" (earlier)"
 
 
@@ -51,66 +47,29 @@ def told_fate(found: Found, version: Version) -> str:
     return "; ".join(told)
 
 
-def part_text(part: Part) -> str:
-    return f"{of_path(part.path)}:{part.kind}:{part.order}"
-
-
-def soup_lines(unit: int, name: str, soup: Soup) -> list[str]:
-    """The lines that make a soup, its indexes, its tags and its info frame."""
-    lines = [f"soup {unit} {name}"]
-    lines += [f"index {unit} {name} " + " ".join(map(part_text, spec)) for spec in soup.specs]
-    if soup.tags and soup.tags.symbols:
-        symbols = " ".join(it.decode() for it in soup.tags.symbols)
-        lines.append(f"tags {unit} {name} {of_path(soup.tags.path)} {symbols}")
-    if soup.info is not None:
-        lines.append(f"info {unit} {name} {print_literal(soup.info)}")
-    return lines
-
-
-def large_paths(graph: Frame) -> dict[int, str]:
-    """A path of names to each large binary that one leads to, by the identity of the binary."""
-    paths, seen, left = {}, {id(graph)}, [(graph, "")]
-    for frame, path in left:
-        for tag, value in zip(frame.tags, frame.values):
-            name = tag.name.decode()
-            if not IDENTIFIER.fullmatch(tag.name) or path.count(".") >= MOST_PATH:
-                continue
-            if isinstance(value, Large):
-                paths.setdefault(id(value), path + name)
-            elif isinstance(value, Frame) and id(value) not in seen and path.count(".") < MOST_PATH - 1:
-                seen.add(id(value))
-                left.append((value, f"{path}{name}."))
-    return paths
-
-
-def write_lines(target: str, graph: Frame) -> list[str]:
-    """The lines that write the bytes of the large binaries of an entry into zeros."""
-    lines, paths = [], large_paths(graph)
+def reached(graph: Frame) -> Frame:
+    """The graph with zeros for each large binary that no path of names reaches."""
+    graph = copied(graph)
+    paths = paths_to_larges(graph)
     for large in Walk(graph).larges():
-        for at in range(0, len(large.data), PIECE):
-            piece = large.data[at : at + PIECE]
-            if any(piece) and id(large) not in paths:
-                lines.append("% no path leads to the bytes of a large binary: salvage --backup has them")
-                break
-            if any(piece):
-                lines.append(f"vwrite {target} {paths[id(large)]} {at} {piece.hex().upper()}")
-    return lines
+        if id(large) not in paths:
+            large.data = bytes(len(large.data))
+    return graph
 
 
-def zeros(binary: Binary) -> str:
-    return f"*{len(binary.data)}" if isinstance(binary, Large) else of_data(binary)
+def ways(graph: Frame) -> Iterator[tuple[Frame, list[str]]]:
+    """The graph of an entry, as whole as it may be added, and what is told of what it lacks."""
+    yield graph, []
+    yield reached(graph), ["% no path leads to the bytes of a large binary: salvage --backup has them"]
 
 
 def entry_lines(unit: int, name: str, uid: int, graph: Frame) -> list[str]:
     """The lines that add an entry, which gets this id, or one that says that no line has room for it."""
-    if sum(len(it.data) for it in Walk(graph).larges()) < MOST_LINE // 2:
-        whole = f"addx {unit} {name} {encode(graph).hex().upper()}"
-        if len(whole) <= MOST_LINE:
-            return [whole]
-    line = f"add {unit} {name} {print_literal(graph, zeros)}"
-    if len(line) > MOST_LINE:
-        return ["% no line has room for this entry: salvage --backup has it"]
-    return [line, *write_lines(f"{unit} {name} {uid}", graph)]
+    for given, told in ways(graph):
+        with suppress(TooLong):
+            found = addition(given)
+            return [found.first(unit, name), *found.others(unit, name, uid), *told]
+    return ["% no line has room for this entry: salvage --backup has it"]
 
 
 class Names:
@@ -146,22 +105,16 @@ def added(found: Found, versions: list[Version], name: str, choice: Choice) -> I
         yield from lines
 
 
-def newest_name(found: Found) -> tuple[bytes, int]:
-    directory = found.directory()
-    return (directory.name, directory.sig) if directory else (b"Salvaged", 0)
-
-
 def chosen_soups(found: Found, choice: Choice) -> list[Soup]:
     """The soups of the newest directory, and each that entries are left of."""
-    directory, kept = found.directory(), found.all() if choice.is_all else found.newest()
-    numbers = {it.sig for it in kept} | {it.sig for it in (directory.soups if directory else [])}
-    return [found.soups[sig] for sig in sorted(numbers) if is_chosen(found.soups[sig], choice)]
+    kept = found.all() if choice.is_all else found.newest()
+    return [it for it in found.soups_of(kept) if is_chosen(it, choice)]
 
 
 def script(found: Found, choice: Choice) -> Iterator[str]:
     """The lines of the script, without their ends."""
     unit, names = choice.unit, Names()
-    name, sig = newest_name(found)
+    name, sig = found.name_and_signature()
     if choice.has_card:
         # Ids are given anew. So the store has another signature, and no old alias leads to another entry.
         yield f"format {unit} {of_name(name)} {(sig + 1) % (MOST_SIGNATURE + 1)}"
