@@ -1,7 +1,7 @@
 -- A command is obeyed by making the one change that it resolves to.
 use Rattle.std.proofs.Common.{arith, ◌≡◌, refl, ap, sym, ◌∙◌, subst, ℕ, ◌+◌, ◌==◌, ◌||◌, ◌&&◌, ◌≤◌, not, Bool, true}
 use Rattle.std.proofs.Common.{false, cond, IsTrue, List, [], ◌∷◌, Option, Some, None, replicate, is_none}
-use Rattle.std.specs.Prelude.{Result, Ok, Err, IfErr, IsSome, is_some, if◌then◌else◌}
+use Rattle.std.specs.Prelude.{Result, Ok, Err, IsSome, is_some, if◌then◌else◌}
 use Rattle.std.proofs.lemmas.Bool.{eq-eqb}
 use Rattle.newt_base.specs.Refusals.{first_of}
 use Rattle.newt_base.specs.declared.Refusal.{Refusal}
@@ -21,7 +21,7 @@ use Rattle.newt_laws_world.proofs.Kept.{Every, Wf}
 use Rattle.newt_laws_world.specs.Worlds.{OnMedia}
 use Rattle.newt_laws_answers.proofs.Answers.{done, refused}
 use Rattle.newt_laws_answers.proofs.Units.{is-mounted, is-there, on-changed}
-use Rattle.newt_laws_answers.specs.Bounds.{most_programmed, unless}
+use Rattle.newt_laws_answers.specs.Bounds.{most_programmed}
 use Rattle.newt_laws_answers.specs.Fetched.{means_entries, most_fetched}
 use Rattle.newt_laws_answers.specs.There.{OnUnit}
 use Rattle.newt_laws_steps.specs.StandsFor.{seen}
@@ -33,12 +33,12 @@ use Rattle.newt_store_change.specs.declared.fault.StoreFault.{StoreFault}
 use Rattle.newt_store_change.specs.declared.fault.StoreFault.TheVariants.{Refused, Stop}
 use Rattle.newt_laws_effects.specs.Effects as resolving
 use Rattle.newt_laws_effects.specs.Effects.{Effect, effects}
-use Rattle.newt_laws_effects.specs.Derived.{most_of, of_store, refusal, tests_of}
+use Rattle.newt_laws_effects.specs.Derived.{most_of, of_store, refusal}
 use Rattle.newt_laws_effects.specs.Tells.{Tells, is_of_stores}
 use Rattle.newt_laws_effects.proofs.Most.{row-most}
 use Rattle.newt_laws_effects.proofs.Refusing.{one-refusal, row-refusal}
 use Rattle.newt_laws_effects.proofs.Telling.{rows-tell}
-use Rattle.newt_engine_units.proofs.Costs.{on-costs, on-within}
+use Rattle.newt_engine_units.proofs.Costs.{costs-of, on-costs, on-within}
 use Rattle.newt_engine_units.proofs.Keeping.{change-keeps}
 use Rattle.newt_engine_units.proofs.Known.{at-card, at-none}
 use Rattle.newt_engine_units.proofs.Settings.{Setting, stand-told}
@@ -46,8 +46,9 @@ use Rattle.newt_engine_units.specs.Answers.{Answers}
 use Rattle.newt_engine_units.specs.Breaks.{Meanwhile}
 use Rattle.newt_engine_units.specs.Calls.{Changes, CostsOf, Obeys}
 use Rattle.newt_engine_units.specs.Found.{HasSoup}
-use Rattle.newt_engine_units.specs.Stands.{Stands, due_in, world_of}
+use Rattle.newt_engine_units.specs.Stands.{due_in, world_of}
 use Rattle.newt_engine_units.specs.declared.units.Units.{Units}
+use Rattle.newt_engine_commands.specs.Done.{done_of}
 use Rattle.newt_engine_commands.proofs.Said.{change-breaks}
 
 -- the command resolves to this one change, of a store that is there; the change fetches no more than
@@ -151,6 +152,20 @@ module _ {C : Type 0} {reads : List ℕ → Option Store} {place : C → ℕ} {s
     no_fault = e.no_fault;
     kept = λ idle. change-keeps e;
   }
+
+-- where nothing is told but that it was done
+pub done-obeys : {C : Type 0} {reads : List ℕ → Option Store} {place : C → ℕ} {standing : Bool → C → Outside → Type 0} {told : Bool} {c : Command} {units later : Units C} {o p : Outside}
+    (result : Result ℕ StoreFault) (r : Result (Unit {0}) StoreFault) → r ≡ done_of result
+    → Obeys reads place standing told c (λ n. Reply.done) units later o p result → Obeys reads place standing told c (λ n. Reply.done) units later o p r
+done-obeys {reads = reads} {place} {standing} {told} {c} {units} {later} {o} {p} result r is obeys =
+    subst (λ x. Obeys reads place standing told c (λ n. Reply.done) units later o p x) (sym is) (go result obeys)
+  where
+    go : (x : Result ℕ StoreFault) → Obeys reads place standing told c (λ n. Reply.done) units later o p x → Obeys reads place standing told c (λ n. Reply.done) units later o p (done_of x)
+    go (Ok n) e = record { stands = e.stands; answered = e.answered; moments = e.moments; costs = λ t. costs-of (e.costs t) (λ g. g); alone = e.alone; cause = e.cause; broke = e.broke; no_fault = e.no_fault; kept = e.kept }
+    go (Err (Refused q)) e =
+        record { stands = e.stands; answered = e.answered; moments = e.moments; costs = λ t. costs-of (e.costs t) (λ g. g); alone = e.alone; cause = e.cause; broke = e.broke; no_fault = e.no_fault; kept = e.kept }
+    go (Err (Stop stop)) e =
+        record { stands = e.stands; answered = e.answered; moments = e.moments; costs = λ t. costs-of (e.costs t) (λ g. g); alone = e.alone; cause = e.cause; broke = e.broke; no_fault = e.no_fault; kept = e.kept }
 
 -- nothing is no more than anything
 pub none-low : (n : ℕ) → 0 ≤ n

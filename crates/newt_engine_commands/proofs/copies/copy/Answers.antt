@@ -11,7 +11,6 @@ use Rattle.std.specs.Option.{option_and_then}
 use Rattle.newt_spec_store.specs.Store.{Entry, entry_of}
 use Rattle.newt_store_change.specs.Entries.{ReadsEntry}
 use Rattle.newt_base.specs.Refusals.{first_of}
-use Rattle.newt_host.specs.Moments.{Moment, Always}
 use Rattle.newt_host.proofs.Outside.{NoFault-append, OnDevices-append}
 use Rattle.newt_spec_store.specs.Store.{change_soup, add_entry}
 use Rattle.newt_spec_world.specs.World.{World, store_on_unit}

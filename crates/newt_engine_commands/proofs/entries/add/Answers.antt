@@ -1,5 +1,5 @@
 -- The soup is looked up, and its card adds the entry.
-use Rattle.std.proofs.Common.{ap, refl, sym, ℕ, ◌∙◌, ◌≡◌}
+use Rattle.std.proofs.Common.{ap, refl, sym, ℕ, ◌∙◌}
 use Rattle.std.specs.Prelude.{unwrap_or}
 use Rattle.newt_engine_units.specs.Looks.{known_checks}
 use Rattle.std.proofs.lemmas.Result.{err_from_is_err_and}

@@ -14,7 +14,6 @@ use Rattle.std.specs.Bool.{⊤}
 use Rattle.newt_base.specs.Refusals.{first_of}
 use Rattle.newt_graph.specs.Graph.{RawGraph}
 use Rattle.newt_path.specs.declared.fault.SetFault.{SetFault}
-use Rattle.newt_host.specs.Moments.{Moment, Always}
 use Rattle.newt_host.proofs.Outside.{NoFault-append, OnDevices-append}
 use Rattle.newt_spec_world.specs.World.{World, store_on_unit, change_store}
 use Rattle.newt_store_change.specs.Faults.{Does}
