@@ -20,7 +20,7 @@ use Rattle.newt_spec_world.specs.World.{World, store_on_unit, change_store}
 use Rattle.newt_spec_world.specs.Answer.{answer}
 use Rattle.newt_laws_answers.proofs.Tests.{replace_tests, replaced}
 use Rattle.newt_laws_answers.specs.There.{OnUnit}
-use Rattle.newt_laws_answers.proofs.Replaces.{change-done, change-refused, set-done, set-refused, set-no-path, set-past-limits, set-not-found}
+use Rattle.newt_laws_answers.proofs.Replaces.{set-done, set-refused, set-no-path, set-past-limits, set-not-found}
 use Rattle.newt_laws_answers.proofs.Entries.{no-entry}
 use Rattle.newt_store_change.specs.declared.fault.StoreFault.{StoreFault}
 use Rattle.newt_store_change.specs.declared.fault.StoreFault.TheVariants.{Refused, Stop}
@@ -42,20 +42,6 @@ module _ (w v : World) (u blocks : ℕ) (s : Store) (on : OnUnit w u blocks s) (
 
   own-world : (g : RawGraph) → ◌≡◌ {A = World × Reply} (change_store w u (replaced w.minute name uid g), Reply.done) (change_store w u (replaced w.minute p.name uid g), Reply.done)
   own-world g = ap {B = World × Reply} (λ m. (change_store w u (replaced w.minute m uid g), Reply.done)) (sym is)
-
-  -- ---- change
-
-  module _ (g : RawGraph) where
-    change-is : first_of (replace_tests blocks w.minute p.name uid g s) ≡ None → answer w (command.Change u name uid g) ≡ (change_store w u (replaced w.minute p.name uid g), Reply.done)
-    change-is k = change-done w u blocks s name p uid on named e found g (own-tests g ∙ k) none ∙ own-world g
-
-    pub change-answers : (result : Result (Unit {0}) StoreFault) → Does (replace_tests blocks w.minute p.name uid g s) (λ _. ⊤) w (change_store w u (replaced w.minute p.name uid g)) v result
-        → Answers w v (command.Change u name uid g) (λ _. Reply.done) result
-    change-answers result d = does-answers w v (change_store w u (replaced w.minute p.name uid g)) (command.Change u name uid g) (λ _. Reply.done) (replace_tests blocks w.minute p.name uid g s) (λ _. ⊤)
-        (λ k n good. change-is k) (λ r k. change-refused w u blocks s name p uid on named e found g r (own-tests g ∙ k)) result d
-
-    pub change-makes : first_of (replace_tests blocks w.minute p.name uid g s) ≡ None → store_on_unit (answer w (command.Change u name uid g)).0 u ≡ Some (replaced w.minute p.name uid g s)
-    change-makes k = makes w u blocks s (replaced w.minute p.name uid g) (answer w (command.Change u name uid g)) Reply.done on (change-is k)
 
   -- ---- set
 
