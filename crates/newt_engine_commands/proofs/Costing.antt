@@ -38,13 +38,16 @@ use Rattle.newt_engine_commands.proofs.Said.{Spent}
 
 -- ---- what is fetched
 
-half : (a b : ℕ) → a ≤ b → 512 * a ≤ 1024 * b
+pub half : (a b : ℕ) → a ≤ b → 512 * a ≤ 1024 * b
 half a b h = omega (arith, h)
 
-twice : (a b : ℕ) → a ≤ b → 512 * a + 512 * a ≤ 1024 * b
+pub half-more : (a b : ℕ) → a ≤ b → 512 * 0 + 512 * a ≤ 1024 * b
+half-more a b h = omega (arith, h)
+
+pub twice : (a b : ℕ) → a ≤ b → 512 * a + 512 * a ≤ 1024 * b
 twice a b h = omega (arith, h)
 
-thrice : (a b : ℕ) → a ≤ b → 512 * a + (512 * 0 + 512 * a) ≤ 1024 * b
+pub thrice : (a b : ℕ) → a ≤ b → 512 * a + (512 * 0 + 512 * a) ≤ 1024 * b
 thrice a b h = omega (arith, h)
 
 -- the pages of an entry of a soup that is there
@@ -54,13 +57,13 @@ its_pages {sig = sig} h uid = pages_of_entry (entry_at sig uid h.store)
 its-pages : {w : World} {u : ℕ} {name : List ℕ} {sig : ℕ} (h : HasSoup w u name sig) (uid : ℕ) → its_pages h uid ≡ pages_of_entry (entry_in w u name uid)
 its-pages {w} {u} {name} {sig} h uid = ap pages_of_entry (ap (option_and_then (entry_of uid)) h.by_sig ∙ sym (entry-named w u h.blocks h.store name h.soup uid h.on h.named))
 
-named-low : {w : World} {u : ℕ} {name : List ℕ} {sig : ℕ} (h : HasSoup w u name sig) (uid : ℕ) → its_pages h uid ≤ pages_there w u (if_on u u name uid)
+pub named-low : {w : World} {u : ℕ} {name : List ℕ} {sig : ℕ} (h : HasSoup w u name sig) (uid : ℕ) → its_pages h uid ≤ pages_there w u (if_on u u name uid)
 named-low {w} {u} {name} h uid = low _ _ _ (its-pages h uid) (named-pages w u name uid)
   where
     low : (a b c : ℕ) → a ≡ b → c ≡ b → a ≤ c
     low a b c h k = omega (arith, h, k)
 
-first-low : {w : World} {u : ℕ} {name : List ℕ} {sig : ℕ} (h : HasSoup w u name sig) (uid : ℕ) (more : List (List ℕ × ℕ)) → its_pages h uid ≤ pages_there w u (if_on u u name uid ++ more)
+pub first-low : {w : World} {u : ℕ} {name : List ℕ} {sig : ℕ} (h : HasSoup w u name sig) (uid : ℕ) (more : List (List ℕ × ℕ)) → its_pages h uid ≤ pages_there w u (if_on u u name uid ++ more)
 first-low {w} {u} {name} h uid more = low _ _ _ (its-pages h uid) (first-pages w u name uid more)
   where
     low : (a b c : ℕ) → a ≡ b → b ≤ c → a ≤ c

@@ -163,6 +163,12 @@ pub entry-found : (w : World) (u : ℕ) (name : List ℕ) (uid blocks : ℕ) (s 
 entry-found w u name uid blocks s p e go h f here =
     soup-found w u name blocks s p (λ p. needs NoEntry (entry_of uid p) (go p)) h f ∙ ap (λ o. needs NoEntry o (go p)) here
 
+pub both-found : (w : World) (u : ℕ) (name : List ℕ) (blocks : ℕ) (s : Store) (p : Soup) (v : ℕ) (target : List ℕ) (other : ℕ) (t : Store) (q : Soup) (go : Soup → Soup → Resolved)
+    → OnUnit w u blocks s → soup_named name s ≡ Some p → OnUnit w v other t → soup_named target t ≡ Some q → in_both w u name v target go ≡ go p q
+both-found w u name blocks s p v target other t q go h f k g =
+    (λ i. both NoUnit (h.device_is i) (k.device_is i) (λ a b. both Notmounted (store_if_mounted a) (store_if_mounted b) (λ s t. both NoSoup (soup_named name s) (soup_named target t) go)))
+    ∙ (λ i. both NoSoup (f i) (g i) go)
+
 pub passes : (r : Refusal) (b : Bool) (go : Resolved) → b ≡ false → passing (r, b) go ≡ go
 passes r b go e = ap (λ x. passing (r, x) go) e
 
