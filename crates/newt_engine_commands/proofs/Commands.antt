@@ -1,23 +1,22 @@
 -- Commands are answered by what the cards do.
-use Rattle.std.proofs.Common.{◌≡◌, refl, ap, sym, ◌∙◌, subst, ℕ, List, true, Option, Some, None, replicate, option_and_then, ◌==◌}
+use Rattle.std.proofs.Common.{◌≡◌, ap, sym, ◌∙◌, subst, ℕ, List, true, Option, Some, None, replicate, option_and_then, ◌==◌}
 use Rattle.std.specs.Prelude.{Result, Ok, Err}
-use Rattle.newt_base.specs.Refusals.{Checks, first_of}
+use Rattle.newt_base.specs.Refusals.{first_of}
 use Rattle.newt_base.specs.declared.Refusal.{Refusal}
 use Rattle.newt_graph.specs.Graph.{RawGraph}
-use Rattle.newt_spec_store.specs.Store.{Store, Soup, Entry, soup_named, entry_of, change_soup, add_entry, soup_of, entry_at}
+use Rattle.newt_spec_store.specs.Store.{Store, Soup, Entry, soup_named, entry_of, soup_of, entry_at}
 use Rattle.newt_spec_world.specs.declared.command.Command.{Command}
 use Rattle.newt_spec_world.specs.declared.command.Command.TheVariants as command
 use Rattle.newt_spec_world.specs.Reply.{Reply}
-use Rattle.newt_spec_world.specs.World.{World, store_on_unit}
+use Rattle.newt_spec_world.specs.World.{World}
 use Rattle.newt_spec_world.specs.Answer.{answer}
 use Rattle.newt_laws_answers.specs.Tests.{entry_checks}
-use Rattle.newt_laws_answers.proofs.Tests.{add_tests, room_tests, with_added}
 use Rattle.newt_laws_answers.specs.There.{OnUnit}
 use Rattle.newt_base.specs.Names.{equal_text}
 use Rattle.newt_spec_store.specs.Valid.{well_formed, valid_entry, valid_soup}
 use Rattle.newt_laws_images.proofs.Stores.{is-store, is-soup}
 use Rattle.newt_laws_world.proofs.Soups.{found-good}
-use Rattle.newt_laws_answers.proofs.Copies.{graph-passes, copy-done, copy-refused, copy-no-entry}
+use Rattle.newt_laws_answers.proofs.Copies.{copy-no-entry}
 use Rattle.newt_laws_answers.proofs.Entries.{no-entry, get-done, getx-done, get-refused, getx-refused, alias-done}
 use Rattle.newt_store_change.specs.declared.fault.StoreFault.{StoreFault}
 use Rattle.newt_store_change.specs.declared.fault.StoreFault.TheVariants.{Refused, Stop}
@@ -25,8 +24,6 @@ use Rattle.newt_base.specs.declared.Refusal.TheVariants.{Entry as NoEntry}
 use Rattle.newt_store_change.specs.declared.entry.Entry.{Entry as Shown}
 use Rattle.newt_engine_units.specs.Answers.{Answers}
 use Rattle.newt_store_change.specs.Entries.{ReadsEntry, entry_said}
-use Rattle.newt_store_change.specs.Faults.{Does}
-use Rattle.newt_engine_units.proofs.Answering.{does-answers, makes}
 
 -- ---- an entry that is read
 
@@ -58,11 +55,6 @@ pub read-found : (sig uid : ℕ) (s : Store) (p : Soup) (x : Shown) (g : RawGrap
     → entry_of uid p ≡ Some (record { uid = x.uid; time = x.time; graph = g })
 read-found sig uid s p x g is by h = sym (h ∙ ap (option_and_then (entry_of uid)) by) ∙ ap {A = RawGraph} {B = Option Entry} (λ y. Some (record { uid = x.uid; time = x.time; graph = y })) (sym is)
 
-pub does-tests : {T A : Type 0} (xs ys : Checks) (good : T → Type 0) (a b now : A) → first_of xs ≡ first_of ys → (result : Result T StoreFault) → Does xs good a b now result → Does ys good a b now result
-does-tests xs ys good a b now same (Ok x) d = (sym same ∙ d.0, d.1, d.2)
-does-tests xs ys good a b now same (Err (Refused r)) d = (sym same ∙ d.0, d.1)
-does-tests xs ys good a b now same (Err (Stop stop)) d = tt
-
 module _ (w v : World) (u blocks : ℕ) (s : Store) (name : List ℕ) (p : Soup) (uid : ℕ) (on : OnUnit w u blocks s) (named : soup_named name s ≡ Some p) (none : w.cursors ≡ replicate 32 None)
     (to other : ℕ) (t : Store) (target : List ℕ) (q : Soup) (there : OnUnit w to other t) (into : soup_named target t ≡ Some q) (is : q.name ≡ target) where
   -- it is not there
@@ -73,23 +65,6 @@ module _ (w v : World) (u blocks : ℕ) (s : Store) (name : List ℕ) (p : Soup)
       go : (fault : StoreFault) → ReadsEntry (entry_of uid p) (Err fault) → Answers w v (command.Copy u name uid to target) reply (Err fault)
       go (Refused r) h = copy-no-entry w u blocks s name p uid on named to other t target q there into h.0 ∙ ap {B = World × Reply} (λ q. (w, Reply.refused q)) (sym h.1) ∙ ap {B = World × Reply} (λ x. (x, Reply.refused r)) (sym same)
       go (Stop stop) h = tt
-
-  module _ (e : Entry) (found : entry_of uid p ≡ Some e) (ok : valid_entry e ≡ true) where
-    copy-tests : first_of (add_tests other w.minute q.name e.graph t q) ≡ first_of (room_tests other w.minute target e.graph t q)
-    copy-tests = ap (λ m. first_of (add_tests other w.minute m e.graph t q)) is ∙ graph-passes other w.minute target e t q ok
-
-    copy-is : first_of (room_tests other w.minute target e.graph t q) ≡ None → (n : ℕ) → n ≡ q.next_uid → answer w (command.Copy u name uid to target) ≡ (with_added w to q.name e.graph, Reply.number n)
-    copy-is k n good = copy-done w u blocks s name p uid on named to other t target q there into e found k none
-        ∙ ap {B = World × Reply} (λ m. (with_added w to m e.graph, Reply.number q.next_uid)) (sym is) ∙ ap {B = World × Reply} (λ m. (with_added w to q.name e.graph, Reply.number m)) (sym good)
-
-    pub copy-answers : (result : Result ℕ StoreFault) → Does (add_tests other w.minute q.name e.graph t q) (λ n. n ≡ q.next_uid) w (with_added w to q.name e.graph) v result
-        → Answers w v (command.Copy u name uid to target) (λ n. Reply.number n) result
-    copy-answers result d = does-answers w v (with_added w to q.name e.graph) (command.Copy u name uid to target) (λ n. Reply.number n) (room_tests other w.minute target e.graph t q) (λ n. n ≡ q.next_uid) copy-is
-        (λ r k. copy-refused w u blocks s name p uid on named to other t target q there into e found r k) result
-        (does-tests (add_tests other w.minute q.name e.graph t q) (room_tests other w.minute target e.graph t q) (λ n. n ≡ q.next_uid) w (with_added w to q.name e.graph) v copy-tests result d)
-
-    pub copy-makes : first_of (add_tests other w.minute q.name e.graph t q) ≡ None → store_on_unit (answer w (command.Copy u name uid to target)).0 to ≡ Some (change_soup q.name (add_entry w.minute e.graph) t)
-    copy-makes k = makes w to other t (change_soup q.name (add_entry w.minute e.graph)) (answer w (command.Copy u name uid to target)) (Reply.number q.next_uid) there (copy-is (sym copy-tests ∙ k) q.next_uid refl)
 
 -- ---- aliases
 

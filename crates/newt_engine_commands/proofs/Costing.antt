@@ -1,38 +1,31 @@
 -- What the commands cost, by what the calls on one store cost that they are done by.
-use Rattle.std.proofs.Common.{arith, ◌≡◌, refl, ap, sym, ◌∙◌, subst, ◌⊎◌, inl, inr, ℕ, ◌+◌, ◌*◌, ◌≤◌, ◌==◌, List, [], ◌∷◌, ◌++◌, Bool, true, false, cond, None, Some, length, option_and_then}
+use Rattle.std.proofs.Common.{arith, ◌≡◌, refl, ap, sym, ◌∙◌, subst, ◌⊎◌, inl, inr, ℕ, ◌+◌, ◌*◌, ◌≤◌, ◌==◌, List, [], ◌∷◌, ◌++◌, Bool, true, false, cond, None, Some, option_and_then}
 use Rattle.std.specs.Prelude.{Result}
 use Rattle.newt_base.specs.Refusals.{first_of}
 use Rattle.newt_graph.specs.Graph.{RawGraph}
 use Rattle.newt_host.specs.Moments.{bytes_after, changes, image}
 use Rattle.newt_host.specs.Outside.{Outside}
 use Rattle.newt_pagebook.specs.Book.{IsOpenFor}
-use Rattle.newt_laws_images.proofs.Within.{graph-within}
-use Rattle.newt_path.specs.Put.{IsFormOf}
-use Rattle.newt_spec_graph.specs.Slots.{put}
-use Rattle.newt_spec_store.specs.Keys.{Path}
-use Rattle.newt_spec_store.specs.Store.{Store, Soup, Entry, entry_at, entry_of, change_soup, add_entry, remove_entry, with_graph}
+use Rattle.newt_spec_store.specs.Store.{Store, Soup, Entry, entry_at, entry_of, change_soup, add_entry, remove_entry}
 use Rattle.newt_spec_store.specs.Valid.{valid_entry}
 use Rattle.newt_spec_world.specs.declared.command.Command.{Command}
 use Rattle.newt_spec_world.specs.declared.command.Command.TheVariants as command
-use Rattle.newt_spec_graph.specs.Larges.{large_at}
 use Rattle.newt_spec_world.specs.World.{World, entry_in}
-use Rattle.newt_spec_store.specs.Cost.{patch_bytes}
 use Rattle.newt_laws_world.proofs.Units.{same-or-not}
 use Rattle.newt_laws_answers.specs.Bounds.{change_bytes, unless, most_programmed}
-use Rattle.newt_laws_answers.specs.Fetched.{if_on, means_entries, most_fetched, next_if_on, pages_there}
+use Rattle.newt_laws_answers.specs.Fetched.{if_on, most_fetched, next_if_on, pages_there}
 use Rattle.newt_laws_answers.proofs.Answers.{entry-named}
 use Rattle.newt_laws_answers.proofs.Fetched.{first-pages, named-pages}
-use Rattle.newt_laws_answers.proofs.Tests.{add_tests, replace_tests, replaced, patch_tests, move_tests, moved_within}
-use Rattle.newt_laws_answers.proofs.Most.{set-most, vwrite-most, copy-most, move-to-most, move-from-most, within-most}
+use Rattle.newt_laws_answers.proofs.Tests.{add_tests, move_tests, moved_within}
+use Rattle.newt_laws_answers.proofs.Most.{move-to-most, move-from-most, within-most}
 use Rattle.newt_store_change.specs.declared.fault.StoreFault.{StoreFault}
 use Rattle.newt_engine_card.specs.Bounds.{Costs, CostsOn, FetchesAtMost, FetchesOn, FetchesWithin, LeftAlone, of_unit}
 use Rattle.newt_store_change.specs.Change.{pages_of_entry}
 use Rattle.newt_store_change.specs.Faults.{GoesOn}
 use Rattle.newt_engine_units.specs.Calls.{CostsOf}
 use Rattle.newt_engine_units.specs.Found.{HasSoup, HasEntry}
-use Rattle.newt_engine_units.proofs.Costs.{after-read, behind-read, both-costs, none-fits, on-costs, on-few, on-within, read-few, same-fits}
+use Rattle.newt_engine_units.proofs.Costs.{after-read, behind-read, both-costs, none-fits, on-costs, on-few, on-within, read-few}
 use Rattle.newt_engine_commands.proofs.Commands.{entry-fits}
-use Rattle.newt_engine_commands.proofs.Replacing.{raw-of}
 use Rattle.newt_engine_commands.proofs.Moves.{move-named, inside-named}
 use Rattle.newt_engine_commands.proofs.Said.{Spent}
 
@@ -82,21 +75,9 @@ copy-few {w} {u} {name} h uid to target o p reads =
 
 -- ---- by the name that a soup has
 
-named-most : {w : World} {v n : ℕ} (u : ℕ) {name : List ℕ} {sig : ℕ} (h : HasSoup w v name sig) (c : List ℕ → Command) → n ≤ most_programmed w (c h.soup.name) u → n ≤ most_programmed w (c name) u
-named-most {w} {n = n} u h c low = subst (λ m. n ≤ most_programmed w (c m) u) h.name_is low
-
-named-costs : {T : Type 0} {w : World} {u v n : ℕ} {name : List ℕ} {sig : ℕ} {result : Result T StoreFault} {o p : Outside} (h : HasSoup w v name sig) (c : List ℕ → Command)
-    → CostsOn u n result o p → n ≤ most_programmed w (c h.soup.name) u → (means_entries (c name) ≡ true → FetchesWithin (most_programmed w (c name)) (most_fetched w (c name)) o p)
-    → CostsOf w (c name) result o p
-named-costs {u = u} h c costs low few = on-costs costs (named-most u h c low) few
-
 -- the bytes of an entry that is added, in a world
 abbrev pub added_bytes : ℕ → RawGraph → Store → Soup → World → ℕ
 added_bytes blocks g s p w = unless (add_tests blocks w.minute p.name g s p) (change_bytes true s (change_soup p.name (add_entry w.minute g) s) (record { uid = p.next_uid; time = w.minute; graph = g } ∷ []) [])
-
--- the bytes of an entry of which the graph is replaced, in a world
-abbrev pub replaced_bytes : ℕ → RawGraph → Store → Soup → Entry → ℕ → World → ℕ
-replaced_bytes blocks g s p e uid w = unless (replace_tests blocks w.minute p.name uid g s) (change_bytes false s (replaced w.minute p.name uid g s) (with_graph w.minute g e ∷ []) (e ∷ []))
 
 -- the bytes of an entry that is removed
 abbrev pub removed_bytes : Store → Soup → Entry → ℕ → ℕ
@@ -109,7 +90,6 @@ fits {name = name} h uid e found = entry-fits h.store name h.soup uid e h.formed
 -- ---- one change of one store
 
 module _ {w : World} {u : ℕ} {name : List ℕ} {sig uid : ℕ} (x : HasEntry w u name sig uid) {T : Type 0} {result : Result T StoreFault} {o p : Outside} where
-
   -- within one store
   pub inside-costs : {target : List ℕ} {into : ℕ} (k : HasSoup w u target into)
       → Spent u (unless (move_tests x.of.blocks w.minute x.of.soup.name uid k.soup.name x.entry.graph x.of.store k.soup)
@@ -147,36 +127,6 @@ module _ {w : World} {u : ℕ} {name : List ℕ} {sig : ℕ} (h : HasSoup w u na
   -- what the second call costs, the two cost in the world before
   pub before : {v : ℕ} (n : World → ℕ) → CostsOn v (n x) result p q → CostsOn v (n w) result o q
   before {v} n k = after-read seen.alone (subst (λ (y : World). CostsOn v (n y) result p q) same k)
-
-  pub set-costs : (path : Path) (g new : RawGraph) → IsFormOf (put e.graph path g) new → Spent u (replaced_bytes h.blocks new h.store h.soup e uid x) 0 result p q
-      → CostsOf w (command.Set u name uid path g) result o q
-  set-costs path g new form k = named-costs h (λ m. command.Set u m uid path g) (before (replaced_bytes h.blocks new h.store h.soup e uid) k.programs) low
-      (λ means. after-seen h uid x same seen (replaced_bytes h.blocks new h.store h.soup e uid) (command.Set u name uid path g) k.reads (named-most u h (λ m. command.Set u m uid path g) low)
-      (none-fits u (512 * its_pages h uid) u (most_fetched w (command.Set u name uid path g)) (half _ _ (named-low h uid))))
-    where
-      low : replaced_bytes h.blocks new h.store h.soup e uid w ≤ most_programmed w (command.Set u h.soup.name uid path g) u
-      low = let r = raw-of new (put e.graph path g) form in
-          set-most w u h.blocks h.store h.soup.name h.soup uid h.on h.self_named e found path g r.0 r.1 new r.2 (graph-within new r.3) (fits h uid e found)
-
-  pub vwrite-costs : (path : Path) (at node : ℕ) → large_at e.graph path ≡ Some node → (bytes : List ℕ)
-      → Spent u (unless (patch_tests node at (length bytes) e) (patch_bytes (length bytes))) (512 * 0 + 512 * its_pages h uid) result p q
-      → CostsOf w (command.Vwrite u name uid path at bytes) result o q
-  vwrite-costs path at node reach bytes k = named-costs h (λ m. command.Vwrite u m uid path at bytes) (after-read seen.alone k.programs) low
-      (λ means. after-seen h uid x same seen (λ _. unless (patch_tests node at (length bytes) e) (patch_bytes (length bytes))) (command.Vwrite u name uid path at bytes) k.reads
-      (named-most u h (λ m. command.Vwrite u m uid path at bytes) low)
-      (same-fits u (512 * its_pages h uid) (512 * 0 + 512 * its_pages h uid) (most_fetched w (command.Vwrite u name uid path at bytes)) (thrice _ _ (named-low h uid))))
-    where
-      low : unless (patch_tests node at (length bytes) e) (patch_bytes (length bytes)) ≤ most_programmed w (command.Vwrite u h.soup.name uid path at bytes) u
-      low = vwrite-most w u h.blocks h.store h.soup.name h.soup uid h.on h.self_named e found path at node reach bytes
-
-  module _ {to : ℕ} {target : List ℕ} {into : ℕ} (k : HasSoup w to target into) where
-    pub copy-costs : Spent to (added_bytes k.blocks e.graph k.store k.soup x) 0 result p q → CostsOf w (command.Copy u name uid to target) result o q
-    copy-costs spent = named-costs k (λ m. command.Copy u name uid to m) (before (added_bytes k.blocks e.graph k.store k.soup) spent.programs) low
-        (λ means. after-seen h uid x same seen (added_bytes k.blocks e.graph k.store k.soup) (command.Copy u name uid to target) spent.reads (named-most to k (λ m. command.Copy u name uid to m) low)
-        (none-fits u (512 * its_pages h uid) to (most_fetched w (command.Copy u name uid to target)) (half _ _ (first-low h uid (next_if_on w to u target)))))
-      where
-        low : added_bytes k.blocks e.graph k.store k.soup w ≤ most_programmed w (command.Copy u name uid to k.soup.name) to
-        low = copy-most w u h.blocks h.store name h.soup uid h.on h.named to k.blocks k.store k.soup.name k.soup k.on k.self_named e found (fits h uid e found)
 
 -- a call on one unit that fetches nothing, behind others that left the unit alone
 removed_few : (most : ℕ → ℕ) {u n : ℕ} (o m r : Outside) → FetchesOn u n 0 m r → n ≤ most u → changes u m.now ≡ changes u o.now → (j : ℕ) → IsOpenFor (most j) (image j o.now) → r.fetched j ≤ m.fetched j

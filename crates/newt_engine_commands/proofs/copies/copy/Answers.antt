@@ -1,31 +1,19 @@
 -- Both soups are looked up, the entry is read, and its graph is added.
 use Rattle.std.proofs.Common.{Some, refl, subst, sym, ◌∙◌, ◌≡◌}
-use Rattle.std.proofs.lemmas.Bool.{eq-eqb}
 use Rattle.newt_engine_units.specs.Looks.{known_both}
 use Rattle.std.proofs.lemmas.Result.{err_from_is_err_and}
 use Rattle.newt_engine_units.specs.Stands.{Stands, world_of}
 use Rattle.newt_spec_world.specs.Reply.{Reply}
 use Rattle.newt_spec_world.specs.declared.command.Command.TheVariants as command
-use Rattle.std.specs.Prelude.{Err, None, Ok}
+use Rattle.std.specs.Prelude.{Err}
 use Rattle.std.specs.Option.{option_and_then}
 use Rattle.newt_spec_store.specs.Store.{Entry, entry_of}
 use Rattle.newt_store_change.specs.Entries.{ReadsEntry}
-use Rattle.newt_base.specs.Refusals.{first_of}
-use Rattle.newt_host.proofs.Outside.{NoFault-append, OnDevices-append}
-use Rattle.newt_spec_store.specs.Store.{change_soup, add_entry}
-use Rattle.newt_spec_world.specs.World.{World, store_on_unit}
-use Rattle.newt_store_change.specs.Faults.{Does}
-use Rattle.newt_spec_world.specs.Answer.{answer}
-use Rattle.newt_laws_answers.proofs.Tests.{add_tests, with_added}
-use Rattle.newt_laws_answers.specs.There.{OnUnit}
-use Rattle.newt_laws_answers.proofs.Changes.{add-said}
 use Rattle.newt_laws_answers.proofs.Copies.{copy-not-found}
 use Rattle.newt_laws_answers.proofs.Refusals.{added-uid}
-use Rattle.newt_engine_commands.proofs.Commands.{copy-missing, copy-answers, copy-makes, read-found, entry-fits}
-use Rattle.newt_engine_commands.proofs.Costing.{copy-costs, copy-few}
-use Rattle.newt_engine_units.proofs.Keeping.{change-keeps, keeps-append, read-keeps}
-use Rattle.newt_engine_units.proofs.Obeying.{cause-after, handed-ends, none-refused, read-obeys, refused-obeys}
-use Rattle.newt_engine_commands.proofs.Said.{said-made, said-moments, said-costs, behind-breaks, behind-moments, behind-untorn, unrefused}
+use Rattle.newt_engine_commands.proofs.Commands.{copy-missing, read-found}
+use Rattle.newt_engine_commands.proofs.Costing.{copy-few}
+use Rattle.newt_engine_units.proofs.Obeying.{handed-ends, none-refused, read-obeys, refused-obeys}
 use Rattle.newt_engine_units.proofs.Settings.{Setting, is-err, both-refused, has-soup}
 use Rattle.newt_laws_answers.proofs.Adds.{uid-is}
 use Rattle.newt_base.specs.declared.Refusal.TheVariants.{Entry as NoEntry}
@@ -34,7 +22,7 @@ use Rattle.newt_engine_commands.proofs.Costing.{its_pages, first-low, half}
 use Rattle.newt_engine_units.proofs.Costs.{none-fits}
 use Rattle.newt_engine_commands.proofs.Effects.{behind-obeys, known-formed, none-low, soup-resolves}
 use Rattle.newt_laws_effects.proofs.Found.{both-found}
-use Rattle.newt_laws_effects.specs.Effects.{effects, Resolved, needs, one as only}
+use Rattle.newt_laws_effects.specs.Effects.{effects, needs, one as only}
 use Rattle.newt_laws_effects.specs.Tells.{is_of_stores}
 use Rattle.newt_store_change.specs.declared.change.Change.TheVariants as change
 use Rattle.newt_spec_world.specs.Answer.{fields}

@@ -1,31 +1,20 @@
 -- The soup is looked up, the entry is read, its large binary is found, and its card puts the bytes over it.
-use Rattle.std.proofs.Common.{Some, length, refl, subst, sym, ◌≡◌}
-use Rattle.std.proofs.lemmas.Bool.{eq-eqb}
+use Rattle.std.proofs.Common.{Some, refl, subst, sym, ◌≡◌}
 use Rattle.newt_engine_units.specs.Looks.{known_checks}
 use Rattle.std.proofs.lemmas.Result.{err_from_is_err_and}
 use Rattle.newt_engine_units.specs.Stands.{Stands, world_of}
 use Rattle.newt_spec_world.specs.Reply.{Reply}
 use Rattle.newt_spec_world.specs.declared.command.Command.TheVariants as command
-use Rattle.std.specs.Prelude.{Err, Ok}
+use Rattle.std.specs.Prelude.{Err}
 use Rattle.std.specs.Option.{option_and_then}
 use Rattle.newt_spec_store.specs.Store.{Entry, entry_of}
 use Rattle.newt_store_change.specs.Entries.{ReadsEntry}
-use Rattle.std.specs.Bool.{⊤}
-use Rattle.newt_host.proofs.Outside.{NoFault-append, OnDevices-append}
-use Rattle.newt_spec_world.specs.World.{World, change_store}
-use Rattle.newt_store_change.specs.Faults.{Does}
-use Rattle.newt_spec_world.specs.Answer.{answer}
-use Rattle.newt_laws_answers.proofs.Tests.{patch_tests, patched_within}
-use Rattle.newt_laws_answers.specs.There.{OnUnit}
-use Rattle.newt_laws_answers.proofs.Changes.{patch-said}
 use Rattle.newt_laws_answers.proofs.Entries.{no-soup}
 use Rattle.newt_laws_answers.proofs.Larges.{vwrite-not-found}
-use Rattle.newt_engine_commands.proofs.Binaries.{missing, reached, vwrite-answers, vwrite-makes, vwrite-nowhere}
+use Rattle.newt_engine_commands.proofs.Binaries.{missing, vwrite-nowhere}
 use Rattle.newt_engine_commands.proofs.Commands.{read-found}
-use Rattle.newt_engine_commands.proofs.Costing.{vwrite-costs, get-few}
-use Rattle.newt_engine_units.proofs.Keeping.{change-keeps, keeps-append, read-keeps}
-use Rattle.newt_engine_units.proofs.Obeying.{cause-after, ends-after, handed-ends, none-ends, none-refused, read-obeys, refused-obeys}
-use Rattle.newt_engine_commands.proofs.Said.{said-done, said-moments, said-costs, done-goes, done-cause, done-costs, behind-breaks, behind-moments, behind-untorn, unrefused}
+use Rattle.newt_engine_commands.proofs.Costing.{get-few}
+use Rattle.newt_engine_units.proofs.Obeying.{ends-after, handed-ends, none-ends, none-refused, read-obeys, refused-obeys}
 use Rattle.newt_engine_units.proofs.Settings.{Setting, is-err, soup-refused, has-soup}
 use Rattle.newt_base.specs.declared.Refusal.TheVariants.{Path as NoPath}
 use Rattle.newt_laws_answers.specs.Fetched.{most_fetched}

@@ -102,7 +102,7 @@ returns g c =
     let r = raw-of new (put x.graph path value) c.in_ok-made.ensures.form in
     let made = only u (change.Replace h.soup.sig uid (graph_after_set path value x.graph)) in
     let within : on_some (put x.graph path value) (λ h. not (is_within (normal_form h))) ≡ false =
-        ap (λ o. on_some o (λ h. not (is_within (normal_form h)))) r.1 ∙ ap (λ o. not (is_within o)) r.2 ∙ ap not (graph-within new r.3) in
+    ap (λ o. on_some o (λ h. not (is_within (normal_form h)))) r.1 ∙ ap (λ o. not (is_within o)) r.2 ∙ ap not (graph-within new r.3) in
     record {
       resolves = soup-resolves h (λ sig. change.Replace sig uid new) (known-formed at t)
           (entry-found w u name uid h.blocks h.store h.soup x (λ p e. passing (NoPath, is_none (put e.graph path value)) (passing (Limit, on_some (put e.graph path value) (λ h. not (is_within (normal_form h))))
