@@ -54,7 +54,8 @@ or_else (Some x) o = Some x
 abbrev pub device_of : List Card → List Device → List ℕ → Option (List ℕ)
 device_of cards shelf name = or_else (attached_device name cards) (free_device name shelf)
 
--- what has happened to a unit is what it holds: without a device nothing, and with one a history of its bytes
+-- what has happened to a unit is what it holds: nothing without a device, and a history of its
+-- bytes with one
 abbrev pub StandsAs : Bool → Card → List Change → Type 0
 StandsAs true c done = (bytes_after done ≡ c.held.items) × IsHistory (length c.first.items) done
 StandsAs false c done = (length done ≡ 0) × (length c.first.items ≡ 0)

@@ -17,7 +17,8 @@ abbrev pub call_at : ℕ → List Happened → Option Happened
 call_at call [] = None
 call_at call (h ∷ log) = if nat_lt call (counts h) then Some h else call_at (call - counts h) log
 
--- A crash within a call comes at its end; within a sync it comes at the beginning, while its unit's ranges are pending.
+-- A crash within a call comes at its end. Within a sync it comes at the beginning, while its unit's
+-- ranges are pending.
 abbrev pub torn : Option Happened → List Happened
 torn None = []
 torn (Some (Attach u bytes)) = []
