@@ -8,11 +8,12 @@ use Rattle.newt_index.specs.Pairs.{Pair, parts_of}
 use Rattle.newt_index.specs.Pairs as pairs
 use Rattle.newt_union.specs.Merged.{Member, hit}
 
--- how the store and the soup of a hit stand to those of a member (a word of these definitions)
+-- how the store and the soup of a hit compare to those of a member (a word of these definitions)
 abbrev pub side : Hit → Member → Ordering
 side h m = ordering_then (nat_cmp h.store m.store) (nat_cmp h.soup m.soup)
 
--- a member's least pair after a hit: where keys tie, the stores and soups decide, and then the ids (this project's own)
+-- a member's least pair after a hit: where keys tie, the stores and soups decide, and then the ids
+-- (this project's own)
 abbrev pub pair_after : Hit → Member → Option Pair
 pair_after h m =
     match_ordering (side h m)
@@ -47,7 +48,8 @@ at_or_after_in key m = option_map (hit m) (pairs.at_or_after (parts_of m.range.s
 
 -- ---- the best
 
--- the lesser of two; the one that is there, where one is; the first, where they tie (a word of these definitions)
+-- the lesser of two; the one that is there, where only one is; the first, where they tie (a word of
+-- these definitions)
 abbrev pub lesser : {X : Type 0} → (X → X → Ordering) → Option X → Option X → Option X
 lesser cmp None b = b
 lesser cmp (Some a) None = Some a
