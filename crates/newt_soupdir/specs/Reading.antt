@@ -1,4 +1,5 @@
--- The rows of a directory, read from the front of bytes as a program reads them: names, symbols and counts are tested as they are met.
+-- The rows of a directory, read from the front of bytes as a program reads them: names, symbols and
+-- counts are tested as they are met.
 use Rattle.std.specs.Prelude.{◌≡◌, ℕ, zero, suc, Bool, ◌&&◌, nat_le, List, length, Option, Some, None, Result, Ok, Err}
 use Rattle.newt_graph.specs.Graph.{RawGraph}
 use Rattle.newt_base.specs.Names.{is_name, same_name, is_identifier}
@@ -33,7 +34,7 @@ Gives view (Err e) read = Fails e read
 abbrev pub passing : {A : Type 0} → (A → Bool) → Take A → Take A
 passing test item bytes = only (λ r. test r.0) (item bytes)
 
--- as many elements as are allowed
+-- there are as many elements as are allowed
 abbrev pub is_count : {A : Type 0} → ℕ → ℕ → List A → Bool
 is_count least most xs = nat_le least (length xs) && nat_le (length xs) most
 
@@ -81,7 +82,7 @@ spec_at = passing (is_count 1 4) (byte_at >>= λ n. times n part_at >>= λ parts
 unfoldable pub specs_at : Take (List IndexSpec)
 specs_at = byte_at >>= λ n. times n spec_at
 
--- symbols, no two of which are one but for the case of letters
+-- symbols, no two of which are alike but for the case of letters
 unfoldable pub tag_symbols_at : Take (List (List ℕ))
 tag_symbols_at = passing (λ symbols. nat_le (length symbols) 64 && all_apart same_name symbols) (byte_at >>= λ n. times n symbol_at)
 
@@ -129,6 +130,7 @@ rows_at = do
   soups ← soups_at
   give (record { name = name; sig = sig; next_soup = next; soups = soups })
 
--- the rows that all of the bytes give, where they are ones of this version and make a well formed store
+-- the rows that all of the bytes give, where they are rows of this version and make a well formed
+-- store
 unfoldable pub directory_at : ℕ → List ℕ → Option Directory
 directory_at version bytes = only (λ d. well_formed (bare_store d)) (only (λ d. keeps_version version (bare_store d)) (whole rows_at bytes))
