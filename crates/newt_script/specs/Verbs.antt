@@ -20,9 +20,9 @@ use Rattle.newt_script.specs.declared.verbs.WatchVerb.TheVariants as watch_verb
 use Rattle.newt_script.specs.declared.verbs.CopyVerb.{CopyVerb}
 use Rattle.newt_script.specs.declared.verbs.CopyVerb.TheVariants as copy_verb
 
--- ---- those whose rows have equal words behind them
+-- ---- the verbs that are followed by the same words
 
--- U behind them
+-- followed by U
 abbrev pub unit_word : UnitVerb → List ℕ
 unit_word unit_verb.Mount = codes "mount"
 unit_word unit_verb.Unmount = codes "unmount"
@@ -35,7 +35,7 @@ unit_command unit_verb.Unmount u = command.Unmount u
 unit_command unit_verb.Default u = command.Default u
 unit_command unit_verb.Soups u = command.Soups u
 
--- U S behind them
+-- followed by U S
 abbrev pub soup_word : SoupVerb → List ℕ
 soup_word soup_verb.Soup = codes "soup"
 soup_word soup_verb.Drop = codes "drop"
@@ -46,7 +46,7 @@ soup_command soup_verb.Soup u s = command.Soup u s
 soup_command soup_verb.Drop u s = command.Drop u s
 soup_command soup_verb.Indexes u s = command.Indexes u s
 
--- U S UID behind them
+-- followed by U S UID
 abbrev pub entry_word : EntryVerb → List ℕ
 entry_word entry_verb.Get = codes "get"
 entry_word entry_verb.Getx = codes "getx"
@@ -61,7 +61,7 @@ entry_command entry_verb.Remove u s uid = command.Remove u s uid
 entry_command entry_verb.Alias u s uid = command.Alias u s uid
 entry_command entry_verb.Open u s uid = command.Open u s uid
 
--- U S UID U S behind them
+-- followed by U S UID U S
 abbrev pub transfer_word : TransferVerb → List ℕ
 transfer_word transfer_verb.Copy = codes "copy"
 transfer_word transfer_verb.Move = codes "move"
@@ -70,7 +70,7 @@ abbrev pub transfer_command : TransferVerb → ℕ → List ℕ → ℕ → ℕ 
 transfer_command transfer_verb.Copy u s uid v q = command.Copy u s uid v q
 transfer_command transfer_verb.Move u s uid v q = command.Move u s uid v q
 
--- C behind them
+-- followed by C
 abbrev pub cursor_word : CursorVerb → List ℕ
 cursor_word cursor_verb.Entry = codes "entry"
 cursor_word cursor_verb.Next = codes "next"
@@ -93,7 +93,7 @@ cursor_command cursor_verb.Which c = command.Which c
 cursor_command cursor_verb.Clone c = command.Clone c
 cursor_command cursor_verb.Close c = command.Close c
 
--- the number of a watch behind them
+-- followed by the number of a watch
 abbrev pub watch_word : WatchVerb → List ℕ
 watch_word watch_verb.Notes = codes "notes"
 watch_word watch_verb.Unwatch = codes "unwatch"
@@ -102,7 +102,7 @@ abbrev pub watch_command : WatchVerb → ℕ → Command
 watch_command watch_verb.Notes n = command.Notes n
 watch_command watch_verb.Unwatch n = command.Unwatch n
 
--- the number of a working copy behind them
+-- followed by the number of a working copy
 abbrev pub copy_word : CopyVerb → List ℕ
 copy_word copy_verb.Draft = codes "draft"
 copy_word copy_verb.Save = codes "save"
@@ -151,8 +151,8 @@ word_of (verb.Cursor v) = cursor_word v
 word_of (verb.OfWatch v) = watch_word v
 word_of (verb.OfCopy v) = copy_word v
 
--- those of the commands that hold a name, a path, a list, a graph or bytes: the rows of all other
--- words take no memory
+-- the words of the commands that hold a name, a path, a list, a graph or bytes; the rows of all
+-- other words take no memory
 abbrev pub memory_words : List (List ℕ)
 memory_words =
     codes "nsof" ∷ codes "lit" ∷ codes "format" ∷ codes "soup" ∷ codes "drop" ∷ codes "query"
