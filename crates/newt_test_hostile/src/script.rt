@@ -1,5 +1,5 @@
-//! The script: every command but those of info frames, watches and working copies, on two units of
-//! 13 blocks.
+//! The script: every command except those of info frames, watches and working copies, on two units
+//! of 13 blocks.
 
 /// How many of the last commands are stopped twice. One of them makes unit 0 go on in its other
 /// bank.
@@ -70,7 +70,7 @@ remove 0 Notes 2 => ok
 quit => ok
 ";
 
-/// What a next run is asked of a unit, which shows all of its store: no soup gives more ids.
+/// What a next run is asked of a unit. It shows all of its store, since no soup gives more ids.
 pub(crate) const LISTING: &[u8] = b"mount 0
 soups 0
 indexes 0 Notes
