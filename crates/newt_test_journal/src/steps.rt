@@ -1,4 +1,4 @@
-// One card in memory, attached as unit 0, and one call on it at a time.
+//! One card in memory, attached as unit 0, and one call on it at a time.
 ghost use Rattle.std.specs.Prelude.{IfOk, IsSome};
 ghost use Rattle.newt_memhost.specs.Outside.{outside_of};
 
