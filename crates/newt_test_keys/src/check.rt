@@ -1,4 +1,4 @@
-//! What a test wants. A call of this costs the proof less than an assertion in its place.
+//! What a test wants. A call of this function costs the proof less than an assertion in its place.
 
 use std::process::Abort;
 
