@@ -38,7 +38,7 @@ has_query_form text = elim (graph_of text) [ Some g ↦ is_query g | None ↦ fa
 abbrev pub queries_among : List (List ℕ) → List (List ℕ)
 queries_among = filter has_query_form
 
--- and those that have not
+-- those of these texts that do not have it
 abbrev pub others_among : List (List ℕ) → List (List ℕ)
 others_among = filter (λ text. not (has_query_form text))
 
