@@ -12,17 +12,17 @@ use newt_top::Status;
 use std::alloc::Global;
 use std::test::Fail;
 
-/// What a unit holds behind each number of first lines of a run that is not stopped, and what a
-/// next run answers over it.
+/// What a unit holds after each number of first lines of a run that is not stopped, and what a next
+/// run answers over it.
 #[derive(Drop)]
 pub struct Looks {
     pub images: Vec<Vec<u8>>,
     pub answers: Vec<Vec<u8>>,
 }
 
-/// How much was compared: the images that a stop may leave, and those of them that are neither just
-/// what the unit holds before or after a command nor the same as the one before, each of which a
-/// next run has mounted.
+/// How much was compared: how many images a stop may leave, and how many of them a next run has
+/// mounted. It has mounted those that are neither just what the unit holds before or after a
+/// command nor the same as the one before.
 #[derive(Clone, Copy)]
 pub struct Counts {
     pub images: u32,
@@ -61,8 +61,8 @@ impl Counts {
     }
 }
 
-/// What a next run answers over a device of these bytes, which it mounts first. That is mounted
-/// exactly where the mode `check` finds nothing damaged.
+/// What a next run answers over a device of these bytes, which it mounts first. The device is
+/// mounted exactly where the mode `check` finds nothing damaged.
 pub fn look(alloc: Global, ask: &[u8], bytes: &[u8]) -> Result<Vec<u8>, Fail> {
     let host = run_over(alloc, "run a", ask, bytes, &[])?;
     if is_clean(alloc, bytes)? != host.output().starts_with(b"ok ") {
@@ -71,7 +71,7 @@ pub fn look(alloc: Global, ask: &[u8], bytes: &[u8]) -> Result<Vec<u8>, Fail> {
     Ok(Vec::from_slice(alloc, host.output())?)
 }
 
-/// Whether a call is the last one before more is read behind a line: it reads on, or ends the run.
+/// Whether a call is the last one before more is read after a line: it reads on, or ends the run.
 fn ends_line(host: &MemHost, script: &[u8], call: u64) -> bool
     requires { call < calls_of host.now }
 {
@@ -94,7 +94,7 @@ fn ends_with(images: &[Vec<u8>], image: &[u8]) -> bool {
     }
 }
 
-/// What a unit holds where a run of a script reads on behind a line, and what a next run answers
+/// What a unit holds where a run of a script reads on after a line, and what a next run answers
 /// over it.
 fn looks_of(
     alloc: Global,
@@ -122,8 +122,8 @@ fn looks_of(
     Ok(Looks { images, answers })
 }
 
-/// The same of a script over the devices `a` and `b` of these bytes. The script is read a byte at a
-/// time, so that a unit is looked at behind all that a line has done.
+/// The same for a script over the devices `a` and `b` of these bytes. The script is read a byte at
+/// a time, so that a unit is looked at after all that a line has done.
 pub fn looks_behind(
     alloc: Global,
     script: &[u8],
@@ -163,7 +163,7 @@ pub fn begun(output: &[u8]) -> usize {
     }
 }
 
-/// Whether this is what stands behind so many lines.
+/// Whether this is what stands after so many lines.
 fn is_at(bytes: &[u8], lines: usize, all: &[Vec<u8>]) -> bool {
     match all.get(lines) {
         Some(one) => bytes == one.as_slice(),
@@ -171,7 +171,7 @@ fn is_at(bytes: &[u8], lines: usize, all: &[Vec<u8>]) -> bool {
     }
 }
 
-/// Of so many lines and one more the first behind which this is what stands.
+/// After how many lines this is what stands: so many, or else one more.
 fn place_of(bytes: &[u8], lines: usize, all: &[Vec<u8>]) -> Option<usize> {
     let next = lines.saturating_add(1);
     if is_at(bytes, lines, all) {
@@ -184,13 +184,13 @@ fn place_of(bytes: &[u8], lines: usize, all: &[Vec<u8>]) -> Option<usize> {
 }
 
 impl Looks {
-    /// Behind how many lines a next run answers what was found: those whose replies have begun, or
+    /// After how many lines a next run answers what was found: those whose replies have begun, or
     /// one more.
     pub fn lines_before(&self, found: &[u8], replies: usize) -> Option<usize> {
         place_of(found, replies, &self.answers)
     }
 
-    /// Whether the unit holds just this behind the lines whose replies have begun, or one more.
+    /// Whether the unit holds just this after the lines whose replies have begun, or one more.
     fn has_image(&self, image: &[u8], replies: usize) -> bool {
         place_of(image, replies, &self.images).is_some()
     }
@@ -208,7 +208,7 @@ impl Looks {
     }
 }
 
-/// What was found is the store before or after the next command; a device whose store is that from
+/// What was found is the store before or after the next command. A device whose store is that from
 /// before the run, or is none as then, is as it was held.
 pub(crate) fn expect_found(
     replies: usize,
@@ -227,7 +227,8 @@ pub(crate) fn expect_found(
 }
 
 /// The same for a crash within each call of a run: an image that is just what the unit holds before
-/// or after the next command, or else what a next run answers over it. Says how much was compared.
+/// or after the next command, or otherwise what a next run answers over it. Answers how much was
+/// compared.
 pub fn expect_safe(
     alloc: Global,
     host: &MemHost,
@@ -277,9 +278,10 @@ fn expect_each_safe(
     Ok(counts)
 }
 
-/// Runs a table over the devices `a` and `b` of 13 blocks of zero bytes. A next run over what a
-/// crash within any of its calls leaves of this unit by each pick, asked these lines, finds the
-/// store before or after the command whose reply is the next to begin. Says how much was compared.
+/// Runs a table over the devices `a` and `b` of 13 blocks of zero bytes. A crash within any of its
+/// calls leaves something of this unit by each pick. A next run over that, asked these lines, finds
+/// the store before or after the command whose reply is the next to begin. Answers how much was
+/// compared.
 pub fn expect_unit_safe(
     alloc: Global,
     table: &str,
@@ -293,7 +295,7 @@ pub fn expect_unit_safe(
     expect_each_safe(alloc, &host, unit, picks, ask, &looks)
 }
 
-/// The same of each of these units.
+/// The same for each of these units.
 pub fn expect_all_safe(
     alloc: Global,
     table: &str,

@@ -39,7 +39,7 @@ fn push_asked(to: &mut Vec<u8>, ask: &[u8], unit: Unit) -> Result<(), AllocError
     Ok(())
 }
 
-/// The rows of a table through the one that has the next reply behind so many.
+/// The rows of a table through the one that has the next reply after so many.
 fn rows_through(alloc: Global, table: &str, replies: usize) -> Result<String, Fail> {
     let mut rows = String::new(alloc);
     let mut left = replies.saturating_add(1);
@@ -110,8 +110,8 @@ struct Failing<'a> {
 }
 
 impl Failing<'_> {
-    /// The output behind the call: what was written before it, so often that the unit is thrown
-    /// out, and some answers.
+    /// The output after the call: what was written before it, then so often that the unit is thrown
+    /// out, then some answers.
     fn output(&self, alloc: Global, times: usize, answers: &[u8]) -> Result<Vec<u8>, AllocError> {
         let mut output = Vec::from_slice(alloc, self.written)?;
         for _ in 0..times {
@@ -121,7 +121,7 @@ impl Failing<'_> {
         Ok(output)
     }
 
-    /// The lines of a table through the one that fails, and these behind it, of its unit.
+    /// The lines of a table through the one that fails, and these after it, of its unit.
     fn script(&self, alloc: Global, table: &str, asks: &[&[u8]]) -> Result<Vec<u8>, Fail> {
         let rows = rows_through(alloc, table, begun(self.written))?;
         let (mut script, _) = lines_of(alloc, rows.as_str())?;
@@ -131,8 +131,8 @@ impl Failing<'_> {
         Ok(script)
     }
 
-    /// A run has written what was written before the call, so often that the unit is thrown out,
-    /// and these answers.
+    /// A run has written what was written before the call, then so often that the unit is thrown
+    /// out, then these answers.
     fn expect_output(
         &self,
         alloc: Global,
@@ -147,21 +147,21 @@ impl Failing<'_> {
         Ok(())
     }
 
-    /// A run went on: each line has its reply, and one alone says that the card was thrown out.
+    /// A run went on: each line has its reply, and only one says that the card was thrown out.
     fn has_gone_on(&self, host: &MemHost, sound: &MemHost) -> bool {
         begun(host.output()) == begun(sound.output()) && times_thrown(host.output()) == 1
     }
 
-    /// The card was thrown out at the call of a run, and no other call of a device was made before
-    /// that was written.
+    /// The card was thrown out at the call of a run, and no other call on a device was made before
+    /// the reply that says so.
     fn is_thrown_at_once(&self, host: &MemHost, first: &[u8]) -> bool {
         let next = self.call.saturating_add(1);
         let is_next = next < host.calls() && host.unit_of(next).is_some();
         host.output().starts_with(first) && !is_next
     }
 
-    /// The whole script goes on behind the call: each line has its reply, and one alone says that
-    /// the card was thrown out. No other call of a device is made before that is written.
+    /// The whole script goes on after the call: each line has its reply, and only one says that the
+    /// card was thrown out. No other call on a device is made before that reply.
     fn expect_goes_on(&self, alloc: Global, sound: &MemHost, script: &[u8]) -> Result<(), Fail> {
         let host = run_failing(alloc, "run a b", script, &[self.call])?;
         let first = self.output(alloc, 1, &[])?;
@@ -171,8 +171,8 @@ impl Failing<'_> {
         Ok(())
     }
 
-    /// What another run finds on the card behind a run that has mounted it again, which is its
-    /// store before or after the line.
+    /// What another run finds on the card after a run that has mounted it again: its store before
+    /// or after the line.
     fn found_behind(
         &self,
         alloc: Global,
@@ -190,8 +190,8 @@ impl Failing<'_> {
         Ok(found)
     }
 
-    /// A next mount tells which store the card holds, that before or after the line, and what it
-    /// says then is what another run finds on it.
+    /// A next mount says which store the card holds, that before or after the line. What it says
+    /// then is what another run finds on the card.
     fn expect_comes_back(
         &self,
         alloc: Global,
@@ -212,7 +212,7 @@ impl Failing<'_> {
         Ok(next_of(&host, self.unit, self.call.saturating_add(1)).ok_or("no call of a mount")?)
     }
 
-    /// The same where the first call of that mount fails as well, and another one comes behind it.
+    /// The same where the first call of that mount fails as well, and another mount comes after it.
     fn expect_comes_back_later(
         &self,
         alloc: Global,
@@ -226,7 +226,7 @@ impl Failing<'_> {
         self.expect_output(alloc, &host, 2, found)
     }
 
-    /// All three.
+    /// Expects all three.
     fn expect_all(
         &self,
         alloc: Global,
@@ -240,7 +240,7 @@ impl Failing<'_> {
     }
 }
 
-/// The calls on a unit that a run of a script makes behind so many replies and before the next one,
+/// The calls on a unit that a run of a script makes after so many replies and before the next one,
 /// where these calls fail.
 pub fn calls_behind(
     alloc: Global,
@@ -278,7 +278,7 @@ struct Trial<'a> {
     ask: &'a [u8],
 }
 
-/// Each call on a device of a sound run fails, once. Says how many there are.
+/// Each call on a device of a sound run fails, once. Answers how many there are.
 fn expect_each_thrown(
     alloc: Global,
     sound: &MemHost,
@@ -304,9 +304,10 @@ fn expect_each_thrown(
 }
 
 /// Runs a table over the devices `a` and `b` of 13 blocks of zero bytes, once for each call on a
-/// device, which fails. Its reply is then that the card was thrown out, and the run goes on; and
-/// where a mount and these questions stand behind it, or two mounts, whose first one fails, the
-/// card comes back with its store before or after the line. Says how many such calls there are.
+/// device, which fails. The reply is then that the card was thrown out, and the run goes on. The
+/// card comes back with its store before or after the line, where a mount and these questions
+/// follow the line, and also where two mounts follow whose first one fails. Answers how many such
+/// calls there are.
 pub fn expect_thrown(alloc: Global, table: &str, ask: &[u8]) -> Result<u32, Fail> {
     let sound = run_table(alloc, "run a b", table)?;
     let (script, _) = lines_of(alloc, table)?;
