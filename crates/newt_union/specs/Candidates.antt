@@ -31,18 +31,23 @@ pair_before h m =
 
 -- ---- candidates
 
+-- a member's first hit (a word of these definitions)
 abbrev pub first_in : Member → Option Hit
 first_in m = option_map (hit m) (pairs.first m.range.pairs)
 
+-- a member's last hit (a word of these definitions)
 abbrev pub last_in : Member → Option Hit
 last_in m = option_map (hit m) (pairs.last m.range.pairs)
 
+-- a member's least hit after a hit (a word of these definitions)
 abbrev pub after_in : Hit → Member → Option Hit
 after_in h m = option_map (hit m) (pair_after h m)
 
+-- a member's greatest hit before a hit (a word of these definitions)
 abbrev pub before_in : Hit → Member → Option Hit
 before_in h m = option_map (hit m) (pair_before h m)
 
+-- a member's first hit whose key is not before the given one (a word of these definitions)
 abbrev pub at_or_after_in : Key → Member → Option Hit
 at_or_after_in key m = option_map (hit m) (pairs.at_or_after (parts_of m.range.spec) m.range.pairs key)
 
