@@ -36,6 +36,7 @@ impl TagSpec {
         TagSpec::of(None, None, None, None)
     }
 
+    /// The tag spec of these four lists.
     pub(crate) fn of(
         equal: Option<Names>,
         all: Option<Names>,
