@@ -68,6 +68,7 @@ impl Texts {
         }
     }
 
+    /// The texts, in order.
     pub(crate) fn list(&self) -> &[Text]
         ensures { result.now ≡ self.now }
     {
