@@ -17,6 +17,7 @@ abbrev pub if_left : (List (ℕ × Entry) → Bool) → Option (List (ℕ × Ent
 if_left test None = false
 if_left test (Some xs) = test xs
 
+-- a list has no elements
 abbrev pub is_nil : {X : Type 0} → List X → Bool
 is_nil [] = true
 is_nil (x ∷ xs) = false
