@@ -47,10 +47,12 @@ readers = record { literal_of = literal_in; stream_of = stream_of }
 
 -- ---- as the code answers them
 
+-- a graph, or its refusal as the fault of a line
 abbrev pub or_fault : Result RawGraph Refusal → Result RawGraph LineFault
 or_fault (Ok graph) = Ok graph
 or_fault (Err refusal) = Err (Refused refusal)
 
+-- the graph of the stream in bytes that digits spell; malformed where they spell none
 abbrev pub digits_answer : Option (List ℕ) → Result RawGraph LineFault
 digits_answer None = Err (Refused refusals.Malformed)
 digits_answer (Some bytes) = or_fault (stream_of bytes)
@@ -59,6 +61,7 @@ digits_answer (Some bytes) = or_fault (stream_of bytes)
 unfoldable pub stream_word : List ℕ → Result RawGraph LineFault
 stream_word digits = digits_answer (hex_bytes digits)
 
+-- the bytes that digits spell; malformed where they spell none
 abbrev pub bytes_answer : Option (List ℕ) → Result (List ℕ) LineFault
 bytes_answer None = Err (Refused refusals.Malformed)
 bytes_answer (Some bytes) = Ok bytes
@@ -67,6 +70,7 @@ bytes_answer (Some bytes) = Ok bytes
 unfoldable pub bytes_word : List ℕ → Result (List ℕ) LineFault
 bytes_word digits = bytes_answer (hex_bytes digits)
 
+-- the graph of a literal, if there is one
 abbrev pub literal_answer : Option RawGraph → Result RawGraph LineFault
 literal_answer None = Err (Refused refusals.Literal)
 literal_answer (Some graph) = Ok graph

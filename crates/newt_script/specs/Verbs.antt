@@ -29,6 +29,7 @@ unit_word unit_verb.Unmount = codes "unmount"
 unit_word unit_verb.Default = codes "default"
 unit_word unit_verb.Soups = codes "soups"
 
+-- the commands that these begin
 abbrev pub unit_command : UnitVerb → ℕ → Command
 unit_command unit_verb.Mount u = command.Mount u
 unit_command unit_verb.Unmount u = command.Unmount u
@@ -41,6 +42,7 @@ soup_word soup_verb.Soup = codes "soup"
 soup_word soup_verb.Drop = codes "drop"
 soup_word soup_verb.Indexes = codes "indexes"
 
+-- the commands that these begin
 abbrev pub soup_command : SoupVerb → ℕ → List ℕ → Command
 soup_command soup_verb.Soup u s = command.Soup u s
 soup_command soup_verb.Drop u s = command.Drop u s
@@ -54,6 +56,7 @@ entry_word entry_verb.Remove = codes "remove"
 entry_word entry_verb.Alias = codes "alias"
 entry_word entry_verb.Open = codes "open"
 
+-- the commands that these begin
 abbrev pub entry_command : EntryVerb → ℕ → List ℕ → ℕ → Command
 entry_command entry_verb.Get u s uid = command.Get u s uid
 entry_command entry_verb.Getx u s uid = command.Getx u s uid
@@ -66,6 +69,7 @@ abbrev pub transfer_word : TransferVerb → List ℕ
 transfer_word transfer_verb.Copy = codes "copy"
 transfer_word transfer_verb.Move = codes "move"
 
+-- the commands that these begin
 abbrev pub transfer_command : TransferVerb → ℕ → List ℕ → ℕ → ℕ → List ℕ → Command
 transfer_command transfer_verb.Copy u s uid v q = command.Copy u s uid v q
 transfer_command transfer_verb.Move u s uid v q = command.Move u s uid v q
@@ -82,6 +86,7 @@ cursor_word cursor_verb.Which = codes "which"
 cursor_word cursor_verb.Clone = codes "clone"
 cursor_word cursor_verb.Close = codes "close"
 
+-- the commands that these begin
 abbrev pub cursor_command : CursorVerb → ℕ → Command
 cursor_command cursor_verb.Entry c = command.Entry c
 cursor_command cursor_verb.Next c = command.Next c
@@ -98,6 +103,7 @@ abbrev pub watch_word : WatchVerb → List ℕ
 watch_word watch_verb.Notes = codes "notes"
 watch_word watch_verb.Unwatch = codes "unwatch"
 
+-- the commands that these begin
 abbrev pub watch_command : WatchVerb → ℕ → Command
 watch_command watch_verb.Notes n = command.Notes n
 watch_command watch_verb.Unwatch n = command.Unwatch n
@@ -109,6 +115,7 @@ copy_word copy_verb.Save = codes "save"
 copy_word copy_verb.Revert = codes "revert"
 copy_word copy_verb.Discard = codes "discard"
 
+-- the commands that these begin
 abbrev pub copy_command : CopyVerb → ℕ → Command
 copy_command copy_verb.Draft n = command.Draft n
 copy_command copy_verb.Save n = command.Save n
@@ -162,5 +169,6 @@ memory_words =
     ∷ codes "index" ∷ codes "unindex" ∷ codes "indexes" ∷ codes "tags" ∷ codes "info"
     ∷ codes "watch" ∷ codes "open" ∷ codes "edit" ∷ []
 
+-- the word is one of these
 abbrev pub is_memory_word : List ℕ → Bool
 is_memory_word word = list_any (bytes_eq word) memory_words
