@@ -44,6 +44,7 @@ fn spec_of(alloc: Global, declared: &Declared) -> Result<IndexSpec, Fail> {
     }
 }
 
+/// The graph of a literal.
 pub(crate) fn literal(alloc: Global, text: &str) -> Result<Graph, Fail> {
     match read_literal(alloc, text) {
         Ok(graph) => Ok(graph),
