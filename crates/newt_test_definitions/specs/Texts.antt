@@ -31,6 +31,7 @@ changed (text, path, value) =
     text_of (option_and_then (λ g. option_and_then (λ v. put g path v) (graph_of value))
     (graph_of text))
 
+-- the text is a literal that has the form of a query
 abbrev pub has_query_form : List ℕ → Bool
 has_query_form text = elim (graph_of text) [ Some g ↦ is_query g | None ↦ false ]
 
