@@ -57,7 +57,7 @@ pub record InputKept {E : Type 0} (bytes : ℕ) (result : Result ℕ E)
   pub faults : new.in_faults ≡ faults_after result old.in_faults
   pub kept : IsKept bytes None result old new
 
--- The same of the output. After an error nothing was printed.
+-- The same for the output. After an error nothing was printed.
 pub record OutputKept {E : Type 0} (bytes : ℕ) (result : Result ℕ E)
     (old new : MemHost) : Type 0 where
   pub piece : IfOk result (λ count. count ≡ min bytes old.most)
