@@ -31,9 +31,10 @@ piece_count bytes = (length bytes + 499_999) / 500_000
 abbrev pub pieces : List ℕ → List (List ℕ)
 pieces bytes = pieces_from (piece_count bytes) bytes
 
--- ---- the nodes of a backup, in the order in which a walk meets them: the frame is 0, its tags 1
--- and 2, the cut of the directory 3, its first piece 4, and the symbol `bytes` 5; then come its
--- other pieces, the array of the entries, and the cut of each entry
+-- ---- the nodes of a backup, in the order in which a walk meets them.
+-- The frame is node 0, its tags are 1 and 2, the cut of the directory is 3, its first piece 4, and
+-- the symbol `bytes` 5. Then come its other pieces, the array of the entries, and the cut of each
+-- entry.
 
 -- so many nodes in a row, from this number on
 abbrev pub in_a_row : ℕ → ℕ → List Ref
