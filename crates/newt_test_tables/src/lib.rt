@@ -89,8 +89,8 @@ fn expect_row<A: Asks>(alloc: Global, asks: &A, row: &str) -> Result<(), Fail> {
     expect(row, &asks.answer(alloc, &text)?, wanted)
 }
 
-/// Fails where another answer is given than a row of the table says. A row is a text and, after `
-/// => `, its answer. Blank rows say nothing.
+/// Fails where another answer is given than a row of the table says. A row is a text and,
+/// after ` => `, its answer. Blank rows say nothing.
 pub fn expect_rows<A: Asks>(alloc: Global, asks: &A, table: &str) -> Result<(), Fail> {
     for row in table.lines() {
         if !row.is_empty() {
