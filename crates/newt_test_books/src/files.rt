@@ -12,7 +12,7 @@ use std::test::Fail;
 
 const CARD: Unit = Unit(0);
 
-/// What is wanted holds.
+/// Asserts that what is wanted holds.
 fn check(rt: &impl Abort, holds: bool, what: &str) {
     assert!(rt; holds, "{what}");
 }
