@@ -2,7 +2,7 @@
 
 use std::process::Abort;
 
-/// What is wanted holds.
+/// Asserts that what is wanted holds.
 pub(crate) fn check(rt: &impl Abort, holds: bool, what: &str) {
     assert!(rt; holds, "{what}");
 }
