@@ -6,7 +6,7 @@ use std::alloc::Global;
 use std::process::Abort;
 use std::test::Fail;
 
-/// What is wanted holds.
+/// Asserts that what is wanted holds.
 pub(crate) fn check(rt: &impl Abort, holds: bool, what: &str) {
     assert!(rt; holds, "{what}");
 }
