@@ -23,8 +23,8 @@ pub(crate) fn payload_of(alloc: Global, word: &str) -> Result<Vec<u8>, Halt> {
     }
 }
 
-/// The records of a text, one for each word: an empty list for `no record`, and none for `no
-/// journal`.
+/// The records of a text, one for each word: an empty list for `no record`, and none for
+/// `no journal`.
 pub(crate) fn records_of(alloc: Global, text: &str) -> Result<Option<Records>, Halt> {
     let mut records = Vec::new(alloc);
     match text {
