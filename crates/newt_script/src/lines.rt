@@ -57,8 +57,8 @@ fn spoken(alloc: Global, line: &[u8]) -> Result<Command, LineFault>
 ///
 /// Of the refusals of its reading the first that holds is answered: `Longline`, then `Command`,
 /// then `Line`, then the fault of the graph or bytes at its end, `Malformed`, `Compressed` or
-/// `Literal`. `Memory` is never answered for a line whose command holds no name, path, list, graph
-/// or bytes, nor for one that is too long, has no command or says nothing.
+/// `Literal`. The answer `Memory` never comes for a line whose command holds no name, path, list,
+/// graph or bytes. Nor does it come for a line that is too long, has no command or says nothing.
 pub fn line(alloc: Global, bytes: &[u8]) -> Result<Option<Command>, LineFault>
     ensures reading { result ≢ Err LineFault.Memory → result ≡ line_command bytes.now }
     ensures no_memory { takes_memory (script.without_return bytes.now) ≡ false
