@@ -99,7 +99,7 @@ fn whole(alloc: Global, bytes: &[u8], version: u16) -> Result<Directory, DirFaul
 }
 
 /// The directory that all of the bytes are read as, in the form of this version. `Bad` comes only
-/// where they are none: it comes too where a name, a path or a limit does not have its form.
+/// where they are none, which is so too where a name, a path or a limit does not have its form.
 pub fn read_directory(alloc: Global, bytes: &[u8], version: u16) -> Result<Directory, DirFault>
     requires { (version ≡ 1) ⊎ (version ≡ 2) }
     ensures found { IfOk result (λ d. directory_read stream_graph version bytes.now
