@@ -2,11 +2,15 @@
 //! Each of its rows is a line and, after ` => `, its reply. A row that is answered otherwise, or
 //! that finds something that is not as it should be, is a test's failure.
 //!
-//! A line that is a change is one of these: `make NAME`, `drop SOUP`, `add SOUP TEXT`, `remove SOUP
-//! UID`, `move SOUP UID SOUP`, `replace SOUP UID TEXT`, `index SOUP DECLARED`, `unindex SOUP
-//! DECLARED`, `tags SOUP DECLARED`, `info SOUP TEXT`, and `info SOUP` for no info frame. ` @MINUTE`
-//! follows where the minute is not 0. The reply is the change's answer or the word of its refusal.
-//! Bytes are spelt in digits, `00*3` for `000000`. A change that is refused changes nothing.
+//! A line that is a change is one of these:
+//! - `make NAME`, `drop SOUP`;
+//! - `add SOUP TEXT`, `remove SOUP UID`, `move SOUP UID SOUP`, `replace SOUP UID TEXT`;
+//! - `index SOUP DECLARED`, `unindex SOUP DECLARED`, `tags SOUP DECLARED`;
+//! - `info SOUP TEXT`, or `info SOUP` for no info frame.
+//!
+//! The minute follows as ` @MINUTE` where it is not 0. The reply is the change's answer or the word
+//! of its refusal. Bytes are spelt in digits, `00*3` for `000000`. A change that is refused changes
+//! nothing.
 //!
 //! A change after `cut` changes something, and a crash within each of its calls leaves the store
 //! before it or after it. After `resume` that store also takes an entry. After `record` the reply
