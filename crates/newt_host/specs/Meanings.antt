@@ -1,5 +1,5 @@
 -- What a host means, each by its own name. Where a host tells no bytes, only what these say of
--- counts, of names and of numbers of blocks counts.
+-- counts, of names and of numbers of blocks means anything.
 use Rattle.std.specs.Prelude.{◌≡◌, ℕ, Bool, List, length, Option, Some, is_some, option_map}
 use Rattle.newt_host.specs.Moments.{output, image, MayLeave, IsDurable, attached_at, LeftSince}
 use Rattle.newt_host.specs.Outside.{Outside}

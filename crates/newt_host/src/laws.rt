@@ -10,7 +10,7 @@ ghost use Rattle.newt_host.specs.Outside.{Attaches, Outside, PrintsSome, printed
 use crate::{Host, Unit};
 
 /// An image as it reads is one that a crash may leave. A unit with a device has been attached since
-/// a moment that has come, and one without since none.
+/// a moment that has come, and one without a device since none.
 pub fn image_may_be_left<H: Host>(host: &H, unit: Unit)
     ensures leaves { IsTrue H.told → IsSome (attached (H.outside host.now) unit)
         → leaves (H.outside host.now) unit (image_of (H.outside host.now) unit) }
