@@ -51,8 +51,8 @@ abbrev pub Untouched : Moment → List Whole → Whole → Moment → Type 0
 Untouched start before world now = (unit : ℕ) (left : List ℕ) → Fresh before unit → IsBlankOn world unit → MayLeave unit now left → MayLeave unit start left
 
 -- What is left of a unit between two worlds, where the items go on from the first world. Where the
--- unit has a store in the first, or one of two, it is one of its stores in the first or in the
--- second. It is what was left of the unit at first, where F says that it held no store before, it
+-- unit has a store in the first, or one of two, what is left is one of its stores in the first or
+-- in the second. It is what was left at first, where F says that the unit held no store before, it
 -- holds none in the first, and the next item does not format it or it holds none in the second.
 pub record Between (store_of_image : List ℕ → Option Store) (AtFirst : List ℕ → Type 0)
     (F : Type 0) (world : Whole) (items : List Item) (next : Whole) (unit : ℕ)
