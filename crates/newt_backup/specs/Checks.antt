@@ -7,7 +7,7 @@ use Rattle.newt_spec_store.specs.Valid.{valid_entry}
 abbrev pub may_follow : ℕ → ℕ → Entry → Bool
 may_follow low next e = nat_le low e.uid && nat_lt e.uid next && valid_entry e
 
--- the entries behind those of a soup at the front, where these may be its entries
+-- the entries that are left after those of a soup at the front, where these may be its entries
 abbrev pub behind : ℕ → ℕ → ℕ → List (ℕ × Entry) → Option (List (ℕ × Entry))
 behind sig next low [] = Some []
 behind sig next low (x ∷ xs) = if x.0 == sig then (if may_follow low next x.1 then behind sig next (x.1.uid + 1) xs else None) else Some (x ∷ xs)
@@ -17,6 +17,7 @@ abbrev pub if_left : (List (ℕ × Entry) → Bool) → Option (List (ℕ × Ent
 if_left test None = false
 if_left test (Some xs) = test xs
 
+-- a list has no elements
 abbrev pub is_nil : {X : Type 0} → List X → Bool
 is_nil [] = true
 is_nil (x ∷ xs) = false

@@ -2,7 +2,7 @@
 //!
 //! It stands on `caseless` for the tables of folding, on `ucd_case` for what they hold of ASCII, on
 //! `memchr` for the search, and on the definition of words. It carries this promise: units are read
-//! as UTF-16 with each lone surrogate as U+FFFD, case is folded by Unicode's default table, and a
+//! as UTF-16, with each lone surrogate as U+FFFD, and case is folded by Unicode's default table. A
 //! word or a part is found exactly where the definition has it, character by character.
 #![tactic(auto)]
 
@@ -76,7 +76,7 @@ pub fn has_text(folded_text: &str, folded_part: &str) -> bool
     memmem::find(folded_text.as_bytes(), folded_part.as_bytes()).is_some()
 }
 
-/// Whether a word of the text begins with the given one or, where that is entire, is it. Both are
+/// Whether a word of the text begins with the given one or, if `entire`, is that one. Both are
 /// folded.
 pub fn has_word(folded_text: &str, folded_word: &str, entire: bool) -> bool
     ensures { result ≡ spec.has_word (chars folded_text.now) (chars folded_word.now) entire }
@@ -119,7 +119,7 @@ fn word_begins(text: &str, word: &str, before: bool, entire: bool) -> bool
     }
 }
 
-/// Whether a word may end before this text.
+/// Whether a word may end where this text begins.
 fn may_end(behind: &str, entire: bool) -> bool
     ensures { result ≡ not (entire && spec.begins_with_word_char (chars behind.now)) }
 {

@@ -20,7 +20,8 @@ bytes_at notes uid = option_map (λ slot. slot.bytes) (tree.get nat_cmp notes ui
 abbrev pub IsNoted : SlotsOfIds → Slot → Type 0
 IsNoted notes slot = bytes_at notes slot.uid ≡ Some slot.bytes
 
--- what holds of the notes of some entries: under an id stands a slot of that id, and each entry's is noted (this project's own)
+-- what holds for the notes of some entries: under an id stands a slot of that id, and each entry's
+-- slot is noted (this project's own)
 pub record AreNotes (notes : SlotsOfIds) (es : List Entry) : Type 0 where
   pub of_id : (uid : ℕ) → IfSome (tree.get nat_cmp notes uid) (λ slot. slot.uid ≡ uid)
   pub each : All (λ e. IsNoted notes e.0) es

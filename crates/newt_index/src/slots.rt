@@ -20,7 +20,7 @@ enum Notes {
     OfIds(BTreeMap<u32, Slot>),
     /// All key bytes are empty, so an id's slot is made of it.
     Plain,
-    /// An id was given two slots: a walk finds them.
+    /// An id was given two slots: only a walk finds them.
     Lost,
 }
 
@@ -56,7 +56,7 @@ impl Slots {
         }
     }
 
-    /// No slots, for keys without bytes, of which no ids are noted. It takes no memory.
+    /// No slots, for keys without bytes, of whose ids nothing is noted. It takes no memory.
     pub(crate) fn plain(alloc: Global) -> Slots
         ensures { result ≡ [] }
     {
@@ -118,8 +118,8 @@ impl Slots {
     }
 }
 
-/// Notes a slot. Where another of its id is known, or the slots are no longer plain, all notes are
-/// given up.
+/// Notes a slot. Where another slot of its id is known, or the slots are no longer plain, all notes
+/// are given up.
 fn note(notes: &mut Notes, slot: &Slot) -> Result<(), AllocError>
     ensures kept { (es : List Entry) → AreNoted notes.old es → AreNoted notes.new es }
     ensures noted { IfOk result (λ _. HasNote notes.new slot.now) }
@@ -140,7 +140,7 @@ fn note(notes: &mut Notes, slot: &Slot) -> Result<(), AllocError>
     Ok(())
 }
 
-/// Notes a slot under its id. Whether no other was noted there.
+/// Notes a slot under its id, and answers whether no other was noted there.
 fn note_of_id(of_ids: &mut BTreeMap<u32, Slot>, slot: &Slot) -> Result<bool, AllocError>
     ensures kept { IfOk result (λ fits. IsTrue fits → (es : List Entry) → AreNotes of_ids.old es
         → AreNotes of_ids.new es) }
@@ -174,7 +174,7 @@ fn take_plain(keys: &mut BTreeMap<Slot, Key>, slot: Slot)
     keys.remove(&slot);
 }
 
-/// The first key of an id, which a walk over all finds.
+/// The first key of an id, found by a walk over all.
 fn first_of(keys: &BTreeMap<Slot, Key>, uid: u32) -> Option<&Key>
     ensures { option_map (λ k. k.now) result ≡ key_at (map pair_of keys.now.entries) uid }
 {

@@ -3,8 +3,8 @@ ghost use Rattle.std.specs.Prelude.{◌≡◌, ◌*◌, ◌/◌, ◌<◌, ◌^�
 
 use std::alloc::{AllocError, Global};
 
-/// A device that no unit has yet: its name and its bytes, with a copy of them to be written and one
-/// for the log, so that an attach takes no memory.
+/// A device that no unit has yet: its name and its bytes. A copy of them to be written and one for
+/// the log are at hand, so that an attach takes no memory.
 #[derive(Drop)]
 pub struct Device {
     pub name: Vec<u8>,
@@ -34,8 +34,8 @@ impl Device {
     }
 }
 
-/// A unit, with the bytes of its device at the attach and now, and with its counts. Without a
-/// device it has none.
+/// A unit: the bytes of its device at the attach and now, and its counts. Without a device it has
+/// no bytes.
 #[derive(Drop)]
 pub struct Card {
     pub attached: bool,
@@ -47,7 +47,7 @@ pub struct Card {
     pub fetched: u64,
     pub erased: u64,
     pub synced: u64,
-    // Whether the last call failed.
+    /// Whether the last call failed.
     pub broken: bool,
     ghost size: { length held.items ≡ length first.items },
     ghost whole: { length first.items ≡ length first.items / 4096 * 4096 },
@@ -57,7 +57,7 @@ pub struct Card {
 impl Card {
     ghost use Rattle.newt_memhost.specs.Cards.{IsEmpty};
 
-    /// No device.
+    /// A unit without a device.
     pub fn new(alloc: Global) -> Self
         ensures { IsEmpty result }
     {

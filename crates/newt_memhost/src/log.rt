@@ -1,4 +1,4 @@
-//! The host's past, in room that can be taken beforehand.
+//! The host's past, in room that can be taken in advance.
 ghost use Rattle.std.specs.Prelude.{◌≡◌, ◌+◌, ◌-◌, ◌≤◌, ◌<◌, ◌++◌, ◌∷◌, [], length, IsTrue};
 ghost use Rattle.std.specs.Prelude.{vec_len, vec_capacity};
 ghost use Rattle.newt_memhost.specs.Happened.{after, bytes_of, calls_in, counts, total};
@@ -18,7 +18,7 @@ pub struct Log {
     ghost used: { total entries.items ≡ length store.items },
 }
 
-// Adds an entry for which there is room.
+/// Adds an entry for which there is room.
 fn push(entries: &mut Vec<Happened>, entry: Happened)
     requires { vec_len entries.old < vec_capacity entries.old }
     ensures items { entries.new.items ≡ entries.old.items ++ entry ∷ [] }
@@ -27,7 +27,7 @@ fn push(entries: &mut Vec<Happened>, entry: Happened)
     let _added = entries.push(entry);
 }
 
-// Adds bytes for which there is room.
+/// Adds bytes for which there is room.
 fn extend(store: &mut Vec<u8>, bytes: &[u8])
     requires { vec_len store.old + length bytes.now ≤ vec_capacity store.old }
     ensures items { store.new.items ≡ store.old.items ++ bytes.now }
@@ -41,7 +41,7 @@ impl Log {
     ghost use Rattle.newt_memhost.specs.Log.{Adds, HasRoom, NoSmaller, SamePast, now_of};
     ghost use Rattle.newt_memhost.specs.declared.happened.Happened.TheVariants.{Attach};
 
-    /// Nothing has happened.
+    /// A log in which nothing has happened.
     pub fn new(alloc: Global) -> Self
         ensures entries { result.entries.items ≡ [] }
         ensures store { result.store.items ≡ [] }

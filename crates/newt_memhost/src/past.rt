@@ -18,7 +18,7 @@ pub enum Pick {
 }
 
 impl Happened {
-    /// Whether it is a call that answers a Result, as a number.
+    /// Whether it is a call that answers a Result, as a number: 1 or 0.
     fn counts(&self) -> u64
         ensures { result ≡ counts self.now }
     {
@@ -38,7 +38,7 @@ impl Happened {
         }
     }
 
-    // Whether a crash within it comes after it, as a number.
+    /// Whether a crash within it comes after it, as a number: 1 or 0.
     fn behind(&self) -> usize
         ensures { result ≡ length (torn (Some self.now)) }
     {
@@ -98,7 +98,7 @@ pub fn place_of(log: &[Happened], call: u64) -> usize
     log.len()
 }
 
-/// How much of the log a crash within a call has behind it: the call itself too, but where it is a
+/// How much of the log comes before a crash within a call. It includes the call itself, except a
 /// sync.
 pub fn end_of(log: &[Happened], call: u64) -> usize
     ensures within { take result log.now ≡ within call log.now }

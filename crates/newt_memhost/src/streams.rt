@@ -41,7 +41,7 @@ pub fn take(log: &mut Log, waiting: usize, fails: bool, piece: &[u8]) -> Result<
     Ok(())
 }
 
-/// Appends a piece to the output, or only keeps the call where it fails.
+/// Appends a piece to the output; where the call fails, only keeps the call.
 pub fn print(
     output: &mut Vec<u8>,
     log: &mut Log,

@@ -35,7 +35,7 @@ pub fn keep(log: &mut Log, waiting: usize, fails: bool, entry: Happened) -> Resu
     Ok(())
 }
 
-// Puts bytes into a range of the card, or only into the log where it fails.
+/// Puts bytes into a range of the card; where the call fails, only into the log.
 fn write(
     card: &mut Card,
     log: &mut Log,
@@ -115,7 +115,7 @@ pub fn erase(
     write(card, log, waiting, fails, unit, block * 4096, &[255; 4096])
 }
 
-/// Makes sure of the unit.
+/// Makes what the unit reads durable.
 pub fn sync(
     card: &mut Card,
     log: &mut Log,

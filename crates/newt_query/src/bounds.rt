@@ -68,7 +68,7 @@ pub(crate) fn range_given(
     Ok((end_of(begin, behind), end_of(end, before)))
 }
 
-/// The end of a range: one with its key, or another without it.
+/// An end of a range: with its key, or without it.
 fn end_of(with: Option<Key>, without: Option<Key>) -> Bound<Key>
     ensures { end_of result ≡ bound with without }
 {

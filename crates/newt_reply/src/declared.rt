@@ -33,7 +33,7 @@ fn direction_word(order: Order) -> &'static [u8]
     }
 }
 
-/// Names behind a first one, each behind a point.
+/// Names that follow a first one, each after a point.
 fn push_names(text: &mut Vec<u8>, names: &[Bytes]) -> Result<(), AllocError>
     ensures { OnOk result (text.new.items ≡ text.old.items ++ flat_map (λ name. 46 ∷ name)
         names.now) }
@@ -70,7 +70,7 @@ fn part_text(alloc: Global, part: &IndexPart) -> Result<Vec<u8>, AllocError>
     Ok(text)
 }
 
-/// Parts behind a first one, each behind a space.
+/// Parts that follow a first one, each after a space.
 fn push_parts(alloc: Global, text: &mut Vec<u8>, parts: &[IndexPart]) -> Result<(), AllocError>
     ensures { OnOk result (text.new.items ≡ text.old.items ++ flat_map
         (λ part. 32 ∷ part_item (declared part)) parts.now) }
@@ -111,7 +111,7 @@ fn push_fields(line: &mut Vec<u8>, fields: &[Bytes]) -> Result<(), AllocError>
     Ok(())
 }
 
-/// `ok`, a field and names as fields behind it, with the end of the line.
+/// `ok`, a field and then names as fields, with the end of the line.
 #[tactic(auto, using(crate::proofs::Pieces::line_is))]
 pub fn names_line(alloc: Global, first: &[u8], names: &[Bytes]) -> Result<Vec<u8>, AllocError>
     ensures { IfOk result (λ line. line.items ≡ ok_text (first.now ∷ names.now)) }

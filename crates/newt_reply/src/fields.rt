@@ -29,7 +29,7 @@ pub fn stream_text(alloc: Global, graph: &Graph) -> Result<Vec<u8>, AllocError>
     hex_text(alloc, &stream)
 }
 
-/// A byte in quotes, behind a backslash where it is a quote or a backslash.
+/// A byte in quotes, after a backslash where it is a quote or a backslash.
 fn push_escaped(text: &mut Vec<u8>, byte: u8) -> Result<(), AllocError>
     ensures { OnOk result (text.new.items ≡ text.old.items ++ escaped (codes "\"\\") byte) }
 {

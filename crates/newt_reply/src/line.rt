@@ -19,7 +19,7 @@ pub fn push_field(line: &mut Vec<u8>, field: &[u8]) -> Result<(), AllocError>
     Ok(())
 }
 
-/// How many bytes have room at once: most replies of numbers and names are shorter.
+/// How many bytes have room at once. Most replies of numbers and names are shorter.
 const ROOM: usize = 48;
 
 /// `ok` and the fields.

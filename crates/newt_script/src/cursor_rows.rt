@@ -1,4 +1,4 @@
-//! The rows of the table of commands that speak of cursors.
+//! The rows of the table of commands for cursors.
 ghost use Rattle.std.specs.Prelude.{◌≡◌, ◌≢◌, codes};
 ghost use Rattle.newt_script.specs.Rows.{row_reading};
 ghost use Rattle.newt_script.specs.Verbs.{cursor_word};

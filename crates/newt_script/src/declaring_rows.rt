@@ -1,5 +1,4 @@
-//! The rows of the table of commands that speak of the indexes, the tags and the info
-//! frame of a soup.
+//! The rows of the table of commands for the indexes, the tags and the info frame of a soup.
 ghost use Rattle.std.specs.Prelude.{◌≡◌, ◌≢◌, codes};
 ghost use Rattle.newt_script.specs.Rows.{row_reading};
 

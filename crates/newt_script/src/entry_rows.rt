@@ -1,4 +1,4 @@
-//! The rows of the table of commands that speak of entries.
+//! The rows of the table of commands for entries.
 ghost use Rattle.std.specs.Prelude.{◌≡◌, ◌≢◌, codes};
 ghost use Rattle.newt_script.specs.Rows.{row_reading};
 ghost use Rattle.newt_script.specs.Verbs.{entry_word, transfer_word};

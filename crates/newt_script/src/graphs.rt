@@ -1,4 +1,4 @@
-//! The graphs and bytes in a line: object streams and bytes in hexadecimal digits, and literals.
+//! The graphs and bytes in a line: object streams, bytes in hexadecimal digits, and literals.
 ghost use Rattle.std.specs.Prelude.{◌≡◌, ◌≢◌, Some, None, IfOk, IfErr};
 ghost use Rattle.newt_base.specs.Text.{hex_bytes};
 ghost use Rattle.newt_base.specs.declared.Refusal.TheVariants.{Malformed};
@@ -27,8 +27,8 @@ fn stream(alloc: Global, bytes: &[u8]) -> Result<Graph, LineFault>
     }
 }
 
-/// The graph of a literal in bytes. `Literal` comes exactly where they are no UTF-8, or the text is
-/// no literal.
+/// The graph of a literal in bytes. `Literal` comes exactly where they are not UTF-8, or the text
+/// is no literal.
 pub fn literal(alloc: Global, bytes: &[u8]) -> Result<Graph, LitFault>
     ensures reading { result ≢ Err LitFault.Memory → result ≡ spec.literal_of bytes.now }
 {

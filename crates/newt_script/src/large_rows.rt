@@ -1,4 +1,4 @@
-//! The rows of the table of commands that speak of the bytes of a large binary.
+//! The rows of the table of commands for the bytes of a large binary.
 ghost use Rattle.std.specs.Prelude.{◌≡◌, ◌≢◌, codes};
 ghost use Rattle.newt_script.specs.Rows.{row_reading};
 

@@ -1,4 +1,4 @@
-//! The rows of the table of commands, as far as they speak of graphs, stores and soups.
+//! The rows of the table of commands for graphs, stores and soups.
 ghost use Rattle.std.specs.Prelude.{◌≡◌, ◌≢◌, codes};
 ghost use Rattle.newt_script.specs.Rows.{row_reading};
 ghost use Rattle.newt_script.specs.Verbs.{soup_word, unit_word};

@@ -11,7 +11,7 @@ use newt_base::{Name, Uid};
 use newt_host::Unit;
 use newt_spec_world::Command;
 
-/// The first word of a command. Those whose rows have equal words behind them stand together.
+/// A verb: the first word of a command. Verbs that are followed by the same words stand together.
 #[derive(Clone, Copy)]
 pub enum Verb {
     Quit,
@@ -47,7 +47,7 @@ pub enum Verb {
     OfCopy(CopyVerb),
 }
 
-/// Those with `U` behind them.
+/// The verbs that are followed by `U`.
 #[derive(Clone, Copy)]
 pub enum UnitVerb {
     Mount,
@@ -56,7 +56,7 @@ pub enum UnitVerb {
     Soups,
 }
 
-/// Those with `U S` behind them.
+/// The verbs that are followed by `U S`.
 #[derive(Clone, Copy)]
 pub enum SoupVerb {
     Soup,
@@ -64,7 +64,7 @@ pub enum SoupVerb {
     Indexes,
 }
 
-/// Those with `U S UID` behind them.
+/// The verbs that are followed by `U S UID`.
 #[derive(Clone, Copy)]
 pub enum EntryVerb {
     Get,
@@ -74,14 +74,14 @@ pub enum EntryVerb {
     Open,
 }
 
-/// Those with `U S UID U S` behind them.
+/// The verbs that are followed by `U S UID U S`.
 #[derive(Clone, Copy)]
 pub enum TransferVerb {
     Copy,
     Move,
 }
 
-/// Those with `C` behind them.
+/// The verbs that are followed by `C`.
 #[derive(Clone, Copy)]
 pub enum CursorVerb {
     Entry,
@@ -95,14 +95,14 @@ pub enum CursorVerb {
     Close,
 }
 
-/// Those with the number of a watch behind them.
+/// The verbs that are followed by the number of a watch.
 #[derive(Clone, Copy)]
 pub enum WatchVerb {
     Notes,
     Unwatch,
 }
 
-/// Those with the number of a working copy behind them.
+/// The verbs that are followed by the number of a working copy.
 #[derive(Clone, Copy)]
 pub enum CopyVerb {
     Draft,
@@ -111,8 +111,7 @@ pub enum CopyVerb {
     Discard,
 }
 
-/// All first words. A search looks at them one after another, so those that scripts repeat stand
-/// first.
+/// All verbs. A search looks at them one after another, so those that scripts repeat stand first.
 const VERBS: [Verb; 53] = [
     Verb::Cursor(CursorVerb::Next),
     Verb::Entry(EntryVerb::Get),
@@ -169,7 +168,7 @@ const VERBS: [Verb; 53] = [
     Verb::OfCopy(CopyVerb::Discard),
 ];
 
-/// The command that a word names.
+/// The verb that a word names.
 pub fn named(word: &[u8]) -> Option<Verb>
     ensures { result ≡ find (λ verb. bytes_eq (word_of verb) word.now) VERBS }
 {

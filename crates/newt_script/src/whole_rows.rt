@@ -1,4 +1,4 @@
-//! The rows of the table of commands that speak of watches and of working copies.
+//! The rows of the table of commands for watches and working copies.
 ghost use Rattle.std.specs.Prelude.{◌≡◌, ◌≢◌, codes};
 ghost use Rattle.newt_script.specs.Rows.{row_reading};
 ghost use Rattle.newt_script.specs.Verbs.{watch_word, copy_word};

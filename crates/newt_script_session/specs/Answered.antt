@@ -18,15 +18,15 @@ use Rattle.newt_script_session.specs.declared.halt.Flow.{Flow}
 use Rattle.newt_script_session.specs.declared.halt.Flow.TheVariants.{Go}
 use Rattle.newt_script_session.specs.declared.halt.Halt.{Halt}
 
--- A piece was taken behind a line begun before: whether a line that ended in it quits, and the line
+-- A piece was taken after a line begun before: whether a line that ended in it quits, and the line
 -- that it leaves begun where none does.
 pub record Fed (begun piece : List ℕ) (flow : Flow) (line : List ℕ) : Type 0 where
   pub quits : flow ≡ flow_of (has_quit (ended_lines begun piece))
   pub line_is : flow ≡ Go → line ≡ unended begun piece
 
 module _ (shows : Bool) where
-  -- The rows were answered, and the world behind them is one of those that are stood for then. Each
-  -- reply was taken: the sink had some replies before and has these behind them.
+  -- The rows were answered, and the world after them is one of those that are stood for then. Each
+  -- reply was taken: the sink had some replies before, and now has these after them.
   pub record Answered (world : Whole) (StoodFor : Whole → Type 0) (rows : List (Row Whole))
       (had has : List (List ℕ) → Type 0) (old now : Moment) : Type 0 where
     pub stands_for : StoodFor (world_behind world rows)
@@ -45,9 +45,10 @@ module _ (step : Stepping Whole) where
     pub run : IsRun step world first rows
 
   module _ (shows : Bool) (store_of_image : List ℕ → Option Store) where
-    -- The answering of items came to a result: all were given and answered, or it was halted in the
-    -- first ones; whatever it is, their replies tell the faults of devices, nothing is done to one
-    -- while a reply is out in part, and a crash at each moment leaves what it may.
+    -- The answering of items came to a result. With an answer, all items were given and answered;
+    -- otherwise it was halted in the first ones. In both cases their replies tell the faults of
+    -- devices, nothing is done to a device while a reply is out in part, and a crash at each moment
+    -- leaves what it may.
     pub record Ran {T : Type 0} (result : Result T Halt) (world : Whole)
         (StoodFor : Whole → Type 0) (items : List Item) (had has : List (List ℕ) → Type 0)
         (old now : Moment) (was is : ℕ → ℕ) : Type 0 where

@@ -23,8 +23,8 @@ fn first_line(text: &[u8]) -> Option<(&[u8], &[u8])>
     Some((&text[..end], &text[end + 1..]))
 }
 
-/// Answers each line that ends in the piece, up to one that quits. The line is the one begun before
-/// it, and is left at the one begun in it.
+/// Answers each line that ends in the piece, up to one that quits. `line` is the line begun before
+/// the piece, and becomes the one begun in it.
 pub fn feed<H: Host, I: Interpreter, S: Sink>(
     alloc: Global,
     host: &mut H,

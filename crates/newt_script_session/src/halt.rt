@@ -1,4 +1,4 @@
-//! How the answering of lines goes on, and why it ends early.
+//! Whether a script goes on after some lines, and why a run ends early.
 
 /// Whether the script goes on after some lines.
 #[derive(Clone, Copy, Debug, PartialEq, Eq)]

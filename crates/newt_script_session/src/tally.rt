@@ -7,7 +7,7 @@ use crate::sink::Sink;
 use newt_host::{Failed, Host};
 use std::alloc::{AllocError, Global};
 
-/// What replies come to. Each number stops at the last of its type.
+/// What replies come to: a tally. Each number stops at the last of its type.
 #[derive(Drop)]
 pub struct Tally {
     /// The replies.
@@ -21,7 +21,7 @@ pub struct Tally {
 }
 
 impl Tally {
-    /// That of no reply.
+    /// The tally of no reply.
     pub fn new() -> Tally
         ensures { Tallies result [] }
     {
@@ -48,8 +48,8 @@ impl Tally {
         };
     }
 
-    /// The lines that tell the replies, those that are ok, those that are refusals, and the bytes
-    /// of all (this project's own).
+    /// The lines of the summary: how many replies there are, how many are ok, how many are
+    /// refusals, and how many bytes they have (this project's own).
     pub fn lines(&self, alloc: Global) -> Result<Vec<u8>, AllocError>
         ensures { IfOk result (λ text. text.items ≡ lines_of_tally self.now) }
     {

@@ -81,7 +81,7 @@ fn refuse<H: Host, I: Interpreter, S: Sink>(
     Ok(Flow::Go)
 }
 
-/// Answers a line, and hands on all of the reply before it ends.
+/// Answers a line, and hands on the whole reply before it ends.
 pub fn turn<H: Host, I: Interpreter, S: Sink>(
     alloc: Global,
     host: &mut H,

@@ -1,4 +1,4 @@
-//! Whole texts of output, by a host that may take a part of one at a time.
+//! Whole texts of output, over a host that may take a part of one at a time.
 ghost use Rattle.std.specs.Prelude.{◌≡◌, ◌<◌, ◌≤◌, length, take, IsTrue, IfOk};
 ghost use Rattle.newt_host.specs.Outside.{PrintsSome, printed};
 ghost use Rattle.newt_script_session.specs.Calls.{OutputFailed, WriteCall};
@@ -6,7 +6,7 @@ ghost use Rattle.newt_script_session.specs.Stream.{Puts};
 
 use newt_host::{Failed, Host};
 
-/// Writes a first part of the bytes, and says how many: none only of no bytes.
+/// Writes a first part of the bytes, and answers how many: none only where there are none.
 fn write_part<H: Host>(host: &mut H, bytes: &[u8]) -> Result<usize, Failed>
     ensures within { IfOk result (λ n. n ≤ length bytes.now) }
     ensures moves { IfOk result (λ n. 0 < length bytes.now → 0 < n) }

@@ -2,7 +2,7 @@
 use Rattle.std.specs.Prelude.{ℕ, List, [], ◌∷◌, ◌++◌, Option, Some, None}
 use Rattle.newt_spec_script.specs.Words.{quoted}
 
--- what is read behind some bytes of a quoted text
+-- what is read after some bytes of a quoted text
 abbrev pub behind : List ℕ → Option (List ℕ × List ℕ) → Option (List ℕ × List ℕ)
 behind front None = None
 behind front (Some q) = Some (front ++ q.0, q.1)

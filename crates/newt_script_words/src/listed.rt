@@ -50,7 +50,7 @@ fn words_in_number(alloc: Global, text: &[u8], most: usize) -> Result<Vec<&[u8]>
     }
 }
 
-/// Whether a number is at least one and at most so much.
+/// Whether a number is at least one and at most `most`.
 fn is_in_number(number: usize, most: usize) -> bool
     ensures { result ≡ nat_le 1 number && nat_le number most }
 {
@@ -114,9 +114,8 @@ pub fn paths_in(alloc: Global, text: &[u8]) -> Result<Paths, WordFault>
     all_paths(alloc, &words)
 }
 
-/// SYM..: one or more symbols, no two of them one but for ASCII case. A line has fewer words than
-/// `LONGEST`, which is no limit of its own here; how many tags a soup may declare is the command's
-/// to say.
+/// SYM..: one or more symbols, no two of them alike but for ASCII case. `LONGEST` is no limit of
+/// its own here, since a line has fewer words. The command says how many tags a soup may declare.
 #[tactic(auto, unfolding(crate::specs::Listed::symbols_in))]
 pub fn symbols_in(alloc: Global, text: &[u8]) -> Result<Syms, WordFault>
     ensures { result ≢ Err WordFault.Memory → result ≡ listed.symbols_in text.now }

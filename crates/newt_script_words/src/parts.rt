@@ -39,7 +39,7 @@ pub fn part(alloc: Global, word: &[u8]) -> Result<PartWord, WordFault>
     Ok(PartWord { path, kind, order })
 }
 
-/// The type that a word names, none for a real.
+/// The type that a word names; none for a real.
 fn kind(word: &[u8]) -> Option<Option<Kind>>
     ensures { result ≡ spec.kind_word word.now }
 {
@@ -85,7 +85,7 @@ fn three_pieces(text: &[u8]) -> Option<(&[u8], &[u8], &[u8])>
     }
 }
 
-/// What stands before and behind the first colon.
+/// What stands before and after the first colon.
 #[tactic(auto, using(crate::proofs::Pieces::cuts))]
 fn at_colon(text: &[u8]) -> Option<(&[u8], &[u8])>
     ensures { MatchOption result (spec.split_at 58 text.now ≡ text.now ∷ []) (λ found.

@@ -15,7 +15,7 @@ fn words(alloc: Global, texts: &[&str]) -> Result<Vec<String>, AllocError> {
     Ok(words)
 }
 
-// How a run of the script over the files `internal` and `card` ends.
+/// How a run of the script over the files `internal` and `card` ends.
 fn run_script(rt: &HostRuntime) -> Result<Status, Fail> {
     let words = words(rt.alloc(), &["run", "internal", "card"])?;
     let (input, output) = (File::open(rt, "script")?, File::create(rt, "replies")?);
@@ -23,14 +23,14 @@ fn run_script(rt: &HostRuntime) -> Result<Status, Fail> {
     Ok(run(rt.alloc(), &words, &mut host))
 }
 
-// The bytes of a file, which goes.
+/// The bytes of a file, which is then removed.
 fn taken(rt: &HostRuntime, name: &str) -> Result<Vec<u8>, Fail> {
     let bytes = fs::read(rt, name)?;
     fs::remove_file(rt, name)?;
     Ok(bytes)
 }
 
-// How a run of a script ended, and what it wrote.
+/// How a run of a script ended, and what it wrote.
 fn session(rt: &HostRuntime, script: &[u8]) -> Result<(Status, Vec<u8>), Fail> {
     fs::write(rt, "script", script)?;
     let status = run_script(rt)?;
@@ -84,7 +84,7 @@ ok 2
 ok
 ";
 
-// A run ended well, and wrote these replies and no others.
+/// A run ended well, and wrote these replies and no others.
 fn expect_replies(run: &(Status, Vec<u8>), wanted: &[u8]) -> Result<(), Fail> {
     let (status, written) = run;
     if *status != Status::Ok || written.as_slice() != wanted {
@@ -93,7 +93,7 @@ fn expect_replies(run: &(Status, Vec<u8>), wanted: &[u8]) -> Result<(), Fail> {
     Ok(())
 }
 
-// The devices of a first run, of thirteen blocks each.
+/// The devices of a first run, of thirteen blocks each.
 fn write_cards(rt: &HostRuntime) -> Result<(), Fail> {
     write_filled(rt, "internal", 53_248, 0)?;
     write_filled(rt, "card", 53_248, 0)

@@ -37,8 +37,8 @@ fn found<I: Interpreter>(alloc: Global, bytes: &[u8]) -> Result<u32, Fail> {
     }
 }
 
-/// A run that adds an entry to the card, the first of its calls behind the reply to its mount, and
-/// what the card holds before the add and behind it.
+/// A run that adds an entry to the card, the first of its calls after the reply to its mount, and
+/// what the card holds before the add and after it.
 #[derive(Drop)]
 struct AddRun {
     host: MemHost,
@@ -65,9 +65,9 @@ fn add_run<I: Interpreter>(alloc: Global) -> Result<AddRun, Fail> {
     })
 }
 
-/// A stop within each call of the add leaves the card with all entries or all but the added one,
-/// and with that one where its reply had begun. Says how many of the images were mounted, which is
-/// each that is not that before the add or behind it, or the same as the last one.
+/// A stop within each call of the add leaves the card with all entries or with all but the added
+/// one. Where the reply to the add had begun, the added one is there. Answers how many of the
+/// images were mounted: each that is neither that after the add nor the same as the one before.
 fn stop_at_each<I: Interpreter>(alloc: Global, added: &AddRun, pick: Pick) -> Result<u32, Fail> {
     let host = &added.host;
     if host.blocks(Unit(0)) == 0 {

@@ -5,7 +5,7 @@ use newt_memhost::Pick;
 use newt_test_scripts::{card_behind, expect_all_safe, expect_halts, expect_thrown};
 use std::test::Fail;
 
-/// What a next run is asked, and told to go on with.
+/// What a next run is asked, and how it is told to go on.
 const LOOK: &[u8] = b"mount 0
 soups 0
 get 0 S 0
@@ -58,7 +58,7 @@ fn leaves_a_store_before_or_after_each_change(rt: HostRuntime) -> Result<(), Fai
     expect_all_safe(rt.alloc(), LINES, LOOK, &[Unit(0)], PICKS)
 }
 
-/// Each save of a working copy, while a watch is told of it.
+/// Each save of a working copy, while a watch notes it.
 const SAVES: &str = "
 format 0 A 7 => ok
 mount 0 => ok 7 A

@@ -34,8 +34,8 @@ vread 0 S 0 v 0 2 => ok BBCC
 soups 0 => ok S 0 1
 ";
 
-/// Behind a record's text, which ends with the class of the large binary, its flag and four
-/// numbers, comes its number of node.
+/// The end of a record's text, which is the class of the large binary, its flag and four numbers;
+/// and then its number of node.
 const NAMED: &[u8] =
     b"wave\x00\x00\x00\x00\x00\x00\x00\x00\x00\x00\x00\x00\x00\x00\x00\x00\x00\x00\x00\x00\x02";
 
@@ -75,7 +75,7 @@ fn with_number(
     Ok(bytes)
 }
 
-/// A card is not taken with this number at a place.
+/// A card with this number at a place is not mounted.
 fn expect_refused(alloc: Global, card: &[u8], place: usize, number: [u8; 4]) -> Result<(), Fail> {
     let bad = with_number(alloc, card, place, number)?;
     run_table_on(alloc, "run a b", REFUSED, &bad, &blocks(alloc, 13)?)?;

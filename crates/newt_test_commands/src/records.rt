@@ -21,7 +21,7 @@ add 0 S {v: <<wave:*1200>>} => ok 0
 vwrite 0 S 0 v 499 4142 => ok
 ";
 
-/// The gate, the length and the counts of a record that puts two pages and removes none, and its
+/// The gate, the length and the counts of a record that puts two pages and removes none; and its
 /// length.
 const HEAD: &[u8] = b"\x00\x00\x00\x04\x0C\x00\x02\x00\x00";
 

@@ -4,7 +4,7 @@ use crate::script::{LISTING, SCRIPT};
 use newt_test_scripts::{expect_statuses, expect_thrown};
 use std::test::Fail;
 
-/// There were so many calls that failed.
+/// As many calls failed as are wanted.
 fn expect_count(count: u32, wanted: u32) -> Result<(), Fail> {
     if count != wanted {
         return Err(Fail::new(format_args!("{count} calls")));

@@ -35,7 +35,7 @@ impl Found {
 }
 
 /// Whether a device of these bytes reads as the store of a backup. Where it does not, no store is
-/// read, and the backup is restored to it; where it does, it is not.
+/// read, and the backup is restored to it. Where it does, the backup is not restored.
 fn is_store(alloc: Global, bytes: &[u8], input: &[u8]) -> Result<bool, Fail> {
     let found = backed_up(alloc, bytes)?;
     if found.as_slice() == input {
@@ -52,8 +52,8 @@ fn is_store(alloc: Global, bytes: &[u8], input: &[u8]) -> Result<bool, Fail> {
     Ok(false)
 }
 
-/// A stop within each call of a restoring of this input leaves no store, or the store; and the
-/// store once a byte of the reply is out. Before the input was read the device is not attached.
+/// A stop within each call of a restoring of this input leaves no store, or the store; once a byte
+/// of the reply is out, it leaves the store. Before the input was read the device is not attached.
 fn stop_at_each(
     alloc: Global,
     host: &MemHost,

@@ -13,7 +13,7 @@ use std::test::Fail;
 /// The unit that is stopped twice.
 const UNIT: Unit = Unit(0);
 
-/// A second run over what a stop left, and a stop at each of its calls: what is left is a store of
+/// A second run over what a stop left, and a stop at each of its calls. What is left is a store of
 /// the second run over what the unit holds where nothing is stopped.
 fn stop_second(alloc: Global, left: &[u8], plain: &[u8]) -> Result<Counts, Fail> {
     let looks = looks_behind(alloc, SECOND, [plain, &[]], LISTING, UNIT)?;
@@ -37,8 +37,8 @@ fn stop_after(alloc: Global, left: &[u8], replies: usize, looks: &Looks) -> Resu
     }
 }
 
-/// A stop at each call on the unit behind so many replies, and the second run over each image that
-/// is left. Says how many images there were.
+/// A stop at each call on the unit after so many replies, and the second run over each image that
+/// is left. Answers how many images there were.
 fn stop_twice(
     alloc: Global,
     host: &MemHost,
@@ -67,7 +67,7 @@ fn stop_twice(
     Ok((stops, counts))
 }
 
-/// How often the unit goes on in its other bank behind the lines from this one on.
+/// How often the unit goes on in its other bank, in the lines from this one on.
 fn switches(looks: &Looks, first: usize) -> u32 {
     let mut count = 0u32;
     let mut vote = None;

@@ -38,7 +38,7 @@ fn query(alloc: Global, name: &str) -> Result<Query, Fail> {
     })
 }
 
-/// On an entry of this store, with this number as its key.
+/// A place on an entry of this store, with this number as its key.
 fn on(alloc: Global, number: i32, store: u32, uid: u32) -> Result<Place, Fail> {
     Ok(Place::On(Spot {
         key: key(alloc, number)?,

@@ -17,7 +17,7 @@ use newt_tags::TagTable;
 use std::alloc::{AllocError, Global};
 use std::test::Fail;
 
-/// The number that a text begins with, and what is behind it.
+/// The number that a text begins with, and what follows it.
 fn number(text: &str) -> (u32, &str) {
     let (word, rest) = text.split_once(' ').unwrap_or((text, ""));
     (word.parse().unwrap_or(0), rest)
@@ -42,7 +42,7 @@ fn store_line(alloc: Global, item: &str) -> Result<StoreLine, Fail> {
     })
 }
 
-/// The stores of items with commas between them.
+/// The stores of a list with commas between its items.
 fn stores(alloc: Global, text: &str) -> Result<StoreRows, Fail> {
     let mut lines = Vec::new(alloc);
     for item in text.split_terminator(", ") {
@@ -64,7 +64,7 @@ fn soup_line(alloc: Global, item: &str) -> Result<SoupLine, Fail> {
     })
 }
 
-/// The soups of items with commas between them.
+/// The soups of a list with commas between its items.
 fn soups(alloc: Global, text: &str) -> Result<SoupRows, Fail> {
     let mut lines = Vec::new(alloc);
     for item in text.split_terminator(", ") {
@@ -241,7 +241,7 @@ fn expect_line(alloc: Global, text: &str, wanted: &str) -> Result<(), Fail> {
     Ok(())
 }
 
-/// Looks for the line of each reply. A row is a reply and, behind ` => `, its line.
+/// Looks for the line of each reply. A row is a reply and, after ` => `, its line.
 fn expect_each(alloc: Global, table: &str) -> Result<(), Fail> {
     for row in table.lines() {
         if let Some((text, wanted)) = sides(row)? {

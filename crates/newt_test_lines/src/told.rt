@@ -1,5 +1,5 @@
-//! What a line gives, told in words. What memory is refused for is missing in the words, which are
-//! then others.
+//! What a line gives, in words. Where memory is refused for some of it, that is missing, and the
+//! words are others than are wanted.
 
 use newt_base::{Name, Refusal, Uid};
 use newt_graph::Graph;

@@ -5,7 +5,7 @@ use newt_test_scripts::{blocks, card_behind, run_writing};
 use std::alloc::Global;
 use std::test::Fail;
 
-/// Runs a table over the device `a` of 13 blocks of zero bytes, and looks for its backup then.
+/// Runs a table over the device `a` of 13 blocks of zero bytes, and then looks for its backup.
 fn expect_backup(alloc: Global, table: &str, output: &[u8]) -> Result<(), Fail> {
     let bytes = card_behind(alloc, "run a", table)?;
     run_writing(alloc, "backup a", b"", &bytes, &[], output)?;

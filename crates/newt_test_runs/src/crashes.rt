@@ -54,7 +54,7 @@ stores => ok 0 7 Internal
 quit => ok
 ";
 
-/// What a next run is asked over one of the devices, and told to go on with.
+/// What a next run is asked over one of the devices, and how it is told to go on.
 const LOOK: &[u8] = b"mount 0
 soups 0
 get 0 Notes 0

@@ -1,4 +1,5 @@
-//! Stores that are restored from their backups, and what is refused, with texts by hand.
+//! Stores that are restored from their backups, and what is refused. The texts were written by
+//! hand.
 
 use crate::backups::{ENTRY, FRESH};
 use crate::crashes::EVERY;
@@ -49,7 +50,7 @@ fn restores_an_entry_whose_backup_comes_in_pieces(rt: HostRuntime) -> Result<(),
 }
 
 /// Inputs that are refused whatever the device is, with their lines: they end too early, have a
-/// large binary that is compressed, are no backup.
+/// large binary that is compressed, or are no backup.
 const REFUSED: [(&[u8], &[u8]); 4] = [
     (b"", b"error 1 malformed\n"),
     (b"\x02", b"error 1 malformed\n"),
@@ -60,7 +61,7 @@ const REFUSED: [(&[u8], &[u8]); 4] = [
     (b"\x02\x0A", b"error 51 backup\n"),
 ];
 
-/// The backup of what 15 blocks hold behind a table.
+/// The backup of what 15 blocks hold after a table.
 fn backup_behind(alloc: Global, table: &str) -> Result<Vec<u8>, Fail> {
     let host = run_table_on(alloc, "run a", table, &blocks(alloc, 15)?, &[])?;
     backed_up(alloc, &image(alloc, &host, Unit(0))?)
@@ -78,7 +79,7 @@ fn backup_of_entries(alloc: Global, count: u32) -> Result<Vec<u8>, Fail> {
     backup_behind(alloc, &table)
 }
 
-/// A device of these bytes gives these lines for a fresh store and for one of 39 pages, behind the
+/// A device of these bytes gives these lines for a fresh store and for one of 39 pages, after the
 /// refusals that come first.
 fn expect_refusals(
     alloc: Global,
@@ -116,7 +117,7 @@ fn refuses_in_order(rt: HostRuntime) -> Result<(), Fail> {
     expect_all_refused(alloc, &large, &blank, &card)
 }
 
-/// Where there is no device nothing but the line is written.
+/// Where there is no device, only the line is written.
 fn expect_alone(alloc: Global, input: &[u8], line: &[u8]) -> Result<(), Fail> {
     let blank = blocks(alloc, 13)?;
     run_writing(alloc, "restore c", input, &blank, &blank, line)?;
@@ -180,8 +181,8 @@ soup 0 S => ok 0
     Ok(())
 }
 
-/// Entries of several soups that were added and removed in turn, among them all of a soup that
-/// goes.
+/// Entries of several soups that were added and removed in turn, among them all those of a soup
+/// that is dropped.
 const SEVERAL: &str = "
 format 0 Internal 7 => ok
 mount 0 => ok 7 Internal
@@ -298,8 +299,8 @@ fn restores_the_last_numbers(rt: HostRuntime) -> Result<(), Fail> {
     expect_goes_on(alloc, &card, NO_MORE)
 }
 
-/// Restores the store with an entry to 13 blank blocks, where the input and the output move at most
-/// three bytes at once, and this call fails, if there is one.
+/// Restores the store with an entry to 13 blank blocks. The input and the output move at most three
+/// bytes at once, and this call fails, if there is one.
 fn restoring(alloc: Global, failing: Option<u64>) -> Result<(Status, MemHost), Fail> {
     let mut host = over(alloc, ENTRY, &blocks(alloc, 13)?, &[])?;
     host.piece(3);
@@ -310,8 +311,8 @@ fn restoring(alloc: Global, failing: Option<u64>) -> Result<(Status, MemHost), F
     Ok((status, host))
 }
 
-/// What is written then is what was written before the call. Before the input was read to its end
-/// the device is not even attached; behind the last call of the device the store is there.
+/// What is written is then what was written before the call. Before the input was read to its end,
+/// the device is not even attached; after the last call on the device, the store is there.
 fn expect_halted(alloc: Global, sound: &MemHost, call: u64, wanted: Status) -> Result<(), Fail> {
     let (status, host) = restoring(alloc, Some(call))?;
     if sound.calls() <= call {
@@ -325,8 +326,8 @@ fn expect_halted(alloc: Global, sound: &MemHost, call: u64, wanted: Status) -> R
     expect_left(alloc, &host, wanted)
 }
 
-/// What a restoring that is halted leaves: with a fault of the input a device that is not attached,
-/// with one of the output the store.
+/// What a restoring leaves that is halted: with a fault of the input a device that is not attached,
+/// and with one of the output the store.
 fn expect_left(alloc: Global, host: &MemHost, status: Status) -> Result<(), Fail> {
     let is_left = match status {
         Status::Source => host.blocks(Unit(0)) == 0,

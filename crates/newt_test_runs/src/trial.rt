@@ -56,8 +56,8 @@ fn assert_exit(rt: &impl Abort, status: Status, number: u8) {
 }
 
 /// Where the call of a number fails, words that read the device `a` of these bytes end there: with
-/// Device where it is on the device, else with Sink. What was written is what the sound run had
-/// written before, and the device stays.
+/// `Device` where the call is on the device, and otherwise with `Sink`. They have written what the
+/// sound run had written before, and the device stays.
 fn expect_reading_halted(
     alloc: Global,
     text: &str,
@@ -84,7 +84,7 @@ fn expect_reading_halted(
     Ok(())
 }
 
-/// The same of each call of a run of these words.
+/// The same for each call of a run of these words.
 pub fn expect_reading_halts(alloc: Global, text: &str, bytes: &[u8]) -> Result<(), Fail> {
     let mut sound = over(alloc, b"", bytes, &[])?;
     sound.piece(40);

@@ -219,7 +219,7 @@ tags 0 S => ok labels work home
 indexes 0 S => ok k:string:ascend, n.x:int:descend l:symbol:ascend c:char:ascend
 ";
 
-/// What the first of two devices of 13 blocks holds behind a table, where it held these bytes and
+/// What the first of two devices of 13 blocks holds after a table, where it held these bytes and
 /// the other one is blank.
 fn left_by(alloc: Global, table: &str, bytes: &[u8]) -> Result<Vec<u8>, Fail> {
     let blank = blocks(alloc, 13)?;
@@ -280,7 +280,7 @@ const PICKS: [Pick; 6] = [
     Pick::Fill(255),
 ];
 
-/// A first change of an old image, and what is asked behind a stop.
+/// A first change of an old image, and what is asked after a stop.
 const FIRST: &[u8] = b"mount 0\ninfo 0 S {ver: 2}\n";
 
 const ASK: &[u8] = b"mount 0
@@ -306,7 +306,7 @@ fn version_behind(looks: &Looks, lines: usize) -> u8 {
 }
 
 /// A stop at each device call of the first change leaves the store before it, in version 1, or the
-/// store behind it, in version 2.
+/// store after it, in version 2.
 #[test]
 fn a_stop_within_the_first_change_loses_nothing(rt: HostRuntime) -> Result<(), Fail> {
     let alloc = rt.alloc();

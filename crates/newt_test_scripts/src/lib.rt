@@ -1,5 +1,5 @@
 //! Whole runs over a host in memory: what the tests of runs share. Scripts stand with their replies
-//! in tables, and a call answers a test's failure where something is not as it should be. No test
+//! in tables. A call answers a test's failure where something is not as it should be. No test
 //! stands here. The contracts say what the top call needs of a host, and that a run which passes
 //! has written what was wanted.
 #![tactic(auto)]

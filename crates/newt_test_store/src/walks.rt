@@ -33,7 +33,7 @@ fn id_of(found: &Option<(&Key, Uid)>) -> Option<u32> {
     }
 }
 
-/// The id behind an entry's in a range, by the key of its graph.
+/// The id after an entry's in a range, by the key of its graph.
 fn id_behind(
     alloc: Global,
     range: &Index,
@@ -66,7 +66,7 @@ fn walked(
     }
 }
 
-/// The index of the soup of signature 0 by its number, and none for `id`.
+/// The index of the soup of signature 0 by its number; none for `id`.
 fn index_at<'a>(specs: &'a [IndexSpec], by: &str) -> Result<Option<&'a IndexSpec>, Fail> {
     if by == "id" {
         return Ok(None);

@@ -1,5 +1,5 @@
-//! Small streams: what is read has its two texts, the written one and the flat one, and what is
-//! refused is refused for its reason. What is cut off anywhere is malformed.
+//! Small streams. What is read has its two texts, the written one and the flat one, and what is
+//! refused is refused for its reason. A stream that is cut off anywhere is malformed.
 use crate::tables::expect_answers;
 use std::test::Fail;
 
@@ -109,7 +109,7 @@ fn rectangles_are_written_small(rt: HostRuntime) -> Result<(), Fail> {
     expect_answers(rt.alloc(), RECTANGLES)
 }
 
-/// Bytes that spell no graph, or one but for a flag.
+/// Bytes that spell no graph, or spell one but for a flag.
 const REFUSED: &str = "
 # No bytes, the version alone, another version, a tag that there is none of.
 00*0 => malformed
