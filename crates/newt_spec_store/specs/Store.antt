@@ -1,14 +1,16 @@
--- A store as a plain value, and the changes of it. Stores, soups, entries, their names and signatures are Newton's (Newton Programmer's Guide 2.0, data
--- storage and retrieval). This project's own is that entry ids and soup signatures rise from 0 and are never used again, that an entry's id and time
--- stand beside its frame, and that a tags declaration names a path and symbols.
+-- A store as a plain value, and the changes of it. Stores, soups, entries, their names and
+-- signatures are Newton's (Newton Programmer's Guide 2.0, data storage and retrieval). Three rules
+-- are this project's own. Entry ids and soup signatures rise from 0 and are never used again. An
+-- entry's id and time stand beside its frame. A tags declaration names a path and symbols.
 use Rattle.std.specs.Prelude.{ℕ, ◌+◌, Bool, ◌==◌, List, [], ◌∷◌, ◌++◌, filter, length, Option, None, Some, option_and_then, cond, not}
 use Rattle.std.specs.List.{find}
 use Rattle.newt_base.specs.Names.{equal_text}
 use Rattle.newt_graph.specs.Graph.{RawGraph}
 use Rattle.newt_spec_store.specs.Keys.{IndexSpec, Path, paths_of, same_paths}
 
--- an entry: its id, the minute of its last change, and its frame. Minutes are counted from midnight of 1 January 1904.
--- (Newton Programmer's Guide 2.0, entries; that id and time stand beside the frame is this project's own)
+-- An entry: its id, the minute of its last change, and its frame. Minutes are counted from midnight
+-- of 1 January 1904. (Newton Programmer's Guide 2.0, entries; that id and time stand beside the
+-- frame is this project's own)
 pub record Entry : Type 0 where
   pub uid : ℕ
   pub time : ℕ
@@ -19,8 +21,9 @@ pub record TagTable : Type 0 where
   pub path : Path
   pub symbols : List (List ℕ)
 
--- a soup: its name, its signature, the id of the next entry, its indexes and tags declaration, its info frame or none, and its entries in order of making
--- (Newton Programmer's Guide 2.0, soups; its signature and next id are this project's own)
+-- A soup: its name and signature, the id of its next entry, its indexes, its tags declaration and
+-- info frame, and its entries in order of making. The declaration and the info frame may be
+-- missing. (Newton Programmer's Guide 2.0, soups; its signature and next id are this project's own)
 pub record Soup : Type 0 where
   pub name : List ℕ
   pub sig : ℕ
@@ -30,8 +33,8 @@ pub record Soup : Type 0 where
   pub info : Option RawGraph
   pub entries : List Entry
 
--- a store: its name, its signature, the signature of the next soup, and its soups in order of making
--- (Newton Programmer's Guide 2.0, stores; the signatures are this project's own)
+-- a store: its name, its signature, the signature of the next soup, and its soups in order of
+-- making (Newton Programmer's Guide 2.0, stores; the signatures are this project's own)
 pub record Store : Type 0 where
   pub name : List ℕ
   pub sig : ℕ
@@ -61,8 +64,8 @@ change_soup name change s = record s { soups = change_first (λ p. equal_text p.
 abbrev pub change_entry : ℕ → (Entry → Entry) → Soup → Soup
 change_entry uid change p = record p { entries = change_first (λ e. e.uid == uid) change p.entries }
 
--- a new soup at the end, with the next signature, no indexes, no tags, no info and no entries
--- (Newton Programmer's Guide 2.0, soups; the signature that it gets is this project's own)
+-- a new soup at the end, with the next signature; it has no indexes, tags, info or entries (Newton
+-- Programmer's Guide 2.0, soups; the signature that it gets is this project's own)
 abbrev pub make_soup : List ℕ → Store → Store
 make_soup name s =
     let soup : Soup = record { name = name; sig = s.next_soup; next_uid = 0; specs = []; tags = None; info = None; entries = [] } in
@@ -72,7 +75,8 @@ make_soup name s =
 abbrev pub drop_soup : List ℕ → Store → Store
 drop_soup name s = record s { soups = filter (λ p. not (equal_text p.name name)) s.soups }
 
--- a new entry at the end, with the next id (Newton Programmer's Guide 2.0, entries; the id that it gets is this project's own)
+-- a new entry at the end, with the next id (Newton Programmer's Guide 2.0, entries; the id that it
+-- gets is this project's own)
 abbrev pub add_entry : ℕ → RawGraph → Soup → Soup
 add_entry time graph p =
     let entry : Entry = record { uid = p.next_uid; time = time; graph = graph } in
@@ -106,7 +110,8 @@ with_info info p = record p { info = info }
 abbrev pub new_store : List ℕ → ℕ → Store
 new_store name sig = record { name = name; sig = sig; next_soup = 0; soups = [] }
 
--- ---- soups by their signatures: a well-formed store has one soup of a name and one of a signature, so both find the same
+-- ---- soups by their signatures: a well-formed store has one soup of a name and one of a
+-- signature, so both find the same
 
 -- the soup of this signature (this project's own)
 abbrev pub soup_of : ℕ → Store → Option Soup
@@ -116,12 +121,12 @@ soup_of sig s = find (λ p. p.sig == sig) s.soups
 abbrev pub entry_at : ℕ → ℕ → Store → Option Entry
 entry_at sig uid s = option_and_then (entry_of uid) (soup_of sig s)
 
--- how many entries a soup has, none where there is no soup (a word of these definitions)
+-- how many entries a soup has; 0 where there is no soup (a word of these definitions)
 abbrev pub count_in : Option Soup → ℕ
 count_in None = 0
 count_in (Some p) = length p.entries
 
--- the id that the next entry of a soup gets, 0 where there is no soup (a word of these definitions)
+-- the id that the next entry of a soup gets; 0 where there is no soup (a word of these definitions)
 abbrev pub next_uid_of : Option Soup → ℕ
 next_uid_of None = 0
 next_uid_of (Some p) = p.next_uid
