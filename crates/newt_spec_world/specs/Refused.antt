@@ -1,5 +1,5 @@
--- What each command is refused for: a test for each refusal, and the table of the tests in the order in which they are tried. Numbers, words and order of the
--- refusals are this project's own.
+-- What each command is refused for: a test for each refusal, and the table of the tests in the
+-- order in which they are tried. Numbers, words and order of the refusals are this project's own.
 use Rattle.std.specs.Prelude.{ℕ, ◌+◌, Bool, true, false, not, ◌||◌, ◌&&◌, ◌==◌, nat_lt, nat_le, List, [], ◌∷◌, map, length, Option, Some, None, is_some, is_none}
 use Rattle.std.specs.List.{list_all, list_any}
 use Rattle.newt_base.specs.declared.Refusal.{Refusal}
@@ -137,7 +137,7 @@ set_too_large w u s uid path g = (Size, after_set w u s uid path g (λ h. nat_lt
 abbrev pub no_large : World → ℕ → List ℕ → ℕ → Path → Check
 no_large w u s uid path = (NoPath, on_some (entry_in w u s uid) (λ e. is_none (large_at e.graph path)))
 
--- the range ends behind the large binary (this project's own)
+-- the range ends after the end of the large binary (this project's own)
 abbrev pub out_of_range : World → ℕ → List ℕ → ℕ → Path → ℕ → Check
 out_of_range w u s uid path upto = (Range, on_some (entry_in w u s uid) (λ e. nat_lt (length (large_bytes e.graph path)) upto))
 
@@ -169,7 +169,7 @@ index_limit w u s = (Limit, on_some (soup_in w u s) (λ p. nat_le 16 (length p.s
 abbrev pub no_soup_anywhere : World → List ℕ → Check
 no_soup_anywhere w name = (NoSoup, not (list_any (λ m. is_some (soup_in w m.0 name)) (mounted w)))
 
--- the literal has not the form of a query (this project's own)
+-- the literal does not have the form of a query (this project's own)
 abbrev pub bad_query : RawGraph → Check
 bad_query g = (BadSpec, not (is_query g))
 
