@@ -46,8 +46,8 @@ abbrev pub put_copy : Option ℕ → Option Copy → List (Option Copy) → List
 put_copy n None ks = ks
 put_copy n (Some k) ks = put_at n k ks
 
--- the copy of the entry as it is now, with no edits; as it was where the entry is not there
--- (this project's own)
+-- the copy begun anew from the entry as it is now; as it was where the entry is not there (this
+-- project's own)
 abbrev pub reverted : Whole → Copy → Copy
 reverted h k = elim (living h k) [ None ↦ k | Some s ↦ rebased s.entry.time s.entry.graph k ]
 
@@ -96,14 +96,15 @@ abbrev pub time_now : Whole → ℕ → Reply
 time_now h n =
     or_nil (λ (s : Spot). Reply.changed s.entry.time) (option_and_then (living h) (copy h n))
 
--- a refusal; that an entry has changed is told with its present time (this project's own)
+-- the reply to a refusal; where the entry has changed, its present time stands there too (this
+-- project's own)
 abbrev pub refusal_reply : Whole → Command → Refusal → Reply
 refusal_reply h (command.Save n) Changed = time_now h n
 refusal_reply h c r = Reply.refused r
 
 -- ---- one command, and a run of them
 
--- refused, the whole stays as it is (this project's own)
+-- a command that is refused leaves the whole as it is (this project's own)
 abbrev pub whole_answered : Whole → Command → Option Refusal → Whole × Reply
 whole_answered h c (Some refusal) = (h, refusal_reply h c refusal)
 whole_answered h c None = let v = whole_after h c in (v, whole_fields h v c)

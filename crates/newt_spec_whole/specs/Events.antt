@@ -1,5 +1,6 @@
--- The notes of each command. That a change of a soup is told with what was done is Newton's (Newton
--- Programmer's Guide 2.0, soup change notification); which commands tell what is this project's own.
+-- The notes of each command. That a note of a soup says what was done is Newton's (Newton
+-- Programmer's Guide 2.0, soup change notification). Which commands give which notes is this
+-- project's own.
 use Rattle.std.specs.Prelude.{ℕ, List, [], ◌∷◌, Option, Some, None, option_map, unwrap_or}
 use Rattle.newt_notify.specs.declared.note.Note.{Note}
 use Rattle.newt_notify.specs.declared.note.Kind.{Kind}
@@ -55,7 +56,8 @@ abbrev pub events_of : World → Option Command → List Event
 events_of w None = []
 events_of w (Some c) = events w c
 
--- each watch of its soup's name takes a note, one after another (this project's own)
+-- the watches after these notes, one after another; a watch of the soup's name takes the note (this
+-- project's own)
 abbrev pub note_all : List Event → List (Option Watching) → List (Option Watching)
 note_all [] ws = ws
 note_all (e ∷ es) ws = note_all es (noted e.0 e.1 ws)
