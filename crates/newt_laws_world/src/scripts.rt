@@ -15,7 +15,8 @@ pub fn commands_have_their_forms()
         → Each ItemHasForm (items_of rs script) }
 {}
 
-/// What holds of a world holds of all later worlds of a script.
+/// What holds of a world holds of all later worlds of a script: its stores are valid, its cursors
+/// show the present keys, and no two mounted stores have one signature.
 pub fn scripts_keep_all()
     ensures valid { (w : World) (items : List IsItem) → AllValid w → Each ItemHasForm items
         → AllValid (world_after answer w items) }
