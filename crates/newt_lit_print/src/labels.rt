@@ -9,7 +9,7 @@ ghost use Rattle.newt_graph.specs.declared.node.Ref.TheVariants as refs;
 use newt_graph::{Node, Ref};
 use std::alloc::{AllocError, Global};
 
-/// How many references lead to a node.
+/// How many references lead to a node, counted up to two.
 #[derive(Clone, Copy)]
 pub enum Meetings {
     None,
@@ -18,7 +18,7 @@ pub enum Meetings {
 }
 
 impl Meetings {
-    /// With one reference more.
+    /// With one more reference.
     fn more(self) -> Meetings
         ensures { result ≡ met self }
     {
