@@ -26,13 +26,13 @@ ghost use Rattle.newt_spec_world.specs.declared.command.Command.TheVariants as c
 
 /// A crash comes after k replies have begun, and the unit had a store then, or one of two. What the
 /// crash leaves of the unit is read as a later state of one of these stores, whatever cards fail.
+/// So it is in a run of a script over the devices of names (`run`). So it is in a run whose replies
+/// are counted, from its start on (`counted`), and of the stores after all of it, once a byte of
+/// the summary is out (`summed`). So it is in the rows of any run, where a crash leaves the unit as
+/// after m of them, or one more (`rows`).
 ///
-/// - `run`: in a run of a script over the devices of names.
-/// - `counted`: in a run whose replies are counted, from its start on.
-/// - `summed`: the same, of the stores after all of it, where a byte of the summary is out.
-/// - `rows`: in the rows of any run, where a crash leaves the unit as after m of them, or one more.
-/// - `made`: of an image that is read as a store, of that store. Such is what a crash leaves on a
-///   device to which a store was restored, after a byte of the reply is out.
+/// Of an image that is read as a store it is so of that store (`made`). Such an image is what a
+/// crash leaves on a device to which a store was restored, once a byte of the reply is out.
 pub fn crashes_leave_later_stores()
     ensures run { (reads : List ℕ → Option Store) (limit : ℕ)
         (result : Result (Unit {0}) IsHalt) (names : List (List ℕ)) (old new : Outside)
