@@ -19,12 +19,15 @@ word_at at bytes = from_be_bytes w32 (take 4 (drop at bytes))
 abbrev pub object_id : List ℕ → ℕ
 object_id page = word_at 0 page
 
+-- the number of the part
 abbrev pub part_number : List ℕ → ℕ
 part_number page = word_at 4 page
 
+-- the length of the object
 abbrev pub object_length : List ℕ → ℕ
 object_length page = word_at 8 page
 
+-- the data of the page
 abbrev pub page_data : List ℕ → List ℕ
 page_data page = drop 12 page
 
