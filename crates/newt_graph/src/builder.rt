@@ -111,7 +111,7 @@ impl Builder {
         Ok(n as u32)
     }
 
-    /// Puts a node in the place of node n, as of one that was held. A frame has a value for each
+    /// Puts a node in the place of node n, as for one that was held. A frame has a value for each
     /// tag.
     #[tactic(auto, unfolding(crate::specs::Draft::with_filled))]
     pub fn fill(&mut self, n: u32, node: Node) -> Result<(), GraphFault>

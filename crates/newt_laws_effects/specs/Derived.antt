@@ -136,7 +136,7 @@ abbrev pub tests_on : Change → ℕ → Option Device → Checks
 tests_on c now None = []
 tests_on c now (Some d) = elim (store_of d.media) [ None ↦ [] | Some s ↦ refusals c d.blocks now s ]
 
--- the tests of all changes, each on the store before them (this project's own)
+-- the tests of all changes, each on the stores before all of them (this project's own)
 abbrev pub tests_of : World → List Effect → Checks
 tests_of w [] = []
 tests_of w (e ∷ es) = tests_on e.change w.minute (device w e.unit) ++ tests_of w es

@@ -47,8 +47,8 @@ pub fn entries_are_located()
         (looked_up (mounted_stores w) q at.store at.soup at.uid) }
 {}
 
-/// A command that moves no key leaves nothing to settle. Most commands are such, those on cursors
-/// among them.
+/// In a settled world, a command that moves no key leaves nothing to settle. Most commands are
+/// such, those on cursors among them.
 pub fn few_commands_settle()
     ensures { (w : World) (c : IsCommand) → AllValid w → MountedApart w → IsSettled w
         → moves_keys c ≡ false

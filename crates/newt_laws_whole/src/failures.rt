@@ -33,9 +33,9 @@ pub fn watches_get_the_notes_of_steps()
 {}
 
 /// A step that gives no note of a name leaves the entries of the soup of this name, in each store
-/// that a unit has or may have. Where the reply says that this unit's device failed, that unit may
-/// still have each store that it may have had. A run in which this unit's device does not fail
-/// leaves the entries as such a step does.
+/// that a unit has or may have, unless the reply says that this unit's device failed. A unit whose
+/// device failed may still have each store that it may have had. A run in which the device of a
+/// unit does not fail leaves the entries there as such a step does.
 pub fn what_changes_is_told_whatever_fails()
     ensures step { (h : Whole) (c : IsCommand) (v : Whole) (r : Reply) (name : List ℕ) (u : ℕ)
         (s : Store) → WholeStep h c v r → told_to name (told_by h c v.world r) ≡ []

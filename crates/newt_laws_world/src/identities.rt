@@ -30,7 +30,8 @@ pub fn removed_is_gone()
         → soup_named name s ≡ Some p → SoupGone p.sig (drop_soup name s) }
 {}
 
-/// An alias resolves to the entry of its signatures and id, and never to one that is gone.
+/// An alias resolves to the entry of its signatures and id, and to none on a unit where that entry
+/// is gone.
 pub fn aliases_name_their_entry()
     ensures sound { (w : World) (a : IsAlias) (spot : Spot) → resolved w a ≡ Some spot
         → IsNamed w a spot }

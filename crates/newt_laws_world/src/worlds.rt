@@ -23,7 +23,8 @@ pub fn worlds_stay_settled()
     ensures { (w : World) (c : IsCommand) → IsSettled w → IsSettled (answer w c).0 }
 {}
 
-/// A command that moves no key leaves nothing to settle. Most commands are such.
+/// In a settled world, a command that moves no key leaves nothing to settle. Most commands are
+/// such.
 pub fn few_commands_move_keys()
     ensures { (w : World) (c : IsCommand) → AllValid w → MountedApart w → IsSettled w
         → moves_keys c ≡ false → IsSettled (changed w c) }
@@ -34,8 +35,9 @@ pub fn signatures_stay_apart()
     ensures { (w : World) (c : IsCommand) → MountedApart w → MountedApart (answer w c).0 }
 {}
 
-/// What holds of a world holds of all later worlds of its run: its stores are valid, its cursors
-/// show the present keys, and no two mounted stores have one signature.
+/// What holds of a world holds of all later worlds of its run. Its stores are valid, where the
+/// words of the commands have their forms. Its cursors show the present keys. No two mounted stores
+/// have one signature.
 pub fn runs_keep_all()
     ensures valid { (w : World) (cs : List IsCommand) → AllValid w
         → Each (λ c. IsTrue (has_form c)) cs → AllValid (after w cs) }

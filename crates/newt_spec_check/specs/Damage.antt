@@ -160,8 +160,8 @@ module _ (graph_of : List ℕ → Option RawGraph) (version : ℕ) (objects : Ob
   abbrev pub is_bad_record : Store → ℕ × List ℕ → Bool
   is_bad_record d o = is_odd o && not (is_sound d o.0 (entry_of o))
 
-  -- entry: the least odd id that fails one of these tests. Its record is read as an entry. A soup
-  -- of the directory has given the entry's id. No record with a smaller id names the entry.
+  -- entry: the least odd id whose object fails one of these tests. Its record is read as an entry.
+  -- A soup of the directory has given the entry's id. No record with a smaller id names the entry.
   abbrev pub bad_entry : Option ℕ
   bad_entry = option_and_then (λ d. first_object (is_bad_record d) objects) directory_in
 

@@ -23,6 +23,6 @@ pub enum Layer {
     Entry,
     /// A large binary is not named exactly once.
     Large,
-    /// The objects take more pages than the unit has.
+    /// The objects take more pages than the unit may have.
     Cost,
 }

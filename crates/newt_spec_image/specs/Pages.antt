@@ -63,7 +63,7 @@ abbrev pub deletes_from : ℕ → List ℕ → List ℕ
 deletes_from zero bytes = []
 deletes_from (suc n) bytes = word_at 0 bytes ∷ deletes_from n (drop 4 bytes)
 
--- The change that a payload spells: the numbers of its puts and of its deletes in two bytes each,
+-- The change that a payload spells: how many puts and how many deletes it has, in two bytes each,
 -- then the puts, then the deletes.
 abbrev pub said_by : List ℕ → Change
 said_by payload = record {

@@ -191,8 +191,8 @@ pub data Bound : Type 0 where
   excluding : Key → Bound
 
 -- What a query says: its index, empty where it asks for none; the ends of its range; its tags; its
--- words and texts, folded; and whether its words are entire. (Newton Programmer's Guide 2.0, query
--- specs)
+-- words and texts, folded; and whether its words must be entire words. (Newton Programmer's Guide
+-- 2.0, query specs)
 pub record Spec : Type 0 where
   pub index : IndexSpec
   pub lower : Bound

@@ -72,7 +72,7 @@ soup_bytes p =
 abbrev pub directory_bytes : Store → List ℕ
 directory_bytes s = text_bytes s.name ++ be32 s.sig ++ be16 s.next_soup ++ counted soup_bytes s.soups
 
--- ---- pages
+-- ---- numbers of pages
 
 -- the length of a large binary, none of another node (a word of these definitions)
 abbrev pub large_length : Node → List ℕ
@@ -84,7 +84,7 @@ large_length _ = []
 abbrev pub large_lengths : RawGraph → List ℕ
 large_lengths g = flat_map large_length g.nodes
 
--- the bytes of the flat text of a graph without the bytes of its large binaries (this project's
+-- how many bytes the flat text of a graph has without those of its large binaries (this project's
 -- own)
 abbrev pub skeleton_length : RawGraph → ℕ
 skeleton_length g = length (flat (skeleton g))

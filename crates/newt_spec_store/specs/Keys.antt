@@ -99,8 +99,8 @@ key g spec = if_first_is_there (map (λ p. part_of g.nodes p.kind (value_at g p.
 
 -- ---- the order of keys
 
--- A number for each form of part. Two parts at one place of an index have one form where they are
--- there, so this order is seen nowhere else. (this project's own)
+-- A number for each form of part, which orders parts of different forms. Two parts at one place of
+-- an index have one form where they are there, so it decides nothing there. (this project's own)
 abbrev pub form : Part → ℕ
 form missing = 0
 form (words _) = 1

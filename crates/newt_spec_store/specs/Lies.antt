@@ -82,8 +82,8 @@ pub record AreLarges (objects : Objects) (g : RawGraph) (ids : List ℕ) : Type 
 -- How a store lies in objects. The directory is object 0. The record of each entry is the object of
 -- its place, which has an odd id, and names the objects of the entry's large binaries. No object is
 -- named by two records. There are no other objects, no other places and no other names. Info frames
--- and skeletons are in normal form, and a minute fits in four bytes. `named` gives the ids that the
--- record of an object names. (this project's own)
+-- and skeletons are in normal form, and the minute of each entry fits in four bytes. `named` gives
+-- the ids that the record of an object names. (this project's own)
 pub record LiesIn (objects : Objects) (place : Places) (s : Store) : Type 0 where
   pub named : ℕ → List ℕ
   pub directory : map.get objects 0 ≡ Some (directory_bytes s)

@@ -54,7 +54,7 @@ valid_soup p =
 
 -- A store, but for its cost: its name has the form of one, and its signature is at most
 -- 536,870,911. It has at most 250 soups. Their signatures rise and are below the next one, which is
--- at most 65,535. Their names are distinct, and each of them is valid. (this project's own)
+-- at most 65,535. Their names are distinct, and each soup is valid. (this project's own)
 abbrev pub well_formed : Store → Bool
 well_formed s =
     is_name s.name && nat_le s.sig 536_870_911 && nat_le s.next_soup 65_535 && nat_le (length s.soups) 250
