@@ -43,19 +43,19 @@ abbrev pub passing : Check → Resolved → Resolved
 passing (r, true) go = Err r
 passing (r, false) go = go
 
--- the store that is mounted on a unit (this project's own)
+-- goes on with the store that is mounted on a unit (this project's own)
 abbrev pub in_store : World → ℕ → (Store → Resolved) → Resolved
 in_store w u go = needs NoUnit (device w u) (λ d. needs Notmounted (store_if_mounted d) go)
 
--- the soup of a name in it (this project's own)
+-- goes on with the soup of a name in that store (this project's own)
 abbrev pub in_soup : World → ℕ → List ℕ → (Soup → Resolved) → Resolved
 in_soup w u name go = in_store w u (λ s. needs NoSoup (soup_named name s) go)
 
--- an entry of that soup (this project's own)
+-- goes on with an entry of that soup (this project's own)
 abbrev pub in_entry : World → ℕ → List ℕ → ℕ → (Soup → Entry → Resolved) → Resolved
 in_entry w u name uid go = in_soup w u name (λ p. needs NoEntry (entry_of uid p) (go p))
 
--- the soup of a name in the default store (this project's own)
+-- goes on with the soup of a name in the default store (this project's own)
 abbrev pub in_default : World → List ℕ → (Soup → Resolved) → Resolved
 in_default w name go =
     needs Notmounted (mounted_store w (default_unit w)) (λ s. needs NoSoup (soup_named name s) go)
@@ -66,14 +66,14 @@ abbrev pub both : {X Y : Type 0} → Refusal → Option X → Option Y → (X �
 both r (Some x) (Some y) go = go x y
 both r x y go = Err r
 
--- two soups, on units that may be one (this project's own)
+-- goes on with two soups, on units that may be one (this project's own)
 abbrev pub in_both : World → ℕ → List ℕ → ℕ → List ℕ → (Soup → Soup → Resolved) → Resolved
 in_both w u name v target go =
     both NoUnit (device w u) (device w v) (λ a b.
     both Notmounted (store_if_mounted a) (store_if_mounted b) (λ s t.
     both NoSoup (soup_named name s) (soup_named target t) go))
 
--- one change (a word of these definitions)
+-- one change of the store of a unit (a word of these definitions)
 abbrev pub one : ℕ → Change → Resolved
 one u c = Ok (record { unit = u; change = c } ∷ [])
 

@@ -108,7 +108,7 @@ and_bytes reader cs = with_bytes (reader cs)
 abbrev pub alone : {A : Type 0} → A → Reader A
 alone a cs = Ok (a, cs)
 
--- symbols of which no two are one (this project's own)
+-- symbols, no two of which are one (this project's own)
 abbrev pub if_distinct : Result (List (List ℕ) × List ℕ) Refusal
     → Result (List (List ℕ) × List ℕ) Refusal
 if_distinct (Err r) = Err r

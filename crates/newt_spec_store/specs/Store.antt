@@ -51,38 +51,38 @@ soup_named name s = find (λ p. equal_text p.name name) s.soups
 abbrev pub entry_of : ℕ → Soup → Option Entry
 entry_of uid p = find (λ e. e.uid == uid) p.entries
 
--- the first element that passes the test, changed (a word of these definitions)
+-- the list with the first element that passes the test changed (a word of these definitions)
 abbrev pub change_first : {X : Type 0} → (X → Bool) → (X → X) → List X → List X
 change_first test change [] = []
 change_first test change (x ∷ xs) = cond (test x) (change x ∷ xs) (x ∷ change_first test change xs)
 
--- the soup of this name, changed (a word of these definitions)
+-- the store with the soup of this name changed (a word of these definitions)
 abbrev pub change_soup : List ℕ → (Soup → Soup) → Store → Store
 change_soup name change s = record s { soups = change_first (λ p. equal_text p.name name) change s.soups }
 
--- the entry of this id, changed (a word of these definitions)
+-- the soup with the entry of this id changed (a word of these definitions)
 abbrev pub change_entry : ℕ → (Entry → Entry) → Soup → Soup
 change_entry uid change p = record p { entries = change_first (λ e. e.uid == uid) change p.entries }
 
--- a new soup at the end, with the next signature; it has no indexes, tags, info or entries (Newton
--- Programmer's Guide 2.0, soups; the signature that it gets is this project's own)
+-- the store with a new soup at the end, of the next signature; it has no indexes, tags, info or
+-- entries (Newton Programmer's Guide 2.0, soups; the signature that it gets is this project's own)
 abbrev pub make_soup : List ℕ → Store → Store
 make_soup name s =
     let soup : Soup = record { name = name; sig = s.next_soup; next_uid = 0; specs = []; tags = None; info = None; entries = [] } in
     record s { next_soup = s.next_soup + 1; soups = s.soups ++ soup ∷ [] }
 
--- the soup of this name is gone with its entries (Newton Programmer's Guide 2.0, soups)
+-- the store without the soup of this name and its entries (Newton Programmer's Guide 2.0, soups)
 abbrev pub drop_soup : List ℕ → Store → Store
 drop_soup name s = record s { soups = filter (λ p. not (equal_text p.name name)) s.soups }
 
--- a new entry at the end, with the next id (Newton Programmer's Guide 2.0, entries; the id that it
--- gets is this project's own)
+-- the soup with a new entry at the end, of the next id (Newton Programmer's Guide 2.0, entries; the
+-- id that it gets is this project's own)
 abbrev pub add_entry : ℕ → RawGraph → Soup → Soup
 add_entry time graph p =
     let entry : Entry = record { uid = p.next_uid; time = time; graph = graph } in
     record p { next_uid = p.next_uid + 1; entries = p.entries ++ entry ∷ [] }
 
--- the entry of this id is gone (Newton Programmer's Guide 2.0, entries)
+-- the soup without the entry of this id (Newton Programmer's Guide 2.0, entries)
 abbrev pub remove_entry : ℕ → Soup → Soup
 remove_entry uid p = record p { entries = filter (λ e. not (e.uid == uid)) p.entries }
 
@@ -90,19 +90,19 @@ remove_entry uid p = record p { entries = filter (λ e. not (e.uid == uid)) p.en
 abbrev pub with_graph : ℕ → RawGraph → Entry → Entry
 with_graph time graph e = record e { time = time; graph = graph }
 
--- the declaration of an index is appended (Newton Programmer's Guide 2.0, indexes)
+-- the soup with the declaration of an index appended (Newton Programmer's Guide 2.0, indexes)
 abbrev pub with_index : IndexSpec → Soup → Soup
 with_index spec p = record p { specs = p.specs ++ spec ∷ [] }
 
--- the declaration of these paths is removed (Newton Programmer's Guide 2.0, indexes)
+-- the soup without the declaration of these paths (Newton Programmer's Guide 2.0, indexes)
 abbrev pub without_index : List Path → Soup → Soup
 without_index paths p = record p { specs = filter (λ spec. not (same_paths (paths_of spec) paths)) p.specs }
 
--- the tags declaration is this one, or none (this project's own)
+-- the soup with this tags declaration, or with none (this project's own)
 abbrev pub with_tags : Option TagTable → Soup → Soup
 with_tags tags p = record p { tags = tags }
 
--- the info frame is this one, or none (Newton Programmer's Guide 2.0, soups)
+-- the soup with this info frame, or with none (Newton Programmer's Guide 2.0, soups)
 abbrev pub with_info : Option RawGraph → Soup → Soup
 with_info info p = record p { info = info }
 
@@ -131,18 +131,18 @@ abbrev pub next_uid_of : Option Soup → ℕ
 next_uid_of None = 0
 next_uid_of (Some p) = p.next_uid
 
--- the soup of this signature, changed (this project's own)
+-- the store with the soup of this signature changed (this project's own)
 abbrev pub change_soup_of : ℕ → (Soup → Soup) → Store → Store
 change_soup_of sig change s = record s { soups = change_first (λ p. p.sig == sig) change s.soups }
 
--- the soup of this signature is gone (this project's own)
+-- the store without the soup of this signature (this project's own)
 abbrev pub without_soup : ℕ → Store → Store
 without_soup sig s = record s { soups = filter (λ p. not (p.sig == sig)) s.soups }
 
--- the next entry id of a soup is taken (this project's own)
+-- the soup after its next entry id was taken (this project's own)
 abbrev pub uid_taken : Soup → Soup
 uid_taken p = record p { next_uid = p.next_uid + 1 }
 
--- the next entry id of the soup of this signature is taken (this project's own)
+-- the store after the next entry id of the soup of this signature was taken (this project's own)
 abbrev pub take_uid_of : ℕ → Store → Store
 take_uid_of sig s = record s { soups = change_first (λ p. p.sig == sig) uid_taken s.soups }

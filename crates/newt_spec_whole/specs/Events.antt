@@ -23,16 +23,17 @@ soup_sig w u name = unwrap_or (option_map (λ p. p.sig) (soup_in w u name)) 0
 abbrev pub next_sig : World → ℕ → ℕ
 next_sig w u = unwrap_or (option_map (λ s. s.next_soup) (mounted_store w u)) 0
 
--- a soup of this name is made, or dropped (this project's own)
+-- the note that a soup of this name is made, or dropped (this project's own)
 abbrev pub soup_event : Kind → ℕ → List ℕ → ℕ → Event
 soup_event kind u name sig = (name, record { kind = kind; unit = u; soup = sig; uid = 0 })
 
--- an entry of the soup of this name on a unit is changed, or removed (this project's own)
+-- the note that an entry of the soup of this name on a unit is changed, or removed (this project's
+-- own)
 abbrev pub entry_event : World → Kind → ℕ → List ℕ → ℕ → Event
 entry_event w kind u name uid =
     (name, record { kind = kind; unit = u; soup = soup_sig w u name; uid = uid })
 
--- an entry is added to it (this project's own)
+-- the note that an entry is added to that soup (this project's own)
 abbrev pub add_event : World → ℕ → List ℕ → Event
 add_event w u name = entry_event w Add u name (new_uid w u name)
 

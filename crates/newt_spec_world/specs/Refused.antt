@@ -77,7 +77,7 @@ soup_exists w u name = (Exists, is_some (soup_in w u name))
 abbrev pub no_entry : World → ℕ → List ℕ → ℕ → Check
 no_entry w u name uid = (NoEntry, is_none (entry_in w u name uid))
 
--- the test of what is there, or false (a word of these definitions)
+-- the test holds of what is there; false where nothing is (a word of these definitions)
 abbrev pub on_some : {X : Type 0} → Option X → (X → Bool) → Bool
 on_some None test = false
 on_some (Some x) test = test x
