@@ -64,7 +64,7 @@ change_soup name change s = record s { soups = change_first (λ p. equal_text p.
 abbrev pub change_entry : ℕ → (Entry → Entry) → Soup → Soup
 change_entry uid change p = record p { entries = change_first (λ e. e.uid == uid) change p.entries }
 
--- the store with a new soup at the end, of the next signature; it has no indexes, tags, info or
+-- the store with a new soup at the end, with the next signature and no indexes, tags, info or
 -- entries (Newton Programmer's Guide 2.0, soups; the signature that it gets is this project's own)
 abbrev pub make_soup : List ℕ → Store → Store
 make_soup name s =
@@ -75,8 +75,8 @@ make_soup name s =
 abbrev pub drop_soup : List ℕ → Store → Store
 drop_soup name s = record s { soups = filter (λ p. not (equal_text p.name name)) s.soups }
 
--- the soup with a new entry at the end, of the next id (Newton Programmer's Guide 2.0, entries; the
--- id that it gets is this project's own)
+-- the soup with a new entry at the end, with the next id (Newton Programmer's Guide 2.0, entries;
+-- the id that it gets is this project's own)
 abbrev pub add_entry : ℕ → RawGraph → Soup → Soup
 add_entry time graph p =
     let entry : Entry = record { uid = p.next_uid; time = time; graph = graph } in
