@@ -43,8 +43,8 @@ new_in w u s g = record { uid = next_uid_of (soup_in w u s); time = w.minute; gr
 abbrev pub copied_in : World → ℕ → List ℕ → Option Entry → List Entry
 copied_in w u s e = listed (option_map (λ e. new_in w u s e.graph) e)
 
--- Which entries a command puts on a unit, that is appends or changes, and which it lets go there,
--- that is changes or removes. None where it does not write the unit's store. `w` is the world
+-- Which entries a command puts on a unit, that is appends or changes, and which of its entries go,
+-- that is are changed or removed. None where it does not write the unit's store. `w` is the world
 -- before, `v` the one after. (this project's own)
 abbrev pub touched : World → World → Command → ℕ → Option (List Entry × List Entry)
 touched w v (command.Soup t s) u = if t == u then Some ([], []) else None

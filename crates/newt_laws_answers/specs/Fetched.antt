@@ -59,7 +59,7 @@ means_entries (command.Copy t s uid x y) = true
 means_entries (command.Move t s uid x y) = true
 means_entries c = false
 
--- the pages of these entries of a unit, as far as they are there
+-- the pages of those of these entries of a unit that are there
 abbrev pub pages_there : World → ℕ → List (List ℕ × ℕ) → ℕ
 pages_there w u entries = sum_by (λ e. pages_of_entry (entry_in w u e.0 e.1)) entries
 

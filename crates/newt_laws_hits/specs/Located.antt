@@ -22,7 +22,7 @@ located stores store soup uid =
 abbrev pub takes_part : Query → Store → Soup → Bool
 takes_part q s p = in_scope q.scope s && (equal_text p.name q.name && carries q.spec.index p)
 
--- a located entry as a hit; none where it is no hit (this project's own)
+-- a located entry as a hit; none where it is not a hit (this project's own)
 abbrev pub located_hit : Query → Located → Option Hit
 located_hit q f = cond (takes_part q f.store f.soup) (hit_of q.spec f.store f.soup f.entry) None
 

@@ -1,4 +1,4 @@
-//! Laws of objects that are no store.
+//! Laws of objects that are not a store.
 ghost use Rattle.std.specs.Prelude.{ℕ, ◌≡◌, ◌≢◌, ◌⊎◌, ◌%◌, ◌<◌, List, length, sum_by, Option, Some};
 ghost use Rattle.std.specs.Prelude.{None};
 ghost use Rattle.std.specs.FinMap as map;
@@ -43,8 +43,8 @@ pub fn bad_directories_are_refused()
         → store_of graph_of version (map.entries objects) blocks ≡ Some s → ⊥ }
 {}
 
-/// Where an object with an odd id is no record, or is the record of an entry that is not given or
-/// stands twice, nothing is read.
+/// Where an object with an odd id is not a record, or is the record of an entry that is not given
+/// or stands twice, nothing is read.
 pub fn bad_records_are_refused()
     ensures unreadable { (graph_of : List ℕ → Option RawGraph) (version : ℕ) (objects : Objects)
         (blocks id : ℕ) (bytes : List ℕ) → map.get objects id ≡ Some bytes → id % 2 ≡ 1

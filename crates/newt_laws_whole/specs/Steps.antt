@@ -50,7 +50,7 @@ told_by h (command.Save n) v Reply.done = events_of h.world (asks h (command.Sav
 told_by h (command.Save n) v reply = []
 told_by h c v reply = notes_behind h.world c v reply
 
--- The world makes a step by one of the commands that this one asks in turn. (this project's own)
+-- The world makes a step by one of the commands that this command asks for. (this project's own)
 pub record WorldStep (h : Whole) (c : Command) (v : Whole) : Type 0 where
   pub asked : Command
   pub among : Among (asked_in_turn h c) asked

@@ -104,7 +104,7 @@ fn is_met_again(meetings: &[Meetings], n: usize) -> bool
 }
 
 /// The label of each node: the next number from 0 on where more than one reference leads to it and
-/// it is no symbol, else none.
+/// it is not a symbol, else none.
 pub fn labels(alloc: Global, nodes: &[Node], root: Ref) -> Result<Vec<Option<u32>>, AllocError>
     requires { length nodes.now ≤ 65535 }
     ensures { IfOk result (λ labels. labels.items ≡ printed.labels

@@ -16,7 +16,7 @@ abbrev pub Gives : {X Y : Type 0} → (X → Y) → Result X LitFault → Option
 Gives view (Ok x) read = read ≡ Some (view x)
 Gives view (Err e) read = Fails e read
 
--- a text that passes a limit of a graph is no literal
+-- a text that passes a limit of a graph is not a literal
 abbrev pub fault_of : GraphFault → LitFault
 fault_of graph.Limit = Literal
 fault_of graph.Memory = Memory

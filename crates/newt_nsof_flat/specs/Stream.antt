@@ -15,6 +15,6 @@ abbrev pub are_bytes : List ℕ → Bool
 are_bytes = list_all (λ b. nat_lt b 256)
 
 -- The graph that bytes spell in version 2 of the streamed form (Newton Formats 1.1). A list with a
--- number above 255 is no bytes, and spells none.
+-- number above 255 is not a list of bytes, and spells none.
 abbrev pub stream_graph : List ℕ → Option RawGraph
 stream_graph bytes = if are_bytes bytes then graph_in (decoded bytes) else None

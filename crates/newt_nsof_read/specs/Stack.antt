@@ -117,7 +117,7 @@ front_of wide may_open met (b ∷ rest) = tag_of b >>= allowed wide may_open met
 
 -- ---- the loop
 
--- the node of an open container is there, and it is no symbol
+-- the node of an open container is there, and it is not a symbol
 abbrev pub IsOpen : Met → Opened → Type 0
 IsOpen met o = is_other (slice_get met.nodes o.n) ≡ true
 

@@ -43,7 +43,7 @@ start_of image bank = bank_start (blocks_of image) bank
 abbrev pub behind : List ℕ → ℕ → Option (ℕ × List ℕ)
 behind image bank = versioned (bank_bytes (blocks_of image) bank image)
 
--- header: the first byte of the chosen bank, where its 16 bytes are no header
+-- header: the first byte of the chosen bank, where its first 16 bytes are not a header
 abbrev pub no_header : List ℕ → Option ℕ
 no_header image =
     option_and_then (λ bank. if_missing (start_of image bank) (behind image bank)) (chosen_bank image)
@@ -139,7 +139,7 @@ module _ (graph_of : List ℕ → Option RawGraph) (version : ℕ) (objects : Ob
   abbrev pub directory_in : Option Store
   directory_in = option_and_then (directory_read graph_of version) (object_bytes objects 0)
 
-  -- directory: object 0 is missing or is no directory
+  -- directory: object 0 is missing or is not a directory
   abbrev pub no_directory : Option ℕ
   no_directory = if_missing 0 directory_in
 

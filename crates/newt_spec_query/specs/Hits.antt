@@ -73,7 +73,7 @@ abbrev pub kept : Spec → Soup → Entry → Option Key → Option Key
 kept q p e None = None
 kept q p e (Some k) = cond (above q.index q.lower k && below q.index q.upper k && passes q p.tags e.graph) (Some k) None
 
--- an entry as a hit; none where it is no hit (a word of these definitions)
+-- an entry as a hit; none where it is not a hit (a word of these definitions)
 abbrev pub hit_of : Spec → Store → Soup → Entry → Option Hit
 hit_of q s p e =
     option_map (λ k. record { key = k; store = s.sig; soup = p.sig; uid = e.uid }) (kept q p e (key e.graph q.index))

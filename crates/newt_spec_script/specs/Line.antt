@@ -226,7 +226,7 @@ first_word cs =
 abbrev pub says_nothing : List ℕ → Bool
 says_nothing cs = elim (skip_blanks cs) [ [] ↦ true | c ∷ _ ↦ c == 37 ]
 
--- what a row reads; a word that has none is no command (this project's own)
+-- what a row reads; a word without a row is not a command (this project's own)
 abbrev pub read_row : Option Row → List ℕ → Parsed
 read_row None rest = ready (Err NoCommand)
 read_row (Some r) rest = r.1 rest

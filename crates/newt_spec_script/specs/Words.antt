@@ -19,7 +19,7 @@ use Rattle.newt_spec_world.specs.declared.command.PartWord.{PartWord}
 abbrev pub is_blank : ℕ → Bool
 is_blank c = (c == 32) || (c == 9)
 
--- a text from its first byte on that is no blank (a word of these definitions)
+-- a text from its first byte on that is not a blank (a word of these definitions)
 abbrev pub skip_blanks : List ℕ → List ℕ
 skip_blanks cs = drop (prefix_len is_blank cs) cs
 

@@ -32,7 +32,7 @@ abbrev pub valid_entry : Entry → Bool
 valid_entry e =
     is_frame (object e.graph.nodes e.graph.root) && within_limits e.graph && nat_le (skeleton_length e.graph) 64_000
 
--- the node is no large binary (a word of these definitions)
+-- the node is not a large binary (a word of these definitions)
 abbrev pub is_no_large : Node → Bool
 is_no_large (Large _ _) = false
 is_no_large node = true

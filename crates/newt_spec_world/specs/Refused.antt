@@ -101,7 +101,7 @@ full w u c =
 
 -- ---- graphs
 
--- the root of the graph is no frame (this project's own)
+-- the root of the graph is not a frame (this project's own)
 abbrev pub not_frame : RawGraph → Check
 not_frame g = (Notframe, not (is_frame (object g.nodes g.root)))
 

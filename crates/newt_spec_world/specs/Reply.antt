@@ -125,7 +125,7 @@ abbrev pub field : List ℕ → List ℕ
 field [] = []
 field (c ∷ cs) = 32 ∷ c ∷ cs
 
--- a reply that is no refusal, with its fields (this project's own)
+-- a reply that is not a refusal, with its fields (this project's own)
 abbrev pub ok : List (List ℕ) → List ℕ
 ok fields = codes "ok" ++ flat_map field fields
 
