@@ -14,9 +14,9 @@ ghost use Rattle.newt_spec_world.specs.World.{Device, Media, World, IsBlankOn, d
 ghost use Rattle.newt_spec_world.specs.World.{settle, stores_on};
 ghost use Rattle.newt_spec_world.specs.declared.command.Command.{Command as IsCommand};
 
-/// What a value stands for depends on what has happened to its devices, and on nothing else of
-/// them. A crash leaves each unit that has a store, or one of two, as one of these. Of a unit that
-/// has none it leaves the image. Of each mounted unit it is known what it holds.
+/// While the same devices are attached, what a value stands for depends only on what has happened
+/// to them. A crash leaves each unit that has a store, or one of two, as one of these. Of a unit
+/// that has none it leaves the image. Of each mounted unit it is known what it holds.
 pub fn images_tell_worlds()
     ensures kept { (reads : List ℕ → Option Store) (marks : Marks) (old new : Outside) (w : World)
         → SameCards old new → ((u : ℕ) → changes u new.now ≡ changes u old.now)
