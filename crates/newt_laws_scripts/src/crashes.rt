@@ -24,12 +24,15 @@ ghost use Rattle.newt_spec_world.specs.Reply.{Reply};
 ghost use Rattle.newt_spec_world.specs.World.{World, mounted_store, soup_in, stores_on};
 ghost use Rattle.newt_spec_world.specs.declared.command.Command.TheVariants as command;
 
-/// What a crash leaves of a unit that has a store, or one of two, behind k replies that have begun,
-/// is read as one of these stores, later, whatever cards fail. So it is of a run of a script over
-/// the devices of names; of one whose replies are counted, since its start, and once a byte of the
-/// summary is out behind all of it; and of the rows of any run, where a crash leaves the unit as
-/// behind m of them, or one more. Of an image that is read as a store it is so of that store: as of
-/// what a crash leaves on a device to which a store was restored, once a byte of the reply is out.
+/// A crash comes after k replies have begun, and the unit had a store then, or one of two. What the
+/// crash leaves of the unit is read as a later state of one of these stores, whatever cards fail.
+/// So it is in a run of a script over the devices of names (`run`). So it is in a run whose replies
+/// are counted, from its start on (`counted`), and of the stores after all of it, once a byte of
+/// the summary is out (`summed`). So it is in the rows of any run, where a crash leaves the unit as
+/// after m of them, or one more (`rows`).
+///
+/// Of an image that is read as a store it is so of that store (`made`). Such an image is what a
+/// crash leaves on a device to which a store was restored, once a byte of the reply is out.
 pub fn crashes_leave_later_stores()
     ensures run { (reads : List ℕ → Option Store) (limit : ℕ)
         (result : Result (Unit {0}) IsHalt) (names : List (List ℕ)) (old new : Outside)
@@ -60,9 +63,9 @@ pub fn crashes_leave_later_stores()
         → reads image ≡ Some s → ReadsLater reads (s ∷ []) image }
 {}
 
-/// A run over such an image has on the unit of its name's place stores that are later ones of
-/// those, in each of its worlds, whatever cards fail; and so is what a crash leaves of this run
-/// read. And since that is so of each run over the one before it, it is so of all.
+/// A run over such an image has later states of those stores on the unit of its name's place, in
+/// each of its worlds, whatever cards fail. What a crash leaves of this run is read as a later
+/// state too. Since that is so of each run over the one before it, it is so of all.
 pub fn later_runs_go_on()
     ensures worlds { (reads : List ℕ → Option Store) (before : List Store) (image : List ℕ)
         → ReadsLater reads before image → (names : List (List ℕ)) (old : Outside) (u : ℕ)
@@ -84,7 +87,7 @@ pub fn later_runs_go_on()
 {}
 
 /// An entry that is there has been given its id. An id that was given in all stores that a unit may
-/// have had is given in all later ones, where so the next one is another; and an entry or a soup
+/// have had is given in all later states of them, so the next one is another. An entry or a soup
 /// that was gone from them is gone.
 pub fn ids_outlive_crashes()
     ensures given { (s : Store) (sig uid : ℕ) → IsTrue (well_formed s) → HasEntry sig uid s
@@ -98,8 +101,8 @@ pub fn ids_outlive_crashes()
 {}
 
 /// An alias whose entry is gone from all stores that a unit may have had resolves to nothing on a
-/// unit that has later ones. One whose id was given in them resolves to an entry that was there, or
-/// to none.
+/// unit that has later states of them. An alias whose id was given in them resolves to an entry
+/// that was there, or to none.
 pub fn aliases_outlive_crashes()
     ensures gone { (before : List Store) (w : World) (u : ℕ) (a : IsAlias) (spot : Spot)
         → Each (EntryGone a.soup a.uid) before → StoresLater before (stores_on w u)
@@ -110,8 +113,8 @@ pub fn aliases_outlive_crashes()
         → (s : Store) × Among before s × HasEntry a.soup a.uid s }
 {}
 
-/// In every world of a run of a script, whatever cards fail, all is sound that was so at the start:
-/// over images that are read as valid stores.
+/// Each world of a run of a script is sound, whatever cards fail, where all images that are read as
+/// stores are read as valid ones.
 pub fn worlds_of_runs_are_sound()
     ensures run { (reads : List ℕ → Option Store) → ((image : List ℕ) (s : Store)
         → reads image ≡ Some s → IsTrue (valid (blocks_of image) s)) → (limit : ℕ)
@@ -125,9 +128,9 @@ pub fn worlds_of_runs_are_sound()
         → IsSound (world_at (first_world reads names old) ran.given.rows k) }
 {}
 
-/// In a sound world the id of each entry in a mounted store has been given in all that its unit may
-/// have: so has that of an alias that resolves, of one that is replied, and the id that an `add` is
-/// answered with.
+/// In a sound world the id of each entry in a mounted store has been given in all stores that its
+/// unit may have. So has the id of an alias that resolves, that of an alias that is replied, and
+/// the id that an `add` is answered with.
 pub fn ids_of_entries_have_been_given()
     ensures there { (h : Whole) (u : ℕ) (t : Store) (sig uid : ℕ) → IsSound h
         → mounted_store h.world u ≡ Some t → HasEntry sig uid t → IdGivenOn h.world u sig uid }
@@ -141,11 +144,12 @@ pub fn ids_of_entries_have_been_given()
         → (p : Soup) × (soup_in h.world u name ≡ Some p) × IdGivenOn v.world u p.sig id }
 {}
 
-/// The id of an alias was given behind k replies of a run. Whatever cards fail, and wherever behind
-/// these replies a crash comes, in every world of the next run over what it left the alias
-/// resolves, on that unit, to an entry that was there behind as many replies as had begun, or to
-/// none. So it is of stores in which it was given, and of every run over an image that is read as a
-/// later one of them, however many runs and crashes are between.
+/// The id of an alias was given after k replies of a run. A crash comes anywhere after these
+/// replies, and the next run is over the image that it left. In every world of that run, whatever
+/// cards fail, the alias resolves on that unit to an entry that was there after as many replies as
+/// had begun, or to none. The same holds where the id was given in some stores, of every run over
+/// an image that is read as a later state of one of them. It does not matter how many runs and
+/// crashes are between.
 pub fn aliases_lead_to_their_entry_or_to_none()
     ensures next { (reads : List ℕ → Option Store) (limit : ℕ) (result : Result (Unit {0}) IsHalt)
         (names : List (List ℕ)) (old new : Outside)

@@ -2,8 +2,8 @@
 //! body.
 //!
 //! It stands on the crates of definitions and on the laws of the plain world. Where no device
-//! fails, a step is the answer of the plain world; ids and signatures are given once, whatever
-//! fails; and every world has a step.
+//! fails, a step is the answer of the plain world. Ids and signatures are given once, whatever
+//! fails. Every world has a step.
 #![tactic(auto)]
 
 mod images;

@@ -34,8 +34,9 @@ pub fn steps_are_there()
     ensures { (w : World) (c : IsCommand) → (v : World) × (r : Reply) × Step w c v r }
 {}
 
-/// Once a unit has a store, or one of two, it has one later, in each step and so in each run; and an
-/// id or a signature that is gone from every store that it may have is never given again.
+/// Once a unit has a store, or one of two, it has a later state of one of them after each step, and
+/// so after each run. An id or a signature that is gone from every store that it may have is never
+/// given again.
 pub fn ids_stay_given()
     ensures step { (w : World) (c : IsCommand) (v : World) (r : Reply) → Step w c v r
         → WorldMayBeLater w v }
@@ -47,9 +48,9 @@ pub fn ids_stay_given()
         → SoupGoneOn v u sig }
 {}
 
-/// Behind any step it is known of each mounted unit what it holds, no cursor has another key than
-/// its hit, no two mounted stores have one signature, and each store that a unit has or may have is
-/// valid, where this was so before.
+/// Four facts hold after any step where they held before it. It is known of each mounted unit what
+/// it holds. No cursor has another key than its hit. No two mounted stores have one signature. Each
+/// store that a unit has or may have is valid, where the words of the command have their forms.
 pub fn worlds_stand_behind_steps()
     ensures sure { (w : World) (c : IsCommand) (v : World) (r : Reply) → MountedSure w
         → Step w c v r → MountedSure v }

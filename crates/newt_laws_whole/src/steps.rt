@@ -33,7 +33,7 @@ pub fn quiet_whole_steps_are_plain()
 {}
 
 /// Where the world makes a step by a command that is not of watches and copies, the whole makes one
-/// with the notes that the world behind it tells.
+/// too, with the notes that the world after it shows.
 pub fn steps_of_the_world_tell_their_notes()
     ensures { (h : Whole) (c : IsCommand) (v : World) (r : Reply) → is_plain c ≡ true
         → Step h.world c v r → WholeStep h c (noting h v (notes_behind h.world c v r)) r }

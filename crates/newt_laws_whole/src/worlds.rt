@@ -1,4 +1,4 @@
-//! Laws of the world in the whole where devices may fail, behind each step and each run.
+//! Laws of the world in the whole where devices may fail, after each step and each run.
 ghost use Rattle.std.specs.Prelude.{ℕ, ◌≡◌, ◌⊎◌, ◌≤◌, true, false, IsTrue, List, Option, Some};
 ghost use Rattle.newt_laws_steps.specs.Steps.{IsQuiet, WorldMayBeLater};
 ghost use Rattle.newt_laws_whole.specs.Runs.{AllFormed, DraftsFit, IsSound};
@@ -20,7 +20,7 @@ ghost use Rattle.newt_spec_world.specs.Step.{Step};
 ghost use Rattle.newt_spec_world.specs.declared.command.Command.{Command as IsCommand};
 
 /// A step of the whole by a command of the world is the world's step, with the notes that the world
-/// behind it tells. A command of watches and copies that tells of no device that failed is answered
+/// after it shows. A command of watches and copies whose reply names no failed device is answered
 /// as the whole answers it. Whatever fails, the world stays, or makes one step by a command that is
 /// asked of it.
 pub fn whole_steps_are_steps_of_the_world()
@@ -33,8 +33,8 @@ pub fn whole_steps_are_steps_of_the_world()
         → DraftsFit h.copies → WholeStep h c v r → (v.world ≡ h.world) ⊎ WorldStep h c v }
 {}
 
-/// Once a unit has a store, or one of two, it has one later, whatever the whole is asked and
-/// whatever fails: from each world of a run to each later one.
+/// Once a unit has a store, or one of two, it has a later state of one of them, whatever the whole
+/// is asked and whatever fails. So it is from each world of a run to each later one.
 pub fn whole_runs_keep_ids()
     ensures step { (h : Whole) (c : IsCommand) (v : Whole) (r : Reply) → WholeStep h c v r
         → WorldMayBeLater h.world v.world }
@@ -45,8 +45,8 @@ pub fn whole_runs_keep_ids()
         → WorldMayBeLater (world_at h rows k).world (world_at h rows m).world }
 {}
 
-/// A whole is sound at the start of a run over images that are read as valid stores, and stays so
-/// in each step, whatever fails, and so in each run of commands that have the forms of their words.
+/// A whole is sound at the start of a run over images that are read as valid stores. It stays so in
+/// each step, whatever fails, and so in each run, where the words of the commands have their forms.
 pub fn wholes_stay_sound()
     ensures first { (reads : List ℕ → Option Store) (held : List ℕ → Option (List ℕ))
         (names : List (List ℕ)) → ((image : List ℕ) (s : Store) → reads image ≡ Some s

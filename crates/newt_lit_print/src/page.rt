@@ -24,7 +24,7 @@ impl Model for Page {
 }
 
 impl Page {
-    /// A text behind which no object has been met.
+    /// A page with this text, on which no object has been met.
     pub fn behind(text: Vec<u8>) -> Page
         ensures { result ≡ (text.items, 0) }
     {
@@ -89,7 +89,7 @@ impl Page {
         tokens::hex(&mut self.text, bytes)
     }
 
-    /// A label and the mark behind it, or nothing.
+    /// Appends a label and the mark after it, or nothing.
     pub fn label(&mut self, label: Option<u32>, mark: u8) -> Result<(), AllocError>
         ensures { OnOk result (self.new ≡ spelled self.old (plain
             (printed.label_text label mark))) }

@@ -18,7 +18,7 @@ const TRUE: u32 = 26;
 /// Words of characters are below this bound: the greatest character is 65,535.
 const CHARACTERS: u32 = 1 << 20;
 
-/// A character, behind a backslash where it is one of the marks.
+/// A character, after a backslash where it is one of the marks.
 fn escaped(out: &mut Vec<u8>, marks: &[u8], c: u8) -> Result<(), AllocError>
     ensures { OnOk result (out.new.items ≡ out.old.items ++ printed.escaped marks.now c) }
 {

@@ -42,7 +42,7 @@ fn is_text_count(count: u32) -> bool
     count % 2 == 0 && 2 <= count && count as usize <= MOST_DATA
 }
 
-/// A string, behind its tag.
+/// A string, after its tag.
 #[tactic(auto, unfolding(crate::specs::Reading::string_at))]
 pub(crate) fn string<'a>(
     alloc: Global,
@@ -64,7 +64,7 @@ pub(crate) fn string<'a>(
     Ok((Ref::Node(n), rest))
 }
 
-/// A binary, behind its tag.
+/// A binary, after its tag.
 #[tactic(auto, unfolding(crate::specs::Reading::binary_at))]
 pub(crate) fn binary<'a>(
     alloc: Global,
@@ -91,7 +91,7 @@ pub(crate) fn binary<'a>(
     Ok((Ref::Node(n), rest))
 }
 
-/// Behind the flag of a large binary: any in the wide grammar, else 0 alone.
+/// The bytes after the flag of a large binary: any flag in the wide grammar, else 0 alone.
 #[tactic(auto, unfolding(crate::specs::Reading::behind_flag))]
 fn behind_flag(bytes: &[u8], wide: bool) -> Result<&[u8], NsofFault>
     ensures { Gives (λ x. x.now) result (behind_flag wide bytes.now) }
@@ -106,7 +106,7 @@ fn behind_flag(bytes: &[u8], wide: bool) -> Result<&[u8], NsofFault>
     }
 }
 
-/// The bytes of a large binary, behind its class. The name of the compander, its parameters and a
+/// The bytes of a large binary, after its class. The name of the compander, its parameters and a
 /// number are dropped.
 #[tactic(auto, unfolding(crate::specs::Reading::large_data_at))]
 fn large_data(bytes: &[u8], wide: bool) -> Result<(&[u8], &[u8]), NsofFault>
@@ -125,7 +125,7 @@ fn large_data(bytes: &[u8], wide: bool) -> Result<(&[u8], &[u8]), NsofFault>
     front(len, rest)
 }
 
-/// A large binary, behind its tag.
+/// A large binary, after its tag.
 #[tactic(auto, unfolding(crate::specs::Reading::large_at))]
 pub(crate) fn large<'a>(
     alloc: Global,

@@ -1,6 +1,6 @@
--- The damage of an image: the first row that holds of nine, or none. Each row is said of the whole
--- image, and gives the place where it holds. The rows behind the fifth are rows of objects, and
--- hold of no image that has none. All of it is this project's own.
+-- The damage of an image: the first of nine rows that holds, or none. Each row is a test of the
+-- whole image, and gives the place where it holds. The rows after the fifth are tests of objects,
+-- and hold of no image that has none. All of it is this project's own.
 use Rattle.std.specs.Prelude.{ℕ, zero, suc, ◌+◌, ◌%◌, ◌==◌, nat_le, nat_lt, ◌&&◌, not, Bool, true, false, if◌then◌else◌, min, List, [], ◌∷◌, length, take, drop, map as list_map, filter, flat_map, find, fold, sum_by, Option, Some, None, option_map, option_and_then}
 use Rattle.std.specs.List.{list_any}
 use Rattle.std.specs.Option.{unwrap_or}
@@ -24,7 +24,7 @@ pub record Damage : Type 0 where
   pub layer : Layer
   pub place : ℕ
 
--- a place, where something is missing
+-- the place, where something is missing; else none
 abbrev pub if_missing : {X : Type 0} → ℕ → Option X → Option ℕ
 if_missing place None = Some place
 if_missing place (Some x) = None
@@ -39,30 +39,30 @@ no_bank image = if_missing 0 (chosen_bank image)
 abbrev pub start_of : List ℕ → ℕ → ℕ
 start_of image bank = bank_start (blocks_of image) bank
 
--- what a bank holds behind a header of version 1 or 2, with the version
+-- what a bank holds after a header of version 1 or 2, with the version
 abbrev pub behind : List ℕ → ℕ → Option (ℕ × List ℕ)
 behind image bank = versioned (bank_bytes (blocks_of image) bank image)
 
--- header: the first byte of the chosen bank, where its 16 bytes are no header
+-- header: the first byte of the chosen bank, where its first 16 bytes are not a header
 abbrev pub no_header : List ℕ → Option ℕ
 no_header image =
     option_and_then (λ bank. if_missing (start_of image bank) (behind image bank)) (chosen_bank image)
 
 -- ---- records and payloads
 
--- a gate of 0: the byte of the image at which it stands, and the bytes of the bank behind it
+-- a gate of 0: the byte of the image at which it stands, and the bytes of the bank after it
 abbrev pub Gate : Type 0
 Gate = ℕ × List ℕ
 
--- After so many bytes, the gates of 0 of the bytes that stand at a place, up to a gate that is not
--- 0 or to the end.
+-- The gates of 0 in these bytes. The first byte stands at `at` in the image, and the first `skip`
+-- bytes are passed over. The list ends at a gate that is not 0, or with the bytes.
 abbrev pub gates_after : ℕ → ℕ → List ℕ → List Gate
 gates_after at skip [] = []
 gates_after at (suc skip) (byte ∷ rest) = gates_after (suc at) skip rest
 gates_after at zero (gate ∷ rest) =
     if gate == 0 then (at, rest) ∷ gates_after (suc at) (4 + length_at rest) rest else []
 
--- the gates of 0 of a bank that begins at a place, behind its header
+-- the gates of 0 in a bank that begins at a place, after its header
 abbrev pub gates_behind : ℕ → List ℕ → List Gate
 gates_behind start = gates_after (start + 16) 0
 
@@ -70,15 +70,15 @@ gates_behind start = gates_after (start + 16) 0
 abbrev pub gates : List ℕ → List Gate
 gates image = unwrap_or (option_and_then (λ bank. option_map (gates_behind (start_of image bank)) (body image)) (chosen_bank image)) []
 
--- the byte of the first gate whose bytes behind it pass a test
+-- the place of the first gate after which the bytes pass a test
 abbrev pub first_gate : (List ℕ → Bool) → List Gate → Option ℕ
 first_gate test gs = option_map (λ g. g.0) (find (λ g. test g.1) gs)
 
--- the length or the payload behind a gate leaves the bank
+-- the length or the payload after a gate leaves the bank
 abbrev pub leaves_bank : List ℕ → Bool
 leaves_bank rest = not (nat_le (4 + length_at rest) (length rest))
 
--- the payload behind a gate has not the form of one
+-- the payload after a gate does not have the form of a change
 abbrev pub is_unformed : List ℕ → Bool
 is_unformed rest = not (is_change (take (length_at rest) (drop 4 rest)))
 
@@ -86,7 +86,7 @@ is_unformed rest = not (is_change (take (length_at rest) (drop 4 rest)))
 abbrev pub long_record : List ℕ → Option ℕ
 long_record image = first_gate leaves_bank (gates image)
 
--- payload: the gate of the first record whose payload has not the form of one
+-- payload: the gate of the first record whose payload does not have the form of a change
 abbrev pub bad_payload : List ℕ → Option ℕ
 bad_payload image = first_gate is_unformed (gates image)
 
@@ -97,8 +97,8 @@ abbrev pub least : List ℕ → Option ℕ
 least [] = None
 least (n ∷ ns) = Some (fold min n ns)
 
--- a page is not the one of its part of an object: the object lacks a part, or has this part twice,
--- or has no such part, or is not as long as this page says
+-- A page is not the one page of its part of its object. The object lacks a part, or has this part
+-- twice, or has no such part, or is not as long as this page says.
 abbrev pub is_astray : Pages → ℕ × List ℕ → Bool
 is_astray live e = not (is_page_of (table_of live (object_id e.1)) e)
 
@@ -139,7 +139,7 @@ module _ (graph_of : List ℕ → Option RawGraph) (version : ℕ) (objects : Ob
   abbrev pub directory_in : Option Store
   directory_in = option_and_then (directory_read graph_of version) (object_bytes objects 0)
 
-  -- directory: object 0 is missing or is no directory
+  -- directory: object 0 is missing or is not a directory
   abbrev pub no_directory : Option ℕ
   no_directory = if_missing 0 directory_in
 
@@ -160,8 +160,8 @@ module _ (graph_of : List ℕ → Option RawGraph) (version : ℕ) (objects : Ob
   abbrev pub is_bad_record : Store → ℕ × List ℕ → Bool
   is_bad_record d o = is_odd o && not (is_sound d o.0 (entry_of o))
 
-  -- entry: the least odd id whose record has no reading, is of no soup or id of the directory, or
-  -- names an entry that a record with a smaller id names
+  -- entry: the least odd id whose object fails one of these tests. Its record is read as an entry.
+  -- A soup of the directory has given the entry's id. No record with a smaller id names the entry.
   abbrev pub bad_entry : Option ℕ
   bad_entry = option_and_then (λ d. first_object (is_bad_record d) objects) directory_in
 
