@@ -36,7 +36,7 @@ def start_of_bank(image: bytes) -> int:
 
 
 def gates(image: bytes, start: int) -> list[tuple[int, memoryview]]:
-    """Each gate of 0, with what of its bank stands behind it."""
+    """Each gate of 0, with what of its bank stands after it."""
     end, found, whole = start + (len(image) // BLOCK - 3) // 2 * BLOCK, [], memoryview(image)
     at = start + len(HEADER)
     while at < end and image[at] == 0:

@@ -209,7 +209,7 @@ def lengths(edge: Edge) -> None:
         appended.write(b"x" * 5000)
     edge.want("a longer card", session.answer(ADD), b"ok 1\n")
     session.end()
-    edge.want("its bytes behind", longer.read_bytes()[LEAST * BLOCK :], b"x" * 5000)
+    edge.want("the bytes after it", longer.read_bytes()[LEAST * BLOCK :], b"x" * 5000)
     os.truncate(longer, LEAST * BLOCK)
     edge.want("its entries", edge.entries("longer"), 2)
     for size in (LEAST * BLOCK - 1, 4 * BLOCK, 0):
@@ -309,7 +309,7 @@ def stopped_scripts(edge: Edge) -> None:
     for how in (signal.SIGINT, signal.SIGTERM, signal.SIGHUP, None):
         edge.card("stopped", MOST)
         run = edge.start("run", "stopped", stdin=subprocess.PIPE, stdout=subprocess.PIPE)
-        # They find room in the pipe, and the run waits behind them.
+        # They find room in the pipe, and the run waits after them.
         run.stdin.write(MOUNT + 2000 * ADD)
         run.stdin.flush()
         for _ in range(30):

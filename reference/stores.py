@@ -55,7 +55,7 @@ class Soup:
         return next((it for it in self.entries if it.uid == uid), None)
 
     def with_entry(self, entry: Entry) -> "Soup":
-        """The soup with an entry in the place of the one of its id, or behind the others."""
+        """The soup with an entry in the place of the one of its id, or after the others."""
         kept = [it for it in self.entries if it.uid < entry.uid]
         behind = [it for it in self.entries if it.uid > entry.uid]
         return replace(self, entries=(*kept, entry, *behind), next_uid=max(self.next_uid, entry.uid + 1))
