@@ -8,7 +8,7 @@ ghost use Rattle.newt_soupdir.specs.Bare.{bare_soup, bare_store};
 ghost use Rattle.newt_spec_graph.specs.Lists.{Each};
 ghost use Rattle.newt_spec_store.specs.Cost.{cost, large_length, entry_pages, skeleton_length};
 ghost use Rattle.newt_spec_store.specs.Valid.{valid_entry, well_formed};
-ghost use Rattle.newt_backup.specs.Checks.{behind, are_of};
+ghost use Rattle.newt_backup.specs.Checks.{after, are_of};
 ghost use Rattle.newt_backup.specs.Contents.{store_in, AreKept, IsNoStore, IsSound};
 ghost use Rattle.newt_entries.specs.Full.{told, as_entry};
 
@@ -30,9 +30,9 @@ fn is_entry(entry: &FullEntry) -> bool
 }
 
 /// The entries that are left after those of a soup at the front, where these may be its entries.
-fn behind<'a>(row: &SoupRow, entries: &'a [FullEntry]) -> Option<&'a [FullEntry]>
+fn after<'a>(row: &SoupRow, entries: &'a [FullEntry]) -> Option<&'a [FullEntry]>
     ensures { option_map (λ rest. map told rest.now) result
-        ≡ behind row.now.sig row.now.next_uid 0 (map told entries.now) }
+        ≡ after row.now.sig row.now.next_uid 0 (map told entries.now) }
 {
     let mut low = 0;
     let mut left = entries;
@@ -57,7 +57,7 @@ fn are_of(rows: &[SoupRow], entries: &[FullEntry]) -> bool
     let mut left = entries;
     let mut soups = rows;
     while let [row, others @ ..] = soups {
-        match behind(row, left) {
+        match after(row, left) {
             Some(rest) => left = rest,
             None => return false,
         }

@@ -24,7 +24,7 @@ use Rattle.newt_store_change.specs.Change.{pages_of_entry}
 use Rattle.newt_store_change.specs.Faults.{GoesOn}
 use Rattle.newt_engine_units.specs.Calls.{CostsOf}
 use Rattle.newt_engine_units.specs.Found.{HasSoup, HasEntry}
-use Rattle.newt_engine_units.proofs.Costs.{after-read, behind-read, both-costs, none-fits, on-costs, on-few, on-within, read-few}
+use Rattle.newt_engine_units.proofs.Costs.{after-read, call-after-read, both-costs, none-fits, on-costs, on-few, on-within, read-few}
 use Rattle.newt_engine_commands.proofs.Commands.{entry-fits}
 use Rattle.newt_engine_commands.proofs.Moves.{move-named, inside-named}
 use Rattle.newt_engine_commands.proofs.Said.{Spent}
@@ -115,11 +115,11 @@ pub record Seen (u n : ℕ) (o p : Outside) : Type 0 where
   pub moment : p.now ≡ o.now
   pub reads : FetchesAtMost (of_unit u n) o p
 
--- what it fetches with the call behind it
+-- what it fetches with the call after it
 after-seen : {w : World} {u : ℕ} {name : List ℕ} {sig : ℕ} (h : HasSoup w u name sig) (uid : ℕ) (x : World) (same : x ≡ w) {o p q : Outside} (seen : Seen u (512 * its_pages h uid) o p) {v k : ℕ}
     (n : World → ℕ) (c : Command) → FetchesOn v (n x) k p q → n w ≤ most_programmed w c v → ((j : ℕ) → of_unit u (512 * its_pages h uid) j + of_unit v k j ≤ most_fetched w c j)
     → FetchesWithin (most_programmed w c) (most_fetched w c) o q
-after-seen {w} {u} h uid x same {o} {p} {q} seen {v} {k} n c f low enough = behind-read (most_programmed w c) (of_unit u (512 * its_pages h uid)) (of_unit v k) (most_fetched w c) o p q seen.reads seen.moment
+after-seen {w} {u} h uid x same {o} {p} {q} seen {v} {k} n c f low enough = call-after-read (most_programmed w c) (of_unit u (512 * its_pages h uid)) (of_unit v k) (most_fetched w c) o p q seen.reads seen.moment
     (on-few (most_programmed w c) (subst (λ (y : World). FetchesOn v (n y) k p q) same f) low) enough
 
 module _ {w : World} {u : ℕ} {name : List ℕ} {sig : ℕ} (h : HasSoup w u name sig) (uid : ℕ) (e : Entry) (found : entry_of uid h.soup ≡ Some e)
@@ -128,7 +128,7 @@ module _ {w : World} {u : ℕ} {name : List ℕ} {sig : ℕ} (h : HasSoup w u na
   pub before : {v : ℕ} (n : World → ℕ) → CostsOn v (n x) result p q → CostsOn v (n w) result o q
   before {v} n k = after-read seen.alone (subst (λ (y : World). CostsOn v (n y) result p q) same k)
 
--- a call on one unit that fetches nothing, behind others that left the unit alone
+-- a call on one unit that fetches nothing, after others that left the unit alone
 removed_few : (most : ℕ → ℕ) {u n : ℕ} (o m r : Outside) → FetchesOn u n 0 m r → n ≤ most u → changes u m.now ≡ changes u o.now → (j : ℕ) → IsOpenFor (most j) (image j o.now) → r.fetched j ≤ m.fetched j
 removed_few most {u} {n} o m r f less still j room = go (same-or-not j u)
   where

@@ -39,7 +39,7 @@ use Rattle.newt_laws_effects.specs.Tells.{Tells, is_of_stores}
 use Rattle.newt_laws_effects.proofs.Most.{row-most}
 use Rattle.newt_laws_effects.proofs.Refusing.{one-refusal, row-refusal}
 use Rattle.newt_laws_effects.proofs.Telling.{rows-tell}
-use Rattle.newt_engine_units.proofs.Costs.{after-read, behind-read, costs-of, on-costs, on-few, on-within}
+use Rattle.newt_engine_units.proofs.Costs.{after-read, call-after-read, costs-of, on-costs, on-few, on-within}
 use Rattle.newt_engine_units.proofs.Keeping.{change-keeps, keeps-append, read-keeps}
 use Rattle.newt_engine_card.specs.Bounds.{FetchesAtMost, of_unit}
 use Rattle.newt_engine_units.proofs.Obeying.{cause-after}
@@ -52,7 +52,7 @@ use Rattle.newt_engine_units.specs.Found.{HasSoup}
 use Rattle.newt_engine_units.specs.Stands.{due_in, world_of}
 use Rattle.newt_engine_units.specs.declared.units.Units.{Units}
 use Rattle.newt_engine_commands.specs.Done.{done_of}
-use Rattle.newt_engine_commands.proofs.Said.{behind-breaks, behind-moments, change-breaks}
+use Rattle.newt_engine_commands.proofs.Said.{after-breaks, after-moments, change-breaks}
 
 -- the command resolves to this one change, of a store that is there; the change fetches no more than
 -- the command may
@@ -156,11 +156,11 @@ module _ {C : Type 0} {reads : List ℕ → Option Store} {place : C → ℕ} {s
     kept = λ idle. change-keeps e;
   }
 
--- ---- of a call behind a read
+-- ---- of a call after a read
 
 -- what a command resolves to, and what it tells; with so many bytes that were read of a unit, the
 -- change fetches no more than the command may
-pub record Behind (w : World) (c : Command) (u : ℕ) (d : Change) (reply : ℕ → Reply) (v : ℕ) (o m : Outside) : Type 0 where
+pub record AfterRead (w : World) (c : Command) (u : ℕ) (d : Change) (reply : ℕ → Reply) (v : ℕ) (o m : Outside) : Type 0 where
   pub resolves : Resolves w c u d
   pub replied : fields w (changed w c) c ≡ reply (answer_of d resolves.store)
   pub n : ℕ
@@ -170,10 +170,10 @@ pub record Behind (w : World) (c : Command) (u : ℕ) (d : Change) (reply : ℕ 
 module _ {C : Type 0} {reads : List ℕ → Option Store} {place : C → ℕ} {standing : Bool → C → Outside → Type 0} {told : Bool} {u : ℕ} {d : Change} {units mid later : Units C} {o m p : Outside}
     (looks : AreRead reads place standing told units mid o m) (none : NoFault o m) (result : Result ℕ StoreFault) (e : Changes reads place standing told u d mid later m p result) (c : Command) (reply : ℕ → Reply)
     (unseen : (w : World) (now : Moment) → seen reads w now c ≡ w) {v : ℕ}
-    (found : IsTrue told → Behind (world_of reads units o) c u d reply v o m) where
+    (found : IsTrue told → AfterRead (world_of reads units o) c u d reply v o m) where
   -- the world is the same after the read
-  stays : IsTrue told → Behind (world_of reads mid m) c u d reply v o m
-  stays t = subst (λ w. Behind w c u d reply v o m) (sym (looks.world t)) (found t)
+  stays : IsTrue told → AfterRead (world_of reads mid m) c u d reply v o m
+  stays t = subst (λ w. AfterRead w c u d reply v o m) (sym (looks.world t)) (found t)
 
   same-seen : IsTrue told → seen reads (world_of reads mid m) m.now c ≡ seen reads (world_of reads units o) o.now c
   same-seen t = unseen (world_of reads mid m) m.now ∙ looks.world t ∙ sym (unseen (world_of reads units o) o.now)
@@ -187,19 +187,19 @@ module _ {C : Type 0} {reads : List ℕ → Option Store} {place : C → ℕ} {s
       let r = (stays t).resolves in
       let less = most-is w c u d r in
       on-costs (after-read looks.untouched (e.costs t r.blocks r.store r.on)) less
-      (λ means. behind-read (most_programmed w c) (of_unit v (stays t).n) (of_unit u (bytes_fetched d r.store)) (most_fetched w c) o m p (stays t).fetched looks.moment
+      (λ means. call-after-read (most_programmed w c) (of_unit v (stays t).n) (of_unit u (bytes_fetched d r.store)) (most_fetched w c) o m p (stays t).fetched looks.moment
       (on-few (most_programmed w c) (e.fetches t r.blocks r.store r.on) less) ((stays t).fits means))
 
-  pub behind-obeys : Obeys reads place standing told c reply units later o p result
-  behind-obeys = record {
+  pub after-obeys : Obeys reads place standing told c reply units later o p result
+  after-obeys = record {
     stands = inner.stands;
     answered = λ t. subst (λ x. Answers x (world_of reads later p) c reply result) (same-seen t) (inner.answered t);
-    moments = λ t. behind-moments c (answer (seen reads (world_of reads units o) o.now c) c).0 t looks
+    moments = λ t. after-moments c (answer (seen reads (world_of reads units o) o.now c) c).0 t looks
         (subst (λ x. Always (Meanwhile reads (due_in mid.slots.items) (world_of reads mid m) c (answer x c).0 m.now) m.now p.now) (same-seen t) (inner.moments t));
     costs = λ t. subst (λ w. CostsOf w c result o p) (looks.world t) (costs-both t);
     alone = OnDevices-append looks.alone inner.alone;
     cause = cause-after result p none inner.cause;
-    broke = behind-breaks c looks none e (untorn result e c reply (unseen (world_of reads mid m) m.now) (λ t. (stays t).resolves));
+    broke = after-breaks c looks none e (untorn result e c reply (unseen (world_of reads mid m) m.now) (λ t. (stays t).resolves));
     no_fault = λ goes. NoFault-append none (inner.no_fault goes);
     kept = λ idle. keeps-append (read-keeps looks) (inner.kept idle);
   }

@@ -83,12 +83,12 @@ pub fn has_word(folded_text: &str, folded_word: &str, entire: bool) -> bool
 {
     let mut before = false;
     let mut rest = folded_text;
-    while let Some((first, behind)) = split_first(rest) {
+    while let Some((first, after)) = split_first(rest) {
         if word_begins(rest, folded_word, before, entire) {
             return true;
         }
         before = is_word_char(first);
-        rest = behind;
+        rest = after;
     }
     false
 }
@@ -114,16 +114,16 @@ fn word_begins(text: &str, word: &str, before: bool, entire: bool) -> bool
         return false;
     }
     match text.strip_prefix(word) {
-        Some(behind) => may_end(behind, entire),
+        Some(after) => may_end(after, entire),
         None => false,
     }
 }
 
 /// Whether a word may end where this text begins.
-fn may_end(behind: &str, entire: bool) -> bool
-    ensures { result ≡ not (entire && spec.begins_with_word_char (chars behind.now)) }
+fn may_end(after: &str, entire: bool) -> bool
+    ensures { result ≡ not (entire && spec.begins_with_word_char (chars after.now)) }
 {
-    !entire || !begins_with_word_char(behind)
+    !entire || !begins_with_word_char(after)
 }
 
 fn begins_with_word_char(text: &str) -> bool

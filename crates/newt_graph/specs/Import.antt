@@ -41,13 +41,13 @@ looked_up table k = get_or table k 0
 
 -- this root and the old nodes with the added ones after them; none where a limit of a builder is
 -- passed
-abbrev pub behind : List Node → List Node → Ref → Option (Ref × List Node)
-behind old added root = if nat_le (length (old ++ added)) most_held && nat_le (sum_by payload added) (most_held_bytes - sum_by payload old) then Some (root, old ++ added) else None
+abbrev pub after : List Node → List Node → Ref → Option (Ref × List Node)
+after old added root = if nat_le (length (old ++ added)) most_held && nat_le (sum_by payload added) (most_held_bytes - sum_by payload old) then Some (root, old ++ added) else None
 
 -- a graph after the old nodes, with the numbers of this table
-abbrev pub behind_by : List Node → RawGraph → List ℕ → Option (Ref × List Node)
-behind_by old g table = behind old (map (renamed (looked_up table)) (kept_of old g.nodes)) (renamed_ref (looked_up table) g.root)
+abbrev pub after_by : List Node → RawGraph → List ℕ → Option (Ref × List Node)
+after_by old g table = after old (map (renamed (looked_up table)) (kept_of old g.nodes)) (renamed_ref (looked_up table) g.root)
 
 -- a graph copied in: its root there and all nodes; none where a limit of a builder is passed
 unfoldable pub with_graph : List Node → RawGraph → Option (Ref × List Node)
-with_graph old g = behind_by old g (numbers_from old (length old) g.nodes)
+with_graph old g = after_by old g (numbers_from old (length old) g.nodes)

@@ -83,4 +83,4 @@ abbrev pub OrderAsKeys : IndexSpec → Type 0
 OrderAsKeys spec =
     (a b : Key) → IsKeyOf spec a → IsKeyOf spec b
     → (slice_cmp nat_cmp (key_bytes spec a) (key_bytes spec b) ≡ key_cmp spec a b)
-    × ((behind : List ℕ) → key_bytes spec a ++ behind ≡ key_bytes spec b → a ≡ b)
+    × ((after : List ℕ) → key_bytes spec a ++ after ≡ key_bytes spec b → a ≡ b)

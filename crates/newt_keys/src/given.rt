@@ -96,13 +96,13 @@ fn given_parts(
     let mut left = spec;
     let mut given = values;
     while let [part, rest @ ..] = left {
-        let (value, behind) = split_given(given);
+        let (value, after) = split_given(given);
         let Some(found) = given_part(alloc, nodes, part, value)? else {
             return Ok(None);
         };
         parts.push(found)?;
         left = rest;
-        given = behind;
+        given = after;
     }
     Ok(Some(parts))
 }

@@ -18,7 +18,6 @@ pub record SaidAs (change : Change) (blocks now : ℕ) (s : Store) (tests : Chec
   pub most_is : most_bytes change blocks now s ≡ most
 
 module _ (blocks now sig : ℕ) (s : Store) (p : Soup) (found : soup_of sig s ≡ Some p) where
-
   pub add-said : (g : RawGraph) → SaidAs (change.Add sig g) blocks now s (add_tests blocks now p.name g s p) (change_soup p.name (add_entry now g))
       (unless (add_tests blocks now p.name g s p) (change_bytes true s (change_soup p.name (add_entry now g) s) (record { uid = p.next_uid; time = now; graph = g } ∷ []) []))
   add-said g = record { tests_are = add-tests blocks now sig s p found g; made_is = added blocks now sig s p found g; most_is = add-bound blocks now sig s p found g }

@@ -41,7 +41,7 @@ module _ (w : World) (u blocks : ℕ) (s : Store) (name : List ℕ) (p : Soup) (
   there : entry_in w u name uid ≡ Some e
   there = entry-named w u blocks s name p uid h f ∙ here
 
-  -- the tests behind the entry's, by the entry
+  -- the tests after the entry's, by the entry
   abbrev tests : ℕ → Option Entry → Checks
   tests upto o =
       (NoPath, on_some o (λ e. is_none (large_at e.graph path)))

@@ -95,7 +95,6 @@ module _ (w : World) (u blocks : ℕ) (s : Store) (name : List ℕ) (p : Soup) (
   copied-is = ap (copied_in w v target) (there w u blocks s name p uid h f e here) ∙ ap {A = Entry} {B = List Entry} (λ x. x ∷ []) (new-is w v other t target q e.graph k g)
 
   module _ (ok : valid_entry e ≡ true) where
-
     -- between two units
     module _ (differ : v ≡ u → ⊥) where
       move-checks : first_of (checks w (command.Move u name uid v target)) ≡ first_of (add_tests other w.minute target e.graph t q)

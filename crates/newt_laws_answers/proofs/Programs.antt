@@ -30,7 +30,6 @@ bound-is change blocks now s t tests put gone first after bytes come go =
     ∙ ap (λ (o : Option Refusal). cond (is_some o) 0 (change_bytes (writes_directory change) s t put gone)) first
 
 module _ (blocks now sig : ℕ) (s : Plain) (p : Soup) (found : soup_of sig s ≡ Some p) where
-
   module _ (g : RawGraph) where
     pub add-bound : most_bytes (change.Add sig g) blocks now s
         ≡ unless (add_tests blocks now p.name g s p) (change_bytes true s (change_soup p.name (add_entry now g) s) (record { uid = p.next_uid; time = now; graph = g } ∷ []) [])

@@ -88,7 +88,7 @@ module _ (w : World) (u blocks : ℕ) (s : Store) (name : List ℕ) (p : Soup) (
     there : entry_in w u name uid ≡ Some e
     there = entry-named w u blocks s name p uid h f ∙ here
 
-    -- the tests behind the entry's, by the entry
+    -- the tests after the entry's, by the entry
     abbrev tests : Option Entry → Checks
     tests o =
         (NoPath, on_some o (λ e. is_none (put e.graph path g)))

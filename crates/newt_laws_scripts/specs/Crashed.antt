@@ -28,7 +28,7 @@ pub record CrashedAt (old new : Outside) (unit : ℕ) (image shown : List ℕ) :
   pub left : left_since new start unit image (out_of old ++ shown)
 
 -- The same, while at least k of the replies of the rows had begun.
-pub record CrashedBehind (rows : List (Row Whole)) (old new : Outside) (k unit : ℕ)
+pub record CrashedAfter (rows : List (Row Whole)) (old new : Outside) (k unit : ℕ)
     (image : List ℕ) : Type 0 where
   pub shown : List ℕ
   pub crashed : CrashedAt old new unit image shown

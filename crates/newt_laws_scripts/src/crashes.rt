@@ -4,7 +4,7 @@ ghost use Rattle.std.specs.Prelude.{Option, Some, Result};
 ghost use Rattle.newt_graph.specs.Graph.{RawGraph};
 ghost use Rattle.newt_host.specs.Outside.{Outside};
 ghost use Rattle.newt_laws_changes.specs.Later.{EntryGone, SoupGone};
-ghost use Rattle.newt_laws_scripts.specs.Crashed.{CrashedAt, CrashedBehind, HasEntry, IdGiven};
+ghost use Rattle.newt_laws_scripts.specs.Crashed.{CrashedAt, CrashedAfter, HasEntry, IdGiven};
 ghost use Rattle.newt_laws_scripts.specs.Crashed.{IdGivenOn, ReadsLater};
 ghost use Rattle.newt_laws_steps.specs.Answering.{ReadsOneOf};
 ghost use Rattle.newt_laws_steps.specs.Steps.{StoresLater};
@@ -12,7 +12,7 @@ ghost use Rattle.newt_laws_whole.specs.Runs.{IsSound};
 ghost use Rattle.newt_script_session.specs.Named.{CountedNamed, RanNamed, first_world, held_by};
 ghost use Rattle.newt_script_session.specs.declared.halt.Halt.{Halt as IsHalt};
 ghost use Rattle.newt_spec_graph.specs.Lists.{Among, Each};
-ghost use Rattle.newt_spec_script.specs.Rows.{IsRun, Row, world_at, world_behind};
+ghost use Rattle.newt_spec_script.specs.Rows.{IsRun, Row, world_at, last_world};
 ghost use Rattle.newt_spec_script.specs.Script.{Item as IsItem};
 ghost use Rattle.newt_spec_store.specs.OfImage.{blocks_of};
 ghost use Rattle.newt_spec_store.specs.Store.{Soup, Store};
@@ -39,7 +39,7 @@ pub fn crashes_leave_later_stores()
         (ran : RanNamed WholeStep reads limit result names old new) (k unit : ℕ) (s : Store)
         (image : List ℕ) → let rows = ran.played.given.rows in
         let before = stores_on (world_at (first_world reads names old) rows k).world unit in
-        CrashedBehind rows old new k unit image → Among before s → ReadsLater reads before image }
+        CrashedAfter rows old new k unit image → Among before s → ReadsLater reads before image }
     ensures counted { (reads : List ℕ → Option Store) (script : List ℕ)
         (result : Result (Unit {0}) IsHalt) (names : List (List ℕ)) (old new : Outside)
         → CountedNamed WholeStep reads script result names old new → (unit : ℕ) (s : Store)
@@ -49,7 +49,7 @@ pub fn crashes_leave_later_stores()
         (result : Result (Unit {0}) IsHalt) (names : List (List ℕ)) (old new : Outside)
         (ran : CountedNamed WholeStep reads script result names old new) (unit : ℕ) (s : Store)
         (image shown : List ℕ)
-        → let last = world_behind (first_world reads names old) ran.given.rows in
+        → let last = last_world (first_world reads names old) ran.given.rows in
         let before = stores_on last.world unit in CrashedAt old new unit image shown
         → 0 < length shown → Among before s → ReadsLater reads before image }
     ensures rows { (reads : List ℕ → Option Store) (h : Whole) (items : List IsItem)
@@ -77,7 +77,7 @@ pub fn later_runs_go_on()
         → length names ≤ 8 → held_by names old u ≡ Some image → (limit : ℕ)
         (result : Result (Unit {0}) IsHalt) (new : Outside)
         (ran : RanNamed WholeStep reads limit result names old new) (left : List ℕ)
-        → CrashedBehind ran.played.given.rows old new 0 u left → ReadsLater reads before left }
+        → CrashedAfter ran.played.given.rows old new 0 u left → ReadsLater reads before left }
     ensures counted { (reads : List ℕ → Option Store) (before : List Store) (image : List ℕ)
         → ReadsLater reads before image → (names : List (List ℕ)) (old : Outside) (u : ℕ)
         → length names ≤ 8 → held_by names old u ≡ Some image → (script : List ℕ)
@@ -157,7 +157,7 @@ pub fn aliases_lead_to_their_entry_or_to_none()
         → let rows = ran.played.given.rows in let first = first_world reads names old in
         (k m unit : ℕ) (a : IsAlias) (image : List ℕ)
         → IdGivenOn (world_at first rows k).world unit a.soup a.uid → k ≤ m
-        → CrashedBehind rows old new m unit image → (names2 : List (List ℕ)) (old2 : Outside)
+        → CrashedAfter rows old new m unit image → (names2 : List (List ℕ)) (old2 : Outside)
         (u : ℕ) → length names2 ≤ 8 → held_by names2 old2 u ≡ Some image
         → let first2 = first_world reads names2 old2 in (items2 : List IsItem)
         (rows2 : List (Row Whole)) (j : ℕ) → IsRun WholeStep first2 items2 rows2 → (spot : Spot)

@@ -15,6 +15,4 @@ pub use images::{
     values_stand_for_what_is_meant,
 };
 pub use known::{answers_go_by_what_is_known, units_are_found_and_thrown_out_alone};
-pub use steps::{
-    ids_stay_given, quiet_steps_are_plain, steps_are_there, worlds_stand_behind_steps,
-};
+pub use steps::{ids_stay_given, quiet_steps_are_plain, steps_are_there, worlds_stand_after_steps};

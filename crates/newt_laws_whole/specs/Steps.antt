@@ -36,11 +36,11 @@ has_taken w c v = false
 -- The notes of a step, as the world after it shows them. A command that is refused gives none.
 -- Where the device of a unit failed, there is only the first note of a move away from it whose
 -- target has taken an id. Any other command gives all its notes. (this project's own)
-abbrev pub notes_behind : World → Command → World → Reply → List Event
-notes_behind w c v (Reply.refused refusal) = []
-notes_behind w c v (Reply.thrown u) =
+abbrev pub notes_after : World → Command → World → Reply → List Event
+notes_after w c v (Reply.refused refusal) = []
+notes_after w c v (Reply.thrown u) =
     if moves_away c u && has_taken w c v then take 1 (events w c) else []
-notes_behind w c v reply = events w c
+notes_after w c v reply = events w c
 
 -- The notes of a step of the whole, as the world after it and the reply show them. A save that is
 -- done gives those of the change that it asks, and any other save none. Any other command gives
@@ -48,7 +48,7 @@ notes_behind w c v reply = events w c
 abbrev pub told_by : Whole → Command → World → Reply → List Event
 told_by h (command.Save n) v Reply.done = events_of h.world (asks h (command.Save n))
 told_by h (command.Save n) v reply = []
-told_by h c v reply = notes_behind h.world c v reply
+told_by h c v reply = notes_after h.world c v reply
 
 -- The world makes a step by one of the commands that this command asks for. (this project's own)
 pub record WorldStep (h : Whole) (c : Command) (v : Whole) : Type 0 where

@@ -6,7 +6,7 @@ ghost use Rattle.newt_laws_whole.specs.Told.{KeepEntries, KeepsWatch, told_in, t
 ghost use Rattle.newt_laws_whole.specs.Told.{with_notes};
 ghost use Rattle.newt_notify.specs.Watch.{Watching, emptied};
 ghost use Rattle.newt_spec_graph.specs.Lists.{Among};
-ghost use Rattle.newt_spec_script.specs.Rows.{IsRun, Row, thrown_count, world_behind};
+ghost use Rattle.newt_spec_script.specs.Rows.{IsRun, Row, thrown_count, last_world};
 ghost use Rattle.newt_spec_script.specs.Script.{Item as IsItem};
 ghost use Rattle.newt_spec_store.specs.Store.{Entry, Soup, Store};
 ghost use Rattle.newt_spec_whole.specs.Answer.{notes_reply};
@@ -25,7 +25,7 @@ ghost use Rattle.newt_work.specs.Work.{Copy, edited, opened, rebased};
 pub fn watches_get_the_notes_of_steps()
     ensures run { (h : Whole) (items : List IsItem) (rows : List (Row Whole)) (n : ℕ)
         (w : Watching) → watch h n ≡ Some w → IsRun WholeStep h items rows → KeepsWatch n items
-        → watch (world_behind h rows) n
+        → watch (last_world h rows) n
         ≡ Some (with_notes (told_to w.name (told_in h items rows)) w) }
     ensures taken { (h : Whole) (n : ℕ) (w : Watching) (v : Whole) (r : Reply) → watch h n ≡ Some w
         → WholeStep h (command.Notes n) v r
@@ -47,7 +47,7 @@ pub fn what_changes_is_told_whatever_fails()
         (u : ℕ) (s : Store) → IsRun WholeStep h items rows
         → told_to name (told_in h items rows) ≡ [] → thrown_count u rows ≡ 0
         → Among (stores_on h u) s
-        → KeepEntries name (stores_on h u) (stores_on (world_behind h rows) u) }
+        → KeepEntries name (stores_on h u) (stores_on (last_world h rows) u) }
 {}
 
 /// An open that is answered with a number has made a copy there of the entry as it is. A save that
@@ -74,7 +74,7 @@ pub fn copies_begin_in_steps()
 pub fn copies_outlive_failures()
     ensures run { (h : Whole) (items : List IsItem) (rows : List (Row Whole)) (n : ℕ) (k : Copy)
         → copy h n ≡ Some k → IsRun WholeStep h items rows → KeepsEdits n items rows
-        → copy (world_behind h rows) n ≡ Some (edited (put_all k.draft (edits_in n items rows)) k) }
+        → copy (last_world h rows) n ≡ Some (edited (put_all k.draft (edits_in n items rows)) k) }
     ensures thrown { (h : Whole) (c : IsCommand) (v : Whole) (u : ℕ)
         → WholeStep h c v (Reply.thrown u) → v.copies ≡ h.copies }
 {}
@@ -85,6 +85,6 @@ pub fn copies_outlive_failures()
 pub fn saves_replace_what_was_read_whatever_fails()
     ensures { (h : Whole) (items : List IsItem) (rows : List (Row Whole)) (n : ℕ) (k : Copy)
         (v : Whole) → copy h n ≡ Some k → k.draft ≡ k.base → IsRun WholeStep h items rows
-        → KeepsEdits n items rows → WholeStep (world_behind h rows) (command.Save n) v Reply.done
-        → Saves (world_behind h rows) v k (put_all k.base (edits_in n items rows)) }
+        → KeepsEdits n items rows → WholeStep (last_world h rows) (command.Save n) v Reply.done
+        → Saves (last_world h rows) v k (put_all k.base (edits_in n items rows)) }
 {}

@@ -2,11 +2,11 @@
 ghost use Rattle.std.specs.Prelude.{ℕ, ◌≡◌, ◌⊎◌, ◌≤◌, true, false, IsTrue, List, Option, Some};
 ghost use Rattle.newt_laws_steps.specs.Steps.{IsQuiet, WorldMayBeLater};
 ghost use Rattle.newt_laws_whole.specs.Runs.{AllFormed, DraftsFit, IsSound};
-ghost use Rattle.newt_laws_whole.specs.Steps.{WorldStep, noting, notes_behind};
+ghost use Rattle.newt_laws_whole.specs.Steps.{WorldStep, noting, notes_after};
 ghost use Rattle.newt_laws_world.specs.Scripts.{ItemHasForm};
 ghost use Rattle.newt_laws_world.specs.Worlds.{has_form, is_plain};
 ghost use Rattle.newt_spec_graph.specs.Lists.{Each};
-ghost use Rattle.newt_spec_script.specs.Rows.{IsRun, Row, world_at, world_behind};
+ghost use Rattle.newt_spec_script.specs.Rows.{IsRun, Row, world_at, last_world};
 ghost use Rattle.newt_spec_script.specs.Script.{Item as IsItem};
 ghost use Rattle.newt_spec_store.specs.OfImage.{blocks_of};
 ghost use Rattle.newt_spec_store.specs.Store.{Store};
@@ -26,7 +26,7 @@ ghost use Rattle.newt_spec_world.specs.declared.command.Command.{Command as IsCo
 pub fn whole_steps_are_steps_of_the_world()
     ensures plain { (h : Whole) (c : IsCommand) (v : Whole) (r : Reply) → is_plain c ≡ true
         → WholeStep h c v r → Step h.world c v.world r
-        × (v ≡ noting h v.world (notes_behind h.world c v.world r)) }
+        × (v ≡ noting h v.world (notes_after h.world c v.world r)) }
     ensures others { (h : Whole) (c : IsCommand) (v : Whole) (r : Reply) → is_plain c ≡ false
         → WholeStep h c v r → IsQuiet r → whole_answer h c ≡ (v, r) }
     ensures world { (h : Whole) (c : IsCommand) (v : Whole) (r : Reply) → AllFormed h.world
@@ -39,7 +39,7 @@ pub fn whole_runs_keep_ids()
     ensures step { (h : Whole) (c : IsCommand) (v : Whole) (r : Reply) → WholeStep h c v r
         → WorldMayBeLater h.world v.world }
     ensures run { (h : Whole) (items : List IsItem) (rows : List (Row Whole))
-        → IsRun WholeStep h items rows → WorldMayBeLater h.world (world_behind h rows).world }
+        → IsRun WholeStep h items rows → WorldMayBeLater h.world (last_world h rows).world }
     ensures between { (h : Whole) (items : List IsItem) (rows : List (Row Whole)) (k m : ℕ)
         → IsRun WholeStep h items rows → k ≤ m
         → WorldMayBeLater (world_at h rows k).world (world_at h rows m).world }

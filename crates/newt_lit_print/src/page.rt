@@ -25,7 +25,7 @@ impl Model for Page {
 
 impl Page {
     /// A page with this text, on which no object has been met.
-    pub fn behind(text: Vec<u8>) -> Page
+    pub fn after(text: Vec<u8>) -> Page
         ensures { result ≡ (text.items, 0) }
     {
         Page { text, met: 0 }

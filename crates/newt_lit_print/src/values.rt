@@ -222,7 +222,7 @@ pub fn print(alloc: Global, text: Vec<u8>, nodes: &[Node], root: Ref) -> Result<
         nodes,
         labels: &labels,
     };
-    let mut page = Page::behind(text);
+    let mut page = Page::after(text);
     source.value(&mut page, root, LEVELS)?;
     Ok(page.into_text())
 }

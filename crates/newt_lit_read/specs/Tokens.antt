@@ -14,9 +14,9 @@ first_of [] = None
 first_of (c ∷ rest) = Some (c, rest)
 
 -- the rest of a text whose first character is this one
-abbrev pub behind_mark : ℕ → Option (ℕ × List ℕ) → Option (List ℕ)
-behind_mark c None = None
-behind_mark c (Some mark) = if mark.0 == c then Some mark.1 else None
+abbrev pub after_mark : ℕ → Option (ℕ × List ℕ) → Option (List ℕ)
+after_mark c None = None
+after_mark c (Some mark) = if mark.0 == c then Some mark.1 else None
 
 -- the first character after blanks, and what follows it
 abbrev pub mark_at : List ℕ → Option (ℕ × List ℕ)
@@ -145,7 +145,7 @@ bytes_at text = pieces_at single next_byte (length text) text
 
 -- a count of zero bytes, after its '*', up to a closing angle bracket
 unfoldable pub zeros_at : List ℕ → Option (List ℕ × List ℕ)
-zeros_at text = if is_count (word_at text).0 && nat_le (number (word_at text).0) most_data then (behind_mark 62 (first_of (word_at text).1) >>= λ rest. Some (replicate (number (word_at text).0) 0, rest)) else None
+zeros_at text = if is_count (word_at text).0 && nat_le (number (word_at text).0) most_data then (after_mark 62 (first_of (word_at text).1) >>= λ rest. Some (replicate (number (word_at text).0) 0, rest)) else None
 
 -- the bytes of a large binary
 unfoldable pub large_bytes_at : List ℕ → Option (List ℕ × List ℕ)

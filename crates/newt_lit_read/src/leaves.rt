@@ -9,7 +9,7 @@ use crate::building::Building;
 use crate::fault::LitFault;
 use crate::names::name;
 use crate::pieces::{bytes, units};
-use crate::tokens::behind;
+use crate::tokens::after;
 use crate::words::{is_count, number, word};
 use newt_graph::{Bytes, MOST_DATA, Node, Ref, Units};
 use std::alloc::Global;
@@ -64,7 +64,7 @@ fn classed<'a>(
 {
     let n = building.hold()?;
     let (name, rest) = name(alloc, text)?;
-    let rest = behind(':', rest)?;
+    let rest = after(':', rest)?;
     let k = building.symbol(&name)?;
     Ok(((n, k), rest))
 }
@@ -101,7 +101,7 @@ fn zeros(alloc: Global, text: &[char]) -> Result<(Vec<u8>, &[char]), LitFault>
     if count as usize > MOST_DATA {
         return Err(LitFault::Literal);
     }
-    let rest = behind('>', rest)?;
+    let rest = after('>', rest)?;
     Ok((vec![in alloc; 0; count as usize]?, rest))
 }
 
@@ -132,7 +132,7 @@ fn large<'a>(
 {
     let ((n, class), rest) = classed(alloc, building, text)?;
     let (bytes, rest) = large_bytes(alloc, rest)?;
-    let rest = behind('>', rest)?;
+    let rest = after('>', rest)?;
     building.fill(n, Node::Large(class, Bytes::of(bytes)))?;
     Ok((Ref::Node(n), rest))
 }

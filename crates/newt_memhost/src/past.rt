@@ -39,7 +39,7 @@ impl Happened {
     }
 
     /// Whether a crash within it comes after it, as a number: 1 or 0.
-    fn behind(&self) -> usize
+    fn torn_images(&self) -> usize
         ensures { result ≡ length (torn (Some self.now)) }
     {
         match self {
@@ -106,7 +106,7 @@ pub fn end_of(log: &[Happened], call: u64) -> usize
 {
     let place = place_of(log, call);
     if place < log.len() {
-        place + log[place].behind()
+        place + log[place].torn_images()
     } else {
         place
     }

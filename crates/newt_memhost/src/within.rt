@@ -28,8 +28,8 @@ pub fn image_within(
     ensures out { IfOk result (λ crash. crash.out ≡ length (output (moment_within call log.now))) }
 {
     let entries = log.entries.as_slice();
-    let behind = &entries[..end_of(entries, call)];
-    build(alloc, behind, &log.store, unit, pick)
+    let through = &entries[..end_of(entries, call)];
+    build(alloc, through, &log.store, unit, pick)
 }
 
 /// The unit that a call was on.

@@ -2,7 +2,7 @@
 ghost use Rattle.std.specs.Prelude.{◌≡◌};
 ghost use Rattle.newt_nsof_read.specs.Met.{Met};
 ghost use Rattle.newt_nsof_read.specs.Reading.{Gives, many_at, unit_at, is_text_count, string_at};
-ghost use Rattle.newt_nsof_read.specs.Reading.{binary_at, behind_flag, large_data_at, large_at};
+ghost use Rattle.newt_nsof_read.specs.Reading.{binary_at, after_flag, large_data_at, large_at};
 
 use crate::fault::NsofFault;
 use crate::labels::label;
@@ -92,9 +92,9 @@ pub(crate) fn binary<'a>(
 }
 
 /// The bytes after the flag of a large binary: any flag in the wide grammar, else 0 alone.
-#[tactic(auto, unfolding(crate::specs::Reading::behind_flag))]
-fn behind_flag(bytes: &[u8], wide: bool) -> Result<&[u8], NsofFault>
-    ensures { Gives (λ x. x.now) result (behind_flag wide bytes.now) }
+#[tactic(auto, unfolding(crate::specs::Reading::after_flag))]
+fn after_flag(bytes: &[u8], wide: bool) -> Result<&[u8], NsofFault>
+    ensures { Gives (λ x. x.now) result (after_flag wide bytes.now) }
 {
     let [flag, rest @ ..] = bytes else {
         return Err(NsofFault::Malformed);
@@ -112,7 +112,7 @@ fn behind_flag(bytes: &[u8], wide: bool) -> Result<&[u8], NsofFault>
 fn large_data(bytes: &[u8], wide: bool) -> Result<(&[u8], &[u8]), NsofFault>
     ensures { Gives (λ x. (x.0.now, x.1.now)) result (large_data_at wide bytes.now) }
 {
-    let rest = behind_flag(bytes, wide)?;
+    let rest = after_flag(bytes, wide)?;
     let (len, rest) = number(rest)?;
     if len as usize > MOST_DATA {
         return Err(NsofFault::Malformed);

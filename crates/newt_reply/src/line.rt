@@ -5,7 +5,7 @@ ghost use Rattle.newt_spec_world.specs.Reply as spec;
 ghost use Rattle.newt_reply.specs.Fields.{ok_text};
 
 use newt_graph::Graph;
-use newt_lit_print::print_behind;
+use newt_lit_print::print_after;
 use std::alloc::{AllocError, Global};
 
 /// A field after a space. One that is empty is left out with its space.
@@ -51,7 +51,7 @@ pub fn literal_line(alloc: Global, fields: &[&[u8]], graph: &Graph) -> Result<Ve
 {
     let mut front = ok_front(alloc, fields)?;
     front.push(b' ')?;
-    let mut line = print_behind(alloc, front, graph)?;
+    let mut line = print_after(alloc, front, graph)?;
     line.push(b'\n')?;
     Ok(line)
 }

@@ -97,7 +97,7 @@ module _ (names : List (List ℕ)) (old mid new : Outside) (a : AreAttached true
     then = mid.now;
     still = quiet_first;
     only = λ unit. go unit (mid.card unit) refl;
-    behind = extends;
+    after = extends;
   }
     where
       go : (unit : ℕ) (o : Option (List ℕ)) → mid.card unit ≡ o → changes unit mid.now ≡ attaching (held_by names old unit)

@@ -21,8 +21,8 @@ use Rattle.newt_script_session.specs.Causes.{HasSinkCause}
 use Rattle.newt_script_session.specs.Counted.{Counted, CountedAt}
 use Rattle.newt_script_session.specs.Counts.{Tallies, lines_of_tally, summary_of}
 use Rattle.newt_script_session.specs.Lines.{ended_lines, unended, last_line, lines_of}
-use Rattle.newt_script_session.specs.Moments.{BlankThrough, Fresh, worlds_behind}
-use Rattle.newt_spec_script.specs.Rows.{IsRun, reply_texts, Row, Stepping, world_at, world_behind}
+use Rattle.newt_script_session.specs.Moments.{BlankThrough, Fresh, worlds_passed}
+use Rattle.newt_spec_script.specs.Rows.{IsRun, reply_texts, Row, Stepping, world_at, last_world}
 use Rattle.newt_script_session.specs.Script.{commands_of, given, items_of, script_items}
 use Rattle.newt_script_session.specs.Stream.{Puts, WroteSome}
 use Rattle.newt_script_session.specs.declared.halt.Halt.{Halt}
@@ -118,7 +118,7 @@ module _ (step : Stepping Whole) (reads : List ℕ → Option Store) (script : L
 
   -- all were, and then the summary was written
   module _ {T : Type 0} (x : T) (Last : Whole → Type 0) (has : List (List ℕ) → Type 0) (first tally : Tally) (r : Ran step false reads {T = T} (Ok x) world Last (script_items script) (Tallies first) has old.now mid.now old.dev_faults mid.dev_faults)
-      (its : AtRest reads (world_behind world r.given.rows) mid.now) where
+      (its : AtRest reads (last_world world r.given.rows) mid.now) where
     abbrev rows : List (Row Whole)
     rows = r.given.rows
 
@@ -131,7 +131,7 @@ module _ (step : Stepping Whole) (reads : List ℕ → Option Store) (script : L
     same : out_of mid ≡ out_of old
     same = quiet {T = T} (Ok x) Last (Tallies first) has r
 
-    -- behind all of the items, while the summary is written
+    -- after all of the items, while the summary is written
     counted_last : (text : List ℕ) (now : Moment) → PrintsSome text mid.now now → CountedAt reads old.now world (script_items script) rows (out_of old) now
     counted_last text now some = record {
       shown = some.done;
@@ -141,14 +141,14 @@ module _ (step : Stepping Whole) (reads : List ℕ → Option Store) (script : L
         (λ out. refl),
         (λ unit left may.
             let n = length (script_items script) in
-            let last = world_behind world rows in
+            let last = last_world world rows in
             let all = rows ++ more in
             let size = run_length step world (script_items script) rows run_all in
-            let here_is : last ≡ world_at world all n = ap (world_behind world) (sym (take_at rows more n size)) in
-            let fresh : BlankThrough world all n unit → Fresh (worlds_behind [] world rows) unit = λ b. fresh_through world rows more n unit [] size tt b in
-            its_at reads (MayLeave unit old.now) (Fresh (worlds_behind [] world rows) unit) (BlankThrough world all n unit) last (world_at world all n) (drop n (script_items script ++ later))
+            let here_is : last ≡ world_at world all n = ap (last_world world) (sym (take_at rows more n size)) in
+            let fresh : BlankThrough world all n unit → Fresh (worlds_passed [] world rows) unit = λ b. fresh_through world rows more n unit [] size tt b in
+            its_at reads (MayLeave unit old.now) (Fresh (worlds_passed [] world rows) unit) (BlankThrough world all n unit) last (world_at world all n) (drop n (script_items script ++ later))
             (world_at world all (n + 1)) unit left here_is fresh
-            (its old.now (worlds_behind [] world rows) (r.done.1.untouched old.now [] (λ unit left f blank may. may)) unit left (left_same unit left mid.now now (prints_changes text mid.now now some unit) may))),
+            (its old.now (worlds_passed [] world rows) (r.done.1.untouched old.now [] (λ unit left f blank may. may)) unit left (left_same unit left mid.now now (prints_changes text mid.now now some unit) may))),
       );
     }
 

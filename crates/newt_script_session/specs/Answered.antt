@@ -7,9 +7,9 @@ use Rattle.newt_spec_store.specs.Store.{Store}
 use Rattle.newt_spec_whole.specs.Whole.{Whole}
 use Rattle.newt_script_session.specs.Causes.{flow_of}
 use Rattle.newt_script_session.specs.Lines.{ended_lines, unended}
-use Rattle.newt_script_session.specs.Moments.{SafeAt, Untouched, worlds_behind}
+use Rattle.newt_script_session.specs.Moments.{SafeAt, Untouched, worlds_passed}
 use Rattle.newt_script_session.specs.Reading.{ActsInTime}
-use Rattle.newt_spec_script.specs.Rows.{IsRun, output_of, reply_texts, Row, Stepping, world_behind}
+use Rattle.newt_spec_script.specs.Rows.{IsRun, output_of, reply_texts, Row, Stepping, last_world}
 use Rattle.newt_script_session.specs.Run.{HaltedIn}
 use Rattle.newt_script_session.specs.Script.{has_quit}
 use Rattle.newt_script_session.specs.Stream.{put_out}
@@ -29,11 +29,11 @@ module _ (shows : Bool) where
   -- reply was taken: the sink had some replies before, and now has these after them.
   pub record Answered (world : Whole) (StoodFor : Whole → Type 0) (rows : List (Row Whole))
       (had has : List (List ℕ) → Type 0) (old now : Moment) : Type 0 where
-    pub stands_for : StoodFor (world_behind world rows)
+    pub stands_for : StoodFor (last_world world rows)
     pub put : printed now ≡ printed old ++ put_out shows (output_of rows)
     pub took : (before : List (List ℕ)) → had before → has (before ++ reply_texts rows)
     pub untouched : (start : Moment) (before : List Whole) → Untouched start before world old
-        → Untouched start (worlds_behind before world rows) (world_behind world rows) now
+        → Untouched start (worlds_passed before world rows) (last_world world rows) now
 
 module _ (step : Stepping Whole) where
   -- The first of the items have been given, and these rows are a run over them.

@@ -6,7 +6,7 @@ use Rattle.newt_host.specs.Moments.{Moment, MayLeave, Always, output as printed}
 use Rattle.newt_host.specs.Outside.{Outside}
 use Rattle.newt_script_session.specs.Answered.{Given}
 use Rattle.newt_script_session.specs.Counts.{summary_of}
-use Rattle.newt_script_session.specs.Moments.{Behind}
+use Rattle.newt_script_session.specs.Moments.{LeftAfter}
 use Rattle.newt_script_session.specs.Reading.{ActsInTime}
 use Rattle.newt_spec_script.specs.Rows.{Row, Stepping}
 use Rattle.newt_script_session.specs.Run.{SummaryHalted}
@@ -28,7 +28,7 @@ pub record CountedAt (store_of_image : List ℕ → Option Store) (start : Momen
   pub leaves : (later : List Item) (more : List (Row Whole)) → (done : ℕ)
       × (0 < length shown → done ≡ length items)
       × ((unit : ℕ) (left : List ℕ) → MayLeave unit now left
-      → Behind store_of_image (MayLeave unit start) world (items ++ later) (rows ++ more) done unit
+      → LeftAfter store_of_image (MayLeave unit start) world (items ++ later) (rows ++ more) done unit
       left)
 
 -- What a crash has left on a unit, where its device was held like this before the run, and that was
@@ -41,7 +41,7 @@ pub record HasLeftCounted (store_of_image : List ℕ → Option Store) (world : 
   pub grown : out ≡ old ++ shown
   pub leaves : (later : List Item) (more : List (Row Whole)) → (done : ℕ)
       × (0 < length shown → done ≡ length items)
-      × Behind store_of_image (λ bytes. held ≡ Some bytes) world (items ++ later) (rows ++ more) done
+      × LeftAfter store_of_image (λ bytes. held ≡ Some bytes) world (items ++ later) (rows ++ more) done
       unit left
 
 -- The script was answered from this world on, by a run over its first items; with an answer, over

@@ -41,9 +41,9 @@ abbrev pub Fresh : List Whole → ℕ → Type 0
 Fresh worlds unit = Each (λ w. IsBlankOn w unit) worlds
 
 -- worlds, and after them those of a run except the last, the latest first
-abbrev pub worlds_behind : List Whole → Whole → List (Row Whole) → List Whole
-worlds_behind before world [] = before
-worlds_behind before world (row ∷ rows) = worlds_behind (world ∷ before) row.0 rows
+abbrev pub worlds_passed : List Whole → Whole → List (Row Whole) → List Whole
+worlds_passed before world [] = before
+worlds_passed before world (row ∷ rows) = worlds_passed (world ∷ before) row.0 rows
 
 -- Where a unit holds no store, and held none in the worlds before, a crash leaves on it what it
 -- might have left at the start.
@@ -64,9 +64,9 @@ pub record Between (store_of_image : List ℕ → Option Store) (AtFirst : List 
 
 -- what is left of a unit after m of the rows, which the items gave; F is that it held no store up
 -- to there
-abbrev pub Behind : (List ℕ → Option Store) → (AtFirst : List ℕ → Type 0) → Whole → List Item
+abbrev pub LeftAfter : (List ℕ → Option Store) → (AtFirst : List ℕ → Type 0) → Whole → List Item
     → List (Row Whole) → ℕ → ℕ → List ℕ → Type 0
-Behind store_of_image AtFirst world items rows m unit left = Between store_of_image AtFirst
+LeftAfter store_of_image AtFirst world items rows m unit left = Between store_of_image AtFirst
     (BlankThrough world rows m unit) (world_at world rows m) (drop m items)
     (world_at world rows (m + 1)) unit left
 
@@ -79,7 +79,7 @@ module _ (store_of_image : List ℕ → Option Store) (start : Moment) where
     pub shown : List ℕ
     pub out : printed now ≡ old ++ shown
     pub leaves : (later : List Item) (more : List (Row Whole)) (unit : ℕ) (left : List ℕ)
-        → MayLeave unit now left → Behind store_of_image (MayLeave unit start) world
+        → MayLeave unit now left → LeftAfter store_of_image (MayLeave unit start) world
         (items ++ later) (rows ++ more) (replies_begun (rows ++ more) (length shown)) unit left
 
   -- the same by recursion on the rows, where so many bytes are out
@@ -112,5 +112,5 @@ pub record HasLeft (store_of_image : List ℕ → Option Store) (world : Whole) 
   pub shown : List ℕ
   pub grown : out ≡ old ++ shown
   pub leaves : (later : List Item) (more : List (Row Whole))
-      → Behind store_of_image (λ bytes. held ≡ Some bytes) world (items ++ later) (rows ++ more)
+      → LeftAfter store_of_image (λ bytes. held ≡ Some bytes) world (items ++ later) (rows ++ more)
       (replies_begun (rows ++ more) (length shown)) unit left

@@ -48,7 +48,7 @@ pub record AttachedFirst (names : List (List ℕ)) (old new : Outside) : Type 0 
   pub then : Moment
   pub still : Always (λ m. (taken m ≡ taken old.now) × (output m ≡ output old.now)) old.now then
   pub only : (unit : ℕ) → changes unit then ≡ attaching (held_by names old unit)
-  pub behind : Extends then new.now
+  pub after : Extends then new.now
 
 -- no unit has another device than that of the name at its place
 abbrev pub HasNamed : List (List ℕ) → Outside → Type 0

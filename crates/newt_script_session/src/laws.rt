@@ -6,7 +6,7 @@ ghost use Rattle.newt_laws_steps.specs.Thrown.{RowsThrew};
 ghost use Rattle.newt_script.specs.Graphs.{readers};
 ghost use Rattle.newt_script_session.specs.Lines.{lines_of};
 ghost use Rattle.newt_script_session.specs.Script.{commands_of};
-ghost use Rattle.newt_spec_script.specs.Rows.{IsRun, Row, replies_of, world_behind};
+ghost use Rattle.newt_spec_script.specs.Rows.{IsRun, Row, replies_of, last_world};
 ghost use Rattle.newt_spec_script.specs.Script as plain;
 ghost use Rattle.newt_spec_whole.specs.Answer.{whole_answer};
 ghost use Rattle.newt_spec_whole.specs.Step.{WholeStep};
@@ -28,7 +28,7 @@ pub fn faultless_runs_are_plain()
     ensures world { (world : Whole) (items : List plain.Item) (rows : List (Row Whole))
         (was is : ℕ → ℕ) → AllSure world.world → IsRun WholeStep world items rows
         → RowsThrew rows was is → ((unit : ℕ) → ¬ Rose (was unit) (is unit))
-        → world_behind world rows ≡ plain.world_after whole_answer world items }
+        → last_world world rows ≡ plain.world_after whole_answer world items }
     ensures replies { (world : Whole) (items : List plain.Item) (rows : List (Row Whole))
         (was is : ℕ → ℕ) → AllSure world.world → IsRun WholeStep world items rows
         → RowsThrew rows was is → ((unit : ℕ) → ¬ Rose (was unit) (is unit))

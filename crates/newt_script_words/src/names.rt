@@ -52,7 +52,7 @@ fn is_escaped(byte: u8) -> bool
 
 /// The byte after a backslash, and what follows it.
 #[tactic(auto, using(crate::proofs::Quotes::escaped, crate::proofs::Quotes::unmarked))]
-fn behind_backslash(text: &[u8]) -> Option<(Option<u8>, &[u8])>
+fn after_backslash(text: &[u8]) -> Option<(Option<u8>, &[u8])>
     ensures step { MatchOption result (spec.quoted (92 ∷ text.now) ≡ None) (λ found.
         spec.quoted (92 ∷ text.now) ≡ goes_on found.0 found.1.now) }
     ensures shorter { IfSome result (λ found. length found.1.now < length text.now) }
@@ -77,7 +77,7 @@ fn next_in_quotes(text: &[u8]) -> Option<(Option<u8>, &[u8])>
     if *byte == b'"' {
         Some((None, rest))
     } else if *byte == b'\\' {
-        behind_backslash(rest)
+        after_backslash(rest)
     } else {
         Some((Some(*byte), rest))
     }

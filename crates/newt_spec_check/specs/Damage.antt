@@ -40,13 +40,13 @@ abbrev pub start_of : List ℕ → ℕ → ℕ
 start_of image bank = bank_start (blocks_of image) bank
 
 -- what a bank holds after a header of version 1 or 2, with the version
-abbrev pub behind : List ℕ → ℕ → Option (ℕ × List ℕ)
-behind image bank = versioned (bank_bytes (blocks_of image) bank image)
+abbrev pub versioned_in : List ℕ → ℕ → Option (ℕ × List ℕ)
+versioned_in image bank = versioned (bank_bytes (blocks_of image) bank image)
 
 -- header: the first byte of the chosen bank, where its first 16 bytes are not a header
 abbrev pub no_header : List ℕ → Option ℕ
 no_header image =
-    option_and_then (λ bank. if_missing (start_of image bank) (behind image bank)) (chosen_bank image)
+    option_and_then (λ bank. if_missing (start_of image bank) (versioned_in image bank)) (chosen_bank image)
 
 -- ---- records and payloads
 
@@ -63,12 +63,12 @@ gates_after at zero (gate ∷ rest) =
     if gate == 0 then (at, rest) ∷ gates_after (suc at) (4 + length_at rest) rest else []
 
 -- the gates of 0 in a bank that begins at a place, after its header
-abbrev pub gates_behind : ℕ → List ℕ → List Gate
-gates_behind start = gates_after (start + 16) 0
+abbrev pub bank_gates : ℕ → List ℕ → List Gate
+bank_gates start = gates_after (start + 16) 0
 
 -- the gates of 0 of the chosen bank, the first one first
 abbrev pub gates : List ℕ → List Gate
-gates image = unwrap_or (option_and_then (λ bank. option_map (gates_behind (start_of image bank)) (body image)) (chosen_bank image)) []
+gates image = unwrap_or (option_and_then (λ bank. option_map (bank_gates (start_of image bank)) (body image)) (chosen_bank image)) []
 
 -- the place of the first gate after which the bytes pass a test
 abbrev pub first_gate : (List ℕ → Bool) → List Gate → Option ℕ

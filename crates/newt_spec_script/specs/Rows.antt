@@ -36,13 +36,13 @@ throws unit reply = false
 
 module _ {W : Type 0} where
   -- the world after all rows
-  abbrev pub world_behind : W → List (Row W) → W
-  world_behind world [] = world
-  world_behind world (row ∷ rows) = world_behind row.0 rows
+  abbrev pub last_world : W → List (Row W) → W
+  last_world world [] = world
+  last_world world (row ∷ rows) = last_world row.0 rows
 
   -- the world after the first m rows; where there are fewer rows, that after the last one
   abbrev pub world_at : W → List (Row W) → ℕ → W
-  world_at world rows m = world_behind world (take m rows)
+  world_at world rows m = last_world world (take m rows)
 
   -- the replies
   abbrev pub replies_of : List (Row W) → List Reply

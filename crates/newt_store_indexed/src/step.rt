@@ -50,7 +50,7 @@ fn take_move(
     }
 }
 
-// A soup gets a range behind its others.
+// A soup gets a range after its others.
 fn take_range(ranges: &mut Ranges, soup: Sig, step: Step) -> Result<(), AllocError>
     ensures { OnOk result (ranges.new ≡ rows_declared soup step ranges.old) }
 {

@@ -88,7 +88,7 @@ ok
 fn expect_replies(run: &(Status, Vec<u8>), wanted: &[u8]) -> Result<(), Fail> {
     let (status, written) = run;
     if *status != Status::Ok || written.as_slice() != wanted {
-        return Err(Fail::new(format_args!("{status:?} behind {written:?}")));
+        return Err(Fail::new(format_args!("{status:?} after {written:?}")));
     }
     Ok(())
 }

@@ -44,15 +44,15 @@ struct AddRun {
     host: MemHost,
     first: u64,
     before: Vec<u8>,
-    behind: Vec<u8>,
+    after: Vec<u8>,
 }
 
 fn add_run<I: Interpreter>(alloc: Global) -> Result<AddRun, Fail> {
     let before = card(alloc)?;
     let mounted = run_over::<I>(alloc, MOUNT, &before)?;
     let host = run_over::<I>(alloc, ADD, &before)?;
-    let behind = image(alloc, &host, Unit(0))?;
-    if found::<I>(alloc, &before)? != 200 || found::<I>(alloc, &behind)? != 201 {
+    let after = image(alloc, &host, Unit(0))?;
+    if found::<I>(alloc, &before)? != 200 || found::<I>(alloc, &after)? != 201 {
         return Err(Fail::new("the add does not add one name"));
     }
     // the last call of the first run looks for more input
@@ -61,7 +61,7 @@ fn add_run<I: Interpreter>(alloc: Global) -> Result<AddRun, Fail> {
         host,
         first,
         before,
-        behind,
+        after,
     })
 }
 
@@ -78,7 +78,7 @@ fn stop_at_each<I: Interpreter>(alloc: Global, added: &AddRun, pick: Pick) -> Re
     let mut names = 200;
     for call in added.first..host.calls() {
         let Crash { image, out } = host.images(Unit(0), call, pick)?;
-        if image == added.behind {
+        if image == added.after {
             names = 201;
         } else if image != left {
             names = found::<I>(alloc, &image)?;
@@ -125,7 +125,7 @@ fn a_check_counts_the_names(rt: HostRuntime) -> Result<(), Fail> {
     let alloc = rt.alloc();
     let added = add_run::<OnDevice>(alloc)?;
     expect_said(alloc, &added.before, b"ok clean 1 200 201\n")?;
-    expect_said(alloc, &added.behind, b"ok clean 1 201 202\n")
+    expect_said(alloc, &added.after, b"ok clean 1 201 202\n")
 }
 
 #[test]

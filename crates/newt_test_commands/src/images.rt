@@ -1,6 +1,6 @@
 //! Images whose entries name large binaries that are not theirs.
 
-use newt_test_scripts::{blocks, card_behind, run_table_on};
+use newt_test_scripts::{blocks, card_after, run_table_on};
 use std::alloc::Global;
 use std::test::Fail;
 
@@ -128,7 +128,7 @@ fn expect_changed(
 #[test]
 fn takes_no_image_whose_large_binaries_are_not_named_once(rt: HostRuntime) -> Result<(), Fail> {
     let alloc = rt.alloc();
-    let card = card_behind(alloc, "run a b", TWO)?;
+    let card = card_after(alloc, "run a b", TWO)?;
     let (first, second) = places(alloc, &card)?;
     let one = (first, number_at(&card, first)?);
     let other = (second, number_at(&card, second)?);

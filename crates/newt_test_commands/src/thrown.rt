@@ -4,7 +4,7 @@ use newt_host::Unit;
 use newt_memhost::MemHost;
 use newt_script_generator::gen_script;
 use newt_test_scripts::{
-    blocks, calls_behind, expect_end, image, lines_of, over, run_failing, run_over,
+    blocks, calls_after, expect_end, image, lines_of, over, run_failing, run_over,
 };
 use newt_top::Status;
 use std::alloc::Global;
@@ -31,7 +31,7 @@ impl Place {
     /// The call of this place among those on a unit that one line makes: the line after so many
     /// replies.
     fn call(self, alloc: Global, script: &[u8], unit: Unit, replies: usize) -> Result<u64, Fail> {
-        let calls = calls_behind(alloc, FIVE, script, &[], unit, replies)?;
+        let calls = calls_after(alloc, FIVE, script, &[], unit, replies)?;
         Ok(self.of(&calls).ok_or("no such call")?)
     }
 }
@@ -66,7 +66,7 @@ pub(crate) fn expect_each_failing(
     count: usize,
 ) -> Result<(), Fail> {
     let (script, _) = lines_of(alloc, table)?;
-    let calls = calls_behind(alloc, FIVE, &script, &[], unit, replies)?.len();
+    let calls = calls_after(alloc, FIVE, &script, &[], unit, replies)?.len();
     if calls != count.saturating_add(1) {
         return Err(Fail::new(format_args!("{calls} calls")));
     }
@@ -101,13 +101,13 @@ soups 0 => ok S 0 1
 #[test]
 fn tells_which_store_a_card_holds(rt: HostRuntime) -> Result<(), Fail> {
     let alloc = rt.alloc();
-    // All but the last sync: what is read, the record behind its gate, a sync, and the gate.
+    // All but the last sync: what is read, the record after its gate, a sync, and the gate.
     expect_each_failing(alloc, NOT_ADDED, Unit(0), 3, 7)?;
     expect_failing(alloc, ADDED, Unit(0), 3, Place::FromLast(0))
 }
 
 #[test]
-fn goes_on_behind_a_device_that_failed(rt: HostRuntime) -> Result<(), Fail> {
+fn goes_on_after_a_device_that_failed(rt: HostRuntime) -> Result<(), Fail> {
     let alloc = rt.alloc();
     let script: &[u8] = b"nsof 020A\nmount 0\nnsof 020A\n";
     let mut host = over(alloc, script, &blocks(alloc, 13)?, &[])?;
@@ -319,7 +319,7 @@ quit => ok
 fn failing_calls(alloc: Global, script: &[u8]) -> Result<Vec<u64>, Fail> {
     let mut failing: Vec<u64> = Vec::new(alloc);
     for replies in 6usize..14 {
-        let calls = calls_behind(alloc, "run a b", script, &failing, Unit(0), replies)?;
+        let calls = calls_after(alloc, "run a b", script, &failing, Unit(0), replies)?;
         if let Some(call) = calls.first() {
             failing.push(*call)?;
         }

@@ -2,7 +2,7 @@
 
 use crate::cards::patch;
 use newt_host::Unit;
-use newt_test_scripts::{backed_up, card_behind, expect_unrestored, image, run_over};
+use newt_test_scripts::{backed_up, card_after, expect_unrestored, image, run_over};
 use std::alloc::Global;
 use std::test::Fail;
 
@@ -34,8 +34,8 @@ add 0 S {a: 1} => ok 0
 ";
 
 /// The backup of the store after a table.
-pub(crate) fn backup_behind(alloc: Global, table: &str) -> Result<Vec<u8>, Fail> {
-    backed_up(alloc, &card_behind(alloc, "run a", table)?)
+pub(crate) fn backup_after(alloc: Global, table: &str) -> Result<Vec<u8>, Fail> {
+    backed_up(alloc, &card_after(alloc, "run a", table)?)
 }
 
 /// A device of 13 blocks of this byte.
@@ -49,7 +49,7 @@ pub(crate) fn filled(alloc: Global, byte: u8) -> Result<Vec<u8>, Fail> {
 fn a_backup_that_is_cut_is_refused(rt: HostRuntime) -> Result<(), Fail> {
     let alloc = rt.alloc();
     let device = filled(alloc, 0x55)?;
-    let input = backup_behind(alloc, STORE)?;
+    let input = backup_after(alloc, STORE)?;
     for end in 0..input.len() {
         expect_unrestored(alloc, &input[..end], &device, b"error 1 malformed\n")?;
     }
@@ -116,7 +116,7 @@ fn count_bent(alloc: Global, input: &[u8], bytes: &[u8]) -> Result<u32, Fail> {
 
 /// The same for the backup of the store after a table, with the number that is wanted.
 fn expect_bent(alloc: Global, table: &str, bytes: &[u8], wanted: u32) -> Result<(), Fail> {
-    let count = count_bent(alloc, &backup_behind(alloc, table)?, bytes)?;
+    let count = count_bent(alloc, &backup_after(alloc, table)?, bytes)?;
     if count != wanted {
         return Err(Fail::new(format_args!("{count} are backups")));
     }

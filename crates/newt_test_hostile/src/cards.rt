@@ -1,14 +1,14 @@
 //! A card with a fresh store, some bytes of which are changed.
 
 use newt_host::Unit;
-use newt_test_scripts::{card_behind, image, is_clean, run_table_on};
+use newt_test_scripts::{card_after, image, is_clean, run_table_on};
 use newt_test_tables::bytes_of;
 use std::alloc::Global;
 use std::test::Fail;
 
 /// The image of a unit of 13 blocks that was formatted once.
 fn base(alloc: Global) -> Result<Vec<u8>, Fail> {
-    card_behind(alloc, "run a", "format 0 Internal 7 => ok")
+    card_after(alloc, "run a", "format 0 Internal 7 => ok")
 }
 
 /// What a card opens as. A row begins with the changes of the image, with `, ` between them: each
@@ -36,7 +36,7 @@ const CARDS: &str = "
 /// Writes bytes over those from a place on.
 pub(crate) fn patch(bytes: &mut Vec<u8>, at: usize, new: &[u8]) -> Result<(), Fail> {
     if at > bytes.len() || new.len() > bytes.len() - at {
-        return Err(Fail::new("a change behind the image"));
+        return Err(Fail::new("a change after the image"));
     }
     bytes[at..at + new.len()].copy_from_slice(new);
     Ok(())

@@ -18,6 +18,6 @@ fn ends_at_each_call_of_a_stream_that_fails(rt: HostRuntime) -> Result<(), Fail>
 }
 
 #[test]
-fn goes_on_behind_each_call_of_a_device_that_fails(rt: HostRuntime) -> Result<(), Fail> {
+fn goes_on_after_each_call_of_a_device_that_fails(rt: HostRuntime) -> Result<(), Fail> {
     expect_count(expect_thrown(rt.alloc(), SCRIPT, LISTING)?, 422)
 }

@@ -1,6 +1,6 @@
 //! A stop at each call of a restoring.
 
-use crate::backups::{STORE, backup_behind, filled};
+use crate::backups::{STORE, backup_after, filled};
 use newt_host::{Host, Unit};
 use newt_memhost::{Crash, MemHost, Pick};
 use newt_test_scripts::{backed_up, expect_status, over, restored};
@@ -47,7 +47,7 @@ fn is_store(alloc: Global, bytes: &[u8], input: &[u8]) -> Result<bool, Fail> {
     }
     let again = restored(alloc, input, bytes, b"ok 7 Internal\n")?;
     if backed_up(alloc, &again)?.as_slice() != input {
-        return Err(Fail::new("another store is restored behind a stop"));
+        return Err(Fail::new("another store is restored after a stop"));
     }
     Ok(false)
 }
@@ -80,7 +80,7 @@ fn stop_at_each(
 
 /// The same for a restoring to a device of these bytes, whose reply is written a byte at a time.
 fn stop_restoring(alloc: Global, device: &[u8]) -> Result<Found, Fail> {
-    let input = backup_behind(alloc, STORE)?;
+    let input = backup_after(alloc, STORE)?;
     let mut host = over(alloc, &input, device, &[])?;
     host.piece(1);
     expect_status(alloc, "restore a", &mut host, Status::Ok)?;

@@ -139,8 +139,8 @@ fn close_and_open(rt: &impl Abort, alloc: Global, desk: &mut Desk) -> Result<(),
     let dates = opened(alloc, desk, "Dates", Place::Finish)?;
     check(rt, dates == 7, "the least number that is free");
     check(rt, cloned(desk, 7)? == 20, "and the next one");
-    let is_behind = matches!(desk.place(20), Some(Place::Finish));
-    check(rt, is_behind, "the place of the clone");
+    let is_after = matches!(desk.place(20), Some(Place::Finish));
+    check(rt, is_after, "the place of the clone");
     check(rt, is_over(desk, 20, b"Dates"), "the query of the clone");
     Ok(())
 }

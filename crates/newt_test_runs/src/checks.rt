@@ -6,13 +6,13 @@ ghost use Rattle.newt_memhost.specs.Outside.{outside_of};
 use crate::trial::expect_reading_halts;
 use newt_host::{Host, Unit};
 use newt_memhost::{Crash, MemHost, Pick};
-use newt_test_scripts::{blocks, card_behind, expect_said, run_over, run_table_on, run_writing};
+use newt_test_scripts::{blocks, card_after, expect_said, run_over, run_table_on, run_writing};
 use std::alloc::Global;
 use std::test::Fail;
 
 /// The bytes that the device `a` of 13 blocks of zero bytes has after a table.
 fn card_of(alloc: Global, table: &str) -> Result<Vec<u8>, Fail> {
-    card_behind(alloc, "run a", table)
+    card_after(alloc, "run a", table)
 }
 
 const FORMAT: &str = "format 0 Internal 7 => ok";
@@ -38,7 +38,7 @@ fn counts_what_is_clean(rt: HostRuntime) -> Result<(), Fail> {
 /// Writes bytes over those from a place on.
 fn patch(bytes: &mut Vec<u8>, at: usize, new: &[u8]) -> Result<(), Fail> {
     if at > bytes.len() || new.len() > bytes.len() - at {
-        return Err(Fail::new("a change behind the image"));
+        return Err(Fail::new("a change after the image"));
     }
     bytes[at..at + new.len()].copy_from_slice(new);
     Ok(())

@@ -136,7 +136,7 @@ fn halts_at_each_call_of_a_stream_that_fails(rt: HostRuntime) -> Result<(), Fail
 }
 
 #[test]
-fn goes_on_behind_each_call_of_a_device_that_fails(rt: HostRuntime) -> Result<(), Fail> {
+fn goes_on_after_each_call_of_a_device_that_fails(rt: HostRuntime) -> Result<(), Fail> {
     expect_thrown(rt.alloc(), SHORT, LOOK)?;
     Ok(())
 }

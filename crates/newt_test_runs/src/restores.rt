@@ -7,7 +7,7 @@ use crate::versions::{BEFORE, FRESH as OLD_FRESH, GOES_ON};
 use newt_host::{Host, Unit};
 use newt_memhost::MemHost;
 use newt_test_scripts::{
-    backed_up, blocks, card_behind, copied, expect_end, expect_goes_on, expect_unrestored, image,
+    backed_up, blocks, card_after, copied, expect_end, expect_goes_on, expect_unrestored, image,
     over, restored, run_on, run_table, run_table_on, run_writing,
 };
 use newt_test_tables::bytes_of;
@@ -20,7 +20,7 @@ use std::test::Fail;
 fn restores_a_fresh_store_as_it_is_formatted(rt: HostRuntime) -> Result<(), Fail> {
     let alloc = rt.alloc();
     let card = restored(alloc, FRESH, &blocks(alloc, 13)?, b"ok 7 Internal\n")?;
-    assert!(rt; card == card_behind(alloc, "run a", "format 0 Internal 7 => ok")?);
+    assert!(rt; card == card_after(alloc, "run a", "format 0 Internal 7 => ok")?);
     expect_unrestored(alloc, FRESH, &card, b"error 26 store\n")
 }
 
@@ -62,7 +62,7 @@ const REFUSED: [(&[u8], &[u8]); 4] = [
 ];
 
 /// The backup of what 15 blocks hold after a table.
-fn backup_behind(alloc: Global, table: &str) -> Result<Vec<u8>, Fail> {
+fn backup_after(alloc: Global, table: &str) -> Result<Vec<u8>, Fail> {
     let host = run_table_on(alloc, "run a", table, &blocks(alloc, 15)?, &[])?;
     backed_up(alloc, &image(alloc, &host, Unit(0))?)
 }
@@ -76,7 +76,7 @@ fn backup_of_entries(alloc: Global, count: u32) -> Result<Vec<u8>, Fail> {
     for id in 0..count {
         table.push_str(&format!(in alloc; "add 0 S {{}} => ok {id}\n")?)?;
     }
-    backup_behind(alloc, &table)
+    backup_after(alloc, &table)
 }
 
 /// A device of these bytes gives these lines for a fresh store and for one of 39 pages, after the
@@ -175,7 +175,7 @@ mount 0 => ok 7 Internal
 soup 0 S => ok 0
 {row}"
         )?;
-        let input = backup_behind(alloc, &table)?;
+        let input = backup_after(alloc, &table)?;
         restored(alloc, &input, &blocks(alloc, 13)?, reply)?;
     }
     Ok(())
@@ -260,7 +260,7 @@ soup 0 Next => ok 1
 #[test]
 fn goes_on_where_the_store_was(rt: HostRuntime) -> Result<(), Fail> {
     let alloc = rt.alloc();
-    expect_goes_on(alloc, &card_behind(alloc, "run a", SEVERAL)?, GO_ON)?;
+    expect_goes_on(alloc, &card_after(alloc, "run a", SEVERAL)?, GO_ON)?;
     let every = run_table(alloc, "run a b", EVERY)?;
     expect_goes_on(alloc, &image(alloc, &every, Unit(0))?, EVERY_0)?;
     expect_goes_on(alloc, &image(alloc, &every, Unit(1))?, EVERY_1)

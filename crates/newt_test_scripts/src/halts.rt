@@ -5,7 +5,7 @@ ghost use Rattle.newt_memhost.specs.Outside.{outside_of};
 ghost use Rattle.newt_memhost.specs.Words.{calls_of};
 ghost use Rattle.newt_test_scripts.specs.Free.{IsFree};
 
-use crate::crashes::{Looks, begun, expect_found, look, looks_behind_blank};
+use crate::crashes::{Looks, begun, expect_found, look, looks_from_blank};
 use crate::hosts::{blocks, over_blank};
 use crate::runs::{has_device, run_on, run_table};
 use crate::tables::lines_of;
@@ -16,7 +16,7 @@ use std::alloc::Global;
 use std::test::Fail;
 
 /// The length of the output when the call after this one began.
-fn out_behind(host: &MemHost, call: u64) -> u64 {
+fn out_after(host: &MemHost, call: u64) -> u64 {
     let next = call.saturating_add(1);
     if next < host.calls() {
         host.out_before(next)
@@ -30,7 +30,7 @@ fn out_behind(host: &MemHost, call: u64) -> u64 {
 fn wanted(sound: &MemHost, call: u64) -> Status
     requires { call < calls_of sound.now }
 {
-    if sound.out_before(call) < out_behind(sound, call) {
+    if sound.out_before(call) < out_after(sound, call) {
         Status::Sink
     } else {
         Status::Source
@@ -126,7 +126,7 @@ fn expect_all_halted(
     ask: &[u8],
     sound: &MemHost,
 ) -> Result<(), Fail> {
-    let looks = looks_behind_blank(alloc, script, ask, Unit(0))?;
+    let looks = looks_from_blank(alloc, script, ask, Unit(0))?;
     for call in 0..sound.calls() {
         if sound.unit_of(call).is_none() {
             expect_halted(alloc, script, ask, sound, call, &looks)?;

@@ -78,7 +78,7 @@ pub fn expect_end(
     expect_status(alloc, text, host, status)?;
     if host.output() != output {
         let lines = equal_lines(host.output(), output);
-        return Err(Fail::new(format_args!("{text} writes other bytes behind {lines} lines")));
+        return Err(Fail::new(format_args!("{text} writes other bytes after {lines} lines")));
     }
     Ok(())
 }
@@ -133,7 +133,7 @@ pub fn run_table(alloc: Global, text: &str, table: &str) -> Result<MemHost, Fail
 }
 
 /// The bytes of the first unit after such a run.
-pub fn card_behind(alloc: Global, text: &str, table: &str) -> Result<Vec<u8>, Fail> {
+pub fn card_after(alloc: Global, text: &str, table: &str) -> Result<Vec<u8>, Fail> {
     let host = run_table(alloc, text, table)?;
     image(alloc, &host, Unit(0))
 }

@@ -253,7 +253,7 @@ pub(crate) fn patched(
     let patch = hex_read(alloc, digits.as_bytes())?;
     let mut bytes = image.to_vec(alloc)?;
     if at > bytes.len() || patch.len() > bytes.len() - at {
-        return Err(Fail::new("a patch behind the image"));
+        return Err(Fail::new("a patch after the image"));
     }
     bytes[at..at + patch.len()].copy_from_slice(&patch);
     Ok(bytes)

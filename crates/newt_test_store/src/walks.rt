@@ -34,7 +34,7 @@ fn id_of(found: &Option<(&Key, Uid)>) -> Option<u32> {
 }
 
 /// The id after an entry's in a range, by the key of its graph.
-fn id_behind(
+fn id_after(
     alloc: Global,
     range: &Index,
     spec: Option<&IndexSpec>,
@@ -58,7 +58,7 @@ fn walked(
     for _ in 0..range.len() {
         let uid = next.ok_or("the range is too short")?;
         uids.push(uid)?;
-        next = id_behind(alloc, range, spec, uid, after)?;
+        next = id_after(alloc, range, spec, uid, after)?;
     }
     match next {
         Some(_) => Err(Fail::new("the range is too long")),

@@ -58,7 +58,7 @@ fn what_is_read_is_written_in_one_form(rt: HostRuntime) -> Result<(), Fail> {
 
 /// Streams with small rectangles, whose two texts differ.
 const RECTANGLES: &str = "
-# Behind ` / ` stands the flat text, which has a small rectangle as a frame of four integers.
+# After ` / ` stands the flat text, which has a small rectangle as a frame of four integers.
 02 0B01020304 => kept / 02 0604 sides 0004 0008 000C 0010
 02 0604 sides 00FF000003FC 0008 000C 0000 => 02 0BFF020300 / kept
 02 0604 sides 00FF000003F8 0008 000C 0000 => 02 0BFE020300 / kept
@@ -118,10 +118,10 @@ const REFUSED: &str = "
 02 0D => malformed
 # A word that is a pointer.
 02 0005 => malformed
-# Bytes behind the object.
+# Bytes after the object.
 02 0A 0A => malformed
 02 0500 00 => malformed
-# Counts and numbers below 0, and a count with no slots behind it.
+# Counts and numbers below 0, and a count with no slots after it.
 02 05FFFFFFFFFF => malformed
 02 06FFFFFFFFFF => malformed
 02 0501 09FFFFFFFFFF => malformed

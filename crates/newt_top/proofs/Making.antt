@@ -24,7 +24,7 @@ use Rattle.newt_spec_store.specs.Store.{Store}
 use Rattle.newt_store_backup.specs.Restored.{IsAsked, IsDone, IsLeft, IsRestored, Restores}
 use Rattle.newt_store_backup.proofs.Outcomes.{one-outcome}
 use Rattle.newt_store_catalog.specs.Readable.{readable}
-use Rattle.newt_top.specs.Restoring.{AttachedBehind, CrashLeaves, IsMade, RanRestored, Replied, WritesOneDevice}
+use Rattle.newt_top.specs.Restoring.{AttachedAfter, CrashLeaves, IsMade, RanRestored, Replied, WritesOneDevice}
 use Rattle.newt_top.specs.declared.status.Status.TheVariants.{Ok, Memory, Device, Sink}
 use Rattle.newt_top.proofs.Acting.{attached-filling}
 use Rattle.newt_top.proofs.Looking.{crash-held, crash-since, device-held, only-read, still}
@@ -119,7 +119,7 @@ module _ {T : Type 0} (names : List (List ℕ)) (input : List ℕ) (old mid done
 
   -- the device was attached first, and filled before the reply
   attached-first : (new : Outside) (text : List ℕ) → Always (PrintsSome text done.now) done.now new.now → ((unit : ℕ) → new.card unit ≡ done.card unit) → taken new.now ≡ taken done.now
-      → {X : Type 0} → AttachedBehind names old new ⊎ X
+      → {X : Type 0} → AttachedAfter names old new ⊎ X
   attached-first new text prints cards unread = inl (attached-filling names old mid new blank a (λ unit. cards unit ∙ restores.alone.cards.card unit) text done (restores.any_moment refl) prints unread)
 
   -- what the reply tells

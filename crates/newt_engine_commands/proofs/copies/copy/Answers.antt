@@ -20,7 +20,7 @@ use Rattle.newt_base.specs.declared.Refusal.TheVariants.{Entry as NoEntry}
 use Rattle.newt_laws_answers.specs.Fetched.{most_fetched, next_if_on}
 use Rattle.newt_engine_commands.proofs.Costing.{its_pages, first-low, half}
 use Rattle.newt_engine_units.proofs.Costs.{none-fits}
-use Rattle.newt_engine_commands.proofs.Effects.{behind-obeys, known-formed, none-low, soup-resolves}
+use Rattle.newt_engine_commands.proofs.Effects.{after-obeys, known-formed, none-low, soup-resolves}
 use Rattle.newt_laws_effects.proofs.Found.{both-found}
 use Rattle.newt_laws_effects.specs.Effects.{effects, needs, one as only}
 use Rattle.newt_laws_effects.specs.Tells.{is_of_stores}
@@ -72,7 +72,7 @@ returns g c =
     let target = c.args.target.now in
     let graph = c.in_ok-graph.field-0.graph in
     let command = command.Copy u name uid to target in
-    behind-obeys read.looks (read.ends.no_fault tt) c.change.result c.change.ensures command (λ n. Reply.number n) (λ w now. refl)
+    after-obeys read.looks (read.ends.no_fault tt) c.change.result c.change.ensures command (λ n. Reply.number n) (λ w now. refl)
     (λ t. let h = has-soup at t u name c.in_ok-soup.soup c.in_ok-soup.ensures.0 in
     let x : Entry = record { uid = c.in_ok-graph.field-0.uid; time = c.in_ok-graph.field-0.time; graph = c.in_ok-graph.field-0.graph } in
     let found : entry_of uid h.soup ≡ Some x = read-found c.in_ok-soup.soup uid h.store h.soup c.in_ok-graph.field-0 x.graph refl h.by_sig (read.read t h.blocks h.store h.on) in

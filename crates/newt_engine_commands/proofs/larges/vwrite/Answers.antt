@@ -21,7 +21,7 @@ use Rattle.newt_laws_answers.specs.Fetched.{most_fetched}
 use Rattle.newt_spec_graph.specs.Larges.{large_at}
 use Rattle.newt_engine_commands.proofs.Costing.{its_pages, half-more, named-low, thrice}
 use Rattle.newt_engine_units.proofs.Costs.{same-fits}
-use Rattle.newt_engine_commands.proofs.Effects.{behind-obeys, done-obeys, known-formed, soup-resolves}
+use Rattle.newt_engine_commands.proofs.Effects.{after-obeys, done-obeys, known-formed, soup-resolves}
 use Rattle.newt_laws_effects.proofs.Found.{entry-found}
 use Rattle.newt_laws_effects.specs.Effects.{effects, needs, one as only}
 use Rattle.newt_laws_effects.specs.Tells.{is_of_stores}
@@ -72,7 +72,7 @@ returns-in-Some g c =
     let path = c.args.path.now in
     let node = c.in-Some.node in
     let command = command.Vwrite u name uid path c.args.at c.args.bytes in
-    done-obeys c.change.result _ c.done.ensures (behind-obeys read.looks (read.ends.no_fault tt) c.change.result c.change.ensures command (λ n. Reply.done) (λ w now. refl)
+    done-obeys c.change.result _ c.done.ensures (after-obeys read.looks (read.ends.no_fault tt) c.change.result c.change.ensures command (λ n. Reply.done) (λ w now. refl)
     (λ t. let h = has-soup at t u name c.in_ok-soup.soup c.in_ok-soup.ensures in
     let x : Entry = record { uid = c.in_ok-graph.field-0.uid; time = c.in_ok-graph.field-0.time; graph = c.in_ok-graph.field-0.graph } in
     let found : entry_of uid h.soup ≡ Some x = read-found c.in_ok-soup.soup uid h.store h.soup c.in_ok-graph.field-0 x.graph refl h.by_sig (read.read t h.blocks h.store h.on) in

@@ -31,7 +31,7 @@ use Rattle.newt_graph.specs.Meeting.{normal_form}
 use Rattle.newt_engine_commands.proofs.Replacing.{raw-of}
 use Rattle.newt_engine_commands.proofs.Costing.{its_pages, half, named-low}
 use Rattle.newt_engine_units.proofs.Costs.{none-fits}
-use Rattle.newt_engine_commands.proofs.Effects.{behind-obeys, done-obeys, known-formed, none-low, soup-resolves}
+use Rattle.newt_engine_commands.proofs.Effects.{after-obeys, done-obeys, known-formed, none-low, soup-resolves}
 use Rattle.newt_laws_effects.proofs.Found.{entry-found, passes}
 use Rattle.newt_laws_effects.specs.Effects.{effects, Resolved, passing, one as only}
 use Rattle.newt_laws_effects.specs.Tells.{is_of_stores}
@@ -95,7 +95,7 @@ returns g c =
     let value = c.args.value.now in
     let new = c.in_ok-made.made in
     let command = command.Set u name uid path value in
-    done-obeys c.change.result _ c.done.ensures (behind-obeys read.looks (read.ends.no_fault tt) c.change.result c.change.ensures command (λ n. Reply.done) (λ w now. refl)
+    done-obeys c.change.result _ c.done.ensures (after-obeys read.looks (read.ends.no_fault tt) c.change.result c.change.ensures command (λ n. Reply.done) (λ w now. refl)
     (λ t. let h = has-soup at t u name c.in_ok-soup.soup c.in_ok-soup.ensures in
     let x : Entry = record { uid = c.in_ok-graph.field-0.uid; time = c.in_ok-graph.field-0.time; graph = c.in_ok-graph.field-0.graph } in
     let found : entry_of uid h.soup ≡ Some x = read-found c.in_ok-soup.soup uid h.store h.soup c.in_ok-graph.field-0 x.graph refl h.by_sig (read.read t h.blocks h.store h.on) in
