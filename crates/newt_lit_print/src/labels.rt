@@ -11,7 +11,7 @@ use std::alloc::{AllocError, Global};
 
 /// How many references lead to a node, counted up to two.
 #[derive(Clone, Copy)]
-pub enum Meetings {
+pub(crate) enum Meetings {
     None,
     One,
     More,
@@ -30,7 +30,7 @@ impl Meetings {
 }
 
 /// Whether a node is a symbol.
-pub fn is_symbol(node: &Node) -> bool
+pub(crate) fn is_symbol(node: &Node) -> bool
     ensures { result ≡ printed.is_symbol node.now }
 {
     matches!(node, Node::Symbol(_))
@@ -105,7 +105,11 @@ fn is_met_again(meetings: &[Meetings], n: usize) -> bool
 
 /// The label of each node: the next number from 0 on where more than one reference leads to it and
 /// it is not a symbol, else none.
-pub fn labels(alloc: Global, nodes: &[Node], root: Ref) -> Result<Vec<Option<u32>>, AllocError>
+pub(crate) fn labels(
+    alloc: Global,
+    nodes: &[Node],
+    root: Ref,
+) -> Result<Vec<Option<u32>>, AllocError>
     requires { length nodes.now ≤ 65535 }
     ensures { IfOk result (λ labels. labels.items ≡ printed.labels
         (record { nodes = nodes.now; root = root })) }

@@ -212,7 +212,12 @@ impl Source<'_> {
 }
 
 /// The one text of a graph, appended to a text.
-pub fn print(alloc: Global, text: Vec<u8>, nodes: &[Node], root: Ref) -> Result<Vec<u8>, AllocError>
+pub(crate) fn print(
+    alloc: Global,
+    text: Vec<u8>,
+    nodes: &[Node],
+    root: Ref,
+) -> Result<Vec<u8>, AllocError>
     requires { length nodes.now ≤ 65535 }
     ensures { IfOk result (λ whole. whole.items ≡ text.items ++ printed.literal
         (record { nodes = nodes.now; root = root })) }

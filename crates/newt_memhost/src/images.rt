@@ -79,7 +79,7 @@ pub struct Crash {
 }
 
 /// What a pick chooses at the end of a log.
-pub fn build(
+pub(crate) fn build(
     alloc: Global,
     log: &[Happened],
     store: &[u8],

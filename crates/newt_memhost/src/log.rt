@@ -10,10 +10,10 @@ use std::alloc::Global;
 /// What has happened, the oldest first, and a store of the bytes that were taken, written or
 /// printed.
 #[derive(Drop)]
-pub struct Log {
-    pub entries: Vec<Happened>,
-    pub store: Vec<u8>,
-    pub calls: u64,
+pub(crate) struct Log {
+    pub(crate) entries: Vec<Happened>,
+    pub(crate) store: Vec<u8>,
+    pub(crate) calls: u64,
     ghost counted: { calls_in entries.items ≡ calls },
     ghost used: { total entries.items ≡ length store.items },
 }
@@ -42,7 +42,7 @@ impl Log {
     ghost use Rattle.newt_memhost.specs.declared.happened.Happened.TheVariants.{Attach};
 
     /// A log in which nothing has happened.
-    pub fn new(alloc: Global) -> Self
+    pub(crate) fn new(alloc: Global) -> Self
         ensures entries { result.entries.items ≡ [] }
         ensures store { result.store.items ≡ [] }
         ensures calls { result.calls ≡ 0 }
@@ -55,7 +55,7 @@ impl Log {
     }
 
     /// Makes room for so many entries and bytes more, and answers whether there is that room.
-    pub fn reserve(&mut self, entries: usize, bytes: usize) -> bool
+    pub(crate) fn reserve(&mut self, entries: usize, bytes: usize) -> bool
         ensures past { SamePast self.old self.new }
         ensures more { NoSmaller self.old self.new }
         ensures room { IsTrue result → HasRoom entries bytes self.new }
@@ -65,7 +65,7 @@ impl Log {
     }
 
     /// Adds a call with its bytes, for which there is room.
-    pub fn add(&mut self, entry: Happened, bytes: &[u8])
+    pub(crate) fn add(&mut self, entry: Happened, bytes: &[u8])
         requires call { counts entry ≡ 1 }
         requires its { bytes_of entry ≡ length bytes.now }
         requires room { HasRoom 1 (length bytes.now) self.old }
@@ -77,7 +77,7 @@ impl Log {
     }
 
     /// Adds an attach, for which there is room.
-    pub fn attach(&mut self, unit: Unit, first: Vec<u8>)
+    pub(crate) fn attach(&mut self, unit: Unit, first: Vec<u8>)
         requires { vec_len self.old.entries < vec_capacity self.old.entries }
         ensures entries { self.new.entries.items ≡ self.old.entries.items ++ Attach unit first
             ∷ [] }

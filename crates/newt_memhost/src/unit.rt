@@ -16,7 +16,12 @@ use crate::log::Log;
 use newt_host::{Failed, Unit};
 
 /// Keeps a call that writes nothing.
-pub fn keep(log: &mut Log, waiting: usize, fails: bool, entry: Happened) -> Result<(), Failed>
+pub(crate) fn keep(
+    log: &mut Log,
+    waiting: usize,
+    fails: bool,
+    entry: Happened,
+) -> Result<(), Failed>
     requires call { counts entry ≡ 1 }
     requires quiet { bytes_of entry ≡ 0 }
     requires waits { HasRoom waiting 0 log.old }
@@ -72,7 +77,7 @@ fn write(
 }
 
 /// Programs a range, whatever it reads.
-pub fn program(
+pub(crate) fn program(
     card: &mut Card,
     log: &mut Log,
     waiting: usize,
@@ -95,7 +100,7 @@ pub fn program(
 }
 
 /// Erases a block.
-pub fn erase(
+pub(crate) fn erase(
     card: &mut Card,
     log: &mut Log,
     waiting: usize,
@@ -116,7 +121,7 @@ pub fn erase(
 }
 
 /// Makes what the unit reads durable.
-pub fn sync(
+pub(crate) fn sync(
     card: &mut Card,
     log: &mut Log,
     waiting: usize,
@@ -148,7 +153,7 @@ pub fn sync(
 }
 
 /// Fills a buffer with what a range holds.
-pub fn read(
+pub(crate) fn read(
     card: &mut Card,
     log: &mut Log,
     waiting: usize,

@@ -15,7 +15,7 @@ use std::marker::Model;
 
 /// A text with its case folded. Contracts see its characters.
 #[derive(Drop)]
-pub struct Text {
+pub(crate) struct Text {
     text: String,
 }
 
@@ -46,7 +46,7 @@ impl Text {
 
 /// Folded texts.
 #[derive(Drop)]
-pub struct Texts {
+pub(crate) struct Texts {
     items: Vec<Text>,
 }
 

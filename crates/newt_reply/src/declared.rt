@@ -47,7 +47,7 @@ fn push_names(text: &mut Vec<u8>, names: &[Bytes]) -> Result<(), AllocError>
 
 /// A path with points between its names.
 #[tactic(auto, using(crate::proofs::Pieces::path_is, crate::proofs::Pieces::no_path))]
-pub fn path_text(alloc: Global, path: &Path) -> Result<Vec<u8>, AllocError>
+pub(crate) fn path_text(alloc: Global, path: &Path) -> Result<Vec<u8>, AllocError>
     ensures { IfOk result (λ text. text.items ≡ spec.path_field path.now) }
 {
     let [first, rest @ ..] = path.list() else {
@@ -95,7 +95,7 @@ fn parts_text(alloc: Global, parts: &[IndexPart]) -> Result<Vec<u8>, AllocError>
 }
 
 /// An index: its parts with a space between each two.
-pub fn spec_text(alloc: Global, spec: &IndexSpec) -> Result<Vec<u8>, AllocError>
+pub(crate) fn spec_text(alloc: Global, spec: &IndexSpec) -> Result<Vec<u8>, AllocError>
     ensures { IfOk result (λ text. text.items ≡ spec_item spec.now) }
 {
     parts_text(alloc, spec.list())
@@ -113,7 +113,11 @@ fn push_fields(line: &mut Vec<u8>, fields: &[Bytes]) -> Result<(), AllocError>
 
 /// `ok`, a field and then names as fields, with the end of the line.
 #[tactic(auto, using(crate::proofs::Pieces::line_is))]
-pub fn names_line(alloc: Global, first: &[u8], names: &[Bytes]) -> Result<Vec<u8>, AllocError>
+pub(crate) fn names_line(
+    alloc: Global,
+    first: &[u8],
+    names: &[Bytes],
+) -> Result<Vec<u8>, AllocError>
     ensures { IfOk result (λ line. line.items ≡ ok_text (first.now ∷ names.now)) }
 {
     let mut line = Vec::from_slice(alloc, b"ok")?;

@@ -99,7 +99,7 @@ fn push_spec(
 }
 
 /// The mounted stores.
-pub fn stores_text(alloc: Global, lines: &[StoreLine]) -> Result<Vec<u8>, AllocError>
+pub(crate) fn stores_text(alloc: Global, lines: &[StoreLine]) -> Result<Vec<u8>, AllocError>
     ensures { IfOk result (λ text. text.items ≡ items (map store_item lines.now)) }
 {
     let mut text = Vec::new(alloc);
@@ -110,7 +110,7 @@ pub fn stores_text(alloc: Global, lines: &[StoreLine]) -> Result<Vec<u8>, AllocE
 }
 
 /// The soups of a store.
-pub fn soups_text(alloc: Global, lines: &[SoupLine]) -> Result<Vec<u8>, AllocError>
+pub(crate) fn soups_text(alloc: Global, lines: &[SoupLine]) -> Result<Vec<u8>, AllocError>
     ensures { IfOk result (λ text. text.items ≡ items (map soup_item lines.now)) }
 {
     let mut text = Vec::new(alloc);
@@ -121,7 +121,7 @@ pub fn soups_text(alloc: Global, lines: &[SoupLine]) -> Result<Vec<u8>, AllocErr
 }
 
 /// The indexes of a soup.
-pub fn specs_text(alloc: Global, specs: &[IndexSpec]) -> Result<Vec<u8>, AllocError>
+pub(crate) fn specs_text(alloc: Global, specs: &[IndexSpec]) -> Result<Vec<u8>, AllocError>
     ensures { IfOk result (λ text. text.items ≡ items (map spec_item specs.now)) }
 {
     let mut text = Vec::new(alloc);

@@ -67,7 +67,7 @@ fn push_note(alloc: Global, text: &mut Vec<u8>, first: bool, note: &Note) -> Res
 }
 
 /// The notes.
-pub fn notes_text(alloc: Global, notes: &[Note]) -> Result<Vec<u8>, AllocError>
+pub(crate) fn notes_text(alloc: Global, notes: &[Note]) -> Result<Vec<u8>, AllocError>
     ensures { IfOk result (λ text. text.items ≡ items (map note_item notes.now)) }
 {
     let mut text = Vec::new(alloc);

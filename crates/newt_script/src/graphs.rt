@@ -54,7 +54,7 @@ fn last_digits(alloc: Global, words: &Words) -> Result<Vec<u8>, LineFault>
 
 /// HEX: the graph of the object stream that is left of a line.
 #[tactic(auto, unfolding(crate::specs::Graphs::stream_word))]
-pub fn last_stream(alloc: Global, words: &Words) -> Result<Graph, LineFault>
+pub(crate) fn last_stream(alloc: Global, words: &Words) -> Result<Graph, LineFault>
     ensures { result ≢ Err LineFault.Memory → result ≡ spec.stream_word (rest_of words.now) }
 {
     let bytes = last_digits(alloc, words)?;
@@ -63,7 +63,7 @@ pub fn last_stream(alloc: Global, words: &Words) -> Result<Graph, LineFault>
 
 /// HEX: the bytes that are left of a line.
 #[tactic(auto, unfolding(crate::specs::Graphs::bytes_word))]
-pub fn last_bytes(alloc: Global, words: &Words) -> Result<Bytes, LineFault>
+pub(crate) fn last_bytes(alloc: Global, words: &Words) -> Result<Bytes, LineFault>
     ensures { result ≢ Err LineFault.Memory → result ≡ spec.bytes_word (rest_of words.now) }
 {
     Ok(Bytes::of(last_digits(alloc, words)?))
@@ -71,7 +71,7 @@ pub fn last_bytes(alloc: Global, words: &Words) -> Result<Bytes, LineFault>
 
 /// LIT: the graph of the literal that is left of a line, which is not empty.
 #[tactic(auto, unfolding(crate::specs::Graphs::literal_word, crate::specs::Graphs::literal_in))]
-pub fn last_literal(alloc: Global, words: &Words) -> Result<Graph, LineFault>
+pub(crate) fn last_literal(alloc: Global, words: &Words) -> Result<Graph, LineFault>
     ensures { result ≢ Err LineFault.Memory → result ≡ spec.literal_word (rest_of words.now) }
 {
     let text = words.rest();

@@ -12,7 +12,7 @@ use std::alloc::Global;
 
 /// The command of the words after the first one.
 #[tactic(auto, using(crate::proofs::Spoken::memory_of_rows))]
-pub fn row(alloc: Global, verb: Verb, words: &mut Words) -> Result<Command, LineFault>
+pub(crate) fn row(alloc: Global, verb: Verb, words: &mut Words) -> Result<Command, LineFault>
     ensures reading { result ≢ Err LineFault.Memory
         → result ≡ row_reading (word_of verb) words.old }
     ensures no_memory { is_memory_word (word_of verb) ≡ false → result ≢ Err LineFault.Memory }

@@ -13,7 +13,7 @@ use newt_spec_world::Command;
 
 /// A verb: the first word of a command. Verbs that are followed by the same words stand together.
 #[derive(Clone, Copy)]
-pub enum Verb {
+pub(crate) enum Verb {
     Quit,
     Stores,
     Time,
@@ -49,7 +49,7 @@ pub enum Verb {
 
 /// The verbs that are followed by `U`.
 #[derive(Clone, Copy)]
-pub enum UnitVerb {
+pub(crate) enum UnitVerb {
     Mount,
     Unmount,
     Default,
@@ -58,7 +58,7 @@ pub enum UnitVerb {
 
 /// The verbs that are followed by `U S`.
 #[derive(Clone, Copy)]
-pub enum SoupVerb {
+pub(crate) enum SoupVerb {
     Soup,
     Drop,
     Indexes,
@@ -66,7 +66,7 @@ pub enum SoupVerb {
 
 /// The verbs that are followed by `U S UID`.
 #[derive(Clone, Copy)]
-pub enum EntryVerb {
+pub(crate) enum EntryVerb {
     Get,
     Getx,
     Remove,
@@ -76,14 +76,14 @@ pub enum EntryVerb {
 
 /// The verbs that are followed by `U S UID U S`.
 #[derive(Clone, Copy)]
-pub enum TransferVerb {
+pub(crate) enum TransferVerb {
     Copy,
     Move,
 }
 
 /// The verbs that are followed by `C`.
 #[derive(Clone, Copy)]
-pub enum CursorVerb {
+pub(crate) enum CursorVerb {
     Entry,
     Next,
     Prev,
@@ -97,14 +97,14 @@ pub enum CursorVerb {
 
 /// The verbs that are followed by the number of a watch.
 #[derive(Clone, Copy)]
-pub enum WatchVerb {
+pub(crate) enum WatchVerb {
     Notes,
     Unwatch,
 }
 
 /// The verbs that are followed by the number of a working copy.
 #[derive(Clone, Copy)]
-pub enum CopyVerb {
+pub(crate) enum CopyVerb {
     Draft,
     Save,
     Revert,
@@ -169,7 +169,7 @@ const VERBS: [Verb; 53] = [
 ];
 
 /// The verb that a word names.
-pub fn named(word: &[u8]) -> Option<Verb>
+pub(crate) fn named(word: &[u8]) -> Option<Verb>
     ensures { result ≡ find (λ verb. bytes_eq (word_of verb) word.now) VERBS }
 {
     VERBS.iter().copied().find(|verb| verb.word() == word)
@@ -230,7 +230,7 @@ impl UnitVerb {
     }
 
     /// The command that it begins.
-    pub fn command(self, unit: Unit) -> Command
+    pub(crate) fn command(self, unit: Unit) -> Command
         ensures { result ≡ unit_command self unit }
     {
         match self {
@@ -255,7 +255,7 @@ impl SoupVerb {
     }
 
     /// The command that it begins.
-    pub fn command(self, unit: Unit, soup: Name) -> Command
+    pub(crate) fn command(self, unit: Unit, soup: Name) -> Command
         ensures { result ≡ soup_command self unit soup }
     {
         match self {
@@ -281,7 +281,7 @@ impl EntryVerb {
     }
 
     /// The command that it begins.
-    pub fn command(self, unit: Unit, soup: Name, uid: Uid) -> Command
+    pub(crate) fn command(self, unit: Unit, soup: Name, uid: Uid) -> Command
         ensures { result ≡ entry_command self unit soup uid }
     {
         match self {
@@ -306,7 +306,7 @@ impl TransferVerb {
     }
 
     /// The command that it begins.
-    pub fn command(self, from: (Unit, Name, Uid), to: (Unit, Name)) -> Command
+    pub(crate) fn command(self, from: (Unit, Name, Uid), to: (Unit, Name)) -> Command
         ensures { result ≡ transfer_command self from.0 from.1 from.2 to.0 to.1 }
     {
         match self {
@@ -335,7 +335,7 @@ impl CursorVerb {
     }
 
     /// The command that it begins.
-    pub fn command(self, cursor: u8) -> Command
+    pub(crate) fn command(self, cursor: u8) -> Command
         ensures { result ≡ cursor_command self cursor }
     {
         match self {
@@ -364,7 +364,7 @@ impl WatchVerb {
     }
 
     /// The command that it begins.
-    pub fn command(self, watch: u8) -> Command
+    pub(crate) fn command(self, watch: u8) -> Command
         ensures { result ≡ watch_command self watch }
     {
         match self {
@@ -388,7 +388,7 @@ impl CopyVerb {
     }
 
     /// The command that it begins.
-    pub fn command(self, copy: u8) -> Command
+    pub(crate) fn command(self, copy: u8) -> Command
         ensures { result ≡ copy_command self copy }
     {
         match self {

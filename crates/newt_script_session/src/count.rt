@@ -32,7 +32,7 @@ fn put_tally<H: Host>(alloc: Global, host: &mut H, tally: &Tally) -> Result<(), 
 }
 
 /// Answers a script up to a line that ends it, and then writes the summary of the replies.
-pub fn tally_script<H: Host, I: Interpreter>(
+pub(crate) fn tally_script<H: Host, I: Interpreter>(
     alloc: Global,
     host: &mut H,
     interpreter: &mut I,

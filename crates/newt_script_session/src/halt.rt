@@ -2,7 +2,7 @@
 
 /// Whether the script goes on after some lines.
 #[derive(Clone, Copy, Debug, PartialEq, Eq)]
-pub enum Flow {
+pub(crate) enum Flow {
     Go,
     Quit,
 }

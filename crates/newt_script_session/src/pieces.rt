@@ -89,7 +89,7 @@ pub fn piece_buffer(alloc: Global) -> Result<Vec<u8>, AllocError>
 
 /// Reads a script of at most `limit` bytes, and answers its lines as they come, up to one that
 /// quits.
-pub fn run_script<H: Host, I: Interpreter>(
+pub(crate) fn run_script<H: Host, I: Interpreter>(
     alloc: Global,
     host: &mut H,
     interpreter: &mut I,

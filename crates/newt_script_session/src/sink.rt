@@ -13,7 +13,7 @@ use newt_reply::{Reply, write_reply};
 use std::alloc::Global;
 
 /// What takes the replies to a script, one after another.
-pub trait Sink: Sized {
+pub(crate) trait Sink: Sized {
     /// It puts out each reply that it takes, or keeps them all to itself.
     ghost shows: { Bool };
 
@@ -33,7 +33,7 @@ pub trait Sink: Sized {
 
 /// The output of the host.
 #[derive(Drop)]
-pub struct Output;
+pub(crate) struct Output;
 
 impl Sink for Output {
     ghost shows = { true };
@@ -46,7 +46,7 @@ impl Sink for Output {
 }
 
 /// Hands a reply to the sink.
-pub fn put_reply<H: Host, S: Sink>(
+pub(crate) fn put_reply<H: Host, S: Sink>(
     alloc: Global,
     host: &mut H,
     sink: &mut S,

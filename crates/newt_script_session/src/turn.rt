@@ -82,7 +82,7 @@ fn refuse<H: Host, I: Interpreter, S: Sink>(
 }
 
 /// Answers a line, and hands on the whole reply before it ends.
-pub fn turn<H: Host, I: Interpreter, S: Sink>(
+pub(crate) fn turn<H: Host, I: Interpreter, S: Sink>(
     alloc: Global,
     host: &mut H,
     interpreter: &mut I,

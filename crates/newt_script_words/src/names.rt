@@ -34,7 +34,7 @@ fn are_bare(bytes: &[u8]) -> bool
 }
 
 /// The name that a word without quotes is.
-pub fn bare_name(alloc: Global, word: &[u8]) -> Result<Name, WordFault>
+pub(crate) fn bare_name(alloc: Global, word: &[u8]) -> Result<Name, WordFault>
     ensures { Spells (spec.bare_name word.now) result (λ name. name) }
 {
     if !are_bare(word) {
@@ -106,7 +106,7 @@ fn unquoted(alloc: Global, text: &[u8]) -> Result<(Vec<u8>, &[u8]), WordFault>
 
 /// The name in a text after its opening quote, and what follows the closing one, where the word
 /// ends.
-pub fn quoted_name(alloc: Global, text: &[u8]) -> Result<(Name, &[u8]), WordFault>
+pub(crate) fn quoted_name(alloc: Global, text: &[u8]) -> Result<(Name, &[u8]), WordFault>
     ensures { Reads (spec.if_name (spec.quoted text.now)) result (λ found. (found.0, found.1.now)) }
 {
     let (bytes, rest) = unquoted(alloc, text)?;
@@ -121,7 +121,7 @@ pub fn quoted_name(alloc: Global, text: &[u8]) -> Result<(Name, &[u8]), WordFaul
 /// The name, in quotes or without, that a text begins with, and what follows it. The text does not
 /// begin with a blank.
 #[tactic(auto, using(crate::proofs::Quotes::in_quotes, crate::proofs::Quotes::without_quotes))]
-pub fn name_from(alloc: Global, text: &[u8]) -> Result<(Name, &[u8]), WordFault>
+pub(crate) fn name_from(alloc: Global, text: &[u8]) -> Result<(Name, &[u8]), WordFault>
     ensures { Reads (spec.name_from text.now) result (λ found. (found.0, found.1.now)) }
 {
     let [byte, rest @ ..] = text else {

@@ -14,7 +14,7 @@ use std::alloc::{AllocError, Global};
 use std::collections::HashSet;
 
 /// SYM: an identifier.
-pub fn symbol(alloc: Global, word: &[u8]) -> Result<Bytes, WordFault>
+pub(crate) fn symbol(alloc: Global, word: &[u8]) -> Result<Bytes, WordFault>
     ensures { result ≢ Err WordFault.Memory → result ≡ of_form (spec.symbol word.now) }
 {
     if !is_identifier(word) {
@@ -25,7 +25,7 @@ pub fn symbol(alloc: Global, word: &[u8]) -> Result<Bytes, WordFault>
 
 /// Whether no two symbols are alike but for ASCII case.
 #[tactic(auto, using(crate::proofs::Apart::folded_apart))]
-pub fn are_apart(alloc: Global, symbols: &[Bytes]) -> Result<bool, AllocError>
+pub(crate) fn are_apart(alloc: Global, symbols: &[Bytes]) -> Result<bool, AllocError>
     ensures { IfOk result (λ apart. apart ≡ all_apart same_name symbols.now) }
 {
     are_different(alloc, all_in_lower_case(alloc, symbols)?)

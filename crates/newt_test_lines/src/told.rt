@@ -312,7 +312,7 @@ fn push_refusal(alloc: Global, to: &mut Vec<u8>, refusal: Refusal) {
 }
 
 /// The command of a line, or its refusal, or that it gives none.
-pub fn told(alloc: Global, bytes: &[u8]) -> Vec<u8> {
+pub(crate) fn told(alloc: Global, bytes: &[u8]) -> Vec<u8> {
     let mut text = Vec::new(alloc);
     match line(alloc, bytes) {
         Ok(None) => push(&mut text, b"none"),

@@ -9,7 +9,7 @@ use std::process::Abort;
 use std::test::Fail;
 
 /// Runs an input in pieces of several sizes, and looks each time for its output and the status Ok.
-pub fn expect_in_pieces(
+pub(crate) fn expect_in_pieces(
     alloc: Global,
     text: &str,
     input: &[u8],
@@ -23,13 +23,13 @@ pub fn expect_in_pieces(
 }
 
 /// The same for a table.
-pub fn expect_lines(alloc: Global, table: &str) -> Result<(), Fail> {
+pub(crate) fn expect_lines(alloc: Global, table: &str) -> Result<(), Fail> {
     let (script, output) = lines_of(alloc, table)?;
     expect_in_pieces(alloc, "run", &script, &output)
 }
 
 /// The same for each of some inputs.
-pub fn expect_outputs(
+pub(crate) fn expect_outputs(
     alloc: Global,
     text: &str,
     cases: &[(&'static [u8], &'static [u8])],
@@ -85,7 +85,7 @@ fn expect_reading_halted(
 }
 
 /// The same for each call of a run of these words.
-pub fn expect_reading_halts(alloc: Global, text: &str, bytes: &[u8]) -> Result<(), Fail> {
+pub(crate) fn expect_reading_halts(alloc: Global, text: &str, bytes: &[u8]) -> Result<(), Fail> {
     let mut sound = over(alloc, b"", bytes, &[])?;
     sound.piece(40);
     expect_status(alloc, text, &mut sound, Status::Ok)?;

@@ -147,7 +147,7 @@ fn has_answer(alloc: Global, given: &[u8], answer: &str, large: u64) -> Result<b
 /// written text and, after ` / `, its flat text where that is another one. `kept` is a text that is
 /// the stream as it stands. After another ` => ` stands how many bytes of large binaries it has, if
 /// any. Rows that begin with `#` are comments.
-pub fn expect_answers(alloc: Global, table: &str) -> Result<(), Fail> {
+pub(crate) fn expect_answers(alloc: Global, table: &str) -> Result<(), Fail> {
     for row in table.lines() {
         if row.is_empty() || row.starts_with('#') {
             continue;
