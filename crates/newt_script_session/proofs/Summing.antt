@@ -18,13 +18,13 @@ use Rattle.newt_spec_world.specs.Reply.{reply_text}
 use Rattle.newt_spec_whole.specs.Whole.{Whole}
 use Rattle.newt_script_session.specs.Answered.{Ran}
 use Rattle.newt_script_session.specs.Causes.{HasSinkCause}
-use Rattle.newt_script_session.specs.Counted.{Counted, CountedAt}
+use Rattle.newt_script_session.specs.Counted.{CountedRun, CountedAt}
 use Rattle.newt_script_session.specs.Counts.{Tallies, lines_of_tally, summary_of}
 use Rattle.newt_script_session.specs.Lines.{ended_lines, unended, last_line, lines_of}
 use Rattle.newt_script_session.specs.Moments.{BlankThrough, Fresh, worlds_passed}
 use Rattle.newt_spec_script.specs.Rows.{IsRun, reply_texts, Row, Stepping, world_at, last_world}
 use Rattle.newt_script_session.specs.Script.{commands_of, given, items_of, script_items}
-use Rattle.newt_script_session.specs.Stream.{Puts, WroteSome}
+use Rattle.newt_script_session.specs.Stream.{PutsText, WroteSome}
 use Rattle.newt_script_session.specs.declared.halt.Halt.{Halt}
 use Rattle.newt_script_session.specs.declared.tally.Tally.{Tally}
 use Rattle.newt_script_session.proofs.Acting.{acts_printing}
@@ -104,9 +104,9 @@ module _ (step : Stepping Whole) (reads : List ℕ → Option Store) (script : L
 
   -- a command was not answered
   pub counted_halted : {T U : Type 0} (result : Result T Halt) (halt : Halt) (Last : Whole → Type 0) (had has : List (List ℕ) → Type 0) → result ≡ Err halt → HasSinkCause halt old mid
-      → Ran step false reads {T = U} (Err halt) world Last (script_items script) had has old.now mid.now old.dev_faults mid.dev_faults → Counted step reads script result world old mid
+      → Ran step false reads {T = U} (Err halt) world Last (script_items script) had has old.now mid.now old.dev_faults mid.dev_faults → CountedRun step reads script result world old mid
   counted_halted {T} {U} result halt Last had has is cause r =
-      subst (λ (v : Result T Halt). Counted step reads script v world old mid) (sym is) (record {
+      subst (λ (v : Result T Halt). CountedRun step reads script v world old mid) (sym is) (record {
         given = r.given;
         out = tt;
         halted = halted_quiet halt old mid r.given.rest (summary_of r.given.rows) (out_of old) (out_of mid) cause (quiet {T = U} (Err halt) Last had has r);
@@ -153,10 +153,10 @@ module _ (step : Stepping Whole) (reads : List ℕ → Option Store) (script : L
     }
 
     pub counted_put : {U : Type 0} → Tallies first [] → ((texts : List (List ℕ)) → has texts → Tallies tally texts) → length script < 2 ^ 64 → (result : Result U Halt) (new : Outside)
-        → ((unit : ℕ) → new.dev_faults unit ≡ mid.dev_faults unit) → IfErr result (λ halt. HasSinkCause halt mid new) → Puts result (lines_of_tally tally) mid.now new.now → Counted step reads script result world old new
+        → ((unit : ℕ) → new.dev_faults unit ≡ mid.dev_faults unit) → IfErr result (λ halt. HasSinkCause halt mid new) → PutsText result (lines_of_tally tally) mid.now new.now → CountedRun step reads script result world old new
     counted_put none tallies size result new counts_same cause puts =
         let counts = tallies (reply_texts rows) (r.done.1.took [] none) (omega (arith, few_replies step world script rows run_all, size)) in
-        let put : Puts result (summary_of rows) mid.now new.now = subst (λ (t : List ℕ). Puts result t mid.now new.now) (tally_summary rows tally counts) puts in
+        let put : PutsText result (summary_of rows) mid.now new.now = subst (λ (t : List ℕ). PutsText result t mid.now new.now) (tally_summary rows tally counts) puts in
         record {
           given = r.given;
           out = on_ok_weaker result (λ e. (r.done.0, e ∙ ap (λ o. o ++ summary_of rows) same)) put.whole;

@@ -48,7 +48,7 @@ pub record HasLeftCounted (store_of_image : List ℕ → Option Store) (world : 
 -- all of them. Its replies were counted. This says what was written of the summary, which faults of
 -- devices the replies tell, that nothing was done to a device once a byte was out, and what a crash
 -- leaves at each moment.
-pub record Counted {T : Type 0} (step : Stepping Whole) (store_of_image : List ℕ → Option Store)
+pub record CountedRun {T : Type 0} (step : Stepping Whole) (store_of_image : List ℕ → Option Store)
     (script : List ℕ) (result : Result T Halt) (world : Whole) (old new : Outside) : Type 0 where
   pub given : Given step world (script_items script)
   pub out : OnOk result ((given.rest ≡ []) × (out_of new ≡ out_of old ++ summary_of given.rows))

@@ -2,7 +2,7 @@
 ghost use Rattle.std.specs.Prelude.{◌≡◌, ◌<◌, ◌≤◌, length, take, IsTrue, IfOk};
 ghost use Rattle.newt_host.specs.Outside.{PrintsSome, printed};
 ghost use Rattle.newt_script_session.specs.Calls.{OutputFailed, WriteCall};
-ghost use Rattle.newt_script_session.specs.Stream.{Puts};
+ghost use Rattle.newt_script_session.specs.Stream.{PutsText};
 
 use newt_host::{Failed, Host};
 
@@ -24,7 +24,7 @@ fn write_part<H: Host>(host: &mut H, bytes: &[u8]) -> Result<usize, Failed>
 /// Writes all the bytes.
 pub fn write_all<H: Host>(host: &mut H, bytes: &[u8]) -> Result<(), Failed>
     ensures puts { IsTrue H.told
-        → Puts result bytes.now (H.outside host.old).now (H.outside host.new).now }
+        → PutsText result bytes.now (H.outside host.old).now (H.outside host.new).now }
     ensures call { WriteCall H.told OutputFailed result
         (H.outside host.old) (H.outside host.new) }
 {

@@ -10,7 +10,7 @@ use Rattle.newt_spec_image.specs.Records.{bank_start, bank_bytes, chosen_bank, v
 use Rattle.newt_spec_image.specs.Pages.{Pages, pages, is_change, object_id, cap}
 use Rattle.newt_spec_image.specs.Objects.{pages_for}
 use Rattle.newt_spec_store.specs.ImageStore.{table_of, is_page_of, objects_of}
-use Rattle.newt_spec_store.specs.Image.{Objects}
+use Rattle.newt_spec_store.specs.Image.{ObjectList}
 use Rattle.newt_spec_store.specs.Lies.{directory_read}
 use Rattle.newt_spec_store.specs.OfImage.{blocks_of}
 use Rattle.newt_spec_store.specs.Store.{Entry, Store}
@@ -111,12 +111,12 @@ abbrev pub broken_object : List ℕ → Option ℕ
 broken_object image = option_and_then (λ live. least (broken_ids live)) (pages image)
 
 -- a row of the objects, with their ids, where the image has objects
-abbrev pub of_objects : (Objects → Option ℕ) → List ℕ → Option ℕ
+abbrev pub of_objects : (ObjectList → Option ℕ) → List ℕ → Option ℕ
 of_objects row image =
     option_and_then (λ live. option_and_then (λ objects. row (map.entries objects)) (objects_of live)) (pages image)
 
 -- the least id of an object that passes a test: objects stand in the order of their ids
-abbrev pub first_object : (ℕ × List ℕ → Bool) → Objects → Option ℕ
+abbrev pub first_object : (ℕ × List ℕ → Bool) → ObjectList → Option ℕ
 first_object test objects = option_map (λ o. o.0) (find test objects)
 
 -- objects with odd ids are the records of entries
@@ -134,7 +134,7 @@ abbrev pub is_again : ℕ × Entry → Option (ℕ × Entry) → Bool
 is_again x None = false
 is_again x (Some y) = (x.0 == y.0) && (x.1.uid == y.1.uid)
 
-module _ (graph_of : List ℕ → Option RawGraph) (version : ℕ) (objects : Objects) where
+module _ (graph_of : List ℕ → Option RawGraph) (version : ℕ) (objects : ObjectList) where
   -- the directory that object 0 is read as
   abbrev pub directory_in : Option Store
   directory_in = option_and_then (directory_read graph_of version) (object_bytes objects 0)
@@ -173,7 +173,7 @@ ids_in None = []
 ids_in (Some row) = list_map (λ l. l.1) row.larges
 
 -- the ids that all records name, one after the other
-abbrev pub all_named : Objects → List ℕ
+abbrev pub all_named : ObjectList → List ℕ
 all_named objects = flat_map (λ o. ids_in (entry_row o.1)) (filter is_odd objects)
 
 -- how often a number stands among others
@@ -181,15 +181,15 @@ abbrev pub count_of : ℕ → List ℕ → ℕ
 count_of n ns = length (filter (λ m. n == m) ns)
 
 -- an object with an even id above 0 is not named exactly once
-abbrev pub is_stray : Objects → ℕ × List ℕ → Bool
+abbrev pub is_stray : ObjectList → ℕ × List ℕ → Bool
 is_stray objects o = not (is_odd o) && nat_lt 0 o.0 && not (count_of o.0 (all_named objects) == 1)
 
 -- large: the least even id above 0 that is not named exactly once over all entries
-abbrev pub bad_large : Objects → Option ℕ
+abbrev pub bad_large : ObjectList → Option ℕ
 bad_large objects = first_object (is_stray objects) objects
 
 -- the pages that the objects take
-abbrev pub pages_taken : Objects → ℕ
+abbrev pub pages_taken : ObjectList → ℕ
 pages_taken objects = sum_by (λ o. pages_for (length o.1)) objects
 
 -- a number, where it is above another
@@ -197,7 +197,7 @@ abbrev pub if_above : ℕ → ℕ → Option ℕ
 if_above most n = if nat_le n most then None else Some n
 
 -- cost: the pages of all objects, where they are more than a unit of so many blocks takes
-abbrev pub too_costly : ℕ → Objects → Option ℕ
+abbrev pub too_costly : ℕ → ObjectList → Option ℕ
 too_costly blocks objects = if_above (cap blocks) (pages_taken objects)
 
 -- ---- the first row that holds

@@ -10,8 +10,8 @@ use Rattle.newt_spec_nsof.specs.Lengths.{skeleton}
 use Rattle.newt_spec_store.specs.Store.{Entry, Store}
 
 -- the objects of an image: the id of each, and its bytes (this project's own)
-abbrev pub Objects : Type 0
-Objects = List (ℕ × List ℕ)
+abbrev pub ObjectList : Type 0
+ObjectList = List (ℕ × List ℕ)
 
 -- the number and the bytes of a large binary, none of another node (a word of these definitions)
 abbrev pub large_in : ℕ × Node → List (ℕ × List ℕ)

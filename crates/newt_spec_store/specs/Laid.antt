@@ -6,7 +6,7 @@ use Rattle.newt_spec_nsof.specs.Flat.{flat}
 use Rattle.newt_spec_nsof.specs.Lengths.{skeleton}
 use Rattle.newt_spec_store.specs.Store.{Entry, Soup, Store}
 use Rattle.newt_spec_store.specs.Cost.{directory_bytes}
-use Rattle.newt_spec_store.specs.Image.{Objects, larges, entry_bytes, all_entries}
+use Rattle.newt_spec_store.specs.Image.{ObjectList, larges, entry_bytes, all_entries}
 use Rattle.newt_spec_store.specs.StoreOf.{LargeRow, EntryRow, object_bytes, named_once}
 use Rattle.newt_spec_graph.specs.Lists.{Each, Pairs, Among}
 
@@ -32,7 +32,7 @@ FitsRow l = (l.0.0 < 4294967296) × (l.1 < 4294967296) × (length l.0.1 < 429496
 
 -- the object of a large binary is there: it has an even id above 0, and these bytes (this project's
 -- own)
-abbrev pub IsThere : Objects → Named → Type 0
+abbrev pub IsThere : ObjectList → Named → Type 0
 IsThere objects l = (l.1 % 2 ≡ 0) × (0 < l.1) × (object_bytes objects l.1 ≡ Some l.0.1)
 
 -- the row that an entry's record gives (this project's own)
@@ -78,7 +78,7 @@ AreInfosRead graph_of s = (p : Soup) (g : RawGraph) → Among s.soups p → p.in
 -- the records of these entries. Their numbers fit their fields. Each info frame and each skeleton
 -- is read back from its text. Each large binary is there and named once. The entries are exactly
 -- the store's. (this project's own)
-pub record IsLaid (graph_of : List ℕ → Option RawGraph) (objects : Objects) (s : Store) (laid : List Laid) : Type 0 where
+pub record IsLaid (graph_of : List ℕ → Option RawGraph) (objects : ObjectList) (s : Store) (laid : List Laid) : Type 0 where
   pub written : object_bytes objects 0 ≡ Some (directory_bytes s)
   pub infos : AreInfosRead graph_of s
   pub records : filter (λ o. o.0 % 2 == 1) objects ≡ map record_of laid

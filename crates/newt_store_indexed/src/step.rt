@@ -113,7 +113,7 @@ fn take_step(
 }
 
 /// Makes of the ranges what a change is to them that answered this number, and answers it.
-pub(crate) fn follow(
+pub(crate) fn follow_change(
     ranges: &mut Ranges,
     change: &Change,
     step: Step,

@@ -16,7 +16,7 @@ fn words(alloc: Global, texts: &[&str]) -> Result<Vec<String>, AllocError> {
 }
 
 /// How a run of the script over the files `internal` and `card` ends.
-fn run_script(rt: &HostRuntime) -> Result<Status, Fail> {
+fn run_over_files(rt: &HostRuntime) -> Result<Status, Fail> {
     let words = words(rt.alloc(), &["run", "internal", "card"])?;
     let (input, output) = (File::open(rt, "script")?, File::create(rt, "replies")?);
     let mut host = FileHost::new(rt.alloc(), rt, input, output)?;
@@ -33,7 +33,7 @@ fn taken(rt: &HostRuntime, name: &str) -> Result<Vec<u8>, Fail> {
 /// How a run of a script ended, and what it wrote.
 fn session(rt: &HostRuntime, script: &[u8]) -> Result<(Status, Vec<u8>), Fail> {
     fs::write(rt, "script", script)?;
-    let status = run_script(rt)?;
+    let status = run_over_files(rt)?;
     fs::remove_file(rt, "script")?;
     Ok((status, taken(rt, "replies")?))
 }

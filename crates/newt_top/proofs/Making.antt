@@ -17,7 +17,7 @@ use Rattle.newt_pagebook.specs.Book.{format_bytes}
 use Rattle.newt_pagebook.specs.declared.book.Stop.{Stop}
 use Rattle.newt_script_session.specs.Calls.{OutputFailed, WriteCall}
 use Rattle.newt_script_session.specs.Named.{AtEachMoment, held_by}
-use Rattle.newt_script_session.specs.Stream.{Puts, WroteSome}
+use Rattle.newt_script_session.specs.Stream.{PutsText, WroteSome}
 use Rattle.newt_spec_image.specs.Records.{bank_blocks}
 use Rattle.newt_spec_store.specs.Cost.{cost}
 use Rattle.newt_spec_store.specs.Store.{Store}
@@ -163,7 +163,7 @@ module _ {T : Type 0} (names : List (List ℕ)) (input : List ℕ) (old mid done
     }
 
   -- the reply was put out, or the output failed
-  pub ran-replied : {U E : Type 0} (new : Outside) (past : HasHistory new) (text : List ℕ) (put : Result U E) → IsDone input 0 mid done text → Puts put text done.now new.now → WriteCall true OutputFailed put done new
+  pub ran-replied : {U E : Type 0} (new : Outside) (past : HasHistory new) (text : List ℕ) (put : Result U E) → IsDone input 0 mid done text → PutsText put text done.now new.now → WriteCall true OutputFailed put done new
       → (is_err put ≡ true → RanRestored names input Sink old new) × (is_err put ≡ false → RanRestored names input Ok old new)
   ran-replied new past text (Good x) d puts call = (
     λ fails. absurd (cc),
