@@ -332,8 +332,8 @@ def large_cards(edge: Edge) -> None:
     """Cards of 16 MB: filled over more than a bank, checked, backed up and restored; and one block more."""
     removes = b"".join(b"remove 0 Notes %d\n" % uid for uid in range(20))
     large = edge.card("large", MOST)
-    with large.open("ab") as behind:
-        behind.write(b"x" * (BLOCK - 1))
+    with large.open("ab") as appended:
+        appended.write(b"x" * (BLOCK - 1))
     told = edge.run("run", "large", given=MOUNT + 130 * LARGE_ADD + removes + 20 * LARGE_ADD).told.splitlines()
     edge.want("a large card", told, [b"ok 9 Card", *(b"ok %d" % uid for uid in range(130)), *[b"ok"] * 20,
                                      *(b"ok %d" % uid for uid in range(130, 150))])

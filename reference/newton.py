@@ -66,8 +66,8 @@ def units_of(names: list[str]) -> list[Optional[Unit]]:
 
 def keep(name: str, unit: Unit, before: Optional[Store]) -> None:
     if unit.store is not before:
-        behind = image(name)[BLOCK * unit.blocks :]
-        Path(name).write_bytes(image_of(unit.store, unit.blocks) + behind)
+        after = image(name)[BLOCK * unit.blocks :]
+        Path(name).write_bytes(image_of(unit.store, unit.blocks) + after)
 
 
 def replies(names: list[str], script: Iterable[bytes]) -> Iterator[str]:
