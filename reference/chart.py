@@ -29,7 +29,7 @@ class Measure(NamedTuple):
 
 
 def read_table(text: str) -> tuple:
-    """The systems and the measures of the first table behind the heading."""
+    """The systems and the measures of the first table after the heading."""
     table = re.search(r"^\|.*\n\|[-|]+\n(?:\|.*\n)+", text.partition(HEADING)[2], re.MULTILINE)[0]
     rows = [[cell.strip() for cell in line.strip("|").split("|")] for line in table.splitlines()]
     systems = [row[0] for row in rows[2:]]

@@ -36,7 +36,7 @@ def start_of_bank(image: bytes) -> int:
 
 
 def gates(image: bytes, start: int) -> list[tuple[int, memoryview]]:
-    """Each gate of 0, with what of its bank stands behind it."""
+    """Each gate of 0, with what of its bank stands after it."""
     end, found, whole = start + (len(image) // BLOCK - 3) // 2 * BLOCK, [], memoryview(image)
     at = start + len(HEADER)
     while at < end and image[at] == 0:
@@ -45,13 +45,13 @@ def gates(image: bytes, start: int) -> list[tuple[int, memoryview]]:
     return found
 
 
-def is_long(behind: memoryview) -> bool:
-    return len(behind) < 4 or len(behind) - 4 < int.from_bytes(behind[:4], "big")
+def is_long(after: memoryview) -> bool:
+    return len(after) < 4 or len(after) - 4 < int.from_bytes(after[:4], "big")
 
 
-def change(behind: memoryview) -> tuple[dict, list]:
+def change(after: memoryview) -> tuple[dict, list]:
     """What a record puts and what it deletes; NoStore where the payload has not its form."""
-    payload = Record(bytes(behind[4 : 4 + int.from_bytes(behind[:4], "big")]))
+    payload = Record(bytes(after[4 : 4 + int.from_bytes(after[:4], "big")]))
     puts, deletes = payload.number(2), payload.number(2)
     payload.wants(payload.left() == 516 * puts + 4 * deletes)
     put = [(payload.number(4, 65_535), payload.take(512)) for _ in range(puts)]
@@ -123,9 +123,9 @@ def report(image: bytes) -> str:
         version = VERSIONS.get(image[start : start + len(HEADER)])
         row("header", [start] if version is None else [])
         found = gates(image, start)
-        row("record", (at for at, behind in found if is_long(behind)))
-        row("payload", (at for at, behind in found if fails(change, behind)))
-        objects = objects_of(pages_after([change(behind) for _, behind in found]))
+        row("record", (at for at, after in found if is_long(after)))
+        row("payload", (at for at, after in found if fails(change, after)))
+        objects = objects_of(pages_after([change(after) for _, after in found]))
         directory = directory_of(objects, version)
         row("entry", bad_entries(objects, directory))
         named = Counter(it for number, record in objects.items() if number % 2 for it in named_by(record))

@@ -298,8 +298,8 @@ def bend_flags(random: Random, store: Store, objects: dict[int, bytes]) -> None:
     """The byte that says whether a soup has a declaration of tags and an info frame says something else."""
     told = [tags_bytes(it.tags) + info_bytes(it.info) for it in store.soups if it.tags or it.info]
     if told:
-        before, own, behind = objects[0].partition(random.choice(told))
-        objects[0] = before[:-1] + bytes([random.choice((0, 1, 2, 3, 4, 255))]) + own + behind
+        before, own, after = objects[0].partition(random.choice(told))
+        objects[0] = before[:-1] + bytes([random.choice((0, 1, 2, 3, 4, 255))]) + own + after
 
 
 OBJECT_DAMAGE = (

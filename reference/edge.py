@@ -209,7 +209,7 @@ def lengths(edge: Edge) -> None:
         appended.write(b"x" * 5000)
     edge.want("a longer card", session.answer(ADD), b"ok 1\n")
     session.end()
-    edge.want("its bytes behind", longer.read_bytes()[LEAST * BLOCK :], b"x" * 5000)
+    edge.want("the bytes after it", longer.read_bytes()[LEAST * BLOCK :], b"x" * 5000)
     os.truncate(longer, LEAST * BLOCK)
     edge.want("its entries", edge.entries("longer"), 2)
     for size in (LEAST * BLOCK - 1, 4 * BLOCK, 0):
@@ -309,7 +309,7 @@ def stopped_scripts(edge: Edge) -> None:
     for how in (signal.SIGINT, signal.SIGTERM, signal.SIGHUP, None):
         edge.card("stopped", MOST)
         run = edge.start("run", "stopped", stdin=subprocess.PIPE, stdout=subprocess.PIPE)
-        # They find room in the pipe, and the run waits behind them.
+        # They find room in the pipe, and the run waits after them.
         run.stdin.write(MOUNT + 2000 * ADD)
         run.stdin.flush()
         for _ in range(30):
@@ -332,8 +332,8 @@ def large_cards(edge: Edge) -> None:
     """Cards of 16 MB: filled over more than a bank, checked, backed up and restored; and one block more."""
     removes = b"".join(b"remove 0 Notes %d\n" % uid for uid in range(20))
     large = edge.card("large", MOST)
-    with large.open("ab") as behind:
-        behind.write(b"x" * (BLOCK - 1))
+    with large.open("ab") as appended:
+        appended.write(b"x" * (BLOCK - 1))
     told = edge.run("run", "large", given=MOUNT + 130 * LARGE_ADD + removes + 20 * LARGE_ADD).told.splitlines()
     edge.want("a large card", told, [b"ok 9 Card", *(b"ok %d" % uid for uid in range(130)), *[b"ok"] * 20,
                                      *(b"ok %d" % uid for uid in range(130, 150))])

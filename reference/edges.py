@@ -132,7 +132,7 @@ def larges() -> list[str]:
 
 
 def blocks() -> list[str]:
-    lines = [f"{word} {unit}{behind}" for word, behind in (("format", " C 1"), ("mount", "")) for unit in range(7)]
+    lines = [f"{word} {unit}{after}" for word, after in (("format", " C 1"), ("mount", "")) for unit in range(7)]
     return lines + ["unmount 0", "soups 0", "stores"]
 
 

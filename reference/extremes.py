@@ -207,7 +207,7 @@ def large_binaries() -> bytes:
 
 
 def empty_records() -> bytes:
-    """As many records as there is room for, behind the one of a fresh store."""
+    """As many records as there is room for, after the one of a fresh store."""
     first, empty = fresh(), record({}, [])
     return first + empty * ((room() - len(first)) // len(empty))
 
@@ -249,7 +249,7 @@ CASES: list[tuple[str, Callable[[], Input]]] = [
     ("pack, 65,534 symbols", symbols),
     ("pack, 65,534 tags", tags),
     ("pack, 16 large binaries of zeros", zeros),
-    ("show, 16 MiB of nil behind the object", shown(b"\x0a" * (MOST_INPUT - 1))),
+    ("show, 16 MiB of nil after the object", shown(b"\x0a" * (MOST_INPUT - 1))),
     ("pack, 16 MiB of brackets", packed(b"[" * MOST_INPUT)),
     ("pack, 16 MiB of blanks", packed(b" " * MOST_INPUT)),
     ("run, 16 MiB of line ends", lambda: (["run"], b"\n" * MOST_INPUT, [])),

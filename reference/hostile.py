@@ -165,7 +165,7 @@ def records_of_image(image: bytes) -> list[bytes]:
 
 
 def written_images(bench: Bench, random: Random, units: list[Unit]) -> list[bytes]:
-    """What the program leaves on the units behind a random script; the units have these stores then."""
+    """What the program leaves on the units after a random script; the units have these stores then."""
     script, wanted = written(random, World(units), len(units), random.choice((40, 100)))
     files = bench.files([bytes(BLOCK * it.blocks) for it in units])
     bench.answers(b"\n".join(script) + b"\n", wanted, files)

@@ -92,7 +92,7 @@ def records_of(random: Random, found: list[bytes]) -> list[bytes]:
 
 
 def tail_of(random: Random, length: int) -> bytes:
-    """What stands behind the records: nothing, or what a crash has left of another."""
+    """What stands after the records: nothing, or what a crash has left of another."""
     torn = (BLANK + random.randbytes(600)).ljust(length, BLANK)
     last = BLANK * max(0, length - 1) + b"\x00"
     return random.choice((BLANK * length, BLANK * length, torn, last))[:length]

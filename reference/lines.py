@@ -30,7 +30,7 @@ class Words(Scanner):
         self.wants(self.left() == 0)
 
     def wanted(self, form: re.Pattern) -> re.Match:
-        """What stands next and has a form, with the blanks behind it."""
+        """What stands next and has a form, with the blanks after it."""
         match = self.found(form)
         self.wants(match)
         self.found(BLANKS)

@@ -150,7 +150,7 @@ class Reader(Scanner):
         return large
 
     def class_of_array(self) -> Optional[Symbol]:
-        """The class, where a name with a colon behind it stands next."""
+        """The class, where a name with a colon after it stands next."""
         before = self.at
         try:
             name = self.name()

@@ -4,7 +4,7 @@
 usage: python3 reference/newton.py MODE [WORD..]
 
 It ends with 0, or with 2 where the words name no mode and 7 where the input is too long; other faults are Python's own.
-A script is answered line by line as it comes. Only behind it are its stores written: a file whose store has changed
+A script is answered line by line as it comes. Only after it are its stores written: a file whose store has changed
 gets one record with all of its pages, in bank 0.
 """
 
@@ -66,12 +66,12 @@ def units_of(names: list[str]) -> list[Optional[Unit]]:
 
 def keep(name: str, unit: Unit, before: Optional[Store]) -> None:
     if unit.store is not before:
-        behind = image(name)[BLOCK * unit.blocks :]
-        Path(name).write_bytes(image_of(unit.store, unit.blocks) + behind)
+        after = image(name)[BLOCK * unit.blocks :]
+        Path(name).write_bytes(image_of(unit.store, unit.blocks) + after)
 
 
 def replies(names: list[str], script: Iterable[bytes]) -> Iterator[str]:
-    """The replies to the lines of a script over files as they come. Behind the script the files have its stores."""
+    """The replies to the lines of a script over files as they come. After the script the files have its stores."""
     units = units_of(names)
     before = [it and it.store for it in units]
     try:

@@ -11,7 +11,7 @@ first run that is not so:
 - it ends with the status of want of memory and its line on standard error, or, where the program can do without what
   was refused, as it would have ended with it;
 - the replies before are whole, and the first of those of the run to which nothing is refused;
-- each file is read as its unit's store after these commands or after one more; behind the other modes, where memory
+- each file is read as its unit's store after these commands or after one more; after the other modes, where memory
   was wanting, nothing is written and the file is as it was.
 
 It needs a C compiler, cc, for the library that refuses (refused.c).

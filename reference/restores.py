@@ -2,7 +2,7 @@
 
 usage: python3 reference/restores.py PROGRAM FIRST COUNT TIMES
 
-For each seed, of FIRST and COUNT behind one another: a store that the program wrote behind a random script, or an
+For each seed, of FIRST and COUNT after one another: a store that the program wrote after a random script, or an
 image that is made at random, damaged or not, is backed up; the stream, or that of a store at a limit, is restored to
 devices of other sizes, the least that has room for it and the greatest that has none among them, to such as hold a
 store, to damaged ones and to none; what was restored is backed up again, with the same bytes, and a script is played
@@ -108,7 +108,7 @@ class Restores(Bench):
 
 
 def first_image(bench: Restores, random: Random) -> bytes:
-    """What the program leaves behind a random script, or an image that is made at random."""
+    """What the program leaves after a random script, or an image that is made at random."""
     unit = Unit(random.choice(BLOCKS))
     script, wanted = written(random, World([unit]), 1, random.choice((12, 40, 120)))
     bench.play(bytes(BLOCK * unit.blocks), script, wanted, unit.store)
@@ -283,7 +283,7 @@ def stop(bench: Restores, random: Random, stream: bytes, image: bytes) -> None:
 
 
 def fail(bench: Restores, random: Random, word: str, stream: bytes, image: bytes) -> None:
-    """Lets a call of the device fail behind its attach: the run ends with that, and nothing is written."""
+    """Lets a call of the device fail after its attach: the run ends with that, and nothing is written."""
     store = restored(stream, image)[1] if word == "restore" else None
     bench.mode(word, stream, image, reads=1)
     calls = bench.told()[0]

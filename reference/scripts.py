@@ -19,7 +19,7 @@ BAD_LINES = (
     *("", " ", "% x", "frob", "get 0", "quit now", "add 0 S", "add 0 S {", "\tstores\t", "lit [1 2]"),
     *("lit {a:1,A:2}", "lit #1=5", "nsof", "vread 0 S 0 v 0 60001", "mount  0 ", "get 0 S 1 2"),
 )
-# How often a command is written beside the others, and what stands behind its word: methods of the writer.
+# How often a command is written beside the others, and what stands after its word: methods of the writer.
 COMMANDS = {
     "add": (12, "soup entry"),
     "addu": (3, "name entry"),

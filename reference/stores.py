@@ -55,10 +55,10 @@ class Soup:
         return next((it for it in self.entries if it.uid == uid), None)
 
     def with_entry(self, entry: Entry) -> "Soup":
-        """The soup with an entry in the place of the one of its id, or behind the others."""
+        """The soup with an entry in the place of the one of its id, or after the others."""
         kept = [it for it in self.entries if it.uid < entry.uid]
-        behind = [it for it in self.entries if it.uid > entry.uid]
-        return replace(self, entries=(*kept, entry, *behind), next_uid=max(self.next_uid, entry.uid + 1))
+        after = [it for it in self.entries if it.uid > entry.uid]
+        return replace(self, entries=(*kept, entry, *after), next_uid=max(self.next_uid, entry.uid + 1))
 
     def without_entry(self, uid: int) -> "Soup":
         return replace(self, entries=tuple(it for it in self.entries if it.uid != uid))

@@ -6,7 +6,7 @@ Random scripts with the seeds from FIRST on, COUNT of them, in which units are m
 one to four files, TIMES times each, and each time some random calls fail, reads as well as writes and syncs, by the
 library torn.c. A card whose call fails is thrown out, and the run goes on: the reply is `error 50 device U`, as often
 as calls failed. The reference keeps all worlds that the replies so far leave room for, each with the store of the card
-before the command or after it. Each other reply is to be that of one of them, and behind the script all files are to
+before the command or after it. Each other reply is to be that of one of them, and after the script all files are to
 read as the stores of one. It needs a C compiler, cc, and ends with 1 at the first difference, whose files stay.
 """
 
@@ -48,7 +48,7 @@ def throw_out(world: World, number: int) -> World:
 
 
 def thrown(world: World, line: bytes, number: int) -> Iterator[World]:
-    """The worlds behind a command whose device failed on this unit: its store is as it was, or as the command makes it;
+    """The worlds after a command whose device failed on this unit: its store is as it was, or as the command makes it;
     a move to another unit has been made there, and is told as an add, before its own unit is written."""
     after = copied(world)
     answer(after, line)
@@ -69,7 +69,7 @@ def thrown(world: World, line: bytes, number: int) -> Iterator[World]:
 
 
 def steps(world: World, line: bytes, reply: str) -> Iterator[World]:
-    """The worlds that the program may be in behind a reply."""
+    """The worlds that the program may be in after a reply."""
     fault = re.fullmatch(r"error 50 device ([0-7])", reply)
     if fault:
         yield from thrown(world, line, int(fault[1]))
@@ -125,7 +125,7 @@ def with_mounts(random: Random, script: list, units: int) -> list:
 
 
 def calls_to_fail(random: Random, first: int, calls: int) -> list[int]:
-    """Some calls, now and then one behind the other, or all from one on for a while."""
+    """Some calls, now and then one after the other, or all from one on for a while."""
     failing = set()
     for _ in range(random.choice((1, 1, 2, 3, 6))):
         call = random.randint(first, calls)

@@ -42,7 +42,7 @@ class Values:
     def string(self) -> str:
         units = "".join(self.random.choices(self.one(*ALPHABETS), k=self.one(0, 1, 1, 2, 3, 4, 6)))
         if self.often(0.2):
-            # Keys are cut behind 39 units.
+            # Keys are cut after 39 units.
             units = self.one("a", "a", "ß", "😀") * 19 + self.one("a", "a", "") * 20 + self.one("", "a", "b")
         return f'"{units}"'
 

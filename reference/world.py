@@ -175,10 +175,10 @@ class World:
         return sorted(self.found(query), key=cmp_to_key(lambda one, other: order(query, one[:2], other[:2])))
 
     def next(self, query: Query, place: Place) -> Place:
-        behind = [
+        after = [
             it[:2] for it in self.hits(query) if place == START or place != FINISH and order(query, it[:2], place) > 0
         ]
-        return behind[0] if behind else FINISH
+        return after[0] if after else FINISH
 
     def previous(self, query: Query, place: Place) -> Place:
         before = [

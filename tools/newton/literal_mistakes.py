@@ -119,8 +119,8 @@ class Pointing(Telling, Reader):
 
     def bad_value(self, start: int) -> tuple[int, str]:
         if label := LABEL.match(self.text, start):
-            behind = BLANKS.match(self.text, label.end()).end()
-            return behind, "a label stands before a string, a binary, an array or a frame alone"
+            after = BLANKS.match(self.text, label.end()).end()
+            return after, "a label stands before a string, a binary, an array or a frame alone"
         first = self.text[start : start + 1]
         if first == '"':
             return self.bad_string(start)

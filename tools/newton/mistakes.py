@@ -46,8 +46,8 @@ def window(line: str, column: int) -> str:
     """The part of a line around a column, with a caret under that column."""
     first = max(0, column - WIDTH // 2) if len(line) > WIDTH else 0
     shown = "".join(it if it.isprintable() else " " for it in line[first : first + WIDTH])
-    before, behind = "..." if first else "", "..." if first + WIDTH < len(line) else ""
-    return f"  {before}{shown}{behind}\n  {' ' * (len(before) + column - first)}^"
+    before, after = "..." if first else "", "..." if first + WIDTH < len(line) else ""
+    return f"  {before}{shown}{after}\n  {' ' * (len(before) + column - first)}^"
 
 
 def in_text(text: str, mistake: Mistake, first_line: int = 1, first_column: int = 0) -> str:

@@ -78,11 +78,11 @@ class Names:
     def __init__(self) -> None:
         self.taken: set[bytes] = set()
 
-    def new(self, name: bytes, behind: bytes = b"") -> str:
-        wanted, number = name[: MOST_NAME - len(behind)] + behind, 1
+    def new(self, name: bytes, after: bytes = b"") -> str:
+        wanted, number = name[: MOST_NAME - len(after)] + after, 1
         while wanted in self.taken:
             number += 1
-            mark = b"%s %d" % (behind, number)
+            mark = b"%s %d" % (after, number)
             wanted = name[: MOST_NAME - len(mark)] + mark
         self.taken.add(wanted)
         return of_name(wanted)

@@ -51,7 +51,7 @@ class Dump(Playing):
         self.assertEqual((ended.status, ended.told), (0, ""))
         self.assertEqual(self.newton("backup", "same"), self.newton("backup", str(card)))
 
-    def test_stores_behind_random_scripts_come_back(self) -> None:
+    def test_stores_after_random_scripts_come_back(self) -> None:
         for seed in SEEDS:
             random = Random(seed)
             script, _ = written(random, World([Unit(20)]), 1, 120)

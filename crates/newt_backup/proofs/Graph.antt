@@ -73,7 +73,7 @@ walk-is d es = Walk.frame {tagged = Symbol (codes "directory") ∷ Symbol (codes
     (WalkLabels.more {first = Symbol (codes "directory") ∷ []} WalkLabel.symbol (WalkLabels.more {first = Symbol (codes "entries") ∷ []} {others = []} WalkLabel.symbol WalkLabels.none))
     (both-walk 197 d es)
 
--- ---- the nodes behind the first six: plain arrays and binaries
+-- ---- the nodes after the first six: plain arrays and binaries
 
 abbrev Other : Node → Type 0
 Other (Array None values) = length values ≤ 65535
@@ -141,7 +141,7 @@ cuts-length at (t ∷ ts) = rw (length-append (cut at t) (cuts (at + (1 + piece_
 
 -- ---- all nodes
 
--- the nodes behind the first six
+-- the nodes after the first six
 rest : List ℕ → List (List ℕ) → List Node
 rest d es = map (Binary 5) (pieces (drop 500_000 d)) ++ Array None (cuts_at (entries_at d + 1) es) ∷ cuts (entries_at d + 1) es
 

@@ -8,7 +8,7 @@ use Rattle.newt_spec_store.specs.Store.{Entry, Soup}
 use Rattle.newt_spec_store.specs.Valid.{valid_entry, valid_soup}
 use Rattle.newt_laws_images.proofs.Stores.{is-soup, soup-is}
 use Rattle.newt_backup.specs.Together.{own, others, with_own, left_over}
-use Rattle.newt_backup.specs.Checks.{may_follow, behind, if_left, is_nil, are_of}
+use Rattle.newt_backup.specs.Checks.{may_follow, after, if_left, is_nil, are_of}
 
 -- what is known where the entries of a soup were passed
 record Passed (sig next low : ℕ) (xs ys : List (ℕ × Entry)) : Type 0 where
@@ -16,7 +16,7 @@ record Passed (sig next low : ℕ) (xs ys : List (ℕ × Entry)) : Type 0 where
   valid : list_all valid_entry (own sig xs) ≡ true
   left : ys ≡ others sig xs
 
-passed : (sig next low : ℕ) (xs ys : List (ℕ × Entry)) → behind sig next low xs ≡ Some ys → Passed sig next low xs ys
+passed : (sig next low : ℕ) (xs ys : List (ℕ × Entry)) → after sig next low xs ≡ Some ys → Passed sig next low xs ys
 passed sig next low [] ys h = record { rise = refl; valid = refl; left = some-one ys [] (sym h) }
   where
     some-one : {X : Type 0} (x y : X) → Some x ≡ Some y → x ≡ y
@@ -38,8 +38,8 @@ passed sig next low (x ∷ xs) ys h = let k = go (x.0 == sig) (may_follow low ne
     all : (e : Entry) (es : List Entry) → valid_entry e ≡ true → list_all valid_entry es ≡ true → list_all valid_entry (e ∷ es) ≡ true
     all e es a b = grind (arith, a, b)
 
-    go : (is may : Bool) → may ≡ may_follow low next x.1 → (if is then (if may then behind sig next (x.1.uid + 1) xs else None) else Some (x ∷ xs)) ≡ Some ys
-        → (behind sig next (x.1.uid + 1) xs ≡ Some ys → Passed sig next (x.1.uid + 1) xs ys)
+    go : (is may : Bool) → may ≡ may_follow low next x.1 → (if is then (if may then after sig next (x.1.uid + 1) xs else None) else Some (x ∷ xs)) ≡ Some ys
+        → (after sig next (x.1.uid + 1) xs ≡ Some ys → Passed sig next (x.1.uid + 1) xs ys)
         → (rises low next (map (λ (e : Entry). e.uid) (cond is (x.1 ∷ own sig xs) [])) ≡ true) × (list_all valid_entry (cond is (x.1 ∷ own sig xs) []) ≡ true) × (ys ≡ cond is (others sig xs) (x ∷ xs))
     go false may e h more = (refl, refl, some-same ys (x ∷ xs) (sym h))
     go true false e h more = absurd (none-not ys h)
@@ -48,7 +48,7 @@ passed sig next low (x ∷ xs) ys h = let k = go (x.0 == sig) (may_follow low ne
         let p = parts low next x.1 (sym e) in
         (rise low next x.1.uid (map (λ (e : Entry). e.uid) (own sig xs)) p.0 p.1 k.rise, all x.1 (own sig xs) p.2 k.valid, k.left)
 
-back : (sig next low : ℕ) (xs : List (ℕ × Entry)) → rises low next (map (λ (e : Entry). e.uid) (own sig xs)) ≡ true → list_all valid_entry (own sig xs) ≡ true → behind sig next low xs ≡ Some (others sig xs)
+back : (sig next low : ℕ) (xs : List (ℕ × Entry)) → rises low next (map (λ (e : Entry). e.uid) (own sig xs)) ≡ true → list_all valid_entry (own sig xs) ≡ true → after sig next low xs ≡ Some (others sig xs)
 back sig next low [] r v = refl
 back sig next low (x ∷ xs) r v = go (x.0 == sig) r v (λ a b. back sig next (x.1.uid + 1) xs a b)
   where
@@ -57,12 +57,12 @@ back sig next low (x ∷ xs) r v = go (x.0 == sig) r v (λ a b. back sig next (x
     follows low next e us es r v = (grind (arith, r, v), grind (arith, r), grind (arith, v))
 
     go : (is : Bool) → rises low next (map (λ (e : Entry). e.uid) (cond is (x.1 ∷ own sig xs) [])) ≡ true → list_all valid_entry (cond is (x.1 ∷ own sig xs) []) ≡ true
-        → (rises (x.1.uid + 1) next (map (λ (e : Entry). e.uid) (own sig xs)) ≡ true → list_all valid_entry (own sig xs) ≡ true → behind sig next (x.1.uid + 1) xs ≡ Some (others sig xs))
-        → (if is then (if may_follow low next x.1 then behind sig next (x.1.uid + 1) xs else None) else Some (x ∷ xs)) ≡ Some (cond is (others sig xs) (x ∷ xs))
+        → (rises (x.1.uid + 1) next (map (λ (e : Entry). e.uid) (own sig xs)) ≡ true → list_all valid_entry (own sig xs) ≡ true → after sig next (x.1.uid + 1) xs ≡ Some (others sig xs))
+        → (if is then (if may_follow low next x.1 then after sig next (x.1.uid + 1) xs else None) else Some (x ∷ xs)) ≡ Some (cond is (others sig xs) (x ∷ xs))
     go false r v more = refl
     go true r v more =
         let f = follows low next x.1 (map (λ (e : Entry). e.uid) (own sig xs)) (own sig xs) r v in
-        ap (λ b. if b then behind sig next (x.1.uid + 1) xs else None) f.0 ∙ more f.1 f.2
+        ap (λ b. if b then after sig next (x.1.uid + 1) xs else None) f.0 ∙ more f.1 f.2
 
 -- ---- all soups
 
@@ -92,7 +92,7 @@ nil-is (x ∷ xs) h = absurd (no h)
 pub soups-pass : (ps : List Soup) (xs : List (ℕ × Entry)) → list_all valid_soup ps ≡ true → are_of ps xs ≡ true → (list_all valid_soup (with_own ps xs) ≡ true) × (left_over ps xs ≡ [])
 soups-pass [] xs v h = (refl, nil-is xs h)
 soups-pass (p ∷ ps) xs v h =
-    let o = some-left (are_of ps) (behind p.sig p.next_uid 0 xs) h in
+    let o = some-left (are_of ps) (after p.sig p.next_uid 0 xs) h in
     let k = passed p.sig p.next_uid 0 xs o.0 o.1 in
     let vs = and_parts (valid_soup p) (list_all valid_soup ps) v in
     let more = soups-pass ps (others p.sig xs) vs.1 (subst (λ ys. are_of ps ys ≡ true) k.left o.2) in

@@ -25,7 +25,7 @@ cuts-read at text [] = refl
 cuts-read at text (t ∷ ts) = ap (λ l. text ∷ l) (binaries 5 [] (pieces t) (cuts (at + (1 + piece_count t)) ts)
     ∙ ap (λ b. texts_from b (cuts (at + (1 + piece_count t)) ts)) (joined t) ∙ cuts-read (at + (1 + piece_count t)) t ts)
 
--- behind nothing come the directory, nothing once more, and the entries
+-- after nothing come the directory, nothing once more, and the entries
 pub packed-read : (directory : List ℕ) (entries : List (List ℕ)) → texts_from [] (packed directory entries).nodes ≡ [] ∷ directory ∷ [] ∷ entries
 unfolding packed
 packed-read directory entries =

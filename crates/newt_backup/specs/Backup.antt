@@ -1,4 +1,5 @@
--- The backup of a store: one graph that has the bytes of its directory and of each of its entries. This project's own.
+-- The backup of a store: one graph that has the bytes of its directory and of each of its entries.
+-- This project's own.
 use Rattle.std.specs.List.{sum_by}
 use Rattle.std.specs.Prelude.{◌≡◌, ℕ, zero, suc, ◌+◌, ◌/◌, ◌<◌, ◌≤◌, All, true, List, [], ◌∷◌, ◌++◌, map, length, take, drop, codes, None, IfSome}
 use Rattle.newt_base.specs.Text.{be16, be32}
@@ -30,30 +31,33 @@ piece_count bytes = (length bytes + 499_999) / 500_000
 abbrev pub pieces : List ℕ → List (List ℕ)
 pieces bytes = pieces_from (piece_count bytes) bytes
 
--- ---- the nodes of a backup, in the order in which a walk meets them: 0 the frame, 1 and 2 its tags, 3 the cut of the directory, 4 its first piece,
--- 5 the symbol `bytes`, then its other pieces, the array of the entries, and the cut of each entry
+-- ---- the nodes of a backup, in the order in which a walk meets them.
+-- The frame is node 0, its tags are 1 and 2, the cut of the directory is 3, its first piece 4, and
+-- the symbol `bytes` 5. Then come its other pieces, the array of the entries, and the cut of each
+-- entry.
 
 -- so many nodes in a row, from this number on
 abbrev pub in_a_row : ℕ → ℕ → List Ref
 in_a_row at zero = []
 in_a_row at (suc n) = At at ∷ in_a_row (at + 1) n
 
--- bytes as the plain array of their pieces, where the array is node `at` and the pieces stand behind it: binaries of class `bytes`
+-- bytes as the plain array of their pieces: the array is node `at`, and the pieces, binaries of
+-- class `bytes`, stand after it
 abbrev pub cut : ℕ → List ℕ → List Node
 cut at bytes = Array None (in_a_row (at + 1) (piece_count bytes)) ∷ map (Binary 5) (pieces bytes)
 
--- the same of the bytes that stand first, as node 3: behind the first piece stands the class
+-- the same for the bytes that stand first, as node 3: the class stands after the first piece
 abbrev pub first_cut : List ℕ → List Node
 first_cut bytes =
     let others = drop 500_000 bytes in
     Array None (At 4 ∷ in_a_row 6 (piece_count others)) ∷ Binary 5 (take 500_000 bytes) ∷ Symbol (codes "bytes") ∷ map (Binary 5) (pieces others)
 
--- where the cuts of texts stand, one behind another
+-- where the cuts of texts stand, one after another
 abbrev pub cuts_at : ℕ → List (List ℕ) → List Ref
 cuts_at at [] = []
 cuts_at at (text ∷ texts) = At at ∷ cuts_at (at + (1 + piece_count text)) texts
 
--- the cuts of texts, one behind another
+-- the cuts of texts, one after another
 abbrev pub cuts : ℕ → List (List ℕ) → List Node
 cuts at [] = []
 cuts at (text ∷ texts) = cut at text ++ cuts (at + (1 + piece_count text)) texts
@@ -81,11 +85,13 @@ pub record CanPack (d : List ℕ) (es : List (List ℕ)) : Type 0 where
 
 -- ---- the backup of a store
 
--- an entry whole, with its soup's signature: the signature in two bytes, id and time in four, and the flat text with the bytes of its large binaries
+-- an entry whole, with its soup's signature: the signature in two bytes, id and time in four each,
+-- and the flat text with the bytes of its large binaries
 abbrev pub full : ℕ → Entry → List ℕ
 full soup e = be16 soup ++ be32 e.uid ++ be32 e.time ++ flat e.graph
 
--- all entries of a store whole: the soups in order of making, and the entries of each in order of id
+-- all entries of a store whole: the soups in the order in which they were made, and the entries of
+-- each in order of id
 abbrev pub fulls : Store → List (List ℕ)
 fulls s = map (λ x. full x.0 x.1) (all_entries s)
 
@@ -95,8 +101,8 @@ backup s = packed (directory_bytes s) (fulls s)
 
 -- ---- which graphs are backups
 
--- A store of some unit: it fits on the largest one, and what else holds of every store that a program has: graphs are in normal form, those of info frames too,
--- and minutes fit in four bytes.
+-- A store of some unit: it fits on the largest one. What else holds for every store that a program
+-- has: graphs are in normal form, also those of info frames, and minutes fit in four bytes.
 pub record IsKept (s : Store) : Type 0 where
   pub valid : valid 4099 s ≡ true
   pub infos : Each (λ p. IfSome p.info IsGraph) s.soups

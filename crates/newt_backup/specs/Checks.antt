@@ -7,16 +7,17 @@ use Rattle.newt_spec_store.specs.Valid.{valid_entry}
 abbrev pub may_follow : ℕ → ℕ → Entry → Bool
 may_follow low next e = nat_le low e.uid && nat_lt e.uid next && valid_entry e
 
--- the entries behind those of a soup at the front, where these may be its entries
-abbrev pub behind : ℕ → ℕ → ℕ → List (ℕ × Entry) → Option (List (ℕ × Entry))
-behind sig next low [] = Some []
-behind sig next low (x ∷ xs) = if x.0 == sig then (if may_follow low next x.1 then behind sig next (x.1.uid + 1) xs else None) else Some (x ∷ xs)
+-- the entries that are left after those of a soup at the front, where these may be its entries
+abbrev pub after : ℕ → ℕ → ℕ → List (ℕ × Entry) → Option (List (ℕ × Entry))
+after sig next low [] = Some []
+after sig next low (x ∷ xs) = if x.0 == sig then (if may_follow low next x.1 then after sig next (x.1.uid + 1) xs else None) else Some (x ∷ xs)
 
 -- what is left, tested
 abbrev pub if_left : (List (ℕ × Entry) → Bool) → Option (List (ℕ × Entry)) → Bool
 if_left test None = false
 if_left test (Some xs) = test xs
 
+-- a list has no elements
 abbrev pub is_nil : {X : Type 0} → List X → Bool
 is_nil [] = true
 is_nil (x ∷ xs) = false
@@ -24,4 +25,4 @@ is_nil (x ∷ xs) = false
 -- the entries are those of the soups in their order
 abbrev pub are_of : List Soup → List (ℕ × Entry) → Bool
 are_of [] xs = is_nil xs
-are_of (p ∷ ps) xs = if_left (are_of ps) (behind p.sig p.next_uid 0 xs)
+are_of (p ∷ ps) xs = if_left (are_of ps) (after p.sig p.next_uid 0 xs)

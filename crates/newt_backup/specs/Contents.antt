@@ -20,11 +20,13 @@ text_of e = full e.soup (as_entry e)
 abbrev pub store_in : Directory → List FullEntry → Store
 store_in d es = together (bare_store d) (map told es)
 
--- what the type of an entry says of it: its graph is in normal form, and its minute fits in four bytes
+-- what the type of an entry says of it: its graph is in normal form, and its minute fits in four
+-- bytes
 abbrev pub IsSound : FullEntry → Type 0
 IsSound e = IsGraph e.graph × (e.time < 4294967296)
 
--- what holds of each entry of a store of some unit: its soup's signature fits in two bytes, and its text is no longer than all texts may be
+-- what holds for each entry of a store of some unit: its soup's signature fits in two bytes, and
+-- its text is no longer than all texts may be
 abbrev pub IsSmall : FullEntry → Type 0
 IsSmall e = (e.soup < 65536) × (length (text_of e) ≤ 7_989_000)
 

@@ -8,7 +8,8 @@ use Rattle.newt_spec_store.specs.Store.{Entry, Store}
 use Rattle.newt_spec_graph.specs.Graph.{every}
 use Rattle.newt_spec_store.specs.Lies.{directory_read}
 
--- the bytes of the binaries up to the next array, joined, and so on from each array to the next one; `text` are the bytes before
+-- the bytes of the binaries up to the next array, joined, and so on from each array to the next
+-- one; `text` are the bytes before
 abbrev pub texts_from : List ℕ → List Node → List (List ℕ)
 texts_from text [] = text ∷ []
 texts_from text (Array _ _ ∷ nodes) = text ∷ texts_from [] nodes
@@ -18,7 +19,8 @@ texts_from text (Str _ ∷ nodes) = texts_from text nodes
 texts_from text (Large _ _ ∷ nodes) = texts_from text nodes
 texts_from text (Frame _ _ ∷ nodes) = texts_from text nodes
 
--- the entry that a text has whole, and its soup's signature; the text of its graph may be any that spells it
+-- the entry whole that a text has, and its soup's signature; the text of its graph may be any that
+-- spells it
 unfoldable pub full_read : List ℕ → Option (ℕ × Entry)
 full_read text =
     if nat_lt (length text) 10 then None
@@ -28,7 +30,8 @@ full_read text =
 abbrev pub with_entries : Option (List (ℕ × Entry)) → Option Store → Option (Store × List (ℕ × Entry))
 with_entries xs d = option_and_then (λ d. option_map (λ xs. (d, xs)) xs) d
 
--- the directory and the entries of texts: the second text is the directory's, the third is that of the array of the entries, and the entries' follow
+-- the directory and the entries of texts: the second text is the directory's, the third is that of
+-- the array of the entries, and the entries' texts follow
 abbrev pub contents_read : List (List ℕ) → Option (Store × List (ℕ × Entry))
 contents_read (_ ∷ directory ∷ _ ∷ entries) = with_entries (every (map full_read entries)) (directory_read stream_graph 2 directory)
 contents_read _ = None

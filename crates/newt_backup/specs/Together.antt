@@ -1,4 +1,4 @@
--- A store put together of its directory and its entries.
+-- A store put together from its directory and its entries.
 use Rattle.std.specs.Prelude.{ℕ, ◌==◌, List, [], ◌∷◌, cond}
 use Rattle.newt_spec_store.specs.Store.{Entry, Soup, Store}
 
@@ -7,7 +7,7 @@ abbrev pub own : ℕ → List (ℕ × Entry) → List Entry
 own sig [] = []
 own sig (x ∷ xs) = cond (x.0 == sig) (x.1 ∷ own sig xs) []
 
--- and what is behind them
+-- and the entries after them
 abbrev pub others : ℕ → List (ℕ × Entry) → List (ℕ × Entry)
 others sig [] = []
 others sig (x ∷ xs) = cond (x.0 == sig) (others sig xs) (x ∷ xs)

@@ -8,7 +8,7 @@ ghost use Rattle.newt_soupdir.specs.Bare.{bare_soup, bare_store};
 ghost use Rattle.newt_spec_graph.specs.Lists.{Each};
 ghost use Rattle.newt_spec_store.specs.Cost.{cost, large_length, entry_pages, skeleton_length};
 ghost use Rattle.newt_spec_store.specs.Valid.{valid_entry, well_formed};
-ghost use Rattle.newt_backup.specs.Checks.{behind, are_of};
+ghost use Rattle.newt_backup.specs.Checks.{after, are_of};
 ghost use Rattle.newt_backup.specs.Contents.{store_in, AreKept, IsNoStore, IsSound};
 ghost use Rattle.newt_entries.specs.Full.{told, as_entry};
 
@@ -29,10 +29,10 @@ fn is_entry(entry: &FullEntry) -> bool
     is_frame(&entry.graph) && skeleton_len(&entry.graph) <= MOST_TEXT
 }
 
-/// The entries behind those of a soup at the front, where these may be its entries.
-fn behind<'a>(row: &SoupRow, entries: &'a [FullEntry]) -> Option<&'a [FullEntry]>
+/// The entries that are left after those of a soup at the front, where these may be its entries.
+fn after<'a>(row: &SoupRow, entries: &'a [FullEntry]) -> Option<&'a [FullEntry]>
     ensures { option_map (λ rest. map told rest.now) result
-        ≡ behind row.now.sig row.now.next_uid 0 (map told entries.now) }
+        ≡ after row.now.sig row.now.next_uid 0 (map told entries.now) }
 {
     let mut low = 0;
     let mut left = entries;
@@ -57,7 +57,7 @@ fn are_of(rows: &[SoupRow], entries: &[FullEntry]) -> bool
     let mut left = entries;
     let mut soups = rows;
     while let [row, others @ ..] = soups {
-        match behind(row, left) {
+        match after(row, left) {
             Some(rest) => left = rest,
             None => return false,
         }
@@ -66,7 +66,7 @@ fn are_of(rows: &[SoupRow], entries: &[FullEntry]) -> bool
     left.is_empty()
 }
 
-/// How many pages so many bytes take.
+/// How many pages of 500 bytes so many bytes take, at least one.
 fn pages_for(length: u64) -> u64
     requires { length < 2 ^ 63 }
     ensures { result ≡ pages_for length }
@@ -162,7 +162,7 @@ fn fit(size: usize, entries: &[FullEntry], most: u64) -> bool
     pages <= most
 }
 
-// The functions below do nothing when they run: what a type says of a value is known only behind a
+// The functions below do nothing when they run. What a type says of a value is known only after a
 // call that lends it, here of each entry.
 
 /// A graph is in normal form, as its type says.
@@ -172,7 +172,7 @@ fn know_graph(graph: &Graph)
     let _nodes = graph.nodes();
 }
 
-/// So is an info frame.
+/// An info frame is in normal form, too.
 fn know_info(info: &Option<Graph>)
     ensures { IfSome info.now IsGraph }
 {
@@ -182,7 +182,7 @@ fn know_info(info: &Option<Graph>)
     }
 }
 
-/// So are those of all soups.
+/// The info frames of all soups are in normal form, too.
 fn know_infos(rows: &[SoupRow])
     ensures { Each (λ p. IfSome p.info IsGraph) (map bare_soup rows.now) }
 {
@@ -201,7 +201,7 @@ fn know_entry(entry: &FullEntry)
     let _time = entry.time;
 }
 
-/// The same of all entries.
+/// All entries' graphs are in normal form, and their minutes fit in four bytes.
 fn know_entries(entries: &[FullEntry])
     ensures { All IsSound entries.now }
 {
@@ -212,7 +212,8 @@ fn know_entries(entries: &[FullEntry])
     }
 }
 
-/// Whether a directory that is well formed and entries are a store of some unit, in its order.
+/// Whether a directory that is well formed and these entries are a store of some unit, in its
+/// order.
 pub fn is_store(
     alloc: Global,
     directory: &Directory,

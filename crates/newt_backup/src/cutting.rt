@@ -31,7 +31,7 @@ pub(crate) fn put_row(values: &mut Vec<Ref>, at: u32, count: u32) -> Result<(), 
     Ok(())
 }
 
-/// Puts the pieces of bytes behind other nodes.
+/// Puts the pieces of bytes after other nodes.
 pub(crate) fn put_pieces(
     alloc: Global,
     nodes: &mut Vec<Node>,
@@ -49,7 +49,7 @@ pub(crate) fn put_pieces(
     Ok(())
 }
 
-/// Puts bytes behind other nodes: the array of their pieces, and these.
+/// Puts bytes after other nodes: the array of their pieces, and the pieces.
 pub(crate) fn put_cut(alloc: Global, nodes: &mut Vec<Node>, bytes: &[u8]) -> Result<(), AllocError>
     requires few { length nodes.old.items + (1 + piece_count bytes.now) ≤ 65535 }
     requires short { length bytes.now ≤ 100000000 }

@@ -11,7 +11,7 @@ pub fn backups_are_graphs()
     ensures short { (s : Store) → IsKept s → length (nsof (backup s)) < 16777216 }
 {}
 
-/// Two stores with the same backup are one.
+/// Two stores with the same backup are the same store.
 pub fn backups_are_of_one_store()
     ensures { (s t : Store) → IsKept s → IsKept t → backup s ≡ backup t → s ≡ t }
 {}

@@ -2,12 +2,13 @@
 //! into pieces.
 //!
 //! It stands on `newt_soupdir` and `newt_entries`, on the reader and the writer of the streamed
-//! form, and on the definitions of stores. It carries these promises: `pack_backup` answers the
-//! backup of a store, and `read_backup` the store that has a backup; a graph that it refuses is the
-//! backup of no store; the backup of each store is a graph whose text is shorter than the longest
-//! input; and two stores with the same backup are one.
+//! form, and on the definitions of stores. It carries these promises:
+//! - `pack_backup` answers the backup of a store, and `read_backup` the store that has a backup;
+//! - a graph that `read_backup` refuses is the backup of no store;
+//! - the backup of each store is a graph whose text is shorter than the longest input;
+//! - two stores with the same backup are the same store.
 //!
-//! How it is proved: the reader is lenient. It joins all binaries behind each array and reads what
+//! How it is proved: the reader is lenient. It joins all binaries after each array and reads what
 //! they spell; then it tests that this is a store, packs that again and compares. So what it takes
 //! is a backup, and what it refuses is none as long as each backup is read back. The numbers of
 //! nodes stand in the order of the walk, so that a packed graph is in normal form as it is.

@@ -15,7 +15,7 @@ use std::alloc::{AllocError, Global};
 /// The bytes before the text of an entry's graph: soup signature, id and time.
 pub(crate) const HEAD: usize = 10;
 
-/// An entry whole.
+/// The bytes of an entry whole: its head, and the flat text of its graph.
 fn write_full(alloc: Global, entry: &FullEntry) -> Result<Vec<u8>, AllocError>
     requires { entry.now.soup < 65536 }
     ensures { IfOk result (λ v. v.items ≡ text_of entry.now) }
@@ -28,7 +28,7 @@ fn write_full(alloc: Global, entry: &FullEntry) -> Result<Vec<u8>, AllocError>
     Ok(out)
 }
 
-/// How many bytes a large binary has, none of another node.
+/// How many bytes a large binary has; 0 for another node.
 fn large_len(node: &Node) -> u64
     ensures { result ≡ large_len node.now }
 {
@@ -71,7 +71,7 @@ fn full_pieces(entry: &FullEntry) -> u32
     pieces_for(full_len(entry)) as u32
 }
 
-/// Puts the entries behind other nodes: the cut of each.
+/// Puts the entries after other nodes: the cut of each.
 pub(crate) fn put_cuts(
     alloc: Global,
     nodes: &mut Vec<Node>,

@@ -58,7 +58,7 @@ fn put_first(alloc: Global, nodes: &mut Vec<Node>, bytes: &[u8]) -> Result<(), A
     Ok(())
 }
 
-/// The nodes of a backup, of the bytes of a directory and of entries.
+/// The nodes of a backup, from the bytes of a directory and from entries.
 fn pack_nodes(
     alloc: Global,
     directory: &[u8],
@@ -79,7 +79,7 @@ fn pack_nodes(
     Ok(nodes)
 }
 
-/// The backup of a store: of its directory and all its entries, in its order.
+/// The backup of a store, from its directory and all its entries, in its order.
 pub fn pack_backup(
     alloc: Global,
     directory: &Directory,

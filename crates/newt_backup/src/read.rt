@@ -31,7 +31,7 @@ const VERSION: u16 = 2;
 /// largest unit.
 const MOST_BYTES: usize = 7_989_000;
 
-/// The texts of nodes: the bytes of all binaries between two arrays, joined. The first has what
+/// The texts of nodes: the bytes of all binaries between two arrays, joined. The first text is what
 /// stands before any array.
 pub(crate) fn texts(alloc: Global, nodes: &[Node]) -> Result<Vec<Vec<u8>>, AllocError>
     ensures { IfOk result (λ v. map (λ text. text.items) v.items ≡ texts_from [] nodes.now) }
@@ -67,7 +67,7 @@ fn are_short(texts: &[Vec<u8>]) -> bool
     true
 }
 
-/// The entry that a text has whole.
+/// The entry whole that a text has.
 #[tactic(auto, unfolding(crate::specs::Texts::full_read))]
 pub(crate) fn read_full(alloc: Global, text: &[u8]) -> Result<FullEntry, BackupFault>
     ensures found { IfOk result (λ e. full_read text.now ≡ Some (told e)) }
@@ -89,7 +89,7 @@ pub(crate) fn read_full(alloc: Global, text: &[u8]) -> Result<FullEntry, BackupF
     })
 }
 
-/// The entries that texts have whole.
+/// The entries whole that texts have.
 fn read_fulls(alloc: Global, texts: &[Vec<u8>]) -> Result<Vec<FullEntry>, BackupFault>
     ensures found { IfOk result (λ v. every (map full_read (map (λ text. text.items) texts.now))
         ≡ Some (map told v.items)) }
@@ -133,8 +133,8 @@ fn contents(alloc: Global, texts: &[Vec<u8>]) -> Result<(Directory, Vec<FullEntr
     Ok((directory, entries))
 }
 
-/// The directory and the entries that are read of a graph, if it is a backup. Of one with more
-/// bytes than any store has nothing is read, so that memory is wanted for what may be a store alone.
+/// The directory and the entries that are read of a graph, if it is a backup. A graph with more
+/// bytes than any store has is not read, so that only what may be a store takes memory.
 fn store_of(alloc: Global, graph: &Graph) -> Result<(Directory, Vec<FullEntry>), BackupFault>
     ensures found { IfOk result (λ x. contents_read (texts_from [] graph.now.nodes)
         ≡ Some (bare_store x.0, map told x.1.items)) }
@@ -147,7 +147,7 @@ fn store_of(alloc: Global, graph: &Graph) -> Result<(Directory, Vec<FullEntry>),
     contents(alloc, &texts)
 }
 
-/// Whether two graphs are one: they have the same text.
+/// Whether two graphs are the same: they have the same text.
 fn are_same(alloc: Global, graph: &Graph, other: &Graph) -> Result<bool, AllocError>
     ensures yes { IfOk result (λ yes. yes ≡ true → other.now ≡ graph.now) }
     ensures no { IfOk result (λ yes. yes ≡ false → other.now ≡ graph.now → ⊥) }

@@ -4,7 +4,7 @@ use Rattle.hex.specs.declared.error.FromHexError.TheVariants.{InvalidHexCharacte
 use Rattle.newt_base.specs.declared.hexadecimal.HexFault.{HexFault}
 use Rattle.newt_base.specs.declared.hexadecimal.HexFault.TheVariants.{NotHex, Memory}
 
--- out of memory stays out of memory, and every other fault is in the text
+-- out of memory stays out of memory; every other fault is one of the text
 abbrev pub hex_fault : FromHexError → HexFault
 hex_fault OutOfMemory = Memory
 hex_fault (InvalidHexCharacter c i) = NotHex

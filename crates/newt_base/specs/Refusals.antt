@@ -1,4 +1,5 @@
--- The refusals: their numbers and words, and the first of several that holds. The table is this project's own.
+-- The refusals: their numbers and words, and the first of several that holds. The table is this
+-- project's own.
 use Rattle.std.specs.Prelude.{ℕ, Bool, true, false, List, [], ◌∷◌, ◌++◌, codes, Option, Some, None}
 use Rattle.newt_base.specs.Text.{decimal_text}
 use Rattle.newt_base.specs.declared.Refusal.{Refusal}
@@ -56,7 +57,7 @@ refusal_text refusal = decimal_text (refusal_number refusal) ++ 32 ∷ refusal_w
 abbrev pub Checks : Type 0
 Checks = List (Refusal × Bool)
 
--- the first that holds
+-- the first refusal whose test holds; none where no test does
 abbrev pub first_of : Checks → Option Refusal
 first_of [] = None
 first_of (check ∷ checks) = elim check.1 [ true ↦ Some check.0 | false ↦ first_of checks ]

@@ -5,14 +5,16 @@ ghost use Rattle.newt_base.specs.Text.{decimal_value, digits_value, signed_value
 /// The most digits of a number.
 const MOST: usize = 10;
 
-/// The value of 1 to 10 digits, leading zeros among them, that is below 2^32.
+/// The value of 1 to 10 decimal digits, where it is below 2^32; none for any other text. Leading
+/// zeros are allowed.
 pub fn decimal(text: &[u8]) -> Option<u32>
     ensures { result ≡ decimal_value text.now }
 {
     u32::try_from(digits(text)?).ok()
 }
 
-/// The value of 1 to 10 digits after an optional `-`, in the range of 32 bits. `-0` is 0.
+/// The value of 1 to 10 decimal digits after an optional `-`, where it fits a signed word of 32
+/// bits; none for any other text. `-0` is 0.
 pub fn signed(text: &[u8]) -> Option<i32>
     ensures { result ≡ signed_value text.now }
 {

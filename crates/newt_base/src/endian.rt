@@ -37,14 +37,14 @@ pub fn set32(out: &mut [u8], at: usize, value: u32)
     BigEndian::write_u32(&mut out[at..], value);
 }
 
-/// Writes a number in two bytes behind those that are there.
+/// Appends a number as two bytes, the most significant one first.
 pub fn push16(out: &mut Vec<u8>, value: u16) -> Result<(), AllocError>
     ensures { OnOk result (out.new.items ≡ out.old.items ++ text.be16 value) }
 {
     out.extend_from_slice(&value.to_be_bytes())
 }
 
-/// Writes a number in four bytes behind those that are there.
+/// Appends a number as four bytes, the most significant one first.
 pub fn push32(out: &mut Vec<u8>, value: u32) -> Result<(), AllocError>
     ensures { OnOk result (out.new.items ≡ out.old.items ++ text.be32 value) }
 {

@@ -5,7 +5,7 @@ ghost use Rattle.newt_base.specs.Text as text_of;
 use hex::FromHexError;
 use std::alloc::{AllocError, Global};
 
-/// Why a text is not taken for bytes.
+/// Why a hexadecimal text is not read.
 #[derive(Clone, Copy, PartialEq, Eq, Debug)]
 pub enum HexFault {
     /// The text is not an even number of hexadecimal digits.

@@ -1,5 +1,5 @@
-//! Identifiers: the names of slots on a path, the symbols of tags, and the names that a literal has
-//! without bars.
+//! Identifiers: the names of slots on a path, the symbols of tags, and the names that a literal
+//! writes without bars.
 ghost use Rattle.std.specs.Prelude.{◌≡◌};
 ghost use Rattle.std.specs.List.{list_all};
 ghost use Rattle.newt_base.specs.Names.{begins_name, is_identifier, is_word};

@@ -14,7 +14,7 @@ const LAST: u8 = 126;
 /// The most bytes of a name.
 const MOST: usize = 39;
 
-/// Why bytes are not taken for a name.
+/// Why no name is made of bytes.
 #[derive(Clone, Copy, PartialEq, Eq, Debug)]
 pub enum NameFault {
     /// The length or a byte is outside the rule.
@@ -51,7 +51,8 @@ impl Model for Name {
 }
 
 impl Name {
-    /// Takes bytes for a name.
+    /// Makes a name of bytes. `NameFault::Name` comes exactly where they are not 1 to 39 bytes from
+    /// 32 to 126.
     pub fn read(alloc: Global, bytes: &[u8]) -> Result<Name, NameFault>
         ensures ok { IfOk result (λ name. name ≡ bytes.now) }
         ensures name { IsErrOf result NameFault.Name ↔ (is_name bytes.now ≡ false) }
@@ -94,7 +95,7 @@ fn all_printable(bytes: &[u8]) -> bool
     bytes.iter().all(|b| FIRST <= *b && *b <= LAST)
 }
 
-/// Whether a name with this byte in it stands in quotes.
+/// Whether a name that has this byte is written in quotes.
 pub fn needs_quotes(byte: u8) -> bool
     ensures { result ≡ needs_quotes byte }
 {

@@ -17,7 +17,7 @@ use Rattle.newt_laws_images.proofs.Assembled.{read-valid}
 use Rattle.newt_spec_nsof.specs.Text.{AreBytes}
 use Rattle.newt_objects.specs.Changing.{HoldsObjects}
 use Rattle.newt_spec_store.specs.Cost.{cost}
-use Rattle.newt_spec_store.specs.Image.{Objects as Rows, all_entries}
+use Rattle.newt_spec_store.specs.Image.{ObjectList as Rows, all_entries}
 use Rattle.newt_spec_store.specs.ImageStore.{objects_of, store_of_image}
 use Rattle.newt_spec_store.specs.Laid.{bare}
 use Rattle.newt_spec_store.specs.Lies.{directory_read}

@@ -31,19 +31,19 @@ past test image at limit h = let e : limit - at ≡ 0 = omega (arith, h) in ap (
 -- ---- records, by the bytes that are read
 
 module _ (image : List ℕ) (at limit byte : ℕ) (inside : limit ≤ length image) (more : at < limit) (is : take 1 (drop at image) ≡ byte ∷ []) where
-  abbrev pub behind : List ℕ
-  behind = between (at + 1) limit image
+  abbrev pub after : List ℕ
+  after = between (at + 1) limit image
 
-  begun : between at limit image ≡ byte ∷ behind
+  begun : between at limit image ≡ byte ∷ after
   begun =
       let k : limit - at ≡ suc (limit - (at + 1)) = omega (arith, more) in
       ap (λ n. take n (drop at image)) k ∙ ap (take (suc (limit - (at + 1)))) (split-first (drop at image) byte is ∙ ap (λ (l : List ℕ). byte ∷ l) (drop-drop 1 at image))
 
-  gates-are : gates_after at 0 (between at limit image) ≡ cond (byte == 0) ((at, behind) ∷ gates_after (suc at) (4 + length_at behind) behind) []
+  gates-are : gates_after at 0 (between at limit image) ≡ cond (byte == 0) ((at, after) ∷ gates_after (suc at) (4 + length_at after) after) []
   gates-are = ap (gates_after at 0) begun
 
   pub shut : (test : List ℕ → Bool) → byte ≢ 0 → first_from test at limit image ≡ None
-  shut test h = ap (first_gate test) (gates-are ∙ ap (λ b. cond b ((at, behind) ∷ gates_after (suc at) (4 + length_at behind) behind) []) (no byte h))
+  shut test h = ap (first_gate test) (gates-are ∙ ap (λ b. cond b ((at, after) ∷ gates_after (suc at) (4 + length_at after) after) []) (no byte h))
     where
       no : (b : ℕ) → b ≢ 0 → (b == 0) ≡ false
       no b h = go (b == 0) refl
@@ -53,54 +53,54 @@ module _ (image : List ℕ) (at limit byte : ℕ) (inside : limit ≤ length ima
           go false e = refl
 
   module _ (open_gate : byte ≡ 0) where
-    gated : gates_after at 0 (between at limit image) ≡ (at, behind) ∷ gates_after (suc at) (4 + length_at behind) behind
-    gated = gates-are ∙ ap (λ b. cond b ((at, behind) ∷ gates_after (suc at) (4 + length_at behind) behind) []) (eq-eqb byte 0 open_gate)
+    gated : gates_after at 0 (between at limit image) ≡ (at, after) ∷ gates_after (suc at) (4 + length_at after) after
+    gated = gates-are ∙ ap (λ b. cond b ((at, after) ∷ gates_after (suc at) (4 + length_at after) after) []) (eq-eqb byte 0 open_gate)
 
-    passes : (test : List ℕ → Bool) → test behind ≡ true → first_from test at limit image ≡ Some at
-    passes test h = ap (first_gate test) gated ∙ ap (λ b. option_map (λ (g : Gate). g.0) (cond b (Some (at, behind)) (find (λ (g : Gate). test g.1) (gates_after (suc at) (4 + length_at behind) behind)))) h
+    passes : (test : List ℕ → Bool) → test after ≡ true → first_from test at limit image ≡ Some at
+    passes test h = ap (first_gate test) gated ∙ ap (λ b. option_map (λ (g : Gate). g.0) (cond b (Some (at, after)) (find (λ (g : Gate). test g.1) (gates_after (suc at) (4 + length_at after) after)))) h
 
-    skips : (test : List ℕ → Bool) → test behind ≡ false → first_from test at limit image ≡ first_gate test (gates_after (suc at) (4 + length_at behind) behind)
-    skips test h = ap (first_gate test) gated ∙ ap (λ b. option_map (λ (g : Gate). g.0) (cond b (Some (at, behind)) (find (λ (g : Gate). test g.1) (gates_after (suc at) (4 + length_at behind) behind)))) h
+    skips : (test : List ℕ → Bool) → test after ≡ false → first_from test at limit image ≡ first_gate test (gates_after (suc at) (4 + length_at after) after)
+    skips test h = ap (first_gate test) gated ∙ ap (λ b. option_map (λ (g : Gate). g.0) (cond b (Some (at, after)) (find (λ (g : Gate). test g.1) (gates_after (suc at) (4 + length_at after) after)))) h
 
-    long_behind : length behind ≡ limit - (at + 1)
-    long_behind = omega (arith, length-take (limit - (at + 1)) (drop (at + 1) image), length-drop (at + 1) image, inside, more)
+    long_after : length after ≡ limit - (at + 1)
+    long_after = omega (arith, length-take (limit - (at + 1)) (drop (at + 1) image), length-drop (at + 1) image, inside, more)
 
-    leaves : length behind < 4 + length_at behind → leaves_bank behind ≡ true
-    leaves h = go (nat_le (4 + length_at behind) (length behind)) refl
+    leaves : length after < 4 + length_at after → leaves_bank after ≡ true
+    leaves h = go (nat_le (4 + length_at after) (length after)) refl
       where
-        go : (b : Bool) → nat_le (4 + length_at behind) (length behind) ≡ b → not b ≡ true
-        go true e = absurd (omega (arith, h, leb-true (4 + length_at behind) (length behind) e))
+        go : (b : Bool) → nat_le (4 + length_at after) (length after) ≡ b → not b ≡ true
+        go true e = absurd (omega (arith, h, leb-true (4 + length_at after) (length after) e))
         go false e = refl
 
     pub cut_short : limit - at < 5 → first_from leaves_bank at limit image ≡ Some at
-    cut_short short = passes leaves_bank (leaves (omega (arith, long_behind, short)))
+    cut_short short = passes leaves_bank (leaves (omega (arith, long_after, short)))
 
     module _ (n : ℕ) (fits : at + 5 ≤ limit) (number : length_bytes n ≡ take 4 (drop (at + 1) image)) (n_small : n < 2 ^ 32) where
-      four : take 4 behind ≡ length_bytes n
+      four : take 4 after ≡ length_bytes n
       four = take-take 4 (limit - (at + 1)) (drop (at + 1) image) (omega (arith, fits)) ∙ sym number
 
-      spells : length_at behind ≡ n
-      spells = ap length_at (sym (take-append-drop 4 behind) ∙ ap (λ (l : List ℕ). l ++ drop 4 behind) four) ∙ length_at-length_bytes n (drop 4 behind) n_small
+      spells : length_at after ≡ n
+      spells = ap length_at (sym (take-append-drop 4 after) ∙ ap (λ (l : List ℕ). l ++ drop 4 after) four) ∙ length_at-length_bytes n (drop 4 after) n_small
 
       pub too_long : limit - at - 5 < n → first_from leaves_bank at limit image ≡ Some at
-      too_long long = passes leaves_bank (leaves (omega (arith, long_behind, spells, long, fits)))
+      too_long long = passes leaves_bank (leaves (omega (arith, long_after, spells, long, fits)))
 
       pub one_more : n ≤ limit - at - 5 → first_from leaves_bank at limit image ≡ first_from leaves_bank (at + (5 + n)) limit image
       one_more whole =
           let a : suc at + (4 + n) ≡ at + (5 + n) = omega arith in
           let k : limit - (at + 1) ≡ (4 + n) + (limit - (at + (5 + n))) = omega (arith, whole, fits) in
           let d : at + 1 + (4 + n) ≡ at + (5 + n) = omega arith in
-          let stays : leaves_bank behind ≡ false = ap not (le-leb (4 + length_at behind) (length behind) (omega (arith, long_behind, spells, whole, fits))) in
+          let stays : leaves_bank after ≡ false = ap not (le-leb (4 + length_at after) (length after) (omega (arith, long_after, spells, whole, fits))) in
           skips leaves_bank stays ∙ ap (first_gate leaves_bank)
-          (ap (λ m. gates_after (suc at) (4 + m) behind) spells ∙ gates-skip (suc at) (4 + n) behind
-          ∙ ap (λ m. gates_after m 0 (drop (4 + n) behind)) a
+          (ap (λ m. gates_after (suc at) (4 + m) after) spells ∙ gates-skip (suc at) (4 + n) after
+          ∙ ap (λ m. gates_after m 0 (drop (4 + n) after)) a
           ∙ ap (λ (l : List ℕ). gates_after (at + (5 + n)) 0 l)
           (ap (λ m. drop (4 + n) (take m (drop (at + 1) image))) k ∙ drop-take (4 + n) (limit - (at + (5 + n))) (drop (at + 1) image)
           ∙ ap (take (limit - (at + (5 + n)))) (drop-drop (4 + n) (at + 1) image ∙ ap (λ m. drop m image) d)))
 
 -- ---- payloads, by the records that are walked
 
--- the gate of the first record of some bytes: its payload stands behind it, and then the other gates
+-- the gate of the first record of some bytes: its payload stands after it, and then the other gates
 pub record FirstGate (at : ℕ) (bytes payload : List ℕ) : Type 0 where
   pub rest : List ℕ
   pub are : gates_after at 0 bytes ≡ (at, rest) ∷ gates_after (at + (5 + length payload)) 0 (drop (5 + length payload) bytes)
@@ -143,10 +143,10 @@ first-of at (gate ∷ rest) payload payloads h = go (gate == 0) refl (nat_le (4 
         whole : (n : ℕ) → 4 + n ≤ length rest → length (take n (drop 4 rest)) ≡ n
         whole n fits = omega (arith, length-take n (drop 4 rest), length-drop 4 rest, fits)
 
--- what is behind the first record
-pub behind-first : (at limit : ℕ) (image payload : List ℕ) → 5 + length payload ≤ length (between at limit image)
+-- what is after the first record
+pub after-first : (at limit : ℕ) (image payload : List ℕ) → 5 + length payload ≤ length (between at limit image)
     → drop (5 + length payload) (between at limit image) ≡ between (at + (5 + length payload)) limit image
-behind-first at limit image payload long =
+after-first at limit image payload long =
     let n = 5 + length payload in
     let some : length (between at limit image) ≤ limit - at = omega (arith, length-take (limit - at) (drop at image)) in
     let k : limit - at ≡ n + (limit - (at + n)) = omega (arith, some, long) in
@@ -165,7 +165,7 @@ module _ (at limit : ℕ) (image payload : List ℕ) (payloads : List (List ℕ)
   unformed e = found false e
 
   pub formed : is_change payload ≡ true → first_from is_unformed at limit image ≡ first_from is_unformed (at + (5 + length payload)) limit image
-  formed e = found true e ∙ ap (λ (l : List ℕ). first_gate is_unformed (gates_after (at + (5 + length payload)) 0 l)) (behind-first at limit image payload first.long)
+  formed e = found true e ∙ ap (λ (l : List ℕ). first_gate is_unformed (gates_after (at + (5 + length payload)) 0 l)) (after-first at limit image payload first.long)
 
 -- where no record stands there is no gate
 pub none-left : (at : ℕ) (bytes : List ℕ) → payloads_after 0 bytes ≡ Some [] → gates_after at 0 bytes ≡ []

@@ -39,14 +39,14 @@ same-ids table from (id ∷ ids) (e ∷ es) all rising there listed = go (same-i
     its : IsSome (table id) × (from ≤ id)
     its = all.0.found id refl
 
-    behind : (x : ℕ × List ℕ) → Among es x → e.0 < x.0
-    behind x m = each-at (λ (b : ℕ × List ℕ). e.0 < b.0) es x rising.0 m
+    after : (x : ℕ × List ℕ) → Among es x → e.0 < x.0
+    after x m = each-at (λ (b : ℕ × List ℕ). e.0 < b.0) es x rising.0 m
 
     go : (((x : ℕ × List ℕ) → Among es x → (id + 1 ≤ x.0) × IsSome (table x.0)) → ((q : ℕ) → id + 1 ≤ q → IsSome (table q) → (x : ℕ × List ℕ) × Among es x × (x.0 ≡ q)) → ids ≡ ids_of es)
         → (id ≡ e.0) ⊎ ((id < e.0) ⊎ (e.0 < id)) → id ∷ ids ≡ e.0 ∷ ids_of es
     go others (inl same) =
         let rest = others
-        (λ x m. (let more = behind x m in omega (arith, more, same), (there x (inr m)).1))
+        (λ x m. (let more = after x m in omega (arith, more, same), (there x (inr m)).1))
         (λ q high s. let r = listed q (omega (arith, high, its.1)) s in
         elim r.1 [
           | inl k ↦ (let is : e.0 ≡ q = ap (λ (x : ℕ × List ℕ). x.0) k ∙ r.2 in absurd (omega (arith, high, same, is)))
@@ -56,7 +56,7 @@ same-ids table from (id ∷ ids) (e ∷ es) all rising there listed = go (same-i
     go others (inr (inl less)) = let r = listed id its.1 its.0 in
         elim r.1 [
           | inl k ↦ (let is : e.0 ≡ id = ap (λ (x : ℕ × List ℕ). x.0) k ∙ r.2 in absurd (omega (arith, less, is)))
-          | inr m ↦ (let more = behind r.0 m in let is = r.2 in absurd (omega (arith, less, more, is)))
+          | inr m ↦ (let more = after r.0 m in let is = r.2 in absurd (omega (arith, less, more, is)))
         ]
     go others (inr (inr less)) = let t = there e (inl refl) in absurd (none-there table e.0 (all.0.least id e.0 refl t.0 less) t.1)
 
@@ -148,11 +148,11 @@ to-next (e ∷ es) o last rising (inl same) odd low none =
     let is : e.0 ≡ o.0 = ap (λ (x : ℕ × List ℕ). x.0) same in
     let in-it : is_to o.0 e ≡ true = ap (λ (x : ℕ × List ℕ). is_odd x && nat_lt x.0 (o.0 + 1)) same ∙ ap (λ b. b && nat_lt o.0 (o.0 + 1)) odd ∙ lt-ltb o.0 (o.0 + 1) (omega arith) in
     let out : is_to last e ≡ false = ap (λ b. is_odd e && b) (not-below e.0 (last + 1) (omega (arith, is, low))) ∙ and-false (is_odd e) in
-    let behind : (n : ℕ) → n ≤ o.0 → filter (is_to n) es ≡ [] = λ n few. filter-equal (is_to n) (λ x. false) es (λ x k. let more = each-at (λ (b : ℕ × List ℕ). e.0 < b.0) es x rising.0 k in
+    let after : (n : ℕ) → n ≤ o.0 → filter (is_to n) es ≡ [] = λ n few. filter-equal (is_to n) (λ x. false) es (λ x k. let more = each-at (λ (b : ℕ × List ℕ). e.0 < b.0) es x rising.0 k in
     ap (λ b. is_odd x && b) (not-below x.0 (n + 1) (omega (arith, more, is, few))) ∙ and-false (is_odd x)) ∙ no-filter es in
     ap (λ b. cond b (e ∷ filter (is_to o.0) es) (filter (is_to o.0) es)) in-it
-    ∙ (λ i. same i ∷ behind o.0 (omega arith) i)
-    ∙ sym (ap (λ b. cond b (e ∷ filter (is_to last) es) (filter (is_to last) es) ++ o ∷ []) out ∙ ap (λ (l : List (ℕ × List ℕ)). l ++ o ∷ []) (behind last (omega (arith, low))))
+    ∙ (λ i. same i ∷ after o.0 (omega arith) i)
+    ∙ sym (ap (λ b. cond b (e ∷ filter (is_to last) es) (filter (is_to last) es) ++ o ∷ []) out ∙ ap (λ (l : List (ℕ × List ℕ)). l ++ o ∷ []) (after last (omega (arith, low))))
   where
     no-filter : (xs : List (ℕ × List ℕ)) → filter (λ x. false) xs ≡ []
     no-filter [] = refl

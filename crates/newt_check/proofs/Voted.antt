@@ -8,7 +8,7 @@ use Rattle.newt_nsof_flat.specs.Stream.{stream_graph}
 use Rattle.newt_host.specs.Moments.{image as image_of}
 use Rattle.newt_host.specs.Outside.{Outside}
 use Rattle.newt_spec_image.specs.Pages.{pages}
-use Rattle.newt_spec_image.specs.Records.{bank_size, bank_start, bank_bytes, chosen_bank, header, without, versioned, versioned_body, behind_header, and_then, has_banks, body, records, IsVersion}
+use Rattle.newt_spec_image.specs.Records.{bank_size, bank_start, bank_bytes, chosen_bank, header, without, versioned, versioned_body, after_header, and_then, has_banks, body, records, IsVersion}
 use Rattle.newt_journal.specs.Bank.{bank_number, start_of, limit_of}
 use Rattle.newt_journal.specs.Journal.{Holds, Stands, written, records_bytes}
 use Rattle.newt_journal.specs.Places.{first_place}
@@ -21,7 +21,7 @@ use Rattle.newt_spec_graph.proofs.Lists.{none-some}
 use Rattle.newt_spec_store.specs.OfImage.{blocks_of}
 use Rattle.newt_spec_check.specs.declared.Layer.{Layer}
 use Rattle.newt_spec_check.specs.declared.Layer.TheVariants as layer
-use Rattle.newt_spec_check.specs.Damage.{damage, first_row, if_missing, start_of as start_in, behind, no_bank, no_header, gates, gates_after, gates_behind, first_gate, leaves_bank, is_unformed, bad_payload}
+use Rattle.newt_spec_check.specs.Damage.{damage, first_row, if_missing, start_of as start_in, versioned_in, no_bank, no_header, gates, gates_after, bank_gates, first_gate, leaves_bank, is_unformed, bad_payload}
 use Rattle.newt_laws_check.proofs.Finds.{skip}
 use Rattle.newt_laws_check.proofs.Journal.{whole-pages, whole-records}
 use Rattle.newt_laws_check.proofs.Law.{is_cost, no-store}
@@ -67,25 +67,25 @@ module _ (image : List ℕ) (blocks : ℕ) (size : length image ≡ blocks * 409
     votes = ap (if_missing 0) voted
 
     header-row : no_header image ≡ if_missing start (versioned (bank_bytes blocks (bank_number bank) image))
-    header-row = ap (option_and_then (λ bank. if_missing (start_in image bank) (behind image bank))) voted
+    header-row = ap (option_and_then (λ bank. if_missing (start_in image bank) (versioned_in image bank))) voted
         ∙ ap (λ n. if_missing (bank_start n (bank_number bank)) (versioned (bank_bytes n (bank_number bank) image))) many
 
-    -- what stands behind the header is known
+    -- what stands after the header is known
     module _ (version : ℕ) (rest : List ℕ) (is_body : versioned_body image ≡ Some (version, rest)) where
-      behind-is : versioned (bank_bytes blocks (bank_number bank) image) ≡ Some (version, rest)
-      behind-is = sym (ap (λ (b : Bool). if b then and_then (chosen_bank image) (behind image) else None) banks
-          ∙ ap (λ (o : Option ℕ). and_then o (behind image)) voted
+      after-is : versioned (bank_bytes blocks (bank_number bank) image) ≡ Some (version, rest)
+      after-is = sym (ap (λ (b : Bool). if b then and_then (chosen_bank image) (versioned_in image) else None) banks
+          ∙ ap (λ (o : Option ℕ). and_then o (versioned_in image)) voted
           ∙ ap (λ (n : ℕ). versioned (bank_bytes n (bank_number bank) image)) many) ∙ is_body
 
       header-none : no_header image ≡ None
-      header-none = header-row ∙ ap (if_missing start) behind-is
+      header-none = header-row ∙ ap (if_missing start) after-is
 
       body-is : body image ≡ Some rest
       body-is = ap (λ (o : Option (ℕ × List ℕ)). and_then o (λ found. Some found.1)) is_body
 
       pub gates-are : gates image ≡ gates_after (start + 16) 0 rest
-      gates-are = ap (λ (o : Option ℕ). unwrap_or (option_and_then (λ bank. option_map (gates_behind (start_in image bank)) (body image)) o) []) voted
-          ∙ ap (λ (o : Option (List ℕ)). unwrap_or (option_map (gates_behind (start_in image (bank_number bank))) o) []) body-is
+      gates-are = ap (λ (o : Option ℕ). unwrap_or (option_and_then (λ bank. option_map (bank_gates (start_in image bank)) (body image)) o) []) voted
+          ∙ ap (λ (o : Option (List ℕ)). unwrap_or (option_map (bank_gates (start_in image (bank_number bank))) o) []) body-is
           ∙ ap (λ n. gates_after (bank_start n (bank_number bank) + 16) 0 rest) many
 
     pub bad-header : ((version : ℕ) → IsVersion version → take 16 (drop start image) ≢ header version) → IsDamaged layer.Header start image
@@ -93,7 +93,7 @@ module _ (image : List ℕ) (blocks : ℕ) (size : length image ≡ blocks * 409
         let bytes = bank_bytes blocks (bank_number bank) image in
         let other_header = opened.other_header blocks image size enough few bank voted in
         let none : versioned bytes ≡ None =
-        ap (λ (o : Option (ℕ × List ℕ)). elim o as (λ _. Option (ℕ × List ℕ)) [ Some found ↦ Some found | None ↦ behind_header 2 bytes ]) (other_header 1 (differ 1 (omega arith, omega arith)))
+        ap (λ (o : Option (ℕ × List ℕ)). elim o as (λ _. Option (ℕ × List ℕ)) [ Some found ↦ Some found | None ↦ after_header 2 bytes ]) (other_header 1 (differ 1 (omega arith, omega arith)))
         ∙ other_header 2 (differ 2 version-2) in
         no-store-at image layer.Header start refl (skip layer.Votes _ _ votes ∙ hit layer.Header _ start _ (header-row ∙ ap (if_missing start) none))
 
@@ -146,9 +146,9 @@ unfolding written
 journal-payload told j outside stands tells =
     let image = image_of j.unit outside.now in
     let held = stands.held tells in
-    let rest : List ℕ = records_bytes held.payloads ++ held.behind in
+    let rest : List ℕ = records_bytes held.payloads ++ held.after_records in
     let holds : Holds j.blocks (bank_number j.bank) (header j.version ++ rest) image =
-    subst (λ (l : List ℕ). Holds j.blocks (bank_number j.bank) l image) (append_assoc (header j.version) (records_bytes held.payloads) held.behind) held.bank in
+    subst (λ (l : List ℕ). Holds j.blocks (bank_number j.bank) l image) (append_assoc (header j.version) (records_bytes held.payloads) held.after_records) held.bank in
     let body = holds-body j.blocks j.bank j.enough j.not_too_many j.version j.known rest image holds in
     let parts : bank_size j.blocks ≡ 16 + (limit_of j.blocks j.bank - first_place j) = omega (arith, j.low, j.high) in
     let same : rest ≡ between (first_place j) (limit_of j.blocks j.bank) image =

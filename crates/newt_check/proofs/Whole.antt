@@ -58,8 +58,8 @@ both-rising (h ∷ hs) (e ∷ es) rise up real there = go (both-rising hs es ris
     after : (k : Header) → Among hs k → h.number < k.number
     after k m = each-at (λ (b : Header). h.number < b.number) hs k rise.0 m
 
-    behind : (x : ℕ × List ℕ) → Among es x → e.0 < x.0
-    behind x m = each-at (λ (b : ℕ × List ℕ). e.0 < b.0) es x up.0 m
+    entries_after : (x : ℕ × List ℕ) → Among es x → e.0 < x.0
+    entries_after x m = each-at (λ (b : ℕ × List ℕ). e.0 < b.0) es x up.0 m
 
     rest : More hs es → h.number ≡ e.0 → Both Says hs es
     rest others same = others
@@ -68,7 +68,7 @@ both-rising (h ∷ hs) (e ∷ es) rise up real there = go (both-rising hs es ris
           | inr n ↦ (r.0, n, r.2)
         ])
         (λ x m. let r = there x (inr m) in elim r.1 [
-          | inl i ↦ (let less = behind x m in let a = r.2.is_number in let b : h.number ≡ r.0.number = ap (λ (k : Header). k.number) i in absurd (omega (arith, less, a, b, same)))
+          | inl i ↦ (let less = entries_after x m in let a = r.2.is_number in let b : h.number ≡ r.0.number = ap (λ (k : Header). k.number) i in absurd (omega (arith, less, a, b, same)))
           | inr n ↦ (r.0, n, r.2)
         ])
 
@@ -76,7 +76,7 @@ both-rising (h ∷ hs) (e ∷ es) rise up real there = go (both-rising hs es ris
     go others (x, inl i, s) k = let t : Says h e = subst (Says h) (sym i) s in (t, rest others t.is_number)
     go others (x, inr m, s) (k, inl i, t) = let u : Says h e = subst (λ (q : Header). Says q e) (sym i) t in (u, rest others u.is_number)
     go others (x, inr m, s) (k, inr n, t) =
-        let a = behind x m in let b = after k n in let c = s.is_number in let d = t.is_number in absurd (omega (arith, a, b, c, d))
+        let a = entries_after x m in let b = after k n in let c = s.is_number in let d = t.is_number in absurd (omega (arith, a, b, c, d))
 
 pub headers-both : (live : Pages) (headers : List Header) → AreHeadersOf live headers → AreRising headers → Both Says headers (map.entries live)
 headers-both live headers are rise = both-rising headers (map.entries live) (pairs-get (λ (a b : Header). a.number < b.number) headers (λ i j h k a b less. rise.rising i j h k a b less)) (entries-rising live)

@@ -6,7 +6,7 @@ use Rattle.newt_journal.specs.Scan.{between}
 use Rattle.newt_journal.specs.declared.journal.Journal.{Journal}
 use Rattle.newt_spec_check.specs.Damage.{gates_after, first_gate, is_unformed}
 
--- the first gate whose bytes behind it pass a test, of those from a place on
+-- the first gate whose bytes after it pass a test, of those from a place on
 abbrev pub first_from : (List ℕ → Bool) → ℕ → ℕ → List ℕ → Option ℕ
 first_from test at limit image = first_gate test (gates_after at 0 (between at limit image))
 

@@ -44,8 +44,9 @@ abbrev pub report_line : Report → List ℕ
 report_line (Clean soups entries pages) = clean_line soups entries pages
 report_line (Damaged layer place) = damaged_line layer place
 
--- The text is the line of the report on an image: it is clean exactly where the image is read as a
--- store, whose soups, entries and pages are counted; else it is damaged, by the first row that holds.
+-- The text is the line of the report on an image. It says clean exactly where the image is read as
+-- a store, and counts its soups, entries and pages. Otherwise it says damaged, by the first row
+-- that holds.
 pub record IsReported (image text : List ℕ) : Type 0 where
   pub clean : (s : Store) → readable image ≡ Some s
       → text ≡ clean_line (length s.soups) (length (all_entries s)) (cost s)
@@ -53,7 +54,7 @@ pub record IsReported (image text : List ℕ) : Type 0 where
       → (d : Damage) × (damage stream_graph image ≡ Some d)
       × (text ≡ damaged_line d.layer d.place)
 
--- The text is what is written of a device of this image: the line of the report on it, or that it
+-- The text is what is written for a device of this image: the line of the report on it, or that it
 -- has too few or too many blocks for one.
 pub record IsImageText (image text : List ℕ) : Type 0 where
   pub few : blocks_of image < 13 → text ≡ replies.reply_text (replies.Reply.refused Blocks)

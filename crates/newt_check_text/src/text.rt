@@ -28,9 +28,9 @@ fn report_text<H: Host>(alloc: Global, host: &mut H, unit: Unit) -> Result<Vec<u
     Ok(report_line(alloc, report)?)
 }
 
-/// The line of the report on a unit's image, with the byte 10 at its end: it is clean exactly where
-/// it is read as a store; or the line that says why there is none: the unit has no device, or one of
-/// fewer than 13 or more than 4,099 blocks.
+/// The line of the report on a unit's image, with the byte 10 at its end. It says that the image is
+/// clean exactly where it is read as a store. Where the unit has no device, or one of fewer than 13
+/// or more than 4,099 blocks, the line says so instead.
 pub fn check_text<H: Host>(
     alloc: Global,
     host: &mut H,

@@ -1,4 +1,4 @@
--- How the queries, places and cursors of the code are seen as those of the definition.
+-- How the definition sees the queries, places and cursors of the code.
 use Rattle.std.specs.Prelude.{ℕ, Option, Some, None, List, map, option_map}
 use Rattle.newt_spec_query.specs.Hits as hits
 use Rattle.newt_spec_query.specs.Cursor as spec
@@ -10,22 +10,22 @@ use Rattle.newt_cursor.specs.declared.place.Place.{Place}
 use Rattle.newt_cursor.specs.declared.place.Place.TheVariants.{Start, Finish, On}
 use Rattle.newt_cursor.specs.declared.desk.Cursor.{Cursor}
 
--- the signature of a scope's store, none for all stores (a word of these definitions)
+-- the signature of a scope's store; none for all stores (a word of these definitions)
 abbrev pub scope_of : Scope → Option ℕ
 scope_of (One sig) = Some sig
 scope_of All = None
 
--- the query that a query of the code is (a word of these definitions)
+-- a query of the code, as the definition has it (a word of these definitions)
 abbrev pub query_of : Query → hits.Query
 query_of q = record { scope = scope_of q.scope; name = q.name; spec = q.spec }
 
--- the place that a place of the code is (a word of these definitions)
+-- a place of the code, as the definition has it (a word of these definitions)
 abbrev pub place_of : Place → spec.Place
 place_of Start = spec.start
 place_of Finish = spec.finish
 place_of (On spot) = spec.on (spot_hit spot)
 
--- the cursor that a cursor of the code is (a word of these definitions)
+-- a cursor of the code, as the definition has it (a word of these definitions)
 abbrev pub cursor_of : Cursor → spec.Cursor
 cursor_of k = record { query = query_of k.query.value; place = place_of k.place }
 

@@ -23,7 +23,7 @@ entry_of (Some k) = entry_on k.place
 abbrev pub is_row : ℕ → ℕ → ℕ → Row → Bool
 is_row store soup uid row = (row.store == store) && (row.soup == soup) && (row.uid == uid)
 
--- the cursors of the row of an entry, none where it has no row (a word of these definitions)
+-- the cursors of the row of an entry; none where it has no row (a word of these definitions)
 abbrev pub held : ℕ → ℕ → ℕ → List Row → ℕ
 held store soup uid rows =
     unwrap_or (option_map (λ row. row.cursors) (find (is_row store soup uid) rows)) 0
@@ -32,7 +32,7 @@ held store soup uid rows =
 abbrev pub standing : ℕ → ℕ → ℕ → List (Option Cursor) → ℕ
 standing store soup uid cursors = number (map (stands_on store soup uid) cursors)
 
--- a row has the cursors that stand on its entry, and there is one
+-- a row has the cursors that stand on its entry, and at least one does
 abbrev pub IsRight : List (Option Cursor) → Row → Type 0
 IsRight cursors row =
     (row.cursors ≡ standing row.store row.soup row.uid cursors) × (0 < row.cursors)
@@ -47,7 +47,7 @@ is_before a b = nat_lt a.store b.store
 abbrev pub others : ℕ → ℕ → ℕ → List Row → List Row
 others store soup uid rows = filter (λ row. not (is_row store soup uid row)) rows
 
--- the rows of other entries, and this one at its place, but for one without cursors
+-- the rows of other entries, and this one at its place unless it has no cursors
 abbrev pub with_row : Row → List Row → List Row
 with_row row rows = let rest = others row.store row.soup row.uid rows in
     cond (nat_lt 0 row.cursors) (insert rest (position_or_len (is_before row) rest) row) rest
@@ -56,15 +56,15 @@ with_row row rows = let rest = others row.store row.soup row.uid rows in
 abbrev pub IsBefore : Row → Row → Type 0
 IsBefore a b = is_before a b ≡ true
 
--- The rows are in order. Each entry on which a cursor stands has one, which is right, and no other
--- entry has one.
+-- The rows are in order. Each entry on which a cursor stands has one row, which is right, and no
+-- other entry has one.
 pub record IsTable (cursors : List (Option Cursor)) (rows : List Row) : Type 0 where
   pub ordered : Pairs IsBefore rows
   pub right : Each (IsRight cursors) rows
   pub whole : (store soup uid : ℕ) → list_any (is_row store soup uid) rows ≡ false
       → standing store soup uid cursors ≡ 0
 
--- the same but for one entry
+-- the same, except for one entry
 pub record IsTableBut (store soup uid : ℕ) (cursors : List (Option Cursor)) (rows : List Row)
     : Type 0 where
   pub ordered : Pairs IsBefore rows

@@ -25,7 +25,7 @@ use std::rc::Rc;
 /// The cursors that can be open at once.
 const PLACES: usize = 32;
 
-/// An open cursor. The query is shared with the cursors that were cloned from it.
+/// An open cursor. It shares its query with the cursors that were cloned from it.
 #[derive(Drop)]
 struct Cursor {
     query: Rc<Query>,
@@ -44,8 +44,8 @@ impl Cursor {
     }
 }
 
-/// The 32 places for cursors, numbered from 0. At each a cursor is open, or the place is free.
-/// Beside them stand the entries on which cursors stand, each once and in order.
+/// The desk: the 32 places for cursors, numbered from 0. At each a cursor is open, or the place is
+/// free. Beside them stand the entries on which cursors stand, each once and in order.
 #[derive(Drop)]
 pub struct Desk {
     cursors: Vec<Option<Cursor>>,
@@ -66,7 +66,7 @@ impl Model for Desk {
 }
 
 impl Desk {
-    /// 32 free places. The room for all of them is taken here.
+    /// A desk of 32 free places. The room for all of them is taken here.
     #[tactic(auto, using(crate::proofs::Places::all_free))]
     pub fn new(alloc: Global) -> Result<Desk, AllocError>
         ensures { IfOk result (λ desk. desk ≡ replicate 32 None) }
@@ -77,8 +77,8 @@ impl Desk {
         })
     }
 
-    /// Opens a cursor at the least free number, and answers this number. Limit exactly where 32 are
-    /// open. The query's memory alone is taken.
+    /// Opens a cursor at the least free number, and answers this number. `Limit` exactly where 32
+    /// are open. Only the query takes memory.
     #[tactic(auto, using(crate::proofs::Rows::free_at))]
     pub fn open(&mut self, query: Query, place: Place) -> Result<u8, DeskFault>
         ensures number { IfOk result (λ c. position is_none self.old ≡ Some c) }
@@ -94,7 +94,7 @@ impl Desk {
     }
 
     /// Opens another cursor with the query and the place of one that is open, at the least free
-    /// number, and answers this number. Limit exactly where 32 are open.
+    /// number, and answers this number. `Limit` exactly where 32 are open.
     #[tactic(auto, using(crate::proofs::Rows::free_at, crate::proofs::Places::seen_at))]
     pub fn clone_of(&mut self, cursor: u8) -> Result<u8, DeskFault>
         requires { IsSome (flat (slice_get self.old cursor)) }
@@ -136,7 +136,7 @@ impl Desk {
         }
     }
 
-    /// Puts a cursor at another place. Nothing changes where no cursor of this number is open. It
+    /// Puts a cursor at another place. Where no cursor of this number is open, nothing changes. It
     /// takes no memory.
     #[tactic(auto, using(crate::proofs::Rows::put_twice, crate::proofs::Rows::left_nowhere))]
     pub fn step(&mut self, cursor: u8, place: Place)
@@ -155,8 +155,8 @@ impl Desk {
         cursors_on(&self.rows, store, soup, uid)
     }
 
-    /// Sets the key of the entry on which a cursor stands, whose graph has changed. Nothing changes
-    /// where the cursor is not open or stands on no entry. It takes no memory.
+    /// Sets the key of the entry on which a cursor stands, whose graph has changed. Where the
+    /// cursor is not open or stands on no entry, nothing changes. It takes no memory.
     #[tactic(auto, using(crate::proofs::Places::changed_at, crate::proofs::Places::stays_at))]
     pub fn changed(&mut self, cursor: u8, key: Key)
         ensures { self.new ≡ change_at cursor (keyed key) self.old }
@@ -166,8 +166,8 @@ impl Desk {
         }
     }
 
-    /// Frees the place of a cursor. Nothing changes where no cursor of this number is open. It
-    /// takes no memory.
+    /// Closes a cursor and frees its place. Where no cursor of this number is open, nothing
+    /// changes. It takes no memory.
     #[tactic(auto, using(crate::proofs::Places::set_seen, crate::proofs::Rows::set_changed))]
     pub fn close(&mut self, cursor: u8)
         ensures { self.new ≡ slice_set self.old cursor None }
@@ -240,7 +240,7 @@ impl Desk {
         }
     }
 
-    /// The least free number. Limit exactly where 32 are open.
+    /// The least free number. `Limit` exactly where 32 are open.
     #[tactic(auto, using(crate::proofs::Places::free_alike))]
     fn free(&self) -> Result<usize, DeskFault>
         ensures least { IfOk result (λ free. position is_none self.now ≡ Some free) }

@@ -2,9 +2,9 @@
 //!
 //! It stands on `newt_query` for what a query asks, on `newt_index` for identities with their keys,
 //! and on the definitions of cursors in `newt_spec_query` and of their places in `newt_spec_world`.
-//! The promise that it carries: the desk is the world's list of cursors, each call is that list's
-//! operation, and it knows which cursors stand on an entry. It keeps these in a fixed table, a row
-//! for each entry on which a cursor stands, so that to look them up takes no memory and asks no
+//! It carries this promise: the desk is the world's list of cursors, each call is that list's
+//! operation, and the desk knows which cursors stand on an entry. It keeps these in a fixed table,
+//! with a row for each entry on which a cursor stands. So a look-up takes no memory and asks no
 //! other entry.
 #![tactic(auto)]
 

@@ -14,7 +14,7 @@ use std::alloc::AllocError;
 pub enum Place {
     /// Before all hits.
     Start,
-    /// Behind all hits.
+    /// After all hits.
     Finish,
     /// On an entry, with the key that it last had.
     On(Spot),
@@ -32,7 +32,7 @@ impl Place {
         }
     }
 
-    /// Whether it is on this entry, whatever its key. It takes no memory.
+    /// Whether the place is on this entry, whatever its key. It takes no memory.
     pub fn is_on(&self, store: Sig, soup: Sig, uid: Uid) -> bool
         ensures { result ≡ is_on store soup uid (place_of self.now) }
     {
@@ -42,7 +42,7 @@ impl Place {
         }
     }
 
-    /// The entry that it is on, if it is on one. It takes no memory.
+    /// The entry that the place is on, if it is on one. It takes no memory.
     pub fn entry(&self) -> Option<(Sig, Sig, Uid)>
         ensures { result ≡ entry_on (place_of self.now) }
     {
@@ -52,7 +52,7 @@ impl Place {
         }
     }
 
-    /// Takes this key, where it is on an entry. It takes no memory.
+    /// Takes this key, where the place is on an entry. It takes no memory.
     pub fn set_key(&mut self, key: Key)
         ensures { place_of self.new ≡ with_key key (place_of self.old) }
     {

@@ -7,7 +7,7 @@ ghost use Rattle.newt_cursor.specs.Table.{is_row, is_before, held, others, with_
 use arrayvec::ArrayVec;
 use newt_base::{Sig, Uid};
 
-/// An entry on which cursors stand: bit c is that of cursor c.
+/// The row of an entry on which cursors stand: bit c is that of cursor c.
 #[derive(Clone, Copy)]
 pub(crate) struct Row {
     pub(crate) store: Sig,
@@ -28,7 +28,7 @@ impl Default for Row {
 }
 
 impl Row {
-    /// Whether it is that of this entry.
+    /// Whether it is the row of this entry.
     fn is_of(&self, store: Sig, soup: Sig, uid: Uid) -> bool
         ensures { result ≡ is_row store soup uid self.now }
     {
@@ -46,7 +46,7 @@ impl Row {
     }
 }
 
-/// The cursors of the row of an entry, none where it has no row.
+/// The cursors of the row of an entry; none where it has no row.
 pub(crate) fn cursors_on(rows: &ArrayVec<Row, 32>, store: Sig, soup: Sig, uid: Uid) -> u32
     ensures { result ≡ held store soup uid rows.now.items }
 {
@@ -60,7 +60,7 @@ pub(crate) fn cursors_on(rows: &ArrayVec<Row, 32>, store: Sig, soup: Sig, uid: U
     }
 }
 
-/// Gives an entry this row in place of the one that it has, or none where no cursor is on it.
+/// Gives an entry this row in place of its own; without cursors, the entry has no row.
 pub(crate) fn set_row(rows: &mut ArrayVec<Row, 32>, row: Row)
     requires { 0 < row.cursors → length (others row.store row.soup row.uid rows.old.items) < 32 }
     ensures { rows.new.items ≡ with_row row rows.old.items }

@@ -1,4 +1,4 @@
--- An entry that is moved to another store: what each call behind its reading gives.
+-- An entry that is moved to another store: what each call after its reading gives.
 use Rattle.std.proofs.Common.{◌≡◌, ◌≢◌, ◌⊎◌, inl, inr, refl, ap, sym, ◌∙◌, subst, ℕ, ◌+◌, ◌*◌, ◌≤◌, List, Bool, true, false, not, ◌&&◌, ◌||◌, ◌==◌, IsTrue, Option, Some, None, is_none}
 use Rattle.std.proofs.lemmas.Bool.{eq-eqb, ne_eqb}
 use Rattle.std.specs.Bool.{⊤}
@@ -51,7 +51,7 @@ use Rattle.newt_engine_cursors.specs.Fits.{DeskFits}
 use Rattle.newt_engine_cursors.specs.Reached.{in_reach}
 use Rattle.newt_engine_commands.proofs.Costing.{Seen, first-costs, its_pages, whole-costs}
 use Rattle.newt_engine_commands.proofs.Moves.{WasAdded, added-makes, between-answers, between-fails, both-moments, first-moments, on-then, removed-makes, was-added}
-use Rattle.newt_engine_commands.proofs.Said.{behind-untorn, dues-moments, said-costs, said-made, said-moments}
+use Rattle.newt_engine_commands.proofs.Said.{after-untorn, dues-moments, said-costs, said-made, said-moments}
 use Rattle.newt_engine.specs.Bounds.{CommandCosts, most_settled}
 use Rattle.newt_engine.specs.Calls.{Fails, FailsHalfway}
 use Rattle.newt_engine.specs.Standing.{Standing}
@@ -129,7 +129,7 @@ module _ {C : Type 0} {reads : List ℕ → Option Store} {place : C → ℕ} {s
   -- nothing at all where the target was not to be written
   pub added-untorn : {later : Units C} {q : Outside} {result : Result ℕ StoreFault} → Changes reads place stands told to (change.Add into entry.graph) read later p q result
       → may_tear (world_of reads read p) cmd to ≡ false → q.now ≡ p.now
-  added-untorn first = behind-untorn first b.tells on_target (add-said b.there.blocks read.minute into b.there.store b.there.soup b.there.by_sig entry.graph) w same cmd (ap (λ x. x || (u == to)) (eq-eqb to to refl))
+  added-untorn first = after-untorn first b.tells on_target (add-said b.there.blocks read.minute into b.there.store b.there.soup b.there.by_sig entry.graph) w same cmd (ap (λ x. x || (u == to)) (eq-eqb to to refl))
       (ap (λ x. x && not (to == to)) (ne_eqb u to (λ is. b.apart (sym is))))
       (λ tests. unrefused_on {T = ℕ} {made = λ n. Reply.number n} w _ cmd (Ok b.there.soup.next_uid) (λ x r k. cc)
       (between-answers w u to name target sig into uid b.from b.there refl entry b.found b.apart (with_added w to b.there.soup.name entry.graph) _ b.there.soup.next_uid
@@ -237,7 +237,7 @@ module _ {C : Type 0} {reads : List ℕ → Option Store} {place : C → ℕ} {s
           (subst (λ (y : World). with_cursors ls y ≡ settle_reached (reach w cmd) (with_cursors ks y)) (sym is) still
           ∙ sym (reached_after ks w k.0 k.1 k.2 k.3 cmd (move_no_cursor u name uid to target) v (Reply.number n) passed ends))
 
--- ---- where a device fails behind the first change
+-- ---- where a device fails after the first change
 
 module _ {C : Type 0} {reads : List ℕ → Option Store} {place : C → ℕ} {soups : C → Store} {stands : Bool → C → Outside → Type 0} {told : Bool} {start : Engine C} {read later : Units C} {o p q : Outside}
     {u : ℕ} {name : List ℕ} {sig uid to : ℕ} {target : List ℕ} {into : ℕ} {entry : Entry} {n : ℕ}

@@ -103,7 +103,7 @@ module _ {T : Type 0} {made : T → plain.Reply} {found : Result T StoreFault} {
       go (Ok x) (Err g) s = tt
       go (Err f) (Ok y) s = absurd s
 
--- ---- the cursors are settled behind it
+-- ---- the cursors are settled after it
 
 pub settled_busy : (c : Command) (reply : Reply) (r : Result Reply StoreFault) → IfOk r (λ it. it ≡ reply) → IfErr r (λ fault. IsEnd fault) → leaves_all c (said reply) ≡ false → LeavesAll c r → ⊥
 settled_busy c reply (Ok it) same only busy idle = both-ways (sym busy ∙ ap (λ (k : Reply). leaves_all c (said k)) (sym same) ∙ idle)

@@ -150,8 +150,8 @@ reached-in w v formed apart t name next uid same follows u = go (mounted_store w
 abbrev Within : World → World → Command → ℕ → Type 0
 Within w v c u = pages_of_entry (entry_reached (reach w c) (mounted_store v u)) ≤ pages_there v u (meant w c u)
 
-behind : (v : World) (u n : ℕ) (first last : List (List ℕ × ℕ)) → n ≤ pages_there v u last → n ≤ pages_there v u (first ++ last)
-behind v u n first last h = low _ _ _ h (last-pages v u first last)
+after : (v : World) (u n : ℕ) (first last : List (List ℕ × ℕ)) → n ≤ pages_there v u last → n ≤ pages_there v u (first ++ last)
+after v u n first last h = low _ _ _ h (last-pages v u first last)
   where
     low : (a b c : ℕ) → a ≤ b → b ≤ c → a ≤ c
     low a b c h k = omega (arith, h, k)
@@ -177,11 +177,11 @@ reached-meant w (command.Addx t s g) means formed apart u = reached-in w (change
     (λ store soup. follows-change w t t s s store soup (add_entry w.minute g) (λ p. refl) (λ p. refl)) u
 reached-meant w (command.Addu s g) means formed apart u = reached-in w (changed w (command.Addu s g)) formed apart (default_unit w) s (λ p. p.next_uid) (next_uid_of (soup_in w (default_unit w) s)) (next-is w (default_unit w) s)
     (λ store soup. follows-change w (default_unit w) (default_unit w) s s store soup (add_entry w.minute g) (λ p. refl) (λ p. refl)) u
-reached-meant w (command.Copy t s uid x y) means formed apart u = behind (copy_to w x y (entry_in w t s uid)) u _ (if_on t u s uid) (next_if_on w x u y)
+reached-meant w (command.Copy t s uid x y) means formed apart u = after (copy_to w x y (entry_in w t s uid)) u _ (if_on t u s uid) (next_if_on w x u y)
     (reached-in w (copy_to w x y (entry_in w t s uid)) formed apart x y (λ p. p.next_uid) (next_uid_of (soup_in w x y)) (next-is w x y)
     (λ store soup. follows-copy w x x y y store soup (entry_in w t s uid)) u)
 reached-meant w (command.Move t s uid x y) means formed apart u =
-    behind (change_soup_in (copy_to w x y (entry_in w t s uid)) t s (remove_entry uid)) u _ (if_on t u s uid) (next_if_on w x u y)
+    after (change_soup_in (copy_to w x y (entry_in w t s uid)) t s (remove_entry uid)) u _ (if_on t u s uid) (next_if_on w x u y)
     (reached-in w (change_soup_in (copy_to w x y (entry_in w t s uid)) t s (remove_entry uid)) formed apart x y (λ p. p.next_uid) (next_uid_of (soup_in w x y)) (next-is w x y)
     (λ store soup h. follows-change (copy_to w x y (entry_in w t s uid)) x t y s store soup (remove_entry uid) (λ p. refl) (λ p. refl) (follows-copy w x x y y store soup (entry_in w t s uid) h)) u)
 reached-meant w _ means formed apart u = absurd (both-ways means)

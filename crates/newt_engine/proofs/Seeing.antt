@@ -140,7 +140,7 @@ formatted-one w c u h d is = absurd (both-ways h)
 
 -- ---- the known world
 
--- the unit of a number is that of its function, and behind the eighth there is none
+-- the unit of a number is that of its function, and after the eighth there is none
 at-number : (f : ℕ → Option Device) (u : ℕ) → (flat (slice_get (map f unit_numbers) u) ≡ f u) ⊎ ((8 ≤ u) × (flat (slice_get (map f unit_numbers) u) ≡ None))
 at-number f zero = inl refl
 at-number f (suc zero) = inl refl

@@ -141,7 +141,7 @@ served_handed {reads = reads} {place} {stands = stands} laws told old new o p s 
     subst (λ (r : Result Reply StoreFault). Served reads place stands told c old new o p r) (sym (is-err result fault h))
     (served_fault laws told old new o p s eight c none fault (handed_obeyed (record { same = refl }) refl memory device other (λ x r k. cc) (λ x u. refl) obeys desk))
 
--- and of one that ends the command behind what was done
+-- and of one that ends the command after what was done
 pub served_ended : {C : Type 0} {reads : List ℕ → Option Store} {place : C → ℕ} {soups : C → Store} {stands : Bool → C → Outside → Type 0} (laws : Laws reads place soups stands) (told : Bool) (old new : World C)
     (o p : Outside) → IsStanding reads place stands told old o → Eight p → (c : Command) → uses_cursors c ≡ false → takes_memory c ≡ true → uses_device c ≡ true → (S : Type 0)
     (fault : StoreFault) (result : Result Reply StoreFault) → (e : StoreFault) × (result ≡ Err e) × (e ≡ fault) → (IsTrue told → IsEnd fault)

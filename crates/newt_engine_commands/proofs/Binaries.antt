@@ -1,50 +1,26 @@
 -- Commands on the large binaries of an entry.
-use Rattle.std.proofs.Common.{◌≡◌, refl, ap, sym, ◌∙◌, subst, ℕ, List, Option, Some, None, length, replicate}
-use Rattle.std.specs.Prelude.{Result, Ok, Err, slice_get}
-use Rattle.std.specs.Bool.{⊤}
+use Rattle.std.proofs.Common.{◌≡◌, refl, ap, sym, ◌∙◌, subst, ℕ, List, Option, Some, None, replicate}
+use Rattle.std.specs.Prelude.{Result, Ok, Err}
 use Rattle.newt_base.specs.Refusals.{first_of}
 use Rattle.newt_base.specs.declared.Refusal.{Refusal}
 use Rattle.newt_base.specs.declared.Refusal.TheVariants.{Entry as NoEntry, Path as NoPath}
-use Rattle.newt_graph.specs.declared.node.Ref.{Ref}
-use Rattle.newt_graph.specs.declared.node.Ref.TheVariants.{Node as At}
-use Rattle.newt_graph.specs.declared.node.Node.{Node}
-use Rattle.newt_graph.specs.declared.node.Node.TheVariants.{Large}
-use Rattle.newt_graph.specs.Graph.{RawGraph}
 use Rattle.newt_spec_graph.proofs.Lists.{none-some, some-same}
-use Rattle.newt_spec_graph.specs.Slots.{value_at}
 use Rattle.newt_spec_store.specs.Keys.{Path}
 use Rattle.newt_spec_store.specs.Store.{Store, Soup, Entry, soup_named, entry_of}
 use Rattle.newt_spec_graph.specs.Larges.{large_at}
 use Rattle.newt_spec_world.specs.declared.command.Command.{Command}
 use Rattle.newt_spec_world.specs.declared.command.Command.TheVariants as command
 use Rattle.newt_spec_world.specs.Reply.{Reply}
-use Rattle.newt_spec_world.specs.World.{World, store_on_unit, change_store}
+use Rattle.newt_spec_world.specs.World.{World}
 use Rattle.newt_spec_world.specs.Answer.{answer}
 use Rattle.newt_laws_answers.specs.Tests.{entry_checks}
-use Rattle.newt_laws_answers.proofs.Tests.{patch_tests, patched_within}
 use Rattle.newt_laws_answers.specs.There.{OnUnit}
 use Rattle.newt_laws_answers.proofs.Entries.{no-entry}
-use Rattle.newt_laws_answers.proofs.Larges.{vread-done, vread-not-found, vread-refused, vwrite-done, vwrite-no-path, vwrite-refused}
+use Rattle.newt_laws_answers.proofs.Larges.{vread-done, vread-not-found, vread-refused, vwrite-no-path}
 use Rattle.newt_store_change.specs.declared.fault.StoreFault.{StoreFault}
 use Rattle.newt_store_change.specs.declared.fault.StoreFault.TheVariants.{Refused, Stop}
 use Rattle.newt_engine_units.specs.Answers.{Answers}
 use Rattle.newt_store_change.specs.Entries.{ReadsEntry, ReadsLarge}
-use Rattle.newt_store_change.specs.Faults.{Does}
-use Rattle.newt_engine_units.proofs.Answering.{does-answers, makes}
-
--- what a path reaches is a large binary
-pub reached : (g : RawGraph) (path : Path) (n : ℕ) → large_at g path ≡ Some n → (class : ℕ) × (large : List ℕ) × (slice_get g.nodes n ≡ Some (Large class large))
-reached g path n h = value (value_at g path) h
-  where
-    node : (k : ℕ) (o : Option Node) → slice_get g.nodes k ≡ o → elim o [ Some (Large _ _) ↦ Some k | _ ↦ None ] ≡ Some n
-        → (class : ℕ) × (large : List ℕ) × (slice_get g.nodes n ≡ Some (Large class large))
-    node k (Some (Large class large)) e x = (class, large, subst (λ m. slice_get g.nodes m ≡ Some (Large class large)) (some-same k n x) e)
-    node k _ e x = cc
-
-    value : (o : Option Ref) → elim o [ Some (At k) ↦ elim (slice_get g.nodes k) [ Some (Large _ _) ↦ Some k | _ ↦ None ] | _ ↦ None ] ≡ Some n
-        → (class : ℕ) × (large : List ℕ) × (slice_get g.nodes n ≡ Some (Large class large))
-    value (Some (At k)) x = node k (slice_get g.nodes k) refl x
-    value _ x = cc
 
 -- ---- the entry is not there
 
@@ -81,16 +57,3 @@ module _ (w v : World) (u blocks : ℕ) (s : Store) (on : OnUnit w u blocks s) (
   module _ (bytes : List ℕ) where
     pub vwrite-nowhere : v ≡ w → large_at e.graph path ≡ None → Answers {T = Unit {0}} w v (command.Vwrite u name uid path at bytes) (λ _. Reply.done) (Err (Refused NoPath))
     vwrite-nowhere same nowhere = vwrite-no-path w u blocks s name p uid on named e found path at nowhere bytes ∙ ap {B = World × Reply} (λ x. (x, Reply.refused NoPath)) (sym same)
-
-    module _ (node : ℕ) (reach : large_at e.graph path ≡ Some node) where
-      vwrite-is : first_of (patch_tests node at (length bytes) e) ≡ None → answer w (command.Vwrite u name uid path at bytes) ≡ (change_store w u (patched_within p.name uid node at bytes), Reply.done)
-      vwrite-is k = vwrite-done w u blocks s name p uid on named e found path at node reach bytes k none
-          ∙ ap {B = World × Reply} (λ m. (change_store w u (patched_within m uid node at bytes), Reply.done)) (sym is)
-
-      pub vwrite-answers : (result : Result (Unit {0}) StoreFault) → Does (patch_tests node at (length bytes) e) (λ _. ⊤) w (change_store w u (patched_within p.name uid node at bytes)) v result
-          → Answers w v (command.Vwrite u name uid path at bytes) (λ _. Reply.done) result
-      vwrite-answers result d = does-answers w v (change_store w u (patched_within p.name uid node at bytes)) (command.Vwrite u name uid path at bytes) (λ _. Reply.done)
-          (patch_tests node at (length bytes) e) (λ _. ⊤) (λ k n good. vwrite-is k) (λ r k. vwrite-refused w u blocks s name p uid on named e found path at node reach bytes r k) result d
-
-      pub vwrite-makes : first_of (patch_tests node at (length bytes) e) ≡ None → store_on_unit (answer w (command.Vwrite u name uid path at bytes)).0 u ≡ Some (patched_within p.name uid node at bytes s)
-      vwrite-makes k = makes w u blocks s (patched_within p.name uid node at bytes) (answer w (command.Vwrite u name uid path at bytes)) Reply.done on (vwrite-is k)

@@ -1,58 +1,47 @@
 -- What the commands cost, by what the calls on one store cost that they are done by.
-use Rattle.std.proofs.Common.{arith, ◌≡◌, refl, ap, sym, ◌∙◌, subst, ◌⊎◌, inl, inr, ℕ, ◌+◌, ◌*◌, ◌≤◌, ◌==◌, List, [], ◌∷◌, ◌++◌, Bool, true, false, cond, None, Some, length, nat_lt, option_and_then, Option}
+use Rattle.std.proofs.Common.{arith, ◌≡◌, refl, ap, sym, ◌∙◌, subst, ◌⊎◌, inl, inr, ℕ, ◌+◌, ◌*◌, ◌≤◌, ◌==◌, List, [], ◌∷◌, ◌++◌, Bool, true, false, cond, None, Some, option_and_then}
 use Rattle.std.specs.Prelude.{Result}
 use Rattle.newt_base.specs.Refusals.{first_of}
 use Rattle.newt_graph.specs.Graph.{RawGraph}
 use Rattle.newt_host.specs.Moments.{bytes_after, changes, image}
 use Rattle.newt_host.specs.Outside.{Outside}
 use Rattle.newt_pagebook.specs.Book.{IsOpenFor}
-use Rattle.newt_laws_images.proofs.Within.{graph-within}
-use Rattle.newt_path.specs.Put.{IsFormOf}
-use Rattle.newt_spec_graph.specs.Slots.{put}
-use Rattle.newt_spec_store.specs.Keys.{Path, IndexSpec, has_paths}
-use Rattle.newt_spec_store.specs.Store.{Store, Soup, TagTable, Entry, entry_at, entry_of, drop_soup, change_soup, add_entry, remove_entry, with_index, without_index, with_graph}
+use Rattle.newt_spec_store.specs.Store.{Store, Soup, Entry, entry_at, entry_of, change_soup, add_entry, remove_entry}
 use Rattle.newt_spec_store.specs.Valid.{valid_entry}
 use Rattle.newt_spec_world.specs.declared.command.Command.{Command}
 use Rattle.newt_spec_world.specs.declared.command.Command.TheVariants as command
-use Rattle.newt_spec_world.specs.declared.command.PartWord.{PartWord}
-use Rattle.newt_spec_graph.specs.Larges.{large_at}
-use Rattle.newt_spec_world.specs.Changed.{spec_of_words, info_from}
-use Rattle.newt_spec_graph.proofs.Lists.{both-ways}
-use Rattle.newt_spec_world.specs.World.{World, default_unit, entry_in}
-use Rattle.newt_spec_store.specs.Cost.{patch_bytes}
+use Rattle.newt_spec_world.specs.World.{World, entry_in}
 use Rattle.newt_laws_world.proofs.Units.{same-or-not}
 use Rattle.newt_laws_answers.specs.Bounds.{change_bytes, unless, most_programmed}
-use Rattle.newt_laws_answers.specs.Fetched.{if_on, means_entries, most_fetched, next_if_on, pages_there}
+use Rattle.newt_laws_answers.specs.Fetched.{if_on, most_fetched, next_if_on, pages_there}
 use Rattle.newt_laws_answers.proofs.Answers.{entry-named}
 use Rattle.newt_laws_answers.proofs.Fetched.{first-pages, named-pages}
-use Rattle.newt_laws_answers.proofs.Tests.{add_tests, replace_tests, replaced, patch_tests, move_tests, moved_within, index_tests, tagged, tags_tests, informed, info_tests}
-use Rattle.newt_laws_answers.proofs.Most.{drop-most, add-most, addx-most, addu-most, remove-most, change-most, set-most, vwrite-most, copy-most, move-to-most, move-from-most, within-most, index-most, unindex-most, set-tags-most, set-info-most}
+use Rattle.newt_laws_answers.proofs.Tests.{add_tests, move_tests, moved_within}
+use Rattle.newt_laws_answers.proofs.Most.{move-to-most, move-from-most, within-most}
 use Rattle.newt_store_change.specs.declared.fault.StoreFault.{StoreFault}
 use Rattle.newt_engine_card.specs.Bounds.{Costs, CostsOn, FetchesAtMost, FetchesOn, FetchesWithin, LeftAlone, of_unit}
 use Rattle.newt_store_change.specs.Change.{pages_of_entry}
 use Rattle.newt_store_change.specs.Faults.{GoesOn}
 use Rattle.newt_engine_units.specs.Calls.{CostsOf}
 use Rattle.newt_engine_units.specs.Found.{HasSoup, HasEntry}
-use Rattle.newt_engine_units.proofs.Costs.{after-read, behind-read, both-costs, none-fits, on-costs, on-few, on-within, read-few, same-fits}
-use Rattle.newt_engine_commands.specs.Declares.{has_parts, has_real}
+use Rattle.newt_engine_units.proofs.Costs.{after-read, call-after-read, both-costs, none-fits, on-costs, on-few, on-within, read-few}
 use Rattle.newt_engine_commands.proofs.Commands.{entry-fits}
-use Rattle.newt_engine_commands.proofs.Replacing.{raw-of}
 use Rattle.newt_engine_commands.proofs.Moves.{move-named, inside-named}
 use Rattle.newt_engine_commands.proofs.Said.{Spent}
 
 -- ---- what is fetched
 
-half : (a b : ℕ) → a ≤ b → 512 * a ≤ 1024 * b
+pub half : (a b : ℕ) → a ≤ b → 512 * a ≤ 1024 * b
 half a b h = omega (arith, h)
 
-twice : (a b : ℕ) → a ≤ b → 512 * a + 512 * a ≤ 1024 * b
+pub half-more : (a b : ℕ) → a ≤ b → 512 * 0 + 512 * a ≤ 1024 * b
+half-more a b h = omega (arith, h)
+
+pub twice : (a b : ℕ) → a ≤ b → 512 * a + 512 * a ≤ 1024 * b
 twice a b h = omega (arith, h)
 
-thrice : (a b : ℕ) → a ≤ b → 512 * a + (512 * 0 + 512 * a) ≤ 1024 * b
+pub thrice : (a b : ℕ) → a ≤ b → 512 * a + (512 * 0 + 512 * a) ≤ 1024 * b
 thrice a b h = omega (arith, h)
-
-none-low : (n : ℕ) → 0 ≤ n
-none-low n = omega arith
 
 -- the pages of an entry of a soup that is there
 abbrev pub its_pages : {w : World} {u : ℕ} {name : List ℕ} {sig : ℕ} → HasSoup w u name sig → ℕ → ℕ
@@ -61,13 +50,13 @@ its_pages {sig = sig} h uid = pages_of_entry (entry_at sig uid h.store)
 its-pages : {w : World} {u : ℕ} {name : List ℕ} {sig : ℕ} (h : HasSoup w u name sig) (uid : ℕ) → its_pages h uid ≡ pages_of_entry (entry_in w u name uid)
 its-pages {w} {u} {name} {sig} h uid = ap pages_of_entry (ap (option_and_then (entry_of uid)) h.by_sig ∙ sym (entry-named w u h.blocks h.store name h.soup uid h.on h.named))
 
-named-low : {w : World} {u : ℕ} {name : List ℕ} {sig : ℕ} (h : HasSoup w u name sig) (uid : ℕ) → its_pages h uid ≤ pages_there w u (if_on u u name uid)
+pub named-low : {w : World} {u : ℕ} {name : List ℕ} {sig : ℕ} (h : HasSoup w u name sig) (uid : ℕ) → its_pages h uid ≤ pages_there w u (if_on u u name uid)
 named-low {w} {u} {name} h uid = low _ _ _ (its-pages h uid) (named-pages w u name uid)
   where
     low : (a b c : ℕ) → a ≡ b → c ≡ b → a ≤ c
     low a b c h k = omega (arith, h, k)
 
-first-low : {w : World} {u : ℕ} {name : List ℕ} {sig : ℕ} (h : HasSoup w u name sig) (uid : ℕ) (more : List (List ℕ × ℕ)) → its_pages h uid ≤ pages_there w u (if_on u u name uid ++ more)
+pub first-low : {w : World} {u : ℕ} {name : List ℕ} {sig : ℕ} (h : HasSoup w u name sig) (uid : ℕ) (more : List (List ℕ × ℕ)) → its_pages h uid ≤ pages_there w u (if_on u u name uid ++ more)
 first-low {w} {u} {name} h uid more = low _ _ _ (its-pages h uid) (first-pages w u name uid more)
   where
     low : (a b c : ℕ) → a ≡ b → b ≤ c → a ≤ c
@@ -86,46 +75,13 @@ copy-few {w} {u} {name} h uid to target o p reads =
 
 -- ---- by the name that a soup has
 
-named-most : {w : World} {v n : ℕ} (u : ℕ) {name : List ℕ} {sig : ℕ} (h : HasSoup w v name sig) (c : List ℕ → Command) → n ≤ most_programmed w (c h.soup.name) u → n ≤ most_programmed w (c name) u
-named-most {w} {n = n} u h c low = subst (λ m. n ≤ most_programmed w (c m) u) h.name_is low
-
-named-costs : {T : Type 0} {w : World} {u v n : ℕ} {name : List ℕ} {sig : ℕ} {result : Result T StoreFault} {o p : Outside} (h : HasSoup w v name sig) (c : List ℕ → Command)
-    → CostsOn u n result o p → n ≤ most_programmed w (c h.soup.name) u → (means_entries (c name) ≡ true → FetchesWithin (most_programmed w (c name)) (most_fetched w (c name)) o p)
-    → CostsOf w (c name) result o p
-named-costs {u = u} h c costs low few = on-costs costs (named-most u h c low) few
-
--- a call on one unit is the command
-named-spent : {T : Type 0} {w : World} {u v n k : ℕ} {name : List ℕ} {sig : ℕ} {result : Result T StoreFault} {o p : Outside} (h : HasSoup w v name sig) (c : List ℕ → Command)
-    → Spent u n k result o p → n ≤ most_programmed w (c h.soup.name) u → k ≤ most_fetched w (c name) u → CostsOf w (c name) result o p
-named-spent {w = w} {u = u} {name = name} h c spent low less = named-costs h c spent.programs low (λ means. on-within (most_programmed w (c name)) (most_fetched w (c name)) spent.reads (named-most u h c low) less)
-
 -- the bytes of an entry that is added, in a world
 abbrev pub added_bytes : ℕ → RawGraph → Store → Soup → World → ℕ
 added_bytes blocks g s p w = unless (add_tests blocks w.minute p.name g s p) (change_bytes true s (change_soup p.name (add_entry w.minute g) s) (record { uid = p.next_uid; time = w.minute; graph = g } ∷ []) [])
 
--- the bytes of an entry of which the graph is replaced, in a world
-abbrev pub replaced_bytes : ℕ → RawGraph → Store → Soup → Entry → ℕ → World → ℕ
-replaced_bytes blocks g s p e uid w = unless (replace_tests blocks w.minute p.name uid g s) (change_bytes false s (replaced w.minute p.name uid g s) (with_graph w.minute g e ∷ []) (e ∷ []))
-
 -- the bytes of an entry that is removed
 abbrev pub removed_bytes : Store → Soup → Entry → ℕ → ℕ
 removed_bytes s p e uid = change_bytes false s (change_soup p.name (remove_entry uid) s) [] (e ∷ [])
-
--- the bytes of an index that is declared
-abbrev pub index_bytes : ℕ → Store → Soup → IndexSpec → ℕ
-index_bytes blocks s p spec = unless (index_tests blocks p.name spec s p) (change_bytes true s (change_soup p.name (with_index spec) s) [] [])
-
--- the bytes of an index that is removed
-abbrev pub unindex_bytes : Store → Soup → List Path → ℕ
-unindex_bytes s p paths = change_bytes true s (change_soup p.name (without_index paths) s) [] []
-
--- the bytes of a tags declaration
-abbrev pub tags_bytes : ℕ → Store → Soup → TagTable → ℕ
-tags_bytes blocks s p table = unless (tags_tests blocks p.name table s) (change_bytes true s (tagged p.name table s) [] [])
-
--- the bytes of an info frame
-abbrev pub info_bytes : ℕ → Store → Soup → Option RawGraph → ℕ
-info_bytes blocks s p info = unless (info_tests blocks p.name info s) (change_bytes true s (informed p.name info s) [] [])
 
 -- an entry of a soup is within the limits
 fits : {w : World} {u : ℕ} {name : List ℕ} {sig : ℕ} (h : HasSoup w u name sig) (uid : ℕ) (e : Entry) → entry_of uid h.soup ≡ Some e → valid_entry e ≡ true
@@ -133,45 +89,7 @@ fits {name = name} h uid e found = entry-fits h.store name h.soup uid e h.formed
 
 -- ---- one change of one store
 
-module _ {w : World} {u : ℕ} {name : List ℕ} {sig : ℕ} (h : HasSoup w u name sig) {T : Type 0} {result : Result T StoreFault} {o p : Outside} where
-  pub drop-costs : {f : ℕ} → Spent u (change_bytes true h.store (drop_soup h.soup.name h.store) [] h.soup.entries) f result o p → CostsOf w (command.Drop u name) result o p
-  drop-costs k = named-costs h (command.Drop u) k.programs (drop-most w u h.blocks h.store h.soup.name h.on h.soup h.self_named) (λ means. absurd (both-ways means))
-
-  pub add-costs : (g : RawGraph) → Spent u (added_bytes h.blocks g h.store h.soup w) 0 result o p → CostsOf w (command.Add u name g) result o p
-  add-costs g k = named-spent h (λ m. command.Add u m g) k (add-most w u h.blocks h.store h.soup.name h.soup g h.on h.self_named) (none-low _)
-
-  pub addx-costs : (g : RawGraph) → Spent u (added_bytes h.blocks g h.store h.soup w) 0 result o p → CostsOf w (command.Addx u name g) result o p
-  addx-costs g k = named-spent h (λ m. command.Addx u m g) k (addx-most w u h.blocks h.store h.soup.name h.soup g h.on h.self_named) (none-low _)
-
-  pub addu-costs : (g : RawGraph) → default_unit w ≡ u → Spent u (added_bytes h.blocks g h.store h.soup w) 0 result o p → CostsOf w (command.Addu name g) result o p
-  addu-costs g default k = named-spent h (λ m. command.Addu m g) k (addu-most w u h.blocks h.store h.soup.name h.soup g default h.on h.self_named) (none-low _)
-
-  pub index-costs : {f : ℕ} (parts : List PartWord) → has_parts parts h.soup ≡ false → has_real parts ≡ false → (spec : IndexSpec) → spec ≡ spec_of_words parts
-      → Spent u (index_bytes h.blocks h.store h.soup spec) f result o p → CostsOf w (command.Index u name parts) result o p
-  index-costs parts new typed spec words k = named-costs h (λ m. command.Index u m parts) (subst (λ x. CostsOn u (index_bytes h.blocks h.store h.soup x) result o p) words k.programs)
-      (index-most w u h.blocks h.store h.soup.name h.soup h.on h.self_named parts new typed) (λ means. absurd (both-ways means))
-
-  pub unindex-costs : {f : ℕ} (paths shown : List Path) → has_paths paths h.soup.specs ≡ true → shown ≡ paths → Spent u (unindex_bytes h.store h.soup shown) f result o p
-      → CostsOf w (command.Unindex u name paths) result o p
-  unindex-costs paths shown there same k = named-costs h (λ m. command.Unindex u m paths) (subst (λ x. CostsOn u (unindex_bytes h.store h.soup x) result o p) same k.programs)
-      (unindex-most w u h.blocks h.store h.soup.name h.soup h.on h.self_named paths there) (λ means. absurd (both-ways means))
-
-  pub tags-costs : {f : ℕ} (path : Path) (symbols : List (List ℕ)) → nat_lt 64 (length symbols) ≡ false → (table : TagTable) → table ≡ record { path = path; symbols = symbols }
-      → Spent u (tags_bytes h.blocks h.store h.soup table) f result o p → CostsOf w (command.SetTags u name path symbols) result o p
-  tags-costs path symbols few table words k = named-costs h (λ m. command.SetTags u m path symbols) (subst (λ x. CostsOn u (tags_bytes h.blocks h.store h.soup x) result o p) words k.programs)
-      (set-tags-most w u h.soup.name path symbols h.blocks h.store h.soup h.on h.self_named few) (λ means. absurd (both-ways means))
-
-  pub info-costs : {f : ℕ} (g : RawGraph) (info : Option RawGraph) → info ≡ info_from g → Spent u (info_bytes h.blocks h.store h.soup info) f result o p → CostsOf w (command.SetInfo u name g) result o p
-  info-costs g info words k = named-costs h (λ m. command.SetInfo u m g) (subst (λ x. CostsOn u (info_bytes h.blocks h.store h.soup x) result o p) words k.programs)
-      (set-info-most w u h.soup.name g h.blocks h.store h.soup h.on h.self_named) (λ means. absurd (both-ways means))
-
 module _ {w : World} {u : ℕ} {name : List ℕ} {sig uid : ℕ} (x : HasEntry w u name sig uid) {T : Type 0} {result : Result T StoreFault} {o p : Outside} where
-  pub remove-costs : Spent u (removed_bytes x.of.store x.of.soup x.entry uid) 0 result o p → CostsOf w (command.Remove u name uid) result o p
-  remove-costs k = named-spent x.of (λ m. command.Remove u m uid) k (remove-most w u x.of.blocks x.of.store x.of.soup.name x.of.soup uid x.of.on x.of.self_named x.entry x.found) (none-low _)
-
-  pub change-costs : (g : RawGraph) → Spent u (replaced_bytes x.of.blocks g x.of.store x.of.soup x.entry uid w) 0 result o p → CostsOf w (command.Change u name uid g) result o p
-  change-costs g k = named-spent x.of (λ m. command.Change u m uid g) k (change-most w u x.of.blocks x.of.store x.of.soup.name x.of.soup uid x.of.on x.of.self_named x.entry x.found g) (none-low _)
-
   -- within one store
   pub inside-costs : {target : List ℕ} {into : ℕ} (k : HasSoup w u target into)
       → Spent u (unless (move_tests x.of.blocks w.minute x.of.soup.name uid k.soup.name x.entry.graph x.of.store k.soup)
@@ -197,11 +115,11 @@ pub record Seen (u n : ℕ) (o p : Outside) : Type 0 where
   pub moment : p.now ≡ o.now
   pub reads : FetchesAtMost (of_unit u n) o p
 
--- what it fetches with the call behind it
+-- what it fetches with the call after it
 after-seen : {w : World} {u : ℕ} {name : List ℕ} {sig : ℕ} (h : HasSoup w u name sig) (uid : ℕ) (x : World) (same : x ≡ w) {o p q : Outside} (seen : Seen u (512 * its_pages h uid) o p) {v k : ℕ}
     (n : World → ℕ) (c : Command) → FetchesOn v (n x) k p q → n w ≤ most_programmed w c v → ((j : ℕ) → of_unit u (512 * its_pages h uid) j + of_unit v k j ≤ most_fetched w c j)
     → FetchesWithin (most_programmed w c) (most_fetched w c) o q
-after-seen {w} {u} h uid x same {o} {p} {q} seen {v} {k} n c f low enough = behind-read (most_programmed w c) (of_unit u (512 * its_pages h uid)) (of_unit v k) (most_fetched w c) o p q seen.reads seen.moment
+after-seen {w} {u} h uid x same {o} {p} {q} seen {v} {k} n c f low enough = call-after-read (most_programmed w c) (of_unit u (512 * its_pages h uid)) (of_unit v k) (most_fetched w c) o p q seen.reads seen.moment
     (on-few (most_programmed w c) (subst (λ (y : World). FetchesOn v (n y) k p q) same f) low) enough
 
 module _ {w : World} {u : ℕ} {name : List ℕ} {sig : ℕ} (h : HasSoup w u name sig) (uid : ℕ) (e : Entry) (found : entry_of uid h.soup ≡ Some e)
@@ -210,37 +128,7 @@ module _ {w : World} {u : ℕ} {name : List ℕ} {sig : ℕ} (h : HasSoup w u na
   pub before : {v : ℕ} (n : World → ℕ) → CostsOn v (n x) result p q → CostsOn v (n w) result o q
   before {v} n k = after-read seen.alone (subst (λ (y : World). CostsOn v (n y) result p q) same k)
 
-  pub set-costs : (path : Path) (g new : RawGraph) → IsFormOf (put e.graph path g) new → Spent u (replaced_bytes h.blocks new h.store h.soup e uid x) 0 result p q
-      → CostsOf w (command.Set u name uid path g) result o q
-  set-costs path g new form k = named-costs h (λ m. command.Set u m uid path g) (before (replaced_bytes h.blocks new h.store h.soup e uid) k.programs) low
-      (λ means. after-seen h uid x same seen (replaced_bytes h.blocks new h.store h.soup e uid) (command.Set u name uid path g) k.reads (named-most u h (λ m. command.Set u m uid path g) low)
-      (none-fits u (512 * its_pages h uid) u (most_fetched w (command.Set u name uid path g)) (half _ _ (named-low h uid))))
-    where
-      low : replaced_bytes h.blocks new h.store h.soup e uid w ≤ most_programmed w (command.Set u h.soup.name uid path g) u
-      low = let r = raw-of new (put e.graph path g) form in
-          set-most w u h.blocks h.store h.soup.name h.soup uid h.on h.self_named e found path g r.0 r.1 new r.2 (graph-within new r.3) (fits h uid e found)
-
-  pub vwrite-costs : (path : Path) (at node : ℕ) → large_at e.graph path ≡ Some node → (bytes : List ℕ)
-      → Spent u (unless (patch_tests node at (length bytes) e) (patch_bytes (length bytes))) (512 * 0 + 512 * its_pages h uid) result p q
-      → CostsOf w (command.Vwrite u name uid path at bytes) result o q
-  vwrite-costs path at node reach bytes k = named-costs h (λ m. command.Vwrite u m uid path at bytes) (after-read seen.alone k.programs) low
-      (λ means. after-seen h uid x same seen (λ _. unless (patch_tests node at (length bytes) e) (patch_bytes (length bytes))) (command.Vwrite u name uid path at bytes) k.reads
-      (named-most u h (λ m. command.Vwrite u m uid path at bytes) low)
-      (same-fits u (512 * its_pages h uid) (512 * 0 + 512 * its_pages h uid) (most_fetched w (command.Vwrite u name uid path at bytes)) (thrice _ _ (named-low h uid))))
-    where
-      low : unless (patch_tests node at (length bytes) e) (patch_bytes (length bytes)) ≤ most_programmed w (command.Vwrite u h.soup.name uid path at bytes) u
-      low = vwrite-most w u h.blocks h.store h.soup.name h.soup uid h.on h.self_named e found path at node reach bytes
-
-  module _ {to : ℕ} {target : List ℕ} {into : ℕ} (k : HasSoup w to target into) where
-    pub copy-costs : Spent to (added_bytes k.blocks e.graph k.store k.soup x) 0 result p q → CostsOf w (command.Copy u name uid to target) result o q
-    copy-costs spent = named-costs k (λ m. command.Copy u name uid to m) (before (added_bytes k.blocks e.graph k.store k.soup) spent.programs) low
-        (λ means. after-seen h uid x same seen (added_bytes k.blocks e.graph k.store k.soup) (command.Copy u name uid to target) spent.reads (named-most to k (λ m. command.Copy u name uid to m) low)
-        (none-fits u (512 * its_pages h uid) to (most_fetched w (command.Copy u name uid to target)) (half _ _ (first-low h uid (next_if_on w to u target)))))
-      where
-        low : added_bytes k.blocks e.graph k.store k.soup w ≤ most_programmed w (command.Copy u name uid to k.soup.name) to
-        low = copy-most w u h.blocks h.store name h.soup uid h.on h.named to k.blocks k.store k.soup.name k.soup k.on k.self_named e found (fits h uid e found)
-
--- a call on one unit that fetches nothing, behind others that left the unit alone
+-- a call on one unit that fetches nothing, after others that left the unit alone
 removed_few : (most : ℕ → ℕ) {u n : ℕ} (o m r : Outside) → FetchesOn u n 0 m r → n ≤ most u → changes u m.now ≡ changes u o.now → (j : ℕ) → IsOpenFor (most j) (image j o.now) → r.fetched j ≤ m.fetched j
 removed_few most {u} {n} o m r f less still j room = go (same-or-not j u)
   where

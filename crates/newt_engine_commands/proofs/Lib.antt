@@ -6,3 +6,4 @@ pub mod Declaring
 pub mod Moves
 pub mod Replacing
 pub mod Said
+pub mod Effects

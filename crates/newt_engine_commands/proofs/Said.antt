@@ -1,7 +1,6 @@
 -- A change of the store of a unit in the words of a command.
 use Rattle.std.proofs.Common.{◌≡◌, refl, sym, ◌∙◌, ap, subst, ℕ, Bool, true, false, not, ◌&&◌, IsTrue, List, Option, Some, None, is_none}
 use Rattle.std.specs.Prelude.{IsSome, is_some, Result, Ok, Err, IfErr}
-use Rattle.std.specs.Bool.{⊤}
 use Rattle.newt_base.specs.Refusals.{Checks, first_of}
 use Rattle.newt_base.specs.declared.Refusal.{Refusal}
 use Rattle.newt_host.specs.Moments.{Moment, Always}
@@ -19,7 +18,7 @@ use Rattle.newt_laws_answers.specs.There.{OnUnit}
 use Rattle.newt_laws_answers.proofs.Changes.{SaidAs}
 use Rattle.newt_laws_answers.proofs.Units.{store-alike}
 use Rattle.newt_store_change.specs.Change.{bytes_fetched, changed_by, answer_of, refusals}
-use Rattle.newt_store_change.specs.Faults.{Does, GoesOn}
+use Rattle.newt_store_change.specs.Faults.{Does}
 use Rattle.newt_store_change.specs.declared.change.Change.{Change}
 use Rattle.newt_store_change.specs.declared.fault.StoreFault.{StoreFault}
 use Rattle.newt_store_change.specs.declared.fault.StoreFault.TheVariants.{Refused, Stop}
@@ -29,9 +28,8 @@ use Rattle.newt_engine_units.specs.Breaks.{AtDevice, Meanwhile}
 use Rattle.newt_engine_units.specs.Calls.{AreRead, BreaksIn, Changes}
 use Rattle.newt_engine_units.specs.Stands.{due_in, world_of}
 use Rattle.newt_engine_units.proofs.Broken.{err-device-map}
-use Rattle.newt_engine_units.proofs.Obeying.{breaks-behind}
+use Rattle.newt_engine_units.proofs.Obeying.{breaks-after}
 use Rattle.newt_engine_units.specs.declared.units.Units.{Units}
-use Rattle.newt_engine_commands.specs.Done.{done_of}
 
 -- what a call on one unit programs and fetches
 pub record Spent {T : Type 0} (u n k : ℕ) (result : Result T StoreFault) (o p : Outside) : Type 0 where
@@ -44,34 +42,6 @@ does-as : {T : Type 0} (w v : World) (u blocks : ℕ) (s : Store) → OnUnit w u
 does-as w v u blocks s on xs ys good fine f g same better is (Ok x) d = (sym same ∙ d.0, better x d.1, d.2 ∙ store-alike w u blocks s f g on is)
 does-as w v u blocks s on xs ys good fine f g same better is (Err (Refused refusal)) d = (sym same ∙ d.0, d.1)
 does-as w v u blocks s on xs ys good fine f g same better is (Err (Stop stop)) d = tt
-
-does-done : (tests : Checks) (good : ℕ → Type 0) (w after v : World) (result : Result ℕ StoreFault) → Does tests good w after v result → Does tests (λ _. ⊤) w after v (done_of result)
-does-done tests good w after v (Ok n) d = (d.0, tt, d.2)
-does-done tests good w after v (Err (Refused refusal)) d = d
-does-done tests good w after v (Err (Stop stop)) d = tt
-
-goes-back : (result : Result ℕ StoreFault) → GoesOn (done_of result) → GoesOn result
-goes-back (Ok n) h = tt
-goes-back (Err (Refused refusal)) h = tt
-goes-back (Err (Stop stop)) h = absurd h
-
--- where nothing is told but that it was done
-module _ (result : Result ℕ StoreFault) {r : Result (Unit {0}) StoreFault} (is : r ≡ done_of result) where
-  pub done-goes : GoesOn r → GoesOn result
-  done-goes h = goes-back result (subst (λ x. GoesOn x) is h)
-
-  pub done-cause : (P : StoreFault → Type 0) → IfErr result P → IfErr r P
-  done-cause P h = subst (λ x. IfErr x P) (sym is) (go result h)
-    where
-      go : (x : Result ℕ StoreFault) → IfErr x P → IfErr (done_of x) P
-      go (Ok n) h = tt
-      go (Err fault) h = h
-
-  pub done-costs : {u n k : ℕ} {o p : Outside} → Spent u n k result o p → Spent u n k r o p
-  done-costs c = record {
-    programs = record { bound = c.programs.bound; open_after = λ goes. c.programs.open_after (done-goes goes); others = c.programs.others };
-    reads = c.reads;
-  }
 
 -- a command that was done was not refused
 pub unrefused : {T : Type 0} (reply : T → Reply) (w v : World) (c : Command) (x : T) → ((r : Refusal) → reply x ≡ Reply.refused r → ⊥) → Answers w v c reply (Ok x) → first_of (checks w c) ≡ None
@@ -93,26 +63,26 @@ module _ {C : Type 0} {reads : List ℕ → Option Store} {place : C → ℕ} {s
     same = λ t tears sure store. untorn t (subst (λ k. may_tear (world_of reads units o) c k ≡ false) b.0 tears);
   }) e.broke
 
-  -- behind a read
-  pub behind-breaks : {units mid : Units C} {o m : Outside} → AreRead reads place standing told units mid o m → NoFault o m → Changes reads place standing told u change mid later m p result
+  -- after a read
+  pub after-breaks : {units mid : Units C} {o m : Outside} → AreRead reads place standing told units mid o m → NoFault o m → Changes reads place standing told u change mid later m p result
       → (IsTrue told → may_tear (world_of reads mid m) c u ≡ false → p.now ≡ m.now) → IfErr result (AtDevice (BreaksIn reads place standing told c units later o p))
-  behind-breaks {units} {mid} {o} {m} looks none e untorn = err-device-map _ _ result (λ n b. record {
-    breaks = breaks-behind looks none b.1;
+  after-breaks {units} {mid} {o} {m} looks none e untorn = err-device-map _ _ result (λ n b. record {
+    breaks = breaks-after looks none b.1;
     same = λ t tears sure store. untorn t (subst (λ k. may_tear (world_of reads mid m) c k ≡ false) b.0 (ap (λ (w : World). may_tear w c n) (looks.world t) ∙ tears)) ∙ looks.moment;
   }) e.broke
 
--- ---- the moments behind calls that leave of which units a sync is due
+-- ---- the moments after calls that leave of which units a sync is due
 
 -- another way to say of which units one is due
 pub dues-moments : {reads : List ℕ → Option Store} {a b : ℕ → Bool} {w : World} {c : Command} {v : World} {start now : Moment} → ((u : ℕ) → a u ≡ b u) → Always (Meanwhile reads b w c v start) start now
     → Always (Meanwhile reads a w c v start) start now
 dues-moments same way = Always-map (λ m h. record { answering = h.answering; unsure = λ u due. h.unsure u (sym (same u) ∙ due); beside = λ u unwritten unformed sure. h.beside u unwritten unformed (λ looks. sym (same u) ∙ sure looks) }) way
 
--- behind a read
-pub behind-moments : {C : Type 0} {reads : List ℕ → Option Store} {place : C → ℕ} {standing : Bool → C → Outside → Type 0} {told : Bool} {units mid : Units C} {o m : Outside} (c : Command) (v : World) {now : Moment}
+-- after a read
+pub after-moments : {C : Type 0} {reads : List ℕ → Option Store} {place : C → ℕ} {standing : Bool → C → Outside → Type 0} {told : Bool} {units mid : Units C} {o m : Outside} (c : Command) (v : World) {now : Moment}
     → IsTrue told → AreRead reads place standing told units mid o m → Always (Meanwhile reads (due_in mid.slots.items) (world_of reads mid m) c v m.now) m.now now
     → Always (Meanwhile reads (due_in units.slots.items) (world_of reads units o) c v o.now) o.now now
-behind-moments {reads = reads} {units = units} {mid} {o} {m} c v {now} t looks way =
+after-moments {reads = reads} {units = units} {mid} {o} {m} c v {now} t looks way =
     subst (λ (k : Moment). Always (Meanwhile reads (due_in units.slots.items) (world_of reads units o) c v k) k now) looks.moment
     (subst (λ (y : World). Always (Meanwhile reads (due_in units.slots.items) y c v m.now) m.now now) (looks.world t) (dues-moments (λ u. sym (looks.dues u)) way))
 
@@ -124,18 +94,14 @@ module _ {C : Type 0} {reads : List ℕ → Option Store} {place : C → ℕ} {s
   said-made good fine = does-as (world_of reads units o) (world_of reads later p) u blocks s on (refusals change blocks units.minute s) tests (λ n. n ≡ answer_of change s) good
       (changed_by change units.minute) made said.tests_are fine said.made_is result (e.made t blocks s on)
 
-  pub said-done : (r : Result (Unit {0}) StoreFault) → r ≡ done_of result → Does tests (λ _. ⊤) (world_of reads units o) (change_store (world_of reads units o) u made) (world_of reads later p) r
-  said-done r is = subst (λ x. Does tests (λ _. ⊤) (world_of reads units o) (change_store (world_of reads units o) u made) (world_of reads later p) x) (sym is)
-      (does-done tests (λ n. n ≡ answer_of change s) (world_of reads units o) (change_store (world_of reads units o) u made) (world_of reads later p) result (said-made (λ n. n ≡ answer_of change s) (λ n k. k)))
-
   -- what a crash leaves
   pub said-moments : (c : Command) (v : World) → writes (world_of reads units o) c u ≡ true → (first_of tests ≡ None → store_on_unit v u ≡ Some (made s)) → Always (Meanwhile reads (due_in units.slots.items) (world_of reads units o) c v o.now) o.now p.now
   said-moments c v written makes = e.moments t blocks s on c v written (λ passed. makes (sym said.tests_are ∙ passed) ∙ ap {B = Option Store} (λ x. Some x) (sym said.made_is))
 
-  -- where its store is not to be written nothing happens, also behind a call that left the world
-  pub behind-untorn : (w : World) → world_of reads units o ≡ w → (c : Command) → writes (world_of reads units o) c u ≡ true → moves_away c u ≡ false → (first_of tests ≡ None → first_of (checks w c) ≡ None)
+  -- where its store is not to be written nothing happens, also after a call that left the world
+  pub after-untorn : (w : World) → world_of reads units o ≡ w → (c : Command) → writes (world_of reads units o) c u ≡ true → moves_away c u ≡ false → (first_of tests ≡ None → first_of (checks w c) ≡ None)
       → may_tear (world_of reads units o) c u ≡ false → p.now ≡ o.now
-  behind-untorn w same c written stays passes untorn = e.idle t blocks s on (subst IsSome (sym said.tests_are) (go (first_of tests) refl))
+  after-untorn w same c written stays passes untorn = e.idle t blocks s on (subst IsSome (sym said.tests_are) (go (first_of tests) refl))
     where
       tears : first_of tests ≡ None → may_tear (world_of reads units o) c u ≡ true
       tears k = ap (λ (q : Option Refusal). (is_none q && writes (world_of reads units o) c u) && not (moves_away c u)) (ap (λ (x : World). first_of (checks x c)) same ∙ passes k)
@@ -151,7 +117,7 @@ module _ {C : Type 0} {reads : List ℕ → Option Store} {place : C → ℕ} {s
       → Answers (world_of reads units o) (change_store (world_of reads units o) u made) c reply r)
       → may_tear (world_of reads units o) c u ≡ false → p.now ≡ o.now
   said-untorn c reply x good written stays never fine answers untorn =
-      behind-untorn (world_of reads units o) refl c written stays
+      after-untorn (world_of reads units o) refl c written stays
       (λ k. unrefused reply (world_of reads units o) (change_store (world_of reads units o) u made) c x never (answers (Ok x) (k, fine, refl))) untorn
 
   -- what it costs

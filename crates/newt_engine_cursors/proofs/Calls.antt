@@ -161,7 +161,7 @@ module _ {C : Type 0} {reads : List ℕ → Option Store} {place : C → ℕ} {s
       → Settles reads place stands told one units later was is o q result → ((w v : World) → one w v → other w v) → Settles reads place stands told other units later was is o q result
   settles-as a same = record { read = a.read; desk = a.desk; settled = λ t apart. same _ _ (a.settled t apart); cause = a.cause; failed = a.failed; kept = a.kept; no_fault = a.no_fault }
 
-  -- behind a call that reads
+  -- after a call that reads
   pub settles-after : {T : Type 0} {becomes : World → World → Type 0} {mid later : Units C} {is : List (Option Cursor)} {p q : Outside} {result : Result T Stop}
       → AreRead reads place stands told units mid o p → NoFault o p → Settles reads place stands told becomes mid later was is p q result
       → Settles reads place stands told becomes units later was is o q result

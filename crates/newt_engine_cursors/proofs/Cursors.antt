@@ -145,25 +145,25 @@ below-at zero f xs = refl
 below-at (suc n) f [] = refl
 below-at (suc n) f (x ∷ xs) = below-at n f xs
 
--- a number before the next, and one of a place or behind all
-pub one-or-behind : (n m : ℕ) → (n < m) ⊎ (m ≤ n)
-one-or-behind zero zero = inr (omega arith)
-one-or-behind zero (suc m) = inl (omega arith)
-one-or-behind (suc n) zero = inr (omega arith)
-one-or-behind (suc n) (suc m) = elim (one-or-behind n m) [ inl h ↦ inl (omega (arith, h)) | inr h ↦ inr (omega (arith, h)) ]
+-- a number before the next, and one of a place or after all
+pub one-or-after : (n m : ℕ) → (n < m) ⊎ (m ≤ n)
+one-or-after zero zero = inr (omega arith)
+one-or-after zero (suc m) = inl (omega arith)
+one-or-after (suc n) zero = inr (omega arith)
+one-or-after (suc n) (suc m) = elim (one-or-after n m) [ inl h ↦ inl (omega (arith, h)) | inr h ↦ inr (omega (arith, h)) ]
 
 pub next-or-before : (n m : ℕ) → n < m + 1 → (n < m) ⊎ (n ≡ m)
-next-or-before n m h = elim (one-or-behind n m) [ inl less ↦ inl less | inr more ↦ inr (omega (arith, h, more)) ]
+next-or-before n m h = elim (one-or-after n m) [ inl less ↦ inl less | inr more ↦ inr (omega (arith, h, more)) ]
 
--- there is none behind all
-pub none-behind : (xs : List (Option Cursor)) (n : ℕ) → length xs ≤ n → flat (slice_get xs n) ≡ None
-none-behind [] n h = refl
-none-behind (x ∷ xs) zero h = absurd (omega (arith, h))
-none-behind (x ∷ xs) (suc n) h = none-behind xs n (omega (arith, h))
+-- there is none after all
+pub none-after : (xs : List (Option Cursor)) (n : ℕ) → length xs ≤ n → flat (slice_get xs n) ≡ None
+none-after [] n h = refl
+none-after (x ∷ xs) zero h = absurd (omega (arith, h))
+none-after (x ∷ xs) (suc n) h = none-after xs n (omega (arith, h))
 
 -- ---- from a place on
 
--- one place, and those behind it
+-- one place, and those after it
 pub from-next : (n : ℕ) (f : Cursor → Cursor) (xs : List (Option Cursor)) → change_at n f (change_from (n + 1) f xs) ≡ change_from n f xs
 from-next n f xs = ap (λ m. change_at n f (change_from m f xs)) (add-one n) ∙ go n xs
   where
@@ -173,12 +173,12 @@ from-next n f xs = ap (λ m. change_at n f (change_from m f xs)) (add-one n) ∙
     go (suc n) [] = refl
     go (suc n) (x ∷ xs) = ap (λ (ys : List (Option Cursor)). x ∷ ys) (go n xs)
 
--- there is none from behind all on
-pub from-behind : (n : ℕ) (f : Cursor → Cursor) (xs : List (Option Cursor)) → length xs ≤ n → change_from n f xs ≡ xs
-from-behind zero f [] h = refl
-from-behind zero f (x ∷ xs) h = absurd (omega (arith, h))
-from-behind (suc n) f [] h = refl
-from-behind (suc n) f (x ∷ xs) h = ap (λ (ys : List (Option Cursor)). x ∷ ys) (from-behind n f xs (omega (arith, h)))
+-- there is none from after all on
+pub from-after : (n : ℕ) (f : Cursor → Cursor) (xs : List (Option Cursor)) → length xs ≤ n → change_from n f xs ≡ xs
+from-after zero f [] h = refl
+from-after zero f (x ∷ xs) h = absurd (omega (arith, h))
+from-after (suc n) f [] h = refl
+from-after (suc n) f (x ∷ xs) h = ap (λ (ys : List (Option Cursor)). x ∷ ys) (from-after n f xs (omega (arith, h)))
 
 -- a place before one that is changed
 pub before-change : (f : Cursor → Cursor) (xs : List (Option Cursor)) (n c : ℕ) → c < n → slice_get (change_at n f xs) c ≡ slice_get xs c

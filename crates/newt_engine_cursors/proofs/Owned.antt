@@ -25,9 +25,9 @@ among-units (d ∷ ds) (suc u) s e = go (on_unit d) (among-units ds u s e)
 abbrev AreApart : List Store → Type 0
 AreApart ss = Pairs (λ s t. s.sig ≡ t.sig → ⊥) ss
 
-behind : (o : Option Store) (ss : List Store) → AreApart (cons_option o ss) → AreApart ss
-behind None ss apart = apart
-behind (Some x) ss apart = apart.1
+after : (o : Option Store) (ss : List Store) → AreApart (cons_option o ss) → AreApart ss
+after None ss apart = apart
+after (Some x) ss apart = apart.1
 
 ahead : (o : Option Store) (ss : List Store) (s t : Store) → AreApart (cons_option o ss) → o ≡ Some s → Among ss t → s.sig ≡ t.sig → ⊥
 ahead None ss s t apart e m same = absurd (none-some s e)
@@ -39,4 +39,4 @@ one-unit [] u v s t apart a b same = absurd (none-some s a)
 one-unit (d ∷ ds) zero zero s t apart a b same = refl
 one-unit (d ∷ ds) zero (suc v) s t apart a b same = absurd (ahead (on_unit d) (filter_map on_unit ds) s t apart a (among-units ds v t b) same)
 one-unit (d ∷ ds) (suc u) zero s t apart a b same = absurd (ahead (on_unit d) (filter_map on_unit ds) t s apart b (among-units ds u s a) (sym same))
-one-unit (d ∷ ds) (suc u) (suc v) s t apart a b same = ap suc (one-unit ds u v s t (behind (on_unit d) (filter_map on_unit ds) apart) a b same)
+one-unit (d ∷ ds) (suc u) (suc v) s t apart a b same = ap suc (one-unit ds u v s t (after (on_unit d) (filter_map on_unit ds) apart) a b same)

@@ -27,7 +27,7 @@ use newt_host::{Host, UNITS, Unit};
 use newt_pagebook::Stop;
 use newt_store_change::StoreFault;
 
-/// Opens a cursor on the first hit of a query in the soup of a name in one store, or behind all
+/// Opens a cursor on the first hit of a query in the soup of a name in one store, or after all
 /// where it has no hits, and answers its number, from 0 to 31. Where all 32 places are taken it is
 /// refused as `Limit`.
 pub fn query<C: Card, H: Host>(
@@ -113,7 +113,7 @@ fn has_soup<C: Card>(units: &Units<C>, name: &Name) -> bool
     false
 }
 
-/// Opens a cursor on the first hit of a query, or behind all where it has none.
+/// Opens a cursor on the first hit of a query, or after all where it has none.
 fn open<C: Card, H: Host>(
     units: &mut Units<C>,
     desk: &mut Desk,

@@ -33,7 +33,7 @@ use newt_store_change::Entry;
 /// What a cursor shows.
 #[derive(Drop)]
 pub enum Shown {
-    /// It stands before or behind all hits.
+    /// It stands before or after all hits.
     Nil,
     /// It stands on an entry that is no longer among the hits.
     Deleted,
@@ -46,7 +46,7 @@ pub enum Shown {
 pub enum Side {
     /// Before all hits.
     Begin,
-    /// Behind all hits.
+    /// After all hits.
     End,
     /// On an entry.
     Nil,

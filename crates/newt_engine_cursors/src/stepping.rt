@@ -55,7 +55,7 @@ enum Motion {
     Key(Key),
 }
 
-/// Moves a cursor on to the next hit, or behind all.
+/// Moves a cursor on to the next hit, or after all.
 pub fn next<C: Card, H: Host>(
     units: &mut Units<C>,
     desk: &mut Desk,
@@ -85,7 +85,7 @@ pub fn prev<C: Card, H: Host>(
     steer(units, desk, host, cursor, Motion::Step(Way::Back))
 }
 
-/// Moves a cursor to the first hit, or behind all.
+/// Moves a cursor to the first hit, or after all.
 pub fn reset<C: Card, H: Host>(
     units: &mut Units<C>,
     desk: &mut Desk,
@@ -132,7 +132,7 @@ pub fn moveby<C: Card, H: Host>(
 }
 
 /// Moves a cursor to the first hit whose key is not before the one that a literal writes down, or
-/// behind all. Where the literal is no key of the query's index, or the query has none, it is
+/// after all. Where the literal is no key of the query's index, or the query has none, it is
 /// refused as `Key`.
 pub fn go_to_key<C: Card, H: Host>(
     units: &mut Units<C>,

@@ -62,7 +62,7 @@ module _ {C : Type 0} {reads : List ℕ → Option Store} {place : C → ℕ} {s
     alone = OnDevices-append a.alone b.alone;
   }
 
-  -- a device that has failed behind calls that read is the only one since
+  -- a device that has failed after calls that read is the only one since
   pub failed-since : {T : Type 0} {units mid : Units C} {o p : Outside} (q : Outside) → AreRead reads place stands told units mid o p → NoFault o p → (result : Result T Stop)
       → IfErr result (AtStop (FailsAlone p q)) → IfErr result (AtStop (FailsAlone o q))
   failed-since q a f result h = err-stop-map _ _ result (λ u k. fails-after a.alone.cards f k) h
@@ -73,7 +73,7 @@ module _ {C : Type 0} {reads : List ℕ → Option Store} {place : C → ℕ} {s
       → IsReading reads place stands asks told units later o q (Ok x)
   is-read a f n = record { read = a; cause = tt; failed = tt; no_fault = f; unread = n }
 
-  -- a call behind one that has read
+  -- a call after one that has read
   pub read-more : {T : Type 0} {units mid later : Units C} {o p q : Outside} {result : Result T Stop} → AreRead reads place stands told units mid o p → NoFault o p → Unread asks o p
       → IsReading reads place stands asks told mid later p q result → IsReading reads place stands asks told units later o q result
   read-more {result = Ok x} a f n r = record { read = read-then a r.read; cause = tt; failed = tt; no_fault = NoFault-append f r.no_fault; unread = then-unread a r.read n r.unread }

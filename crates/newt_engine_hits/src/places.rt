@@ -136,7 +136,7 @@ pub fn moved<C: Card, H: Host>(
     }
 }
 
-/// On the first hit whose key is not before the given one, else behind all.
+/// On the first hit whose key is not before the given one, else after all.
 pub fn at_key<C: Card, H: Host>(
     units: &mut Units<C>,
     host: &mut H,

@@ -72,7 +72,7 @@ its-stops P u o p (Err (OfDevice k)) h at = subst P (sym at.0) h
 pub fails-alone : {u : ℕ} {o p : Outside} → IsSome (o.card u) → Touches u o p → FailsAlone o p u
 fails-alone there t = record { attached = there; others = t.dev_faults }
 
--- behind a call in which none failed
+-- after a call in which none failed
 pub fails-after : {u : ℕ} {o m p : Outside} → SameCards o m → NoFault o m → FailsAlone m p u → FailsAlone o p u
 fails-after {u} cards none f = record {
   attached = subst IsSome (cards.card u) f.attached;

@@ -63,7 +63,7 @@ widened less b = record {
   wears = λ room. b.wears (room-for-less less room);
 }
 
--- a call behind one that left the unit alone
+-- a call after one that left the unit alone
 bound-after : {u n : ℕ} {o p q : Outside} → LeftAlone u o p → ProgramsAtMost n u p q → ProgramsAtMost n u o q
 bound-after {u} {n} {o} {p} {q} a b = record {
   programmed = λ room. let h = b.programmed (still-open u n p.now o.now a.changes room) in let k = a.programmed in omega (arith, h, k);
@@ -86,7 +86,7 @@ alone-once {u} {n} {o} {p} syncs a = record {
   wears = Wears-widen 0 0 (bank_blocks (o.blocks u) + 3) syncs (omega arith) (omega arith) a.wears;
 }
 
--- a format behind what left the unit alone
+-- a format after what left the unit alone
 pub once-after : {u n syncs : ℕ} {o p q : Outside} → LeftAlone u o p → p.blocks u ≡ o.blocks u → FormatsOnce n syncs u p q → FormatsOnce n syncs u o q
 once-after {u} {n} {syncs} {o} {p} {q} a same b = let bank = bank_blocks (p.blocks u) + 3 in record {
   programmed = let h = a.programmed in let k = b.programmed in omega (arith, h, k);
@@ -179,10 +179,10 @@ on-within most fetches {unit} {n} {k} {o} {p} f less few u room =
     low : (a b c d : ℕ) → a ≤ b + c → c ≤ d → a ≤ b + d
     low a b c d h k = omega (arith, h, k)
 
--- a call behind one that read, and did nothing
-pub behind-read : (most reads fetches both : ℕ → ℕ) (o p q : Outside) → FetchesAtMost reads o p → p.now ≡ o.now → ((u : ℕ) → IsOpenFor (most u) (image u p.now) → q.fetched u ≤ p.fetched u + fetches u)
+-- a call after one that read, and did nothing
+pub call-after-read : (most reads fetches both : ℕ → ℕ) (o p q : Outside) → FetchesAtMost reads o p → p.now ≡ o.now → ((u : ℕ) → IsOpenFor (most u) (image u p.now) → q.fetched u ≤ p.fetched u + fetches u)
     → ((u : ℕ) → reads u + fetches u ≤ both u) → FetchesWithin most both o q
-behind-read most reads fetches both o p q first same second fits u room =
+call-after-read most reads fetches both o p q first same second fits u room =
     low (q.fetched u) (p.fetched u) (o.fetched u) (reads u) (fetches u) (both u) (first u) (second u (subst (λ now. IsOpenFor (most u) (image u now)) (sym same) room)) (fits u)
   where
     low : (a b c d e f : ℕ) → b ≤ c + d → a ≤ b + e → d + e ≤ f → a ≤ c + f

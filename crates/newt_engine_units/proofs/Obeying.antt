@@ -1,4 +1,4 @@
--- What a command promises where nothing has changed, and behind a call that read.
+-- What a command promises where nothing has changed, and after a call that read.
 use Rattle.std.proofs.Common.{◌≡◌, refl, ap, sym, ◌∙◌, subst, ℕ, List, Bool, true, IsTrue, Option, arith}
 use Rattle.std.specs.Prelude.{Result, Ok, Err, IfErr}
 use Rattle.newt_base.specs.Refusals.{Checks}
@@ -73,7 +73,7 @@ fault-goes {T} S {fault} result p goes = go fault (subst (λ (r : Result T Store
     go (Refused refusal) h = tt
     go (Stop stop) h = h
 
--- the cause of a fault behind calls that are done, in which none was counted
+-- the cause of a fault after calls that are done, in which none was counted
 pub cause-after : {T : Type 0} (result : Result T StoreFault) {o m : Outside} (p : Outside) → NoFault o m → IfErr result (λ fault. HasFaultCause fault m p) → IfErr result (λ fault. HasFaultCause fault o p)
 cause-after (Ok x) p before h = tt
 cause-after (Err (Refused refusal)) p before h = tt
@@ -130,10 +130,10 @@ module _ {C : Type 0} {reads : List ℕ → Option Store} {place : C → ℕ} {s
   pub read-breaks : (c : Command) {units later : Units C} {o p : Outside} {u : ℕ} → AreRead reads place stands told units later o p → FailsAlone o p u → BreaksIn reads place stands told c units later o p u
   read-breaks c looks failed = still-breaks c looks.stand looks.world (λ t. looks.moment) failed
 
-  -- behind one that read
-  pub breaks-behind : {units mid later : Units C} {o m p : Outside} {u : ℕ} → AreRead reads place stands told units mid o m → NoFault o m → Breaks reads place stands told mid later m p u
+  -- after one that read
+  pub breaks-after : {units mid later : Units C} {o m p : Outside} {u : ℕ} → AreRead reads place stands told units mid o m → NoFault o m → Breaks reads place stands told mid later m p u
       → Breaks reads place stands told units later o p u
-  breaks-behind {u = u} looks none b = record {
+  breaks-after {u = u} looks none b = record {
     stands = b.stands;
     world = λ t. b.world t ∙ ap (λ (w : World). thrown_out w u (λ _. lost)) (looks.world t);
     others = λ t n other. b.others t n other ∙ ap (changes n) looks.moment;

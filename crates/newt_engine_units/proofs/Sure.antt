@@ -237,15 +237,15 @@ module _ {C : Type 0} {reads : List ℕ → Option Store} {place : C → ℕ} {s
           subst (λ k. Always (Meanwhile reads (due_in units.slots.items) w c after o.now) o.now k) (sym now)
           (later (On u Synced) o.now (here (unchanged-moment at.laws units o at.eight s c after o.now refl refl (λ j. refl))) (subst (Meanwhile reads (due_in units.slots.items) w c after o.now) now last))
 
-  -- and where nothing has happened behind it
+  -- and where nothing has happened after it
   pub sync-still : IsTrue told → MayLeave u o.now (image u o.now) → (c : Command) (after : World) → looks_at c ≡ Some u → (end : Moment) → end ≡ m.now → Always (Meanwhile reads (due_in units.slots.items) w c after o.now) o.now end
   sync-still t may c after looks end same = subst (λ k. Always (Meanwhile reads (due_in units.slots.items) w c after o.now) o.now k) (sym same) (sync-moments t may c after looks)
 
-  -- and what is left behind it is left
-  pub moments-behind : IsTrue told → MayLeave u o.now (image u o.now) → (c : Command) (after : World) → ((j : ℕ) → j ≢ u → is_format_of c j ≡ false) → formats (seen reads w o.now c) c u ≡ true
+  -- and what is left after it is left
+  pub moments-after : IsTrue told → MayLeave u o.now (image u o.now) → (c : Command) (after : World) → ((j : ℕ) → j ≢ u → is_format_of c j ≡ false) → formats (seen reads w o.now c) c u ≡ true
       → is_some (reads (image u m.now)) ≡ false → {end : Moment} → Always (Meanwhile reads (due_in mid.slots.items) v c after m.now) m.now end
       → Always (Meanwhile reads (due_in units.slots.items) w c after o.now) o.now end
-  moments-behind t may c after only formed empty {end} way = Always-append (sync-moments t may c after (formats-looks (seen reads w o.now c) c u formed)) (Always-map (λ k a. behind k a) way)
+  moments-after t may c after only formed empty {end} way = Always-append (sync-moments t may c after (formats-looks (seen reads w o.now c) c u formed)) (Always-map (λ k a. from_start k a) way)
     where
       s : Stands place stands true units o
       s = stand-told at t
@@ -297,8 +297,8 @@ module _ {C : Type 0} {reads : List ℕ → Option Store} {place : C → ℕ} {s
       apart : (j : ℕ) → is_format_of c j ≡ false → j ≢ u
       apart j unformed e = both-ways (sym (ap (λ b. b && is_accepted (seen reads w o.now c) c) (ap (is_format_of c) (sym e) ∙ unformed)) ∙ formed)
 
-      behind : (k : Moment) → Meanwhile reads (due_in mid.slots.items) v c after m.now k → Meanwhile reads (due_in units.slots.items) w c after o.now k
-      behind k b = let a = b.answering in record {
+      from_start : (k : Moment) → Meanwhile reads (due_in mid.slots.items) v c after m.now k → Meanwhile reads (due_in units.slots.items) w c after o.now k
+      from_start k b = let a = b.answering in record {
         answering = record {
           unread = a.unread ∙ synced-taken (is_due units u) u o.now m.now (made.synced t);
           quiet = a.quiet ∙ synced-output (is_due units u) u o.now m.now (made.synced t);
@@ -313,7 +313,7 @@ module _ {C : Type 0} {reads : List ℕ → Option Store} {place : C → ℕ} {s
             b.beside j (looks-write v c j looks) unformed (λ is. absurd (apart j unformed (sym (some-same u j (sym looks ∙ is))))) ∙ others t j (apart j unformed);
       }
 
-  -- ---- where the device fails behind it
+  -- ---- where the device fails after it
 
   -- the world without the unit is the one before
   world-outcast : IsTrue told → thrown_out v u (λ _. lost) ≡ thrown_out w u (λ _. lost)
@@ -339,7 +339,7 @@ module _ {C : Type 0} {reads : List ℕ → Option Store} {place : C → ℕ} {s
     same = λ t untorn sure store. looks.moment ∙ subst (λ b. Synced-if b u o.now m.now) sure (made.synced t);
   }
 
-  -- ---- a mount behind it
+  -- ---- a mount after it
 
   pub mount-obeys : {T : Type 0} (reply : T → Reply) {after : Units C} {p : Outside} (result : Result T StoreFault) → (IsTrue told → MayLeave u o.now (image u o.now)) → ((j : ℕ) → LeftAlone j m p) → p.now ≡ m.now → Ended result m p
       → (GoesOn result → Stands place stands told after p) → (IsTrue told → Answers v (world_of reads after p) (command.Mount u) reply result)

@@ -58,7 +58,7 @@ impl<C: Card> Units<C> {
         let mut lines = Vec::new(self.alloc);
         for at in 0..MOST_SOUPS {
             let Some(soup) = card.soup_at(at) else {
-                // (behind the last one there are none: a `break` would have to be proved)
+                // (after the last one there are none: a `break` would have to be proved)
                 continue;
             };
             lines.push(soup_line(card, soup)?)?;

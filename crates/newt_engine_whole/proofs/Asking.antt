@@ -26,7 +26,7 @@ use Rattle.newt_laws_steps.specs.Answering.{Answering}
 use Rattle.newt_laws_steps.specs.StandsFor.{Obeys, seen}
 use Rattle.newt_laws_steps.specs.Thrown.{Failed, Threw}
 use Rattle.newt_laws_steps.proofs.Seen.{seen-step}
-use Rattle.newt_laws_whole.specs.Steps.{notes_behind, noting}
+use Rattle.newt_laws_whole.specs.Steps.{notes_after, noting}
 use Rattle.newt_laws_whole.proofs.Telling.{steps-tell}
 use Rattle.newt_laws_world.specs.Worlds.{is_plain}
 use Rattle.newt_laws_whole.specs.Runs.{DraftsFit}
@@ -89,13 +89,13 @@ module _ (w x : World) (mounted : (u : ℕ) → mounted_store w u ≡ mounted_st
   has-sig-by (command.Soup u s) r h = h ∙ ap replies.Reply.number (sig-by u)
   has-sig-by _ r h = tt
 
--- ---- what is told is what the world behind tells
+-- ---- what is told is what the world after tells
 
 module _ {C : Type 0} {reads : List ℕ → Option Store} {place : C → ℕ} {soups : C → Store} {stands : Bool → C → Outside → Type 0} (laws : Laws reads place soups stands)
     (old new : Engine C) (o p : Outside) (before : inner.Standing reads place stands true old.units old.desk o) (after : inner.Standing reads place stands true new.units new.desk p)
     (c : Command) (due : Due) (is : (r : replies.Reply) → HasSig (world_of reads old.units o) c r → all_due due r ≡ events (world_of reads old.units o) c) where
-  pub told-behind : (w v : World) (r : replies.Reply) → means reads old o w → means reads new p v → Step w c v r → due_told soups new.units due r ≡ notes_behind w c v r
-  told-behind w v r from to step = told-same soups new.units w v due (uid-on laws new.units new.desk p after v to) c r
+  pub told-after : (w v : World) (r : replies.Reply) → means reads old o w → means reads new p v → Step w c v r → due_told soups new.units due r ≡ notes_after w c v r
+  told-after w v r from to step = told-same soups new.units w v due (uid-on laws new.units new.desk p after v to) c r
       (λ q sig. is q (has-sig-by w (world_of reads old.units o) mounted from.default c q sig) ∙ sym (events-by w (world_of reads old.units o) mounted from.default c))
       (step-sig w c v r step)
     where
@@ -106,12 +106,12 @@ module _ {C : Type 0} {reads : List ℕ → Option Store} {place : C → ℕ} {s
 
 pub asked-step : {C : Type 0} (reads : List ℕ → Option Store) (old new : Whole C) (o p : Outside) (c : Command) (h : plain.Whole) (it : Reply) (notes : List Event) → is_plain c ≡ true → Means reads old o h
     → Obeys reads {R = Reply} {E = AllocError} said (means reads new.world p) h.world c (Ok it) o.now p.now
-    → ((v : World) → Step h.world c v (said it) → means reads new.world p v → notes ≡ notes_behind h.world c v (said it))
+    → ((v : World) → Step h.world c v (said it) → means reads new.world p v → notes ≡ notes_after h.world c v (said it))
     → ((watches : List (Option Watching)) → old.watches ≡ kept_all watches → new.watches ≡ kept_all (note_all notes watches)) → new.works ≡ old.works
     → Threw (said it) o.dev_faults p.dev_faults → Failed (said it) o.dev_faults p.dev_faults
     → Stepped {E = AllocError} WholeStep reads c (Ok it) h (Means reads new p) o.now p.now o.dev_faults p.dev_faults
 asked-step reads old new o p c h it notes plain m (v, turned, stands, moments) told watches works threw failed = record {
-  next = noting h v (notes_behind h.world c v (said it));
+  next = noting h v (notes_after h.world c v (said it));
   reply = said it;
   steps = steps-tell h c v (said it) plain turned.step;
   threw = threw;
@@ -134,7 +134,7 @@ pub asked-memory : {C : Type 0} (reads : List ℕ → Option Store) (old : Whole
     → Stepped {E = AllocError} WholeStep reads c (Err error) h After o.now p.now o.dev_faults p.dev_faults
 asked-memory reads old o p c h error After plain m may good moments later none =
     let a = answer (seen reads h.world o.now c) c in record {
-      next = noting h a.0 (notes_behind h.world c a.0 a.1);
+      next = noting h a.0 (notes_after h.world c a.0 a.1);
       reply = a.1;
       steps = steps-tell h c a.0 a.1 plain (seen-step reads (marks_of old.world) o h.world c m.world may good);
       threw = record { later = later; rose = λ u k. absurd (both-ways (sym (answer_quiet (seen reads h.world o.now c) c u) ∙ k)) };
@@ -160,7 +160,7 @@ module _ {C : Type 0} {reads : List ℕ → Option Store} {place : C → ℕ} {s
     };
     stepped = λ t h m. asked-step reads old new o p c h it (due_told soups mid.world.units due (said it)) itself m
         (subst (λ (w : Engine C). Obeys reads {R = Reply} {E = AllocError} said (means reads w p) h.world c (Ok it) o.now p.now) (sym tells.world) (a.obeyed t h.world m.world))
-        (λ v step there. told-behind laws old.world mid.world o p (standing-told begun.world t) (standing-told a.stands t) c due (is t) h.world v (said it) m.world
+        (λ v step there. told-after laws old.world mid.world o p (standing-told begun.world t) (standing-told a.stands t) c due (is t) h.world v (said it) m.world
         (subst (λ (w : Engine C). means reads w p v) tells.world there) step)
         (λ ws kept. tells.watches ws (watches ∙ kept)) (tells.works ∙ works) a.finished.threw a.finished.failed;
     ended = ended-plain itself a.finished;

@@ -55,7 +55,7 @@ module _ (w : World) (d : Command) (rest : List Command) (u : ℕ) where
       → IsOpenFor (most_put w (d ∷ rest) u) (image u o.now) → p.fetched u ≤ o.fetched u + most_taken w (d ∷ rest) u
   first-fetches o p b room = first-sum (p.fetched u) (o.fetched u) (most_taken w (d ∷ rest) u) (most_settled w d u) (most_taken w rest u) taken-is (b (first-room room))
 
-  -- the rest was asked behind it
+  -- the rest was asked after it
   module _ (o p q : Outside) (same : (n : ℕ) → IsOpenFor n (image u o.now) → IsOpenFor n (image u p.now)) where
     pub then-programs : ProgramsAtMost (most_programmed w d u) u o p → ProgramsInTurn w rest u p q → ProgramsInTurn w (d ∷ rest) u o q
     then-programs b c = record {

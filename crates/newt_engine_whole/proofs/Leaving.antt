@@ -26,7 +26,7 @@ pub refusal-leaves : (c : Command) (r : replies.Reply) → is_refusal r ≡ true
 refusal-leaves c (replies.Reply.refused refusal) is = refl
 refusal-leaves c _ is = absurd (both-ways is)
 
--- and no note is due behind it
+-- and no note is due after it
 pub refusal-told : {C : Type 0} (soups : C → Store) (units : Units C) (due : Due) (r : replies.Reply) → is_refusal r ≡ true → due_told soups units due r ≡ []
 refusal-told soups units due (replies.Reply.refused refusal) is = refl
 refusal-told soups units due _ is = absurd (both-ways is)
@@ -68,7 +68,7 @@ module _ {C : Type 0} where
   whole-apart c old new (Err error) world kept = tt
 
   -- the world was asked before
-  pub whole-behind : (c : Command) (old last : Whole C) (mid : World C) (result : Result Reply AllocError) → KeepsWorld c old.world mid
+  pub whole-after : (c : Command) (old last : Whole C) (mid : World C) (result : Result Reply AllocError) → KeepsWorld c old.world mid
       → IfOk result (λ it. is_refusal (said it) ≡ true → KeepsWhole c (record old { world = mid }) last) → IfOk result (λ it. is_refusal (said it) ≡ true → KeepsWhole c old last)
-  whole-behind c old last mid (Ok it) first kept = λ is. let k = kept is in record { world = world-append first k.world; watches = k.watches; works = k.works }
-  whole-behind c old last mid (Err error) first kept = tt
+  whole-after c old last mid (Ok it) first kept = λ is. let k = kept is in record { world = world-append first k.world; watches = k.watches; works = k.works }
+  whole-after c old last mid (Err error) first kept = tt

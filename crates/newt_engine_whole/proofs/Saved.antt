@@ -41,7 +41,7 @@ use Rattle.newt_engine_whole.specs.Bounds.{ProgramsInTurn, most_put, most_taken}
 use Rattle.newt_engine_whole.specs.Calls.{Applied, AppliedRest, rest_asked}
 use Rattle.newt_engine_whole.specs.Standing.{Means, Standing, known_whole}
 use Rattle.newt_engine_whole.specs.declared.whole.Whole.{Whole}
-use Rattle.newt_engine_whole.proofs.Leaving.{whole-behind, world-as}
+use Rattle.newt_engine_whole.proofs.Leaving.{whole-after, world-as}
 use Rattle.newt_engine_whole.proofs.Costing.{then-fetches, then-programs}
 use Rattle.newt_engine_whole.proofs.Turns.{in-turn}
 use Rattle.newt_engine_whole.proofs.Unanswered.{get-stays}
@@ -139,7 +139,7 @@ changes w u uid s g no_room v r tests (found {u = x} looks has is) = absurd (non
 changes w u uid s g no_room v r tests (thrown {u = x} next is) = inr (inr (x, next, is))
 changes w u uid s g no_room v r tests (halfway {u = x} moves ok next is) = absurd (both-ways moves)
 
--- ---- a command behind the reading of an entry
+-- ---- a command after the reading of an entry
 
 rose-later : (a b c : ℕ) → a ≤ b → min (b + 1) (2 ^ 64 - 1) ≤ c → min (a + 1) (2 ^ 64 - 1) ≤ c
 rose-later a b c less rose = grind (arith, less, rose)
@@ -197,7 +197,7 @@ module _ {C : Type 0} {reads : List ℕ → Option Store} {place : C → ℕ} {s
         never_memory = λ none. absurd (both-ways (sym none));
         never_thrown = λ none. absurd (both-ways (sym none));
       };
-      kept = whole-behind (command.Save n) old last mid result (world-as refl refl (a.kept refl)) b.kept;
+      kept = whole-after (command.Save n) old last mid result (world-as refl refl (a.kept refl)) b.kept;
     }
       where
         w : World

@@ -126,7 +126,7 @@ same-minute : (w : World) (u uid : ℕ) (s : List ℕ) (g : RawGraph) → (settl
 unfolding changed
 same-minute w u uid s g = refl
 
--- the world behind a save is the one behind its change, done or refused
+-- the world after a save is the one after its change, done or refused
 saved-world : (h : plain.Whole) (n : ℕ) (at : Place) (draft : RawGraph) (b : IsBase h n at draft) → (answer h.world (change_of b.is.of b.is.spot)).0 ≡ (whole_answer h (command.Save n)).0.world
 unfolding answer
 saved-world h n at draft b = go (full h.world b.is.spot.unit (change_of b.is.of b.is.spot)).1 refl

@@ -1,4 +1,4 @@
--- What the watches are told behind a reply is what the world behind the step tells.
+-- What the watches are told after a reply is what the world after the step tells.
 use Rattle.std.proofs.Common.{◌≡◌, refl, ap, sym, ◌∙◌, subst, ℕ, List, [], ◌∷◌, true, false, Bool, not, ◌==◌, ◌&&◌, nat_le, length, take, Option, Some, None, option_map, option_and_then, unwrap_or, if◌then◌else◌}
 use Rattle.std.specs.Prelude.{is_none}
 use Rattle.newt_base.specs.Refusals.{first_of}
@@ -16,7 +16,7 @@ use Rattle.newt_spec_world.specs.declared.command.Command.{Command}
 use Rattle.newt_spec_world.specs.declared.command.Command.TheVariants as command
 use Rattle.newt_laws_world.proofs.Kept.{all-false}
 use Rattle.newt_laws_steps.proofs.Replying.{is_fault}
-use Rattle.newt_laws_whole.specs.Steps.{has_taken, is_past, notes_behind}
+use Rattle.newt_laws_whole.specs.Steps.{has_taken, is_past, notes_after}
 use Rattle.newt_engine_units.specs.Looks.{next_uid_on}
 use Rattle.newt_engine_units.specs.declared.units.Units.{Units}
 use Rattle.newt_engine_whole.specs.Told.{HasSig, all_due, due_told, event_of, failed_due}
@@ -113,7 +113,7 @@ module _ {C : Type 0} (soups : C → Store) (units : Units C) (w v : World) wher
 
   module _ (due : Due) (uids : (u : ℕ) (name : List ℕ) → option_map (λ p. p.next_uid) (soup_in v u name) ≡ next_uid_on soups units u name) where
     failed-move : (t uid x : ℕ) (s y : List ℕ) → let c = command.Move t s uid x y in ((r : Reply) → HasSig w c r → all_due due r ≡ events w c)
-        → (u : ℕ) → failed_due soups units due u ≡ notes_behind w c v (Reply.thrown u)
+        → (u : ℕ) → failed_due soups units due u ≡ notes_after w c v (Reply.thrown u)
     unfolding events
     failed-move t uid x s y is u =
         both-of due Reply.done (add_event w x y) (entry_event w Remove t s uid) (is Reply.done tt) u
@@ -121,16 +121,16 @@ module _ {C : Type 0} (soups : C → Store) (units : Units C) (w v : World) wher
         (ap (λ (o : Option ℕ). let b : Bool = elim o [ None ↦ false | Some next ↦ not (next == new_uid w x y) ] in b) (sym (uids x y)) ∙ past-of (new_uid w x y) (soup_in v x y))
 
     failed-other : (c : Command) → is_move c ≡ false → ((r : Reply) → HasSig w c r → all_due due r ≡ events w c)
-        → (u : ℕ) → failed_due soups units due u ≡ notes_behind w c v (Reply.thrown u)
+        → (u : ℕ) → failed_due soups units due u ≡ notes_after w c v (Reply.thrown u)
     failed-other c other is u = few-of due (some_reply w c) (events w c) (is (some_reply w c) (some_sig w c)) (few w c other) u
         ∙ sym (ap (λ (b : Bool). if b && has_taken w c v then take 1 (events w c) else []) (stays c u other))
 
-    failed-same : (c : Command) → ((r : Reply) → HasSig w c r → all_due due r ≡ events w c) → (u : ℕ) → failed_due soups units due u ≡ notes_behind w c v (Reply.thrown u)
+    failed-same : (c : Command) → ((r : Reply) → HasSig w c r → all_due due r ≡ events w c) → (u : ℕ) → failed_due soups units due u ≡ notes_after w c v (Reply.thrown u)
     failed-same (command.Move t s uid x y) is u = failed-move t uid x s y is u
     failed-same c is u = failed-other c refl is u
 
     pub told-same : (c : Command) (r : Reply) → ((r : Reply) → HasSig w c r → all_due due r ≡ events w c) → (is_fault r ≡ false → HasSig w c r)
-        → due_told soups units due r ≡ notes_behind w c v r
+        → due_told soups units due r ≡ notes_after w c v r
     told-same c (Reply.refused x) is sig = refl
     told-same c (Reply.thrown u) is sig = failed-same c is u
     told-same c r is sig = is r (sig refl)

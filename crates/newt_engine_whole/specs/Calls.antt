@@ -28,7 +28,7 @@ use Rattle.newt_engine_whole.specs.Kept.{KeepsWhole, is_refusal}
 use Rattle.newt_engine_whole.specs.Standing.{AreKept, Means, Standing, known_whole}
 use Rattle.newt_engine_whole.specs.declared.whole.Whole.{Whole}
 
--- what a command asks behind the first, in the known whole
+-- what a command asks after the first, in the known whole
 abbrev pub rest_asked : {C : Type 0} → (List ℕ → Option Store) → Whole C → Outside → Command
     → List Command
 rest_asked reads old before command = drop 1 (asked_in_turn (known_whole reads old before) command)

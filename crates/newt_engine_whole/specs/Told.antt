@@ -55,7 +55,7 @@ module _ {C : Type 0} (soups : C → Store) where
       if is_halfway units first second u then event_of first ∷ [] else []
   failed_due units due u = []
 
-  -- the notes behind a reply, by the units as they are then
+  -- the notes after a reply, by the units as they are then
   abbrev pub due_told : Units C → Due → world.Reply → List Event
   due_told units due (world.Reply.refused refusal) = []
   due_told units due (world.Reply.thrown u) = failed_due units due u

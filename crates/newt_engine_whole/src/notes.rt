@@ -72,7 +72,7 @@ impl<C: Card> Whole<C> {
         Ok(reply)
     }
 
-    /// Tells the watches what is due behind a reply. It takes no memory.
+    /// Tells the watches what is due after a reply. It takes no memory.
     fn tell(&mut self, due: &Due, reply: &Reply)
         ensures { Tells (due_told C.soups self.old.world.units due.now (said reply.now))
             self.old self.new }

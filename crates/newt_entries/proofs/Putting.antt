@@ -122,7 +122,7 @@ all-within g is = go g.nodes is.each
 
 -- ---- the walk
 
--- the bytes that are left behind nodes
+-- the bytes that are left after nodes
 abbrev left_of : List Node → List (List ℕ) → List (List ℕ)
 left_of [] bs = bs
 left_of (x ∷ xs) bs = left_of xs (put_node x bs).1

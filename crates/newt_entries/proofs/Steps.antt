@@ -16,7 +16,7 @@ use Rattle.newt_entries.specs.Entry.{row_at, rows_in}
 use Rattle.newt_entries.specs.Filling.{bytes_in, length_in, put_node, put_in}
 use Rattle.newt_entries.proofs.Putting.{larges-few}
 
--- one row more behind those that are there
+-- one row more after those that are there
 pushed : (rows next : List LargeAt) (l : LargeAt) (rest : List LargeRow) → next ≡ rows ++ l ∷ [] → map row_at next ++ rest ≡ map row_at rows ++ (row_at l ∷ rest)
 pushed rows next l rest e = ap (λ ls. map row_at ls ++ rest) e ∙ ap (λ ls. ls ++ rest) (map-append row_at rows (l ∷ [])) ∙ append_assoc (map row_at rows) (row_at l ∷ []) rest
 
@@ -30,7 +30,7 @@ rows-more rows next (suc m) left rest l all some is e r so_far =
     pushed rows next l (rows_in (suc m - 1) rest) e
     ∙ (λ i. map row_at rows ++ (is i ∷ rows_in (one i) (r i))) ∙ so_far
 
--- what is behind the first n
+-- what is after the first n
 pub rest-is : {X : Type 0} (n : ℕ) (xs : List X) → take (length xs - n) (drop n xs) ≡ drop n xs
 rest-is n xs = take_all (length xs - n) (drop n xs) (omega (arith, length-drop n xs))
 

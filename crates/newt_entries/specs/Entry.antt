@@ -41,7 +41,8 @@ abbrev pub rows_in : ℕ → List ℕ → List LargeRow
 rows_in zero bytes = []
 rows_in (suc n) bytes = (be32_at bytes 0, be32_at bytes 4, be32_at bytes 8) ∷ rows_in n (drop 12 bytes)
 
--- the rows name each large binary of the nodes, which are numbered from k on, in order, and none of these has bytes
+-- the rows name each large binary of the nodes, in order, and none of these has bytes; the nodes
+-- are numbered from k on
 abbrev pub names_from : ℕ → List Node → List LargeRow → Bool
 names_from k nodes rows =
     bytes_eq (map (λ l. l.0) (flat_map large_in (enumerate_from k nodes))) (map (λ l. l.0) rows) && list_all (λ l. length l.1 == 0) (flat_map large_in (enumerate_from k nodes))

@@ -3,12 +3,12 @@ use Rattle.std.specs.Prelude.{ℕ, ◌<◌, List, [], ◌∷◌, length, All, Op
 use Rattle.newt_graph.specs.declared.node.Node.{Node}
 use Rattle.newt_graph.specs.declared.node.Node.TheVariants.{Large}
 
--- the bytes of a large binary, none of another node
+-- the bytes of a large binary; none of another node
 abbrev pub bytes_in : Node → List (List ℕ)
 bytes_in (Large _ bytes) = bytes ∷ []
 bytes_in _ = []
 
--- how many bytes a large binary has, none of another node
+-- how many bytes a large binary has; none of another node
 abbrev pub length_in : Node → Option ℕ
 length_in (Large _ bytes) = Some (length bytes)
 length_in _ = None

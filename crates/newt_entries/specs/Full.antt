@@ -1,4 +1,4 @@
--- Entries whole, as a program has them.
+-- Entries with all their bytes, as a program has them.
 use Rattle.std.specs.Prelude.{ℕ}
 use Rattle.newt_spec_store.specs.Store.{Entry}
 use Rattle.newt_entries.specs.declared.full.FullEntry.{FullEntry}

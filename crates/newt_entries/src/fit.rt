@@ -41,7 +41,8 @@ fn are_named(nodes: &[Node], rows: &[LargeAt]) -> bool
     named.is_empty()
 }
 
-/// Whether an object may be that of a large binary: it is even and not 0, which is the directory's.
+/// Whether an object may be that of a large binary: its number is even and not 0, which is the
+/// directory's.
 fn may_be_large(row: &LargeAt) -> bool
     ensures { result ≡ may_be_large (row_at row.now) }
 {
@@ -87,8 +88,8 @@ fn lengths_of(rows: &[LargeAt]) -> usize
     total
 }
 
-/// Whether a skeleton with as many bytes in its large binaries as the rows say is within the limits
-/// of one graph.
+/// Whether a skeleton, with as many bytes in its large binaries as the rows say, is within the
+/// limits of one graph.
 fn is_within(skeleton: &Graph, rows: &[LargeAt]) -> bool
     requires { names_from 0 skeleton.now.nodes (map row_at rows.now) ≡ true }
     ensures { result ≡ within_limits (stretched (map row_at rows.now) skeleton.now) }

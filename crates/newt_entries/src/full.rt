@@ -1,4 +1,4 @@
-//! Entries whole.
+//! Entries with all their bytes.
 ghost use Rattle.std.specs.Prelude.{◌≡◌, IfOk};
 
 use newt_base::{Sig, Uid};

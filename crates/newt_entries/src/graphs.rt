@@ -109,7 +109,7 @@ fn put_in(alloc: Global, nodes: &[Node], larges: Vec<Vec<u8>>) -> Result<Vec<Nod
     Ok(out)
 }
 
-/// The graph of a row, with these bytes in its large binaries: those of its objects, in order.
+/// The graph of a row, with these bytes in its large binaries: the bytes of its objects, in order.
 pub fn filled(alloc: Global, row: &EntryRow, larges: Vec<Vec<u8>>) -> Result<Graph, AllocError>
     requires fit { fits (map row_at row.now.larges) row.now.skeleton ≡ true }
     requires lengths { map (λ bytes. length bytes.items) larges.items
@@ -126,7 +126,7 @@ pub fn filled(alloc: Global, row: &EntryRow, larges: Vec<Vec<u8>>) -> Result<Gra
     Ok(Graph::of(nodes, row.skeleton.root()))
 }
 
-/// The same graph, of a row that is given away: where it has no large binaries nothing is copied.
+/// The same graph, of a row by value: where it has no large binaries, nothing is copied.
 pub fn whole(alloc: Global, row: EntryRow, larges: Vec<Vec<u8>>) -> Result<Graph, AllocError>
     requires fit { fits (map row_at row.larges) row.skeleton ≡ true }
     requires lengths { map (λ bytes. length bytes.items) larges.items
@@ -147,7 +147,7 @@ pub fn whole(alloc: Global, row: EntryRow, larges: Vec<Vec<u8>>) -> Result<Graph
     Ok(row.skeleton)
 }
 
-/// Puts a copy of the bytes of a large binary behind others.
+/// Puts a copy of the bytes of a large binary after others.
 fn add_bytes(larges: &mut Vec<Vec<u8>>, alloc: Global, node: &Node) -> Result<(), AllocError>
     ensures { OnOk result (map (λ bytes. bytes.items) larges.new.items ≡ map (λ bytes. bytes.items)
         larges.old.items ++ bytes_in node.now) }
@@ -230,7 +230,7 @@ fn rows_of(alloc: Global, nodes: &[Node], ids: &[u32]) -> Result<Vec<LargeAt>, A
     Ok(rows)
 }
 
-/// The row of an entry to be written: of its graph, whose large binaries have these objects.
+/// The row to be written for an entry with this graph, whose large binaries have these objects.
 pub fn row_of(
     alloc: Global,
     soup: Sig,

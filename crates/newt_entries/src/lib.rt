@@ -1,10 +1,10 @@
 //! Entry records as bytes.
 //!
 //! It stands on `newt_graph`, on the reader of flat texts and their writer, and on the definitions
-//! of stores. It carries this promise: a record is read from exactly the bytes that
-//! have one by the store's reading, and is written as the store's definition says. The bytes of
-//! large binaries are no part of a record: it has the graph without them, and names their objects.
-//! An entry whole (`FullEntry`) is what backups and fills hand on.
+//! of stores. It carries this promise: a record is read from exactly the bytes that have one by the
+//! store's reading, and is written as the store's definition says. A record has the graph without
+//! the bytes of its large binaries, and names their objects. Backups and fills hand on entries
+//! whole (`FullEntry`).
 #![tactic(auto)]
 
 mod fault;

@@ -61,9 +61,9 @@ fn rows_of(alloc: Global, bytes: &[u8], count: usize) -> Result<Vec<LargeAt>, Al
     Ok(rows)
 }
 
-/// The record that all of the bytes are read as, beside other objects: at most 65,535 large
-/// binaries of at most 1,000,000 bytes each, which are those of its skeleton. `Bad` comes only
-/// where the bytes are no record. The objects that it names are not looked at.
+/// The record that all of the bytes are read as. It has at most 65,535 large binaries of at most
+/// 1,000,000 bytes each, which are those of its skeleton. `Bad` comes only where the bytes are no
+/// record. The objects that it names are not looked at.
 pub fn read_entry(alloc: Global, bytes: &[u8]) -> Result<EntryRow, EntryFault>
     ensures found { IfOk result (λ row. record_read stream_graph bytes.now ≡ Some (said row)) }
     ensures fit { IfOk result (λ row. fits (map row_at row.larges) row.skeleton ≡ true) }

@@ -6,8 +6,8 @@ use newt_graph::Graph;
 use std::alloc::AllocError;
 use std::marker::Model;
 
-/// A large binary in a record: the number of its node, from 0 in the order of the graph's nodes;
-/// the object that has its bytes, even and not 0; and how many bytes these are, at most 1,000,000.
+/// A large binary in a record. It has the number of its node, from 0 in the order of the graph's
+/// nodes; the object with its bytes, even and not 0; and their number, at most 1,000,000.
 #[derive(Clone, Copy, Debug, PartialEq, Eq)]
 pub struct LargeAt {
     pub node: u32,
@@ -31,7 +31,7 @@ impl Model for Larges {
 }
 
 impl Larges {
-    /// These large binaries.
+    /// The list of these large binaries.
     pub fn of(items: Vec<LargeAt>) -> Self
         ensures { result ≡ items.items }
     {
@@ -45,7 +45,7 @@ impl Larges {
         self.items.as_slice()
     }
 
-    /// All of them, given away.
+    /// All of them, by value.
     pub fn into_vec(self) -> Vec<LargeAt>
         ensures { result.items ≡ self }
     {
@@ -63,8 +63,8 @@ impl Larges {
 }
 
 /// An entry's record: the signature of its soup, at most 65,535; its id; the minute of its last
-/// change; its graph without the bytes of large binaries; and what is said of each large binary, at
-/// most 65,535 of them. What `read_entry` gives keeps these limits.
+/// change; its graph without the bytes of large binaries; and a row for each of these, at most
+/// 65,535. What `read_entry` gives keeps these limits.
 #[derive(Drop)]
 pub struct EntryRow {
     pub soup: Sig,

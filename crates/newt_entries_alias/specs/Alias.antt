@@ -1,4 +1,5 @@
--- Aliases as a program has them, and their graphs. That an alias is an array with class `alias` and the three numbers is this project's own.
+-- Aliases as a program has them, and their graphs. It is this project's own that an alias is an
+-- array with class `alias` and the three numbers.
 use Rattle.std.specs.Prelude.{◌≡◌, ℕ, ◌≤◌, Bool, List, [], ◌∷◌, Option, Some, None, codes, option_map, option_and_then, if◌then◌else◌}
 use Rattle.newt_base.specs.Names.{same_name}
 use Rattle.newt_graph.specs.declared.node.Node.{Node}

@@ -12,7 +12,7 @@ use newt_base::{Sig, Uid};
 use newt_graph::{Bytes, Graph, Node, Ref, Refs};
 use std::alloc::{AllocError, Global};
 
-/// What names an entry for as long as it is there.
+/// An alias: what names an entry for as long as it is there.
 #[derive(Clone, Copy, PartialEq, Eq, Debug)]
 pub struct Alias {
     /// The signature of the store.
@@ -45,7 +45,8 @@ fn is_alias_name(name: &[u8]) -> bool
     b"alias".eq_ignore_ascii_case(name)
 }
 
-/// Whether a class is named alias. A class that is no symbol, which no graph has, counts as one.
+/// Whether a class is named alias. A class that is no symbol, which no graph has, counts as such a
+/// class.
 fn is_alias_class(nodes: &[Node], class: u32) -> bool
     ensures { result ≡ is_alias_class nodes.now class }
 {
@@ -65,7 +66,7 @@ fn integer(number: u32) -> Ref
 
 impl Alias {
     /// The alias that a graph is: an array with class `alias` and three integers that are not
-    /// negative.
+    /// negative. None where the graph is no alias.
     pub fn read(graph: &Graph) -> Option<Alias>
         ensures { option_map alias_said result ≡ plain.alias_of graph.now }
     {
@@ -104,7 +105,7 @@ impl Alias {
         Some(Alias { store, soup, uid })
     }
 
-    /// The graph of an alias whose numbers are at most 536,870,911 each, the greatest integer.
+    /// The graph of an alias, each of whose numbers is at most 536,870,911, the greatest integer.
     pub fn graph(&self, alloc: Global) -> Result<Graph, AllocError>
         requires { Fits self.now }
         ensures graph { IfOk result (λ g. g ≡ alias_graph self.now) }

@@ -31,8 +31,8 @@ front_chars s n x u e = ap chars e ∙ chars-append n x u
 pub begins : (s n x : List ℕ) → IsUtf8 n → s ≡ n ++ x → starts_with nat_eq (chars s) (chars n) ≡ true
 begins s n x u e = (starts_is Decides-eqb (chars s) (chars n) (starts_with nat_eq (chars s) (chars n)) refl).1 (chars x) (front_chars s n x u e)
 
-pub behind : (s n x : List ℕ) → IsUtf8 n → s ≡ n ++ x → drop (length (chars n)) (chars s) ≡ chars x
-behind s n x u e = ap (drop (length (chars n))) (front_chars s n x u e) ∙ dropped (chars n) (chars x)
+pub after : (s n x : List ℕ) → IsUtf8 n → s ≡ n ++ x → drop (length (chars n)) (chars s) ≡ chars x
+after s n x u e = ap (drop (length (chars n))) (front_chars s n x u e) ∙ dropped (chars n) (chars x)
 
 pub begins_not : (s n : List ℕ) → IsUtf8 s → IsUtf8 n → ((rest : List ℕ) → s ≢ n ++ rest) → starts_with nat_eq (chars s) (chars n) ≡ false
 begins_not s n us un none = by (starts_with nat_eq (chars s) (chars n)) refl

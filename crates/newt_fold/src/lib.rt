@@ -2,7 +2,7 @@
 //!
 //! It stands on `caseless` for the tables of folding, on `ucd_case` for what they hold of ASCII, on
 //! `memchr` for the search, and on the definition of words. It carries this promise: units are read
-//! as UTF-16 with each lone surrogate as U+FFFD, case is folded by Unicode's default table, and a
+//! as UTF-16, with each lone surrogate as U+FFFD, and case is folded by Unicode's default table. A
 //! word or a part is found exactly where the definition has it, character by character.
 #![tactic(auto)]
 
@@ -76,19 +76,19 @@ pub fn has_text(folded_text: &str, folded_part: &str) -> bool
     memmem::find(folded_text.as_bytes(), folded_part.as_bytes()).is_some()
 }
 
-/// Whether a word of the text begins with the given one or, where that is entire, is it. Both are
+/// Whether a word of the text begins with the given one or, if `entire`, is that one. Both are
 /// folded.
 pub fn has_word(folded_text: &str, folded_word: &str, entire: bool) -> bool
     ensures { result ≡ spec.has_word (chars folded_text.now) (chars folded_word.now) entire }
 {
     let mut before = false;
     let mut rest = folded_text;
-    while let Some((first, behind)) = split_first(rest) {
+    while let Some((first, after)) = split_first(rest) {
         if word_begins(rest, folded_word, before, entire) {
             return true;
         }
         before = is_word_char(first);
-        rest = behind;
+        rest = after;
     }
     false
 }
@@ -114,16 +114,16 @@ fn word_begins(text: &str, word: &str, before: bool, entire: bool) -> bool
         return false;
     }
     match text.strip_prefix(word) {
-        Some(behind) => may_end(behind, entire),
+        Some(after) => may_end(after, entire),
         None => false,
     }
 }
 
-/// Whether a word may end before this text.
-fn may_end(behind: &str, entire: bool) -> bool
-    ensures { result ≡ not (entire && spec.begins_with_word_char (chars behind.now)) }
+/// Whether a word may end where this text begins.
+fn may_end(after: &str, entire: bool) -> bool
+    ensures { result ≡ not (entire && spec.begins_with_word_char (chars after.now)) }
 {
-    !entire || !begins_with_word_char(behind)
+    !entire || !begins_with_word_char(after)
 }
 
 fn begins_with_word_char(text: &str) -> bool

@@ -1,4 +1,4 @@
--- What a builder keeps when a graph is put behind its nodes.
+-- What a builder keeps when a graph is put after its nodes.
 use Rattle.std.proofs.Common.{◌≡◌, ℕ, suc, ◌+◌, ◌-◌, ◌≤◌, List, [], ◌∷◌, ◌++◌, length, map, All, Bool, true, false, Option, Some, None, refl, sym, ap, subst, append_assoc, arith, cond, inl, inr, ◌⊎◌}
 use Rattle.std.specs.Prelude.{slice_get, nat_le, if◌then◌else◌}
 use Rattle.std.proofs.lemmas.Bool.{leb-true}
@@ -79,10 +79,10 @@ kept_once old to (node ∷ nodes) before once own none =
           ])))
     ]
 
-pub behind_kept : (old : List Node) (g : RawGraph) (to : ℕ → ℕ) (added items : List Node) (total left : ℕ) → IsGraph g → added ≡ map (renamed to) (kept_of old g.nodes) → items ≡ old ++ added
+pub after_kept : (old : List Node) (g : RawGraph) (to : ℕ → ℕ) (added items : List Node) (total left : ℕ) → IsGraph g → added ≡ map (renamed to) (kept_of old g.nodes) → items ≡ old ++ added
     → length old + length added ≤ 131072 → sum_by payload added ≤ 33554432 - total → left ≡ 33554432 - total - sum_by payload added
     → IsDraft old × (total ≡ sum_by payload old) → IsDraft items × (33554432 - left ≡ sum_by payload items)
-behind_kept old g to added items total left graph is all few light rest h =
+after_kept old g to added items total left graph is all few light rest h =
     let sums = sum_by-append payload old added in
     let sum : 33554432 - left ≡ sum_by payload (old ++ added) = omega (arith, sums, light, rest, h.1, h.0.light) in
     rw all (

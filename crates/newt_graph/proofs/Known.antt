@@ -166,14 +166,14 @@ knows_slot number nodes n node tags values tag value e knows = set_with number n
 
 -- ---- new nodes one after another
 
--- a new symbol that is the next to stand behind the others
+-- a new symbol that is the next to stand after the others
 pub knows_next : (before after : List ℕ → Option ℕ) (old new : List Node) (i n : ℕ) (d : Node) (name : List ℕ) → i < length new → n ≡ length old + i → get_or new i d ≡ Symbol name → AreFoldedOnce (old ++ new)
     → NotesBy before name n after → KnowsBy before (old ++ take i new) → KnowsBy after (old ++ take (i + 1) new)
 knows_next before after old new i n d name lt is here once notes knows =
     let so_far = old ++ take i new in
     let long : length so_far ≡ length old + i = omega (arith, length-append old (take i new), length-take i new, lt) in
     let whole : old ++ take (i + 1) new ≡ so_far ++ Symbol name ∷ [] = rw (take_more new i d lt, here) (sym (append_assoc old (take i new) (Symbol name ∷ []))) in
-    let there : slice_get (old ++ new) (length old + i) ≡ Some (Symbol name) = get_behind old new i (length old + i) (Symbol name) refl (any_at new i d lt ∙ ap (λ (x : Node). Some x) here) in
+    let there : slice_get (old ++ new) (length old + i) ≡ Some (Symbol name) = get_after old new i (length old + i) (Symbol name) refl (any_at new i d lt ∙ ap (λ (x : Node). Some x) here) in
     subst (KnowsBy after) (sym whole)
     (knows_symbol before after so_far name knows
     (λ k alike.
@@ -184,10 +184,10 @@ knows_next before after old new i n d name lt is here once notes knows =
     absurd (omega (arith, within, same, long)))
     (subst (λ (m : ℕ). NotesBy before name m after) (is ∙ sym long) notes))
   where
-    get_behind : {X : Type 0} (xs ys : List X) (k m : ℕ) (x : X) → m ≡ length xs + k → slice_get ys k ≡ Some x → slice_get (xs ++ ys) m ≡ Some x
-    get_behind [] ys k m x same e = let here : k ≡ m = omega (arith, same) in subst (λ (m : ℕ). slice_get ys m ≡ Some x) here e
-    get_behind (y ∷ xs) ys k zero x same e = absurd (omega (arith, same))
-    get_behind (y ∷ xs) ys k (suc m) x same e = get_behind xs ys k m x (omega (arith, same)) e
+    get_after : {X : Type 0} (xs ys : List X) (k m : ℕ) (x : X) → m ≡ length xs + k → slice_get ys k ≡ Some x → slice_get (xs ++ ys) m ≡ Some x
+    get_after [] ys k m x same e = let here : k ≡ m = omega (arith, same) in subst (λ (m : ℕ). slice_get ys m ≡ Some x) here e
+    get_after (y ∷ xs) ys k zero x same e = absurd (omega (arith, same))
+    get_after (y ∷ xs) ys k (suc m) x same e = get_after xs ys k m x (omega (arith, same)) e
 
 -- a node of another kind is the next
 pub knows_pass : (number : List ℕ → Option ℕ) (old new : List Node) (i : ℕ) (d : Node) → i < length new → ((name : List ℕ) → get_or new i d ≡ Symbol name → ⊥) → KnowsBy number (old ++ take i new) → KnowsBy number (old ++ take (i + 1) new)

@@ -16,6 +16,7 @@ pub record RawGraph : Type 0 where
   pub nodes : List Node
   pub root : Ref
 
+-- a name in lower case
 abbrev pub folded : List ℕ → List ℕ
 folded name = map to_ascii_lowercase name
 
@@ -23,6 +24,7 @@ folded name = map to_ascii_lowercase name
 abbrev pub IsNamed : List Node → ℕ → List ℕ → Type 0
 IsNamed nodes k name = slice_get nodes k ≡ Some (Symbol name)
 
+-- node k is a symbol
 abbrev pub IsSymbol : List Node → ℕ → Type 0
 IsSymbol nodes k = (name : List ℕ) × IsNamed nodes k name
 
@@ -30,13 +32,13 @@ IsSymbol nodes k = (name : List ℕ) × IsNamed nodes k name
 abbrev pub IsAlike : List Node → ℕ → List ℕ → Type 0
 IsAlike nodes k name = (old : List ℕ) × IsNamed nodes k old × (folded old ≡ folded name)
 
--- 1 to 254 bytes from 32 to 126
+-- the name of a symbol: 1 to 254 bytes from 32 to 126
 pub record IsName (name : List ℕ) : Type 0 where
   pub some : 0 < length name
   pub few : length name < 255
   pub each : All (λ b. (32 ≤ b) × (b < 127)) name
 
--- a word of 32 bits that stands for itself: its low two bits are not those of a pointer
+-- a word of 32 bits that stands for itself: its low two bits are not 01, which mark a pointer
 pub record IsWord (w : ℤ) : Type 0 where
   pub fits : FitsSigned w32 w
   pub low : cast_unsigned w32 w % 4 ≢ 1
@@ -45,11 +47,13 @@ pub record IsWord (w : ℤ) : Type 0 where
 abbrev pub integer : ℕ → Ref
 integer n = refs.Imm (pos (4 * n))
 
--- A walk that has met so many nodes comes to a class or a tag. The list is what it meets anew from there, in order.
+-- A walk that has met so many nodes comes to a class or a tag. The list has the nodes that it meets
+-- there for the first time, in order.
 pub data WalkLabel : (met : ℕ) → ℕ → List Node → Type 0 where
   again : {met k : ℕ} → k < met → WalkLabel met k []
   symbol : {met : ℕ} {name : List ℕ} → WalkLabel met met (Symbol name ∷ [])
 
+-- the same for tags, one after another
 pub data WalkLabels : (met : ℕ) → List ℕ → List Node → Type 0 where
   none : {met : ℕ} → WalkLabels met [] []
   more : {met k : ℕ} {ks : List ℕ} {first others : List Node}
@@ -57,7 +61,8 @@ pub data WalkLabels : (met : ℕ) → List ℕ → List Node → Type 0 where
       → WalkLabels (met + length first) ks others
       → WalkLabels met (k ∷ ks) (first ++ others)
 
--- The same for a value: a container comes before its tags and values, and at most room containers are open within one another.
+-- The same for a value, and for values one after another. A container comes before its tags and
+-- values, and at most `room` containers are open within one another.
 mutual
   pub data Walk : (room met : ℕ) → Ref → List Node → Type 0 where
     word : {room met : ℕ} {w : ℤ} → IsWord w → Walk room met (refs.Imm w) []
@@ -105,16 +110,17 @@ pub record IsFrame (nodes : List Node) (tags : List ℕ) (values : List Ref) : T
   pub paired : length values ≡ length tags
   pub symbols : All (IsSymbol nodes) tags
 
--- 16-bit units, of which two bytes each and two more are within the limit
+-- the 16-bit units of a string: two bytes for each and two more are within the limit
 pub record IsText (units : List ℕ) : Type 0 where
   pub few : 2 * length units + 2 ≤ most_data
   pub each : All (λ u. u < 65536) units
 
--- as many bytes as a binary may have
+-- the bytes of a binary: they are within the limit
 pub record IsData (bytes : List ℕ) : Type 0 where
   pub few : length bytes ≤ most_data
   pub each : All (λ b. b < 256) bytes
 
+-- the rules of a node among these nodes
 abbrev pub IsNode : List Node → Node → Type 0
 IsNode nodes (Symbol name) = IsName name
 IsNode nodes (Frame tags values) = IsFrame nodes tags values
@@ -124,7 +130,8 @@ IsNode nodes (Array None values) = length values ≤ most_slots
 IsNode nodes (Array (Some class) values) = IsSymbol nodes class × (length values ≤ most_slots)
 IsNode nodes (Large class bytes) = IsSymbol nodes class × IsData bytes
 
--- the bytes of a string, a binary or a large binary
+-- how many bytes a string, with its last unit, a binary or a large binary has; another node has
+-- none
 abbrev pub payload : Node → ℕ
 payload (Symbol name) = 0
 payload (Str units) = 2 * length units + 2
@@ -133,19 +140,20 @@ payload (Large class bytes) = length bytes
 payload (Array class values) = 0
 payload (Frame tags values) = 0
 
--- strings, binaries and large binaries are within the limit together
+-- the bytes of all strings, binaries and large binaries together are within the limit
 abbrev pub AreLight : List Node → Type 0
 AreLight nodes = sum_by payload nodes ≤ most_bytes
 
--- whether they are
+-- the same as a test
 abbrev pub are_light : List Node → Bool
 are_light nodes = nat_le (sum_by payload nodes) most_bytes
 
--- no two symbols are alike
+-- no two symbols are alike but for ASCII case
 abbrev pub AreFoldedOnce : List Node → Type 0
 AreFoldedOnce nodes = (i k : ℕ) (name : List ℕ) → IsNamed nodes i name → IsAlike nodes k name → i ≡ k
 
--- Normal form: node i is the one that the walk from the root meets as the i-th, each node is met, no two symbols are alike, and the limits hold.
+-- Normal form: the nodes stand in the order in which the walk from the root first meets them. Each
+-- node is met, no two symbols are alike, and the limits hold.
 pub record IsGraph (g : RawGraph) : Type 0 where
   pub walk : Walk most_open 0 g.root g.nodes
   pub few : length g.nodes ≤ most_nodes

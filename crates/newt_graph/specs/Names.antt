@@ -12,11 +12,11 @@ use Rattle.newt_graph.specs.declared.node.Node.{Node}
 use Rattle.newt_graph.specs.Graph.{folded, IsNamed}
 use Rattle.newt_graph.specs.Draft.{is_alike}
 
--- the number that is made of a name in lower case
+-- the hash of a name in lower case
 unfoldable pub mixed : List ℕ → ℕ
 mixed name = folding.finish (folding.write folding.initial name)
 
--- how a number and a name compare with a key: by the number, and then by the name
+-- how a hash and a name compare with a key: by the hashes first, and then by the names
 abbrev pub compared : ℕ → List ℕ → Key → Ordering
 compared mix name key = ordering_then (nat_cmp mix key.mix) (slice_cmp nat_cmp name key.name.items)
 
@@ -37,10 +37,11 @@ pub record IsKeyOf (name : List ℕ) (key : Key) : Type 0 where
 abbrev pub number_of : BTreeMap Key ℕ → List ℕ → Option ℕ
 number_of table name = lookup (is_under name) table.entries
 
--- Each symbol among the nodes has its number. A name of none of them may have any number.
+-- A table has the number of each symbol among the nodes. For any other name it may have any number.
 abbrev pub KnowsBy : (List ℕ → Option ℕ) → List Node → Type 0
 KnowsBy number nodes = (k : ℕ) (name : List ℕ) → IsNamed nodes k name → number (folded name) ≡ Some k
 
+-- the same of a table of the program
 abbrev pub Knows : BTreeMap Key ℕ → List Node → Type 0
 Knows table nodes = KnowsBy (number_of table) nodes
 
@@ -48,14 +49,16 @@ Knows table nodes = KnowsBy (number_of table) nodes
 abbrev pub NotesBy : (List ℕ → Option ℕ) → List ℕ → ℕ → (List ℕ → Option ℕ) → Type 0
 NotesBy old name n new = (key : List ℕ) → new key ≡ cond (bytes_eq (folded name) key) (Some n) (old key)
 
+-- the same of tables of the program
 abbrev pub Notes : BTreeMap Key ℕ → List ℕ → ℕ → BTreeMap Key ℕ → Type 0
 Notes old name n new = NotesBy (number_of old) name n (number_of new)
 
--- the number, where a symbol of this name but for ASCII case has it
+-- the number k, where the node is a symbol of this name but for ASCII case; else none
 abbrev pub checked : List ℕ → ℕ → Option Node → Option ℕ
 checked name k None = None
 checked name k (Some node) = if is_alike name node then Some k else None
 
+-- the same, for the node that the number leads to
 abbrev pub checked_among : List ℕ → List Node → Option ℕ → Option ℕ
 checked_among name nodes None = None
 checked_among name nodes (Some k) = checked name k (slice_get nodes k)

@@ -2,7 +2,7 @@
 use Rattle.std.specs.Prelude.{◌≡◌, ℕ, List, ◌++◌, length}
 use Rattle.newt_graph.specs.declared.node.Node.{Node}
 
--- the new nodes stand among all nodes behind those that were met
+-- the new nodes stand among all nodes, directly after the first `met` of them
 pub record At (nodes new : List Node) (met : ℕ) : Type 0 where
   pub before : List Node
   pub later : List Node

@@ -22,8 +22,9 @@ use std::marker::Model;
 /// Nodes in any order, at most 131,072, with at most 33,554,432 bytes in strings and binaries
 /// together. No two symbols are alike but for ASCII case.
 ///
-/// `Limit` comes exactly where a limit of the builder or of a node would be passed, in `finish` one
-/// of a graph. A call that answers an error leaves the builder as it was; `finish` spends it.
+/// `Limit` comes exactly where a limit of the builder or of a node would be passed; in `finish`,
+/// where a limit of a graph would be. A call that answers an error leaves the builder as it was.
+/// `finish` takes the builder.
 #[derive(Drop)]
 pub struct Builder {
     nodes: Vec<Node>,
@@ -110,7 +111,8 @@ impl Builder {
         Ok(n as u32)
     }
 
-    /// Puts a node in the place of one that was held. A frame has a value for each tag.
+    /// Puts a node in the place of node n, as for one that was held. A frame has a value for each
+    /// tag.
     #[tactic(auto, unfolding(crate::specs::Draft::with_filled))]
     pub fn fill(&mut self, n: u32, node: Node) -> Result<(), GraphFault>
         requires inside { n < length self.old }
@@ -132,8 +134,8 @@ impl Builder {
         Ok(())
     }
 
-    /// Copies a graph in, and answers its root. A symbol that folds alike one that is there becomes
-    /// that one.
+    /// Copies a graph in and answers its root there. A symbol that matches one that is there, but
+    /// for ASCII case, becomes that one.
     #[tactic(auto, unfolding(crate::specs::Import::with_graph))]
     pub fn import(&mut self, graph: &Graph) -> Result<Ref, GraphFault>
         ensures value { Gives (λ root. (root, self.new)) result (with_graph self.old graph.now) }
@@ -169,8 +171,8 @@ impl Builder {
         Ok(())
     }
 
-    /// The graph of what the root reaches, in the order of the walk. References lead to nodes,
-    /// classes and tags to symbols, and the tags of a frame are distinct.
+    /// The graph of what the root reaches, in the order of the walk. References must lead to nodes,
+    /// classes and tags to symbols, and the tags of a frame must be distinct.
     pub fn finish(self, root: Ref) -> Result<Graph, GraphFault>
         requires { IsJoined self root }
         ensures is_form { IfOk result (λ g. IsNormalForm (record { nodes = self; root = root }) g) }

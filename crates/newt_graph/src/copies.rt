@@ -78,7 +78,7 @@ fn copied(alloc: Global, table: &[u32], node: &Node) -> Result<Node, AllocError>
     }
 }
 
-/// The old node that stands for a symbol already.
+/// The number of the old symbol that is alike, but for ASCII case.
 fn known_as(
     alloc: Global,
     names: &Names,
@@ -101,7 +101,7 @@ fn known_as(
     }
 }
 
-/// The numbers of a graph's nodes behind old ones.
+/// The numbers that the nodes of a graph get after old ones.
 pub(crate) fn numbers(
     alloc: Global,
     names: &Names,
@@ -126,7 +126,7 @@ pub(crate) fn numbers(
     Ok(numbers)
 }
 
-/// Copies of the nodes that no old one stands for.
+/// Copies of the new nodes, without the symbols that an old one matches.
 pub(crate) fn copies(
     alloc: Global,
     table: &[u32],

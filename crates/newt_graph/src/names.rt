@@ -9,8 +9,8 @@ use std::alloc::{AllocError, Global};
 use std::collections::BTreeMap;
 use std::hash::{FoldHasher, Hasher};
 
-/// A name in lower case, behind a number that is made of it. The derived order looks at the number
-/// first, so names are compared byte by byte only where their numbers are equal.
+/// A name in lower case, and before it its hash. The derived order compares hashes first, so names
+/// are compared byte by byte only where their hashes are equal.
 #[derive(PartialEq, Eq, PartialOrd, Ord, Drop)]
 pub struct Key {
     mix: u64,
@@ -20,8 +20,8 @@ pub struct Key {
 /// Numbers of symbols by their names in lower case. They stand in order, so that a search takes a
 /// few comparisons whatever the names are.
 ///
-/// A number is looked at before it is answered, so one that no longer leads to its symbol does no
-/// harm.
+/// Each number is checked against the nodes before it is answered, so one that no longer leads to
+/// its symbol does no harm.
 #[derive(Drop)]
 pub struct Names {
     numbers: BTreeMap<Key, u32>,
@@ -72,7 +72,8 @@ impl Names {
         Ok(())
     }
 
-    /// Gives the symbols among new nodes, which are to stand behind the old ones, their numbers.
+    /// Gives the symbols among new nodes their numbers. The new nodes are to stand after the old
+    /// ones. After an error the old symbols still have their numbers.
     pub fn note_all(&mut self, alloc: Global, old: &[Node], new: &[Node]) -> Result<(), AllocError>
         requires known { Knows self.old.numbers old.now }
         requires once { AreFoldedOnce (old.now ++ new.now) }
@@ -99,7 +100,7 @@ pub fn find_alike(name: &[u8], nodes: &[Node]) -> Option<usize>
     nodes.iter().position(|node| is_alike(name, node))
 }
 
-/// The number, where a symbol of this name but for ASCII case has it.
+/// The number k, where that node is a symbol of this name but for ASCII case.
 fn checked(name: &[u8], nodes: &[Node], k: u32) -> Option<u32>
     ensures { result ≡ checked_among name.now nodes.now (Some k) }
 {
@@ -118,7 +119,7 @@ fn is_alike(name: &[u8], node: &Node) -> bool
     }
 }
 
-/// The number of a name in lower case.
+/// The hash of a name in lower case.
 #[tactic(auto, unfolding(crate::specs::Names::mixed))]
 fn mixed(name: &[u8]) -> u64
     ensures { result ≡ mixed name.now }

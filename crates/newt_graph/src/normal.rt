@@ -165,7 +165,8 @@ fn gathered(alloc: Global, nodes: Vec<Node>, seen: &Walker) -> Result<Vec<Node>,
     Ok(out)
 }
 
-/// The bytes of a string, a binary or a large binary.
+/// How many bytes a string, with its last unit, a binary or a large binary has. Another node has
+/// none.
 pub fn payload(node: &Node) -> usize
     ensures { result ≡ payload node.now }
 {
@@ -176,7 +177,7 @@ pub fn payload(node: &Node) -> usize
     }
 }
 
-/// How many of so many bytes the nodes leave. None where they have more.
+/// How many of `most` bytes the nodes leave; none where they have more.
 pub(crate) fn left(nodes: &[Node], most: usize) -> Option<usize>
     ensures { result ≡ (if nat_le (sum_by payload nodes.now) most then Some
         (most - sum_by payload nodes.now) else None) }

@@ -1,4 +1,5 @@
--- What a host means, each by its own name. Where a host tells no bytes, only what is said of counts, of names and of numbers of blocks counts.
+-- What a host means, each by its own name. Where a host tells no bytes, only what these say of
+-- counts, of names and of numbers of blocks means anything.
 use Rattle.std.specs.Prelude.{◌≡◌, ℕ, Bool, List, length, Option, Some, is_some, option_map}
 use Rattle.newt_host.specs.Moments.{output, image, MayLeave, IsDurable, attached_at, LeftSince}
 use Rattle.newt_host.specs.Outside.{Outside}
@@ -39,7 +40,7 @@ device_on unit outside = option_map (λ name. image unit outside.now) (outside.c
 abbrev pub leaves : Outside → ℕ → List ℕ → Type 0
 leaves outside unit bytes = MayLeave unit outside.now bytes
 
--- one clock for the output and the devices
+-- the number of the moment: one clock for the output and the devices
 abbrev pub moment : Outside → ℕ
 moment outside = length outside.now
 
@@ -47,7 +48,8 @@ moment outside = length outside.now
 abbrev pub left_since : Outside → ℕ → ℕ → List ℕ → List ℕ → Type 0
 left_since outside t unit bytes printed = LeftSince t unit bytes printed outside.now
 
--- After an attach that answered true: the unit reads as the device of the name was held, a crash leaves just that, and it is attached since now.
+-- What holds after an attach that answered true: the unit reads as the device of the name was held,
+-- a crash leaves just that, and it is attached since now.
 pub record Begins (unit : ℕ) (name : List ℕ) (old new : Outside) : Type 0 where
   pub image : held old name ≡ Some (image_of new unit)
   pub durable : IsDurable unit new.now

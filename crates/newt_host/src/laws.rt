@@ -9,8 +9,8 @@ ghost use Rattle.newt_host.specs.Outside.{Attaches, Outside, PrintsSome, printed
 
 use crate::{Host, Unit};
 
-/// An image as it reads is one that a crash may leave, and a unit with a device has been attached
-/// since a moment that has come.
+/// An image as it reads is one that a crash may leave. A unit with a device has been attached since
+/// a moment that has come, and one without a device since none.
 pub fn image_may_be_left<H: Host>(host: &H, unit: Unit)
     ensures leaves { IsTrue H.told → IsSome (attached (H.outside host.now) unit)
         → leaves (H.outside host.now) unit (image_of (H.outside host.now) unit) }
@@ -24,8 +24,8 @@ pub fn image_may_be_left<H: Host>(host: &H, unit: Unit)
 
 /// A range that was programmed or erased reads as it was written, and a crash may leave any bytes
 /// in it and the rest as it might have before. After a sync a crash leaves what reads, and nothing
-/// else has changed. What happens on one unit is nothing for another unit or for the output, and
-/// what is taken from the input is nothing for units or for the output.
+/// else has changed. What happens on one unit changes no other unit and not the output. What is
+/// taken from the input changes no unit and not the output.
 pub fn events_mean()
     ensures wrote { (unit at : ℕ) (reads : List ℕ) (old : Moment)
         → image unit (On unit (Wrote at reads) ∷ old) ≡ overwritten (image unit old) at reads }
@@ -48,14 +48,14 @@ pub fn events_mean()
         × (output (Took bytes ∷ old) ≡ output old) }
 {}
 
-/// An attach that answers true begins what is said of the unit: it reads as the device was held,
-/// nothing is pending, and it is attached since then.
+/// What holds of a unit begins with an attach that answers true: the unit reads as the device was
+/// held, nothing is pending, and it is attached since then.
 pub fn attach_begins()
     ensures { (unit : ℕ) (name : List ℕ) (old new : Outside) → Attaches true unit name old new
         → Begins unit name old new }
 {}
 
-/// No other call changes since when a unit is attached.
+/// No call but an attach of the unit changes since when it is attached.
 pub fn only_attach_begins()
     ensures wrote { (unit u at : ℕ) (reads : List ℕ) (old : Moment)
         → attached_at unit (On u (Wrote at reads) ∷ old) ≡ attached_at unit old }
@@ -78,7 +78,7 @@ pub fn left_since_goes_on()
         ⊎ LeftSince (length old) unit bytes printed new) }
 {}
 
-/// While bytes are printed the output is the old one with a first part of them, and nothing else
+/// While bytes are printed, the output is the old one with a first part of them, and nothing else
 /// happens.
 pub fn print_is_each_prefix()
     ensures { (bytes : List ℕ) (old : Moment)

@@ -1,9 +1,10 @@
--- The devices of names. That the name at a place goes to the unit of that number is this project's own.
+-- The devices of names. It is this project's own that the name at a place goes to the unit of that
+-- number.
 use Rattle.std.specs.Prelude.{◌≡◌, ℕ, Bool, IsTrue, List, [], ◌∷◌, slice_get, Option, Some, None, option_map}
 use Rattle.newt_host.specs.Moments.{Always, Attached, changes, output, taken}
 use Rattle.newt_host.specs.Outside.{Outside, SameCounts}
 
--- no two of the names are one
+-- no two of the names are alike
 abbrev pub AreDistinct : List (List ℕ) → Type 0
 AreDistinct names = (i j : ℕ) (name : List ℕ) → slice_get names i ≡ Some name → slice_get names j ≡ Some name → i ≡ j
 
@@ -14,7 +15,8 @@ if_known outside (Some name) = option_map (λ bytes. name) (outside.devices name
 
 -- The names have been attached, each to the unit of its place, and nothing else has happened.
 pub record AreAttached (told : Bool) (names : List (List ℕ)) (old new : Outside) : Type 0 where
-  -- no unit has another device than that of the name at its place, also where the host tells no bytes
+  -- no unit has another device than that of the name at its place, even where the host tells no
+  -- bytes
   pub own : (unit : ℕ) (name : List ℕ) → new.card unit ≡ Some name → slice_get names unit ≡ Some name
   -- what each unit has
   pub cards : IsTrue told → (unit : ℕ) → new.card unit ≡ if_known old (slice_get names unit)

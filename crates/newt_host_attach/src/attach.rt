@@ -5,8 +5,8 @@ ghost use Rattle.newt_host_attach.specs.Named.{AreDistinct, AreAttached};
 
 use newt_host::{Host, Unit};
 
-/// Attaches the names, at most eight and no two alike, to the units of their places, and answers
-/// which units have a device then.
+/// Attaches the names, at most eight and no two alike, to the units of their places. Answers which
+/// units have a device then.
 pub fn attach_names<H: Host>(host: &mut H, names: &[String]) -> [bool; 8]
     requires few { length names.now ≤ 8 }
     requires distinct { AreDistinct (map string_bytes names.now) }

@@ -3,7 +3,7 @@ ghost use Rattle.std.specs.Prelude.{◌≡◌, ℕ, ◌≤◌, List, [], ◌∷�
 ghost use Rattle.newt_host.specs.Moments.{Attached, Extends, IsHistory, Moment, attached_at};
 ghost use Rattle.newt_host.specs.Moments.{changes, moment_at, output};
 
-/// From its attach until all names are attached a unit is as its device was held, and the output
+/// From its attach until all names are attached, a unit is as its device was held, and the output
 /// stays, whatever happens later.
 pub fn nothing_happens_before()
     ensures { (unit t k size : ℕ) (bytes : List ℕ) (old mid new : Moment) → changes unit old ≡ []

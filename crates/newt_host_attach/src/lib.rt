@@ -1,7 +1,7 @@
 //! The devices that a run is started with.
 //!
-//! Stands on the host alone. It carries where a run begins: each name is attached to the unit of
-//! its place in the list, where there is a device of it, and nothing else happens.
+//! It stands on the host alone. It carries where a run begins: each name is attached to the unit of
+//! its place in the list, where there is a device of that name. Nothing else happens.
 #![tactic(auto)]
 
 mod attach;

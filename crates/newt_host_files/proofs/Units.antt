@@ -4,7 +4,7 @@ use Rattle.std.proofs.lemmas.Bool.{false≢true}
 use Rattle.std.proofs.lemmas.Option.{get_or_from_slice_get}
 use Rattle.std.proofs.Math.ListN.{length-set}
 use Rattle.newt_host.specs.Outside.{AttachCall, Attaches, SameCards, StopsAtFault, Touches, UnitCall, Work}
-use Rattle.newt_host_files.specs.Cards.{CardStops, HasFile, OnCard, SameCard, name_of, blocks_of, faults_of, programmed_of, fetched_of, erased_of, synced_of, broken_of}
+use Rattle.newt_host_files.specs.Cards.{CardStops, HasFile, CountsOnCard, SameCard, name_of, blocks_of, faults_of, programmed_of, fetched_of, erased_of, synced_of, broken_of}
 use Rattle.newt_host_files.specs.Laws.{untold}
 use Rattle.newt_host_files.specs.Outside.{told_by}
 use Rattle.newt_host_files.specs.declared.card.Card.{Card}
@@ -98,7 +98,7 @@ module _ (cards : List Card) (i unit : ℕ) (b c : Card) (same : i ≡ unit) (is
     tt,
   )
 
-  module _ {work : Work} (on : OnCard work b c) (in_faults out_faults : ℕ) where
+  module _ {work : Work} (on : CountsOnCard work b c) (in_faults out_faults : ℕ) where
     touches : Touches unit (told_by cards in_faults out_faults) (told_by (slice_set cards i c) in_faults out_faults)
     touches = record {
       input = refl;

@@ -45,7 +45,7 @@ broken_of (Some c) = c.broken
 
 -- A call on a unit leaves its file open. No count falls, and none rises by more than what was to be
 -- done.
-pub record OnCard (work : Work) (old new : Card) : Type 0 where
+pub record CountsOnCard (work : Work) (old new : Card) : Type 0 where
   pub file : new.file ≡ old.file
   pub name : new.name.items ≡ old.name.items
   pub blocks : new.blocks ≡ old.blocks

@@ -6,6 +6,7 @@ use Rattle.std.proofs.lemmas.Option.{slice_get_past}
 use Rattle.newt_host_files.specs.Cards.{name_of, blocks_of}
 use Rattle.newt_host_files.specs.declared.card.Card.{Card}
 
+-- this host tells no bytes
 pub untold : {A : Type 0} → false ≡ true → A
 untold told = absurd (false≢true told)
 
@@ -22,6 +23,7 @@ pub none_of : (o : Option Card) → name_of o ≡ None → blocks_of o ≡ 0
 none_of None free = refl
 none_of (Some c) free = c.free (no_file c.file c.name.items free)
 
+-- the number of blocks is one of 32 bits
 pub few_of : (o : Option Card) → blocks_of o < 2 ^ 32
 few_of None = lit< tt
 few_of (Some c) = c.few

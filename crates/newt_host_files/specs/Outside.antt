@@ -4,6 +4,7 @@ use Rattle.newt_host.specs.Outside.{Outside}
 use Rattle.newt_host_files.specs.Cards.{name_of, blocks_of, faults_of, programmed_of, fetched_of, erased_of, synced_of, broken_of}
 use Rattle.newt_host_files.specs.declared.card.Card.{Card}
 
+-- what the units and the two counts of faults tell
 abbrev pub told_by : List Card → ℕ → ℕ → Outside
 told_by cards in_faults out_faults = record {
   now = [];

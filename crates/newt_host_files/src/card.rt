@@ -5,13 +5,13 @@ ghost use Rattle.newt_host.specs.Outside.{Rose};
 use std::alloc::{AllocError, Global};
 use std::fs::File;
 
-/// The most bytes that the name of a file has: the system opens none of a longer name.
+/// The most bytes of a file's name: the system opens none of a longer name.
 pub(crate) const MOST_NAME: usize = 4095;
 
-/// A unit: its open file, which it has while it is attached, the name of it, its whole blocks of
-/// 4,096 bytes, and its counts: of faults, of bytes that it was to program and to fetch, of blocks
-/// that it was to erase, and of syncs; and whether its last call failed. Without a file it has no
-/// blocks. It has room for any name, so that an attach takes no memory.
+/// A unit: the name of its file, its whole blocks of 4,096 bytes, its counts, and whether its last
+/// call failed. It has an open file while it is attached; without one it has no blocks. It counts
+/// faults, bytes that it was to program and to fetch, blocks that it was to erase, and syncs. It
+/// has room for any name, so that an attach takes no memory.
 #[derive(Drop)]
 pub(crate) struct Card {
     pub file: Option<File>,
@@ -47,7 +47,7 @@ impl Card {
     }
 }
 
-/// Another fault. The count stays at its last value.
+/// Counts another fault. The count stays at its last value.
 pub(crate) fn count(faults: &mut u64)
     ensures rose { Rose faults.old faults.new }
     ensures one { faults.new ≡ min (faults.old + 1) (2 ^ 64 - 1) }

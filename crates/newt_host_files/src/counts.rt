@@ -1,14 +1,14 @@
 //! The counts of a unit.
 ghost use Rattle.std.specs.Prelude.{◌≡◌, ◌+◌, ◌<◌, ◌^◌, IsTrue, IsFalse, OnOk, OnErr};
 ghost use Rattle.newt_host.specs.Outside.{fetching, one_erase, one_sync, programming};
-ghost use Rattle.newt_host_files.specs.Cards.{CardStops, OnCard};
+ghost use Rattle.newt_host_files.specs.Cards.{CardStops, CountsOnCard};
 
 use crate::card::{Card, count};
 use newt_host::Failed;
 
-// A call on the unit was done, or is another fault.
+/// Keeps whether a call on the unit was done; one that was not is another fault.
 fn touched(card: &mut Card, done: bool) -> Result<(), Failed>
-    ensures card { OnCard (fetching 0) card.old card.new }
+    ensures card { CountsOnCard (fetching 0) card.old card.new }
     ensures faults { CardStops result card.old card.new }
     ensures done { IsTrue done → OnErr result ⊥ }
     ensures failed { IsFalse done → OnOk result ⊥ }
@@ -21,9 +21,9 @@ fn touched(card: &mut Card, done: bool) -> Result<(), Failed>
     Ok(())
 }
 
-/// The call was to fetch so many bytes: it was done, or is another fault.
+/// Counts a call that was to fetch so many bytes; one that was not done is another fault.
 pub(crate) fn fetched(card: &mut Card, bytes: u64, done: bool) -> Result<(), Failed>
-    ensures card { OnCard (fetching bytes) card.old card.new }
+    ensures card { CountsOnCard (fetching bytes) card.old card.new }
     ensures faults { CardStops result card.old card.new }
     ensures done { IsTrue done → OnErr result ⊥ }
     ensures failed { IsFalse done → OnOk result ⊥ }
@@ -34,9 +34,9 @@ pub(crate) fn fetched(card: &mut Card, bytes: u64, done: bool) -> Result<(), Fai
     touched(card, done)
 }
 
-/// The same of one that was to program so many bytes.
+/// The same for a call that was to program so many bytes.
 pub(crate) fn programmed(card: &mut Card, bytes: u64, done: bool) -> Result<(), Failed>
-    ensures card { OnCard (programming bytes) card.old card.new }
+    ensures card { CountsOnCard (programming bytes) card.old card.new }
     ensures faults { CardStops result card.old card.new }
     ensures done { IsTrue done → OnErr result ⊥ }
     ensures failed { IsFalse done → OnOk result ⊥ }
@@ -47,9 +47,9 @@ pub(crate) fn programmed(card: &mut Card, bytes: u64, done: bool) -> Result<(), 
     touched(card, done)
 }
 
-/// The same of one that was to erase a block.
+/// The same for a call that was to erase a block.
 pub(crate) fn erased(card: &mut Card, done: bool) -> Result<(), Failed>
-    ensures card { OnCard one_erase card.old card.new }
+    ensures card { CountsOnCard one_erase card.old card.new }
     ensures faults { CardStops result card.old card.new }
     ensures done { IsTrue done → OnErr result ⊥ }
     ensures failed { IsFalse done → OnOk result ⊥ }
@@ -59,9 +59,9 @@ pub(crate) fn erased(card: &mut Card, done: bool) -> Result<(), Failed>
     touched(card, done)
 }
 
-/// The same of a sync.
+/// The same for a sync.
 pub(crate) fn synced(card: &mut Card, done: bool) -> Result<(), Failed>
-    ensures card { OnCard one_sync card.old card.new }
+    ensures card { CountsOnCard one_sync card.old card.new }
     ensures faults { CardStops result card.old card.new }
     ensures done { IsTrue done → OnErr result ⊥ }
     ensures failed { IsFalse done → OnOk result ⊥ }

@@ -9,8 +9,8 @@ use std::io::{Seek, SeekFrom};
 use std::os::unix::fs::{FileExt, FileTypeExt};
 use std::rt::Files;
 
-/// Gives a unit the file of a name, and answers whether it has it now. Where it has not, nothing
-/// of the unit has changed.
+/// Gives a unit the file of a name, and answers whether it has it now. Otherwise nothing of the
+/// unit has changed.
 pub(crate) fn attach<S: Files<File = File>>(card: &mut Card, system: &S, name: &str) -> bool
     ensures attached { IsTrue result → HasFile name.now card.new }
     ensures counts { SameCard card.old card.new }
@@ -30,9 +30,10 @@ pub(crate) fn attach<S: Files<File = File>>(card: &mut Card, system: &S, name: &
     true
 }
 
-/// Opens a file for reading and writing, takes the lock on it and syncs it, and answers it with the
-/// number of its whole blocks of 4,096 bytes, at most `u32::MAX`. None where it can't hold blocks,
-/// or where the system refuses one of these; where it has no locks, none is taken.
+/// Opens a file for reading and writing, takes the lock on it and syncs it. Answers the file with
+/// the number of its whole blocks of 4,096 bytes, at most `u32::MAX`. None where the file can't
+/// hold blocks, or where the system refuses one of these. Where the system has no locks, none is
+/// taken.
 fn open<S: Files<File = File>>(system: &S, name: &str) -> Option<(File, u32)> {
     // It is asked first: to open a line or a tape may wait, or do something to it.
     if !can_hold_blocks(fs::metadata(system, name).ok()?.file_type()) {
@@ -62,15 +63,15 @@ fn can_hold_blocks(kind: FileType) -> bool {
     kind.is_file() || kind.is_block_device()
 }
 
-/// How many whole blocks of 4,096 bytes a file has, at most `u32::MAX`. A block device tells it by
-/// its end alone.
+/// How many whole blocks of 4,096 bytes a file has, at most `u32::MAX`. Only the end of a block
+/// device tells its length.
 fn whole_blocks(mut file: &File) -> Option<u32> {
     let bytes = file.seek(SeekFrom::End(0)).ok()?;
     Some(u32::try_from(bytes / 4096).unwrap_or(u32::MAX))
 }
 
-/// The file of a unit, where it still has all the blocks of the unit. One that has become shorter
-/// is not written to, since that would fill up with zeros what it has lost.
+/// The file of a unit, where it still has all the blocks of the unit. A file that has become
+/// shorter is not written to, since that would fill up with zeros what it has lost.
 fn whole(card: &Card) -> Option<&File> {
     let file = card.file.as_ref()?;
     if whole_blocks(file)? < card.blocks {
@@ -95,8 +96,8 @@ pub(crate) fn put(card: &Card, at: u64, bytes: &[u8]) -> bool {
     }
 }
 
-/// Syncs the file: what was written is on the disk. Answers whether that was done, and the file has
-/// all its blocks afterwards.
+/// Syncs the file: what was written is on the disk. Answers whether that was done and the file
+/// still has all its blocks.
 pub(crate) fn sync(card: &Card) -> bool {
     match &card.file {
         Some(file) => file.sync_all().is_ok() && whole(card).is_some(),

@@ -18,8 +18,8 @@ pub(crate) fn take<R: Read>(input: &mut R, buf: &mut [u8]) -> Result<usize, Fail
     Err(Failed)
 }
 
-/// Gives some of the bytes, which are not none, and tries again where a signal came between. To
-/// give nothing is a fault.
+/// Gives some of the bytes, of which there is at least one, and tries again where a signal came
+/// between. To give nothing is a fault.
 pub(crate) fn give<W: Write>(output: &mut W, bytes: &[u8]) -> Result<usize, Failed>
     ensures bound { IfOk result (λ count. count ≤ length bytes.now) }
     ensures some { IfOk result (λ count. 0 < count) }

@@ -23,7 +23,7 @@ pub struct FileHost<S: Files<File = File> + Drop, R: Read + Drop, W: Write + Dro
 }
 
 impl<S: Files<File = File> + Drop, R: Read + Drop, W: Write + Drop> FileHost<S, R, W> {
-    /// Without files. It takes all the memory that a host needs.
+    /// A host without files. It takes all the memory that a host needs.
     pub fn new(alloc: Global, system: S, input: R, output: W) -> Result<Self, AllocError>
         ensures { IfOk result (λ host. (unit : ℕ) → name_of (slice_get host.cards unit) ≡ None) }
     {

@@ -16,7 +16,7 @@ small [] at h = omega arith
 small (b ∷ bytes) zero h = All-head (λ b. b < 256) b bytes h
 small (b ∷ bytes) (suc at) h = small bytes at (All-tail (λ b. b < 256) b bytes h)
 
--- the bytes up to a place, compared one by one, with zeros behind the last
+-- the bytes up to a place, compared one by one, with zeros after the last
 abbrev bytewise : ℕ → List ℕ → List ℕ → Ordering
 bytewise zero a b = nat_cmp (get_or a 0 0) (get_or b 0 0)
 bytewise (suc at) a b = ordering_then (bytewise at a b) (nat_cmp (get_or a (suc at) 0) (get_or b (suc at) 0))
@@ -61,9 +61,9 @@ none_before : (ys : List ℕ) (o : Ordering) → (Decides o → slice_cmp nat_cm
 none_before [] o same h = absurd (h (sym (same h)))
 none_before (y ∷ ys) o same h = same h
 
-none_behind : (xs : List ℕ) (o : Ordering) → (Decides o → slice_cmp nat_cmp xs [] ≡ o) → Decides o → Greater ≡ o
-none_behind [] o same h = absurd (h (sym (same h)))
-none_behind (x ∷ xs) o same h = same h
+none_after : (xs : List ℕ) (o : Ordering) → (Decides o → slice_cmp nat_cmp xs [] ≡ o) → Decides o → Greater ≡ o
+none_after [] o same h = absurd (h (sym (same h)))
+none_after (x ∷ xs) o same h = same h
 
 tie : {r : Ordering} (n : ℕ) (o : Ordering) → Decides (ordering_then (nat_cmp n n) o) → (Decides o → r ≡ o) → r ≡ ordering_then (nat_cmp n n) o
 tie n o h same =
@@ -90,7 +90,7 @@ decided (suc at) a b h = go (decided at) a b (λ e. h (first_then at a b ∙ e))
     go below [] [] h = tie 0 (bytewise at [] []) h (below [] [])
     go below [] (zero ∷ b) h = tie 0 (bytewise at [] b) h (none_before b (bytewise at [] b) (below [] b))
     go below [] (suc y ∷ b) h = ap (λ o. ordering_then o (bytewise at [] b)) (nat_cmp_is 0 (suc y) Less (omega arith))
-    go below (zero ∷ a) [] h = tie 0 (bytewise at a []) h (none_behind a (bytewise at a []) (below a []))
+    go below (zero ∷ a) [] h = tie 0 (bytewise at a []) h (none_after a (bytewise at a []) (below a []))
     go below (suc x ∷ a) [] h = ap (λ o. ordering_then o (bytewise at a [])) (nat_cmp_is (suc x) 0 Greater (omega arith))
 
 -- so do the numbers

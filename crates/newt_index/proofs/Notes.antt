@@ -22,8 +22,8 @@ use Rattle.newt_spec_store.specs.Keys.{Key}
 use Rattle.newt_index.specs.declared.search.Slot.{Slot}
 use Rattle.newt_index.specs.Pairs.{key_at}
 use Rattle.newt_index.specs.Kept.{Entry, pair_of, slot_cmp}
-use Rattle.newt_index.specs.declared.slots.Notes.{Notes}
-use Rattle.newt_index.specs.declared.slots.Notes.TheVariants.{OfIds, Plain, Lost}
+use Rattle.newt_index.specs.declared.slots.IdSlots.{IdSlots}
+use Rattle.newt_index.specs.declared.slots.IdSlots.TheVariants.{OfIds, Plain, Lost}
 use Rattle.newt_index.specs.Noted.{SlotsOfIds, bytes_at, IsNoted, AreNotes, ArePlain, AreNoted, HasNote}
 
 -- the key bytes of an id, if it is told of
@@ -255,7 +255,7 @@ one_noted notes slot key es here was = record { of_id = was.of_id; each = go es 
 abbrev IsPlain : Slot → Type 0
 IsPlain slot = slot.bytes ≡ []
 
-pub inserted : (notes : Notes) (slot : Slot) (key : Key) (es new : List Entry) → new ≡ insert_entry slot_cmp es slot key → HasNote notes slot → AreNoted notes es → AreNoted notes new
+pub inserted : (notes : IdSlots) (slot : Slot) (key : Key) (es new : List Entry) → new ≡ insert_entry slot_cmp es slot key → HasNote notes slot → AreNoted notes es → AreNoted notes new
 inserted (OfIds notes) slot key es new n here was = subst (λ (l : List Entry). AreNotes notes l) (sym n) (one_noted notes slot key es here was)
 inserted Plain slot key es new n here was = subst ArePlain (sym n) (All-keys-insert_entry slot_cmp slot key IsPlain es was here)
 inserted Lost slot key es new n here was = tt
@@ -276,7 +276,7 @@ plain_left slot es left removed all = subst ArePlain (sym removed) (All-map-remo
 
 -- ---- an entry less, where none are noted
 
-pub left_noted : (notes : Notes) (slot : Slot) (es left : List Entry) → ((of_ids : SlotsOfIds) → notes ≡ OfIds of_ids → ⊥)
+pub left_noted : (notes : IdSlots) (slot : Slot) (es left : List Entry) → ((of_ids : SlotsOfIds) → notes ≡ OfIds of_ids → ⊥)
     → left ≡ remove_entry (is_at (slot_cmp slot)) es → AreNoted notes es → AreNoted notes left
 left_noted (OfIds of_ids) slot es left never removed was = absurd (never of_ids refl)
 left_noted Plain slot es left never removed was = plain_left slot es left removed was

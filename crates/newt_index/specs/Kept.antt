@@ -17,17 +17,18 @@ Entry = Slot × Key
 abbrev pub pair_of : Entry → Pair
 pair_of e = (e.1, e.0.uid)
 
--- an entry of the map is under the bytes of its key, which is one of the declaration (this project's own)
+-- an entry of the map is under the bytes of its key, which is one of the declaration (this
+-- project's own)
 pub record IsKept (spec : Option IndexSpec) (e : Entry) : Type 0 where
   pub is_key : IsKeyOf (parts_of spec) e.1
   pub bytes : e.0.bytes ≡ key_bytes (parts_of spec) e.1
   pub uid : e.0.uid < 2 ^ 32
 
--- each entry is (a word of these definitions)
+-- each entry is kept so (a word of these definitions)
 abbrev pub AreKept : Option IndexSpec → List Entry → Type 0
 AreKept spec es = All (IsKept spec) es
 
--- bytes are those of a key of the declaration (this project's own)
+-- the bytes are those of the key, which is one of the declaration (this project's own)
 pub record IsProbeOf (spec : Option IndexSpec) (key : Key) (bytes : List ℕ) : Type 0 where
   pub is_key : IsKeyOf (parts_of spec) key
   pub same : bytes ≡ key_bytes (parts_of spec) key

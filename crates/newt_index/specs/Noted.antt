@@ -4,8 +4,8 @@ use Rattle.std.specs.Ordering.{nat_cmp}
 use Rattle.std.specs.BTreeMap as tree
 use Rattle.std.specs.Map.{keys_of}
 use Rattle.newt_index.specs.declared.search.Slot.{Slot}
-use Rattle.newt_index.specs.declared.slots.Notes.{Notes}
-use Rattle.newt_index.specs.declared.slots.Notes.TheVariants.{OfIds, Plain, Lost}
+use Rattle.newt_index.specs.declared.slots.IdSlots.{IdSlots}
+use Rattle.newt_index.specs.declared.slots.IdSlots.TheVariants.{OfIds, Plain, Lost}
 use Rattle.newt_index.specs.Kept.{Entry}
 
 -- the slots by their ids (a word of these definitions)
@@ -20,7 +20,8 @@ bytes_at notes uid = option_map (λ slot. slot.bytes) (tree.get nat_cmp notes ui
 abbrev pub IsNoted : SlotsOfIds → Slot → Type 0
 IsNoted notes slot = bytes_at notes slot.uid ≡ Some slot.bytes
 
--- what holds of the notes of some entries: under an id stands a slot of that id, and each entry's is noted (this project's own)
+-- what holds for the notes of some entries: under an id stands a slot of that id, and each entry's
+-- slot is noted (this project's own)
 pub record AreNotes (notes : SlotsOfIds) (es : List Entry) : Type 0 where
   pub of_id : (uid : ℕ) → IfSome (tree.get nat_cmp notes uid) (λ slot. slot.uid ≡ uid)
   pub each : All (λ e. IsNoted notes e.0) es
@@ -30,13 +31,13 @@ abbrev pub ArePlain : List Entry → Type 0
 ArePlain es = All (λ slot. slot.bytes ≡ []) (keys_of es)
 
 -- the slots of ids are found as these notes say, unless they are lost (this project's own)
-abbrev pub AreNoted : Notes → List Entry → Type 0
+abbrev pub AreNoted : IdSlots → List Entry → Type 0
 AreNoted (OfIds notes) es = AreNotes notes es
 AreNoted Plain es = ArePlain es
 AreNoted Lost es = Unit {0}
 
 -- a slot is found so (this project's own)
-abbrev pub HasNote : Notes → Slot → Type 0
+abbrev pub HasNote : IdSlots → Slot → Type 0
 HasNote (OfIds notes) slot = IsNoted notes slot
 HasNote Plain slot = slot.bytes ≡ []
 HasNote Lost slot = Unit {0}

@@ -21,12 +21,12 @@ pair_cmp spec a b = ordering_then (key_cmp spec a.0 b.0) (nat_cmp a.1 b.1)
 
 -- ---- the list's operations
 
--- with a pair at its place, where it is not there yet (a word of these definitions)
+-- the list with a pair at its place, where it is not there yet (a word of these definitions)
 abbrev pub with_pair : IndexSpec → List Pair → Pair → List Pair
 with_pair spec [] p = p ∷ []
 with_pair spec (q ∷ qs) p = match_ordering (pair_cmp spec p q) (p ∷ q ∷ qs) (q ∷ qs) (q ∷ with_pair spec qs p)
 
--- without the first that is the pair (a word of these definitions)
+-- the list without its first pair that is this one (a word of these definitions)
 abbrev pub removed : IndexSpec → List Pair → Pair → List Pair
 removed spec [] p = []
 removed spec (q ∷ qs) p = cond (is_eq (pair_cmp spec p q)) qs (q ∷ removed spec qs p)
@@ -42,11 +42,11 @@ last [] = None
 last (a ∷ []) = Some a
 last (a ∷ b ∷ as') = last (b ∷ as')
 
--- the least pair after (a word of these definitions)
+-- the least pair after the given one (a word of these definitions)
 abbrev pub after : IndexSpec → List Pair → Pair → Option Pair
 after spec pairs p = first (filter (λ q. is_lt (pair_cmp spec p q)) pairs)
 
--- the greatest pair before (a word of these definitions)
+-- the greatest pair before the given one (a word of these definitions)
 abbrev pub before : IndexSpec → List Pair → Pair → Option Pair
 before spec pairs p = last (filter (λ q. is_gt (pair_cmp spec p q)) pairs)
 

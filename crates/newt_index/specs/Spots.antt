@@ -1,4 +1,4 @@
--- How the spots of the code are seen as hits of the definition.
+-- How the definition sees the spots of the code: as hits.
 use Rattle.newt_spec_query.specs.Hits.{Hit}
 use Rattle.newt_index.specs.declared.identity.Spot.{Spot}
 

@@ -5,7 +5,8 @@ use newt_base::{Sig, Uid};
 use newt_keys::Key;
 use std::alloc::AllocError;
 
-/// The identity of an entry with its key: the signatures of its store and soup, and its id.
+/// A spot: the identity of an entry (the signatures of its store and soup, and its id), with its
+/// key.
 #[derive(Drop)]
 pub struct Spot {
     pub key: Key,

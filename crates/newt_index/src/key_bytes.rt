@@ -10,8 +10,8 @@ use std::alloc::AllocError;
 use std::cmp::Ordering;
 use std::marker::Model;
 
-/// The bytes of a key, and the number that the first eight of them are. The number is looked at
-/// first, so keys are compared byte by byte only where their numbers are equal.
+/// The bytes of a key, and the number that the first eight of them are. Keys are compared by that
+/// number first, and byte by byte only where the numbers are equal.
 #[derive(Drop)]
 pub(crate) struct KeyBytes {
     front: u64,
@@ -58,7 +58,7 @@ impl KeyBytes {
     }
 }
 
-/// The byte at a place, 0 behind the last.
+/// The byte at a place; 0 after the last.
 fn byte_at(bytes: &[u8], at: usize) -> u64
     ensures byte { result ≡ get_or bytes.now at 0 }
     ensures small { result < 256 }
@@ -70,7 +70,7 @@ fn byte_at(bytes: &[u8], at: usize) -> u64
     }
 }
 
-/// The number that the first eight bytes are, with zeros behind the last.
+/// The number that the first eight bytes are, with zeros after the last.
 fn front_of(bytes: &[u8]) -> u64
     ensures { result ≡ front_of bytes.now }
 {

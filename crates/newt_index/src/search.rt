@@ -10,8 +10,8 @@ use newt_keys::{IndexSpec, Key, key_bytes as bytes_of_key};
 use std::alloc::{AllocError, Global};
 use std::marker::Model;
 
-/// The place of a pair in an index: the bytes of its key, and its id. The derived order is that of
-/// the pairs.
+/// A slot: the place of a pair in an index, which is the bytes of its key and its id. The derived
+/// order is that of the pairs.
 #[derive(PartialEq, Eq, PartialOrd, Ord, Drop)]
 pub(crate) struct Slot {
     pub(crate) bytes: KeyBytes,

@@ -15,12 +15,12 @@ use std::marker::Model;
 
 /// How the slot of an id is found.
 #[derive(Drop)]
-enum Notes {
+enum IdSlots {
     /// Each id's slot is noted.
     OfIds(BTreeMap<u32, Slot>),
     /// All key bytes are empty, so an id's slot is made of it.
     Plain,
-    /// An id was given two slots: a walk finds them.
+    /// An id was given two slots: only a walk finds them.
     Lost,
 }
 
@@ -28,7 +28,7 @@ enum Notes {
 #[derive(Drop)]
 pub(crate) struct Slots {
     keys: BTreeMap<Slot, Key>,
-    notes: Notes,
+    notes: IdSlots,
     alloc: Global,
 }
 
@@ -51,18 +51,18 @@ impl Slots {
     {
         Slots {
             keys: BTreeMap::new(alloc),
-            notes: Notes::OfIds(BTreeMap::new(alloc)),
+            notes: IdSlots::OfIds(BTreeMap::new(alloc)),
             alloc,
         }
     }
 
-    /// No slots, for keys without bytes, of which no ids are noted. It takes no memory.
+    /// No slots, for keys without bytes, of whose ids nothing is noted. It takes no memory.
     pub(crate) fn plain(alloc: Global) -> Slots
         ensures { result ≡ [] }
     {
         Slots {
             keys: BTreeMap::new(alloc),
-            notes: Notes::Plain,
+            notes: IdSlots::Plain,
             alloc,
         }
     }
@@ -89,7 +89,7 @@ impl Slots {
         ensures { self.new ≡ remove_entry (is_at (slot_cmp slot.now)) self.old }
     {
         if self.keys.remove(slot).is_some() {
-            if let Notes::OfIds(notes) = &mut self.notes {
+            if let IdSlots::OfIds(notes) = &mut self.notes {
                 notes.remove(&slot.uid);
             }
         }
@@ -100,9 +100,9 @@ impl Slots {
         ensures { self.new ≡ filter (λ e. not (e.0.uid == uid)) self.old }
     {
         match &mut self.notes {
-            Notes::OfIds(notes) => take_out(&mut self.keys, notes, uid),
-            Notes::Plain => take_plain(&mut self.keys, Slot::plain(self.alloc, uid)),
-            Notes::Lost => self.keys.retain(|slot, _key| slot.uid != uid),
+            IdSlots::OfIds(notes) => take_out(&mut self.keys, notes, uid),
+            IdSlots::Plain => take_plain(&mut self.keys, Slot::plain(self.alloc, uid)),
+            IdSlots::Lost => self.keys.retain(|slot, _key| slot.uid != uid),
         }
     }
 
@@ -111,36 +111,36 @@ impl Slots {
         ensures { option_map (λ k. k.now) result ≡ key_at (map pair_of self.now) uid }
     {
         match &self.notes {
-            Notes::OfIds(notes) => self.keys.get(notes.get(&uid)?),
-            Notes::Plain => self.keys.get(&Slot::plain(self.alloc, uid)),
-            Notes::Lost => first_of(&self.keys, uid),
+            IdSlots::OfIds(notes) => self.keys.get(notes.get(&uid)?),
+            IdSlots::Plain => self.keys.get(&Slot::plain(self.alloc, uid)),
+            IdSlots::Lost => first_of(&self.keys, uid),
         }
     }
 }
 
-/// Notes a slot. Where another of its id is known, or the slots are no longer plain, all notes are
-/// given up.
-fn note(notes: &mut Notes, slot: &Slot) -> Result<(), AllocError>
+/// Notes a slot. Where another slot of its id is known, or the slots are no longer plain, all notes
+/// are given up.
+fn note(notes: &mut IdSlots, slot: &Slot) -> Result<(), AllocError>
     ensures kept { (es : List Entry) → AreNoted notes.old es → AreNoted notes.new es }
     ensures noted { IfOk result (λ _. HasNote notes.new slot.now) }
 {
     match notes {
-        Notes::OfIds(of_ids) => {
+        IdSlots::OfIds(of_ids) => {
             if !note_of_id(of_ids, slot)? {
-                *notes = Notes::Lost;
+                *notes = IdSlots::Lost;
             }
         }
-        Notes::Plain => {
+        IdSlots::Plain => {
             if !slot.bytes.is_empty() {
-                *notes = Notes::Lost;
+                *notes = IdSlots::Lost;
             }
         }
-        Notes::Lost => {}
+        IdSlots::Lost => {}
     }
     Ok(())
 }
 
-/// Notes a slot under its id. Whether no other was noted there.
+/// Notes a slot under its id, and answers whether no other was noted there.
 fn note_of_id(of_ids: &mut BTreeMap<u32, Slot>, slot: &Slot) -> Result<bool, AllocError>
     ensures kept { IfOk result (λ fits. IsTrue fits → (es : List Entry) → AreNotes of_ids.old es
         → AreNotes of_ids.new es) }
@@ -174,7 +174,7 @@ fn take_plain(keys: &mut BTreeMap<Slot, Key>, slot: Slot)
     keys.remove(&slot);
 }
 
-/// The first key of an id, which a walk over all finds.
+/// The first key of an id, found by a walk over all.
 fn first_of(keys: &BTreeMap<Slot, Key>, uid: u32) -> Option<&Key>
     ensures { option_map (λ k. k.now) result ≡ key_at (map pair_of keys.now.entries) uid }
 {

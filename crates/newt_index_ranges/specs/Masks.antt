@@ -7,12 +7,13 @@ use Rattle.newt_graph.specs.Graph.{RawGraph}
 use Rattle.newt_spec_store.specs.Store.{TagTable}
 use Rattle.newt_tags.specs.Masks.{mask_of}
 
--- a tags declaration, and the masks by it that are kept, each behind the id of its entry (this project's own)
+-- a tags declaration, and the masks by it that are kept, each with the id of its entry before it
+-- (this project's own)
 pub record Masks : Type 0 where
   pub table : TagTable
   pub masks : List (ℕ × ℕ)
 
--- the mask that is kept of an id (this project's own)
+-- the mask that is kept under an id (this project's own)
 abbrev pub kept_mask : ℕ → Masks → Option ℕ
 kept_mask uid m = lookup (λ k. k == uid) m.masks
 
@@ -28,7 +29,8 @@ with_mask uid g m = record m { masks = insert_entry nat_cmp m.masks uid (mask_of
 abbrev pub without_mask : ℕ → Masks → Masks
 without_mask uid m = record m { masks = filter (λ e. not (e.0 == uid)) m.masks }
 
--- The masks are by this declaration, and of an id that of its graph is kept, if there is a graph. (this project's own)
+-- The masks are by this declaration. Under an id the mask of its graph is kept, if there is a
+-- graph. (this project's own)
 pub record IsMasks (table : TagTable) (graphs : ℕ → Option RawGraph) (m : Masks) : Type 0 where
   pub declared : m.table ≡ table
   pub masks : (uid : ℕ) → kept_mask uid m ≡ option_map (mask_of table) (graphs uid)

@@ -45,7 +45,8 @@ no_ranges sig specs tags =
 abbrev pub change_kept : (Sorted → Sorted) → (Masks → Masks) → SoupRanges → SoupRanges
 change_kept change mark r = record r { all = change r.all; indexes = map change r.indexes; masks = option_map mark r.masks }
 
--- the entry of this id and graph is in each range where it has a key, and its mask is kept (this project's own)
+-- the entry of this id and graph is in each range where it has a key, and its mask is kept (this
+-- project's own)
 abbrev pub entry_kept : ℕ → RawGraph → SoupRanges → SoupRanges
 entry_kept uid g r = change_kept (with_entry uid g) (with_mask uid g) r
 
@@ -57,7 +58,7 @@ entry_forgotten uid r = change_kept (without_entry uid) (without_mask uid) r
 abbrev pub entry_renewed : ℕ → RawGraph → SoupRanges → SoupRanges
 entry_renewed uid g r = entry_kept uid g (entry_forgotten uid r)
 
--- a range more, at the end (this project's own)
+-- with one range more, at the end (this project's own)
 abbrev pub with_range : Sorted → SoupRanges → SoupRanges
 with_range v r = record r { indexes = r.indexes ++ v ∷ [] }
 
@@ -69,12 +70,14 @@ without_range paths r = record r { indexes = filter (λ v. not (has_paths paths 
 abbrev pub with_masks : Masks → SoupRanges → SoupRanges
 with_masks m r = record r { masks = Some m }
 
--- the range by a declaration that agrees with this one; with none that of all entries (this project's own)
+-- the range by a declaration that agrees with this one; without a declaration, that of all entries
+-- (this project's own)
 abbrev pub find_range : Option IndexSpec → SoupRanges → Option Sorted
 find_range None r = Some r.all
 find_range (Some spec) r = find (carries spec) r.indexes
 
--- the mask of an id: the one that is kept, or 0 where none are kept and the id is among those of all entries (this project's own)
+-- the mask of an id: the one that is kept, or 0 where none are kept and the id is among those of
+-- all entries (this project's own)
 abbrev pub mask_by_id : Option Masks → Sorted → ℕ → Option ℕ
 mask_by_id None all uid = option_map (λ k. 0) (key_at all.pairs uid)
 mask_by_id (Some m) all uid = kept_mask uid m

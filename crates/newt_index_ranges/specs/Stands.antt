@@ -1,4 +1,5 @@
--- What ranges stand for. An entry's graph is looked up by its id, so it does not matter in what order entries are added.
+-- What ranges stand for. An entry's graph is looked up by its id, so it does not matter in what
+-- order entries are added.
 use Rattle.std.specs.Prelude.{◌≡◌, ℕ, List, [], ◌∷◌, Option, Some, None, option_map, option_and_then}
 use Rattle.newt_graph.specs.Graph.{RawGraph}
 use Rattle.newt_spec_graph.specs.Lists.{Pairs}
@@ -17,7 +18,8 @@ Graphs = ℕ → Option RawGraph
 abbrev pub graphs_of : Soup → Graphs
 graphs_of p uid = option_map (λ e. e.graph) (entry_of uid p)
 
--- The range is by this declaration, has each id once, and has for an id the key of its graph, if there are a graph and a key. (this project's own)
+-- The range is by this declaration, and has each id at most once. It has the key of an id's graph
+-- under that id, if there are a graph and a key. (this project's own)
 pub record IsRange (spec : Option IndexSpec) (graphs : Graphs) (v : Sorted) : Type 0 where
   pub declared : v.spec ≡ spec
   pub once : Pairs (λ p q. p.1 ≡ q.1 → ⊥) v.pairs
@@ -35,15 +37,15 @@ AreMasks graphs None None = Unit {0}
 AreMasks graphs (Some table) (Some m) = IsMasks table graphs m
 AreMasks graphs _ _ = ⊥
 
--- The ranges are of a soup with these graphs: that of all entries, and one for each of its declarations; with the masks by its tags declaration.
--- (this project's own)
+-- The ranges are of a soup with these graphs: that of all entries, and one for each of its
+-- declarations, with the masks by its tags declaration. (this project's own)
 pub record IsRangesOf (p : Soup) (graphs : Graphs) (r : SoupRanges) : Type 0 where
   pub of_sig : r.sig ≡ p.sig
   pub all : IsRange None graphs r.all
   pub indexes : AreIndexes graphs p.specs r.indexes
   pub masks : AreMasks graphs p.tags r.masks
 
--- the ranges are of these soups, in order, whose graphs are told (a word of these definitions)
+-- the ranges are of these soups, in order, whose graphs are given (a word of these definitions)
 abbrev pub AreRanges : (Soup → Graphs) → List Soup → List SoupRanges → Type 0
 AreRanges graphs [] [] = Unit {0}
 AreRanges graphs (p ∷ ps) (r ∷ rs) = IsRangesOf p (graphs p) r × AreRanges graphs ps rs

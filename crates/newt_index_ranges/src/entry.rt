@@ -9,7 +9,7 @@ use newt_keys::{IndexSpec, key_in};
 use newt_path::Path;
 use std::alloc::AllocError;
 
-/// Adds an entry to a range: its id with the key of its graph. Where the graph has no key nothing
+/// Adds an entry to a range: its id with the key of its graph. Where the graph has no key, nothing
 /// changes. After an error nothing has changed.
 pub fn add_entry(range: &mut Index, uid: Uid, graph: &Graph) -> Result<(), AllocError>
     ensures ok { OnOk result (range.new ≡ with_entry uid graph.now range.old) }
@@ -21,7 +21,7 @@ pub fn add_entry(range: &mut Index, uid: Uid, graph: &Graph) -> Result<(), Alloc
     }
 }
 
-/// Whether a range is by a declaration that agrees with this one.
+/// Whether the declaration of a range agrees with this one.
 pub(crate) fn carries(range: &Index, spec: &IndexSpec) -> bool
     ensures { result ≡ carries spec.now range.now }
 {
@@ -31,7 +31,7 @@ pub(crate) fn carries(range: &Index, spec: &IndexSpec) -> bool
     }
 }
 
-/// Whether a range is by a declaration of these paths.
+/// Whether the declaration of a range has these paths.
 pub(crate) fn has_paths(range: &Index, paths: &[Path]) -> bool
     ensures { result ≡ has_paths paths.now range.now }
 {

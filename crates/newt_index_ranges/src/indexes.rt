@@ -42,7 +42,7 @@ impl Indexes {
         Ok(Indexes { items })
     }
 
-    /// The range by a declaration that agrees with this one.
+    /// The range whose declaration agrees with this one.
     pub(crate) fn find(&self, spec: &IndexSpec) -> Option<&Index>
         ensures found { option_map (λ v. v.now) result ≡ find (carries spec.now) self.now }
         ensures sorted { IfSome result (λ v. IsSorted v.now) }
@@ -73,7 +73,7 @@ impl Indexes {
         remove_from_all(self.items.as_mut_slice(), uid);
     }
 
-    /// One range more, at the end.
+    /// Adds one range more, at the end.
     pub(crate) fn push(&mut self, range: Index) -> Result<(), AllocError>
         ensures ok { OnOk result (self.new ≡ self.old ++ range ∷ []) }
         ensures err { OnErr result (self.new ≡ self.old) }
@@ -82,7 +82,7 @@ impl Indexes {
         Ok(())
     }
 
-    /// The range by the declaration of these paths goes. It takes no memory.
+    /// Drops the range whose declaration has these paths. It takes no memory.
     pub(crate) fn drop_paths(&mut self, paths: &[Path])
         ensures { self.new ≡ filter (λ v. not (has_paths paths.now v)) self.old }
     {

@@ -9,7 +9,7 @@ use std::alloc::{AllocError, Global};
 use std::collections::BTreeMap;
 use std::marker::Model;
 
-/// A soup's tags declaration, and the mask by it of each of the soup's entries.
+/// A soup's tags declaration, and the mask of each of the soup's entries by it.
 #[derive(Drop)]
 pub struct Masks {
     table: TagTable,
@@ -25,7 +25,7 @@ impl Model for Masks {
 }
 
 impl Masks {
-    /// No masks. It takes no memory.
+    /// Masks of no entries. It takes no memory.
     pub fn new(alloc: Global, table: TagTable) -> Masks
         ensures { result ≡ no_masks table }
     {
@@ -60,7 +60,7 @@ impl Masks {
     }
 }
 
-/// No masks by a declaration, if there is one.
+/// Masks of no entries by a declaration, if there is one.
 pub(crate) fn no_masks(alloc: Global, tags: Option<&TagTable>) -> Result<Option<Masks>, AllocError>
     ensures { IfOk result (λ masks. masks ≡ option_map no_masks (option_map (λ t. t.now)
         tags.entry)) }

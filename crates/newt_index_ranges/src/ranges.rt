@@ -23,9 +23,9 @@ use newt_tags::TagTable;
 use std::alloc::{AllocError, Global};
 use std::marker::Model;
 
-/// The ranges of a store's soups, in order of making. A call that fails when out of memory may
-/// leave some ranges changed and others not: the ranges are then spent, unless the call says
-/// otherwise. A call for a soup that is not there changes nothing.
+/// The ranges of a store's soups, in the order in which the soups were made. A call for a soup that
+/// is not there changes nothing. A call that fails when out of memory may leave some ranges changed
+/// and others not. The ranges are then spent, unless the call says otherwise.
 #[derive(Drop)]
 pub struct Ranges {
     soups: Vec<SoupRanges>,
@@ -41,7 +41,7 @@ impl Model for Ranges {
 }
 
 impl Ranges {
-    /// No soups. It takes no memory.
+    /// Ranges of no soups. It takes no memory.
     pub fn new(alloc: Global) -> Ranges
         ensures { result ≡ [] }
     {
@@ -50,9 +50,9 @@ impl Ranges {
         }
     }
 
-    /// The sorted list of exactly the entries of a soup that have a key: by a declaration that
-    /// agrees with this one, or with none of all entries by id. None exactly where the soup is not
-    /// there or does not carry the declaration. It takes no memory.
+    /// The sorted list of exactly the entries of a soup that have a key, by a declaration that
+    /// agrees with this one; without a declaration, of all entries by id. None exactly where the
+    /// soup is not there or does not carry the declaration. It takes no memory.
     pub fn range_of(&self, soup: Sig, spec: Option<&IndexSpec>) -> Option<&Index>
         ensures found { option_map (λ v. v.now) result
             ≡ range_found soup (option_map (λ s. s.now) spec.entry) self.now }
@@ -73,7 +73,7 @@ impl Ranges {
         find_mask_in(&self.soups, soup, uid)
     }
 
-    /// A soup more at the end, of these declarations and without entries; a new soup has none.
+    /// Adds a soup at the end, with these declarations and without entries: a new soup has none.
     /// After an error nothing has changed.
     pub fn make_soup(
         &mut self,
@@ -90,29 +90,29 @@ impl Ranges {
         Ok(())
     }
 
-    /// A soup gone. It takes no memory.
+    /// Drops a soup. It takes no memory.
     pub fn drop_soup(&mut self, soup: Sig)
         ensures { self.new ≡ drop_ranges soup self.old }
     {
         keep_others(&mut self.soups, soup);
     }
 
-    /// An entry more in a soup, of an id that none of its entries has. Entries may be added in any
-    /// order.
+    /// Adds an entry to a soup, with an id that none of its entries has. Entries may be added in
+    /// any order.
     pub fn add(&mut self, soup: Sig, uid: Uid, graph: &Graph) -> Result<(), AllocError>
         ensures { OnOk result (self.new ≡ change_ranges soup (entry_kept uid graph.now) self.old) }
     {
         add_in(self.soups.as_mut_slice(), soup, uid, graph)
     }
 
-    /// An entry of a soup gone. It takes no memory.
+    /// Removes an entry of a soup. It takes no memory.
     pub fn remove(&mut self, soup: Sig, uid: Uid)
         ensures { self.new ≡ change_ranges soup (entry_forgotten uid) self.old }
     {
         remove_in(self.soups.as_mut_slice(), soup, uid);
     }
 
-    /// An entry of a soup with another graph.
+    /// Gives an entry of a soup another graph.
     pub fn replace(&mut self, soup: Sig, uid: Uid, graph: &Graph) -> Result<(), AllocError>
         ensures { OnOk result (self.new ≡ change_ranges soup (entry_renewed uid graph.now)
             self.old) }
@@ -120,8 +120,8 @@ impl Ranges {
         replace_in(self.soups.as_mut_slice(), soup, uid, graph)
     }
 
-    /// A new declaration of a soup at the end, with its range. `add_entry` fills a range. After an
-    /// error nothing has changed.
+    /// Adds a new declaration of a soup at the end, with its range. `add_entry` fills a range.
+    /// After an error nothing has changed.
     pub fn declare(&mut self, soup: Sig, range: Index) -> Result<(), AllocError>
         ensures ok { OnOk result (self.new ≡ change_ranges soup (with_range range) self.old) }
         ensures err { OnErr result (self.new ≡ self.old) }
@@ -129,14 +129,14 @@ impl Ranges {
         declare_in(self.soups.as_mut_slice(), soup, range)
     }
 
-    /// The declaration of a soup of these paths gone, with its range. It takes no memory.
+    /// Removes the declaration of a soup that has these paths, with its range. It takes no memory.
     pub fn undeclare(&mut self, soup: Sig, paths: &[Path])
         ensures { self.new ≡ change_ranges soup (without_range paths.now) self.old }
     {
         undeclare_in(self.soups.as_mut_slice(), soup, paths);
     }
 
-    /// The masks of a soup's entries by its tags declaration, in place of those that were kept.
+    /// Puts the masks of a soup's entries by its tags declaration in place of those that were kept.
     /// It takes no memory.
     pub fn set_masks(&mut self, soup: Sig, masks: Masks)
         ensures { self.new ≡ change_ranges soup (with_masks masks) self.old }

@@ -16,8 +16,8 @@ use newt_path::Path;
 use newt_tags::TagTable;
 use std::alloc::{AllocError, Global};
 
-/// The ranges of one soup: that of all its entries, by id, and one for each of its declarations, in
-/// order; and the masks of its entries, where it declares tags.
+/// The ranges of one soup: that of all its entries by id, and one for each of its declarations, in
+/// order. Where the soup declares tags, the masks of its entries stand beside them.
 #[derive(Drop)]
 pub(crate) struct SoupRanges {
     pub(crate) sig: Sig,
@@ -45,8 +45,8 @@ impl SoupRanges {
         })
     }
 
-    /// The range by a declaration that agrees with this one, or with none that of all entries. It
-    /// takes no memory.
+    /// The range by a declaration that agrees with this one; without a declaration, that of all
+    /// entries. It takes no memory.
     pub(crate) fn find(&self, spec: Option<&IndexSpec>) -> Option<&Index>
         ensures found { option_map (λ v. v.now) result
             ≡ find_range (option_map (λ s. s.now) spec.entry) self.now }
@@ -73,7 +73,7 @@ impl SoupRanges {
         }
     }
 
-    /// An entry more. After an error some ranges have it.
+    /// Adds an entry. After an error some ranges have it.
     pub(crate) fn add(&mut self, uid: Uid, graph: &Graph) -> Result<(), AllocError>
         ensures { OnOk result (self.new ≡ entry_kept uid graph.now self.old) }
     {
@@ -82,7 +82,7 @@ impl SoupRanges {
         add_mask(&mut self.masks, uid, graph)
     }
 
-    /// An entry gone. It takes no memory.
+    /// Removes an entry. It takes no memory.
     pub(crate) fn remove(&mut self, uid: Uid)
         ensures { self.new ≡ entry_forgotten uid self.old }
     {
@@ -91,7 +91,7 @@ impl SoupRanges {
         remove_mask(&mut self.masks, uid);
     }
 
-    /// An entry with another graph. After an error some ranges do not have it.
+    /// Gives an entry another graph. After an error some ranges do not have it.
     pub(crate) fn replace(&mut self, uid: Uid, graph: &Graph) -> Result<(), AllocError>
         ensures { OnOk result (self.new ≡ entry_renewed uid graph.now self.old) }
     {
@@ -100,7 +100,7 @@ impl SoupRanges {
         Ok(())
     }
 
-    /// A range more, by a new declaration.
+    /// Adds a range, by a new declaration.
     pub(crate) fn declare(&mut self, range: Index) -> Result<(), AllocError>
         ensures ok { OnOk result (self.new ≡ with_range range self.old) }
         ensures err { OnErr result (self.new ≡ self.old) }
@@ -108,14 +108,14 @@ impl SoupRanges {
         self.indexes.push(range)
     }
 
-    /// The range by the declaration of these paths gone. It takes no memory.
+    /// Drops the range by the declaration of these paths. It takes no memory.
     pub(crate) fn undeclare(&mut self, paths: &[Path])
         ensures { self.new ≡ without_range paths.now self.old }
     {
         self.indexes.drop_paths(paths);
     }
 
-    /// These masks in place of those that were kept. It takes no memory.
+    /// Puts these masks in place of those that were kept. It takes no memory.
     pub(crate) fn set_masks(&mut self, masks: Masks)
         ensures { self.new ≡ with_masks masks self.old }
     {

@@ -6,8 +6,8 @@ use Rattle.newt_host.specs.Moments.{SameOutside}
 use Rattle.newt_journal.specs.Turns.{IsSameBlock}
 use Rattle.newt_journal.proofs.Erasing.{part-before}
 
-pub drop-behind : {at n : ℕ} {a b : List ℕ} → SameOutside at n a b → (from : ℕ) → at + n ≤ from → drop from b ≡ drop from a
-drop-behind {at = at} {n = n} {a = a} {b = b} s from past =
+pub drop-after : {at n : ℕ} {a b : List ℕ} → SameOutside at n a b → (from : ℕ) → at + n ≤ from → drop from b ≡ drop from a
+drop-after {at = at} {n = n} {a = a} {b = b} s from past =
     let more = from - (at + n) in
     let there : (at + n) + more ≡ from = omega (arith, past) in
     ap (λ (i : ℕ). drop i b) (sym there) ∙ sym (drop-drop more (at + n) b) ∙ ap (λ (l : List ℕ). drop more l) s.after ∙ drop-drop more (at + n) a ∙ ap (λ (i : ℕ). drop i a) there
@@ -17,6 +17,6 @@ pub block-same : (b block : ℕ) {a left : List ℕ} → b ≢ block → SameOut
     → IsSameBlock b a left
 block-same b block differ s = elim (cases_lt b block) [
   | inl before ↦ part-before s (b * 4096) 4096 (omega (arith, before))
-  | inr behind ↦ ap (λ (l : List ℕ). take 4096 l)
-      (drop-behind s (b * 4096) (omega (arith, behind, differ)))
+  | inr after ↦ ap (λ (l : List ℕ). take 4096 l)
+      (drop-after s (b * 4096) (omega (arith, after, differ)))
 ]

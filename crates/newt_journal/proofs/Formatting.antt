@@ -18,7 +18,7 @@ use Rattle.newt_journal.proofs.Steps.{bank-fits, bank-low, holds-reading, versio
 use Rattle.newt_journal.proofs.Tail.{holds-tail}
 use Rattle.newt_journal.proofs.Finish.{Ends-blank}
 use Rattle.newt_journal.proofs.Casting.{alike-chosen}
-use Rattle.newt_journal.proofs.Blocks.{drop-behind}
+use Rattle.newt_journal.proofs.Blocks.{drop-after}
 use Rattle.newt_journal.proofs.Opened.{has_blocks}
 use Rattle.newt_journal.proofs.Beginning.{length-lead}
 use Rattle.newt_journal.proofs.Switches.{lead-record}
@@ -129,7 +129,7 @@ module _ (u blocks : ℕ) (enough : 13 ≤ blocks) (few : blocks ≤ 4099) (base
     format_holds = record {
       size = same.size ∙ filled_3.kept.size ∙ long;
       votes = alike-chosen 0 (image u m4) (omega arith) alike;
-      bank_is = ap (λ (l : List ℕ). take size l) (drop-behind same start (bank-low blocks First)) ∙ filled_3.bytes ∙ ap (λ (l : List ℕ). l ++ replicate rest 255) (lead-record payload);
+      bank_is = ap (λ (l : List ℕ). take size l) (drop-after same start (bank-low blocks First)) ∙ filled_3.bytes ∙ ap (λ (l : List ℕ). l ++ replicate rest 255) (lead-record payload);
     }
 
     pub format_reads : reading (image u m4) ≡ (2, Some (payload ∷ []))
@@ -141,7 +141,7 @@ module _ (u blocks : ℕ) (enough : 13 ≤ blocks) (few : blocks ≤ 4099) (base
     pub format_stands : (j : Journal) → j.blocks ≡ blocks → j.bank ≡ First → j.end ≡ at + 21 + length payload → j.version ≡ 2 → j.closed ≡ false → IsDurable u m4 → HeldBy j (changes u m4)
     format_stands j blocks_is bank_is end_is new open_is durable = record {
       payloads = payload ∷ [];
-      behind = replicate rest 255;
+      after_records = replicate rest 255;
       bank = subst (λ (v : ℕ). Holds j.blocks (bank_number j.bank) (written v (payload ∷ []) ++ replicate rest 255) (image u m4)) (sym new)
           (subst (λ (b : Bank). Holds j.blocks (bank_number b) (written 2 (payload ∷ []) ++ replicate rest 255) (image u m4)) (sym bank_is)
           (subst (λ (n : ℕ). Holds n (bank_number First) (written 2 (payload ∷ []) ++ replicate rest 255) (image u m4)) (sym blocks_is) format_holds));

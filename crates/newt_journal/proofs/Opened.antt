@@ -7,7 +7,7 @@ use Rattle.std.proofs.lemmas.Bool.Decides.{nat_tests}
 use Rattle.std.specs.List.{flat_map}
 use Rattle.newt_host.specs.Outside.{Outside, HasBlocks}
 use Rattle.newt_host.specs.Moments.{Change, Moment, image, bytes_after, LeftBy}
-use Rattle.newt_spec_image.specs.Records.{bank_size, bank_bytes, chosen_bank, header, without, versioned, versioned_body, behind_header, payloads_after, and_then, has_banks, records, record_bytes, IsVersion}
+use Rattle.newt_spec_image.specs.Records.{bank_size, bank_bytes, chosen_bank, header, without, versioned, versioned_body, after_header, payloads_after, and_then, has_banks, records, record_bytes, IsVersion}
 use Rattle.newt_journal.specs.Bank.{bank_number, start_of, limit_of}
 use Rattle.newt_journal.specs.Journal.{Holds, written, Reading, HeldBy}
 use Rattle.newt_journal.specs.Scan.{IsEnd, between}
@@ -75,7 +75,7 @@ module _ (blocks : ℕ) (image : List ℕ) (size : length image ≡ blocks * 409
     body_of = body_is ∙ ap (λ (o : Option ℕ). and_then o (λ bank. versioned (bank_bytes blocks bank image))) voted
 
     -- a bank that begins with no header of a version has no records of it
-    pub other_header : (version : ℕ) → take 16 (drop start image) ≢ header version → behind_header version (bank_bytes blocks (bank_number bank) image) ≡ None
+    pub other_header : (version : ℕ) → take 16 (drop start image) ≢ header version → after_header version (bank_bytes blocks (bank_number bank) image) ≡ None
     unfolding header
     other_header version differ =
         let long : length (take 16 (drop start image)) ≡ 16 = omega (arith, length-take 16 (drop start image), length-drop start image, size, bank-fits blocks bank enough, wide) in
@@ -90,7 +90,7 @@ module _ (blocks : ℕ) (image : List ℕ) (size : length image ≡ blocks * 409
     no_header differ =
         let bytes = bank_bytes blocks (bank_number bank) image in
         records_in (body_of
-        ∙ ap (λ (o : Option (ℕ × List ℕ)). elim o as (λ _. Option (ℕ × List ℕ)) [ Some found ↦ Some found | None ↦ behind_header 2 bytes ]) (other_header 1 (differ 1 (omega arith, omega arith)))
+        ∙ ap (λ (o : Option (ℕ × List ℕ)). elim o as (λ _. Option (ℕ × List ℕ)) [ Some found ↦ Some found | None ↦ after_header 2 bytes ]) (other_header 1 (differ 1 (omega arith, omega arith)))
         ∙ other_header 2 (differ 2 version-2))
 
     module _ (version : ℕ) (is_version : IsVersion version) (headed : take 16 (drop start image) ≡ header version) where
@@ -114,7 +114,7 @@ opened j done size voted headed found small blank not_closed durable =
     let long = long_rest image (start_of j.blocks j.bank + 16) j.end (limit_of j.blocks j.bank) inside small order s j.high in
     record {
       payloads = s.payloads;
-      behind = s.rest;
+      after_records = s.rest;
       bank = subst (λ (l : List ℕ). Holds j.blocks (bank_number j.bank) l image) (ap (λ (l : List ℕ). header j.version ++ l) s.is ∙ sym (append_assoc (header j.version) (flat_map record_bytes s.payloads) s.rest)) (holds j.blocks image size j.enough j.not_too_many j.bank voted j.version j.known headed);
       end = omega (arith, s.place, length-written j.version s.payloads);
       ends = found.ends;
@@ -142,7 +142,7 @@ at_some {A = A} P Q is m = subst (λ (o : Option A). MatchOption o P Q) is m
 pub of_some : {A : Type 0} (P : A → Type 0) {o : Option A} {x : A} → o ≡ Some x → IfSome o P → P x
 of_some {A = A} P is m = subst (λ (o : Option A). IfSome o P) is m
 
--- a bank is closed where something stands behind its records, or else where it has version 1
+-- a bank is closed where something stands after its records, or else where it has version 1
 pub closed_where : (blank closed : Bool) (version : ℕ) → ((blank ≡ false) × (closed ≡ not blank)) ⊎ ((blank ≡ true) × (closed ≡ (version == 1)))
     → (closed ≡ false → blank ≡ true) × (version ≡ 2 → (blank ≡ false → ⊥) → closed ≡ false)
 closed_where blank closed version (inl shut) = (λ is_open. absurd (let clash : true ≡ false = ap not (sym shut.0) ∙ sym shut.1 ∙ is_open in cc), λ new never. absurd (never shut.0))
@@ -171,11 +171,11 @@ not_blank image from at n to low high differ blank =
     let all : to - from ≡ m + k = omega (arith, low, high) in
     let there : from + m ≡ at = omega (arith, low) in
     let within : n ≤ k = omega (arith, high) in
-    let behind : take k (drop at image) ≡ replicate k 255 =
+    let after_records : take k (drop at image) ≡ replicate k 255 =
     ap (λ (p : ℕ). take k (drop p image)) (sym there) ∙ ap (λ (l : List ℕ). take k l) (sym (drop-drop m from image)) ∙ sym (drop-take m k (drop from image))
     ∙ ap (λ (p : ℕ). drop m (take p (drop from image))) (sym all) ∙ ap (λ (l : List ℕ). drop m l) blank ∙ drop-replicate m (to - from) 255
     ∙ (let left : to - from - m ≡ k = omega (arith, all) in ap (λ (p : ℕ). replicate p 255) left) in
-    differ (sym (take-take n k (drop at image) within) ∙ ap (λ (l : List ℕ). take n l) behind ∙ take-replicate n k 255 within)
+    differ (sym (take-take n k (drop at image) within) ∙ ap (λ (l : List ℕ). take n l) after_records ∙ take-replicate n k 255 within)
 
 is_there : {A : Type 0} (o : Option A) (n : ℕ) → (o ≡ None → n ≡ 0) → 13 ≤ n → IsSome o
 is_there None n none some = absurd (omega (arith, none refl))
@@ -190,4 +190,4 @@ has_blocks unit blocks outside none is enough = record {
 
 pub holds-some : (j : Journal) (done : List Change) → HeldBy j done → IsSome (records (bytes_after done))
 holds-some j done held = subst (λ (o : Option (List (List ℕ))). IsSome o)
-    (ap (λ (r : Reading). r.1) (sym (holds-reading j.blocks j.bank j.enough j.not_too_many j.version j.known held.payloads held.behind (bytes_after done) held.bank held.ends))) refl
+    (ap (λ (r : Reading). r.1) (sym (holds-reading j.blocks j.bank j.enough j.not_too_many j.version j.known held.payloads held.after_records (bytes_after done) held.bank held.ends))) refl

@@ -52,7 +52,7 @@ bank-ends blocks b bank start limit is begins ends = ends ∙ ap (λ n. n + bank
 pub wide-bank : (b : ℕ) → 13 ≤ b → 16 ≤ bank_size b
 wide-bank b enough = omega (arith, enough)
 
--- up to the search of its end, and up to a look behind it
+-- up to the search of its end, and up to a look after it
 pub most-found : (start limit size : ℕ) → limit ≡ start + size → 16 ≤ size → 3 + (16 + (limit - (start + 16))) ≤ 4 + size
 most-found start limit size ends wide = omega (arith, ends, wide)
 

@@ -10,7 +10,7 @@ use Rattle.newt_journal.specs.declared.bank.Bank.{Bank}
 use Rattle.newt_journal.specs.declared.journal.Journal.{Journal}
 use Rattle.newt_journal.proofs.Steps.{bank-small, bank-low, holds-reading}
 use Rattle.newt_journal.proofs.Opened.{byte_at}
-use Rattle.newt_journal.proofs.Blocks.{drop-behind}
+use Rattle.newt_journal.proofs.Blocks.{drop-after}
 use Rattle.newt_journal.proofs.Settle.{Order, order_of, other-differs, step_0, step_1, step_2, step_3, alike}
 
 module _ (u : ℕ) (bank : Bank) (old m1 : Moment) (durable : IsDurable u old) (same : m1 ≡ old) (voted : chosen_bank (image u old) ≡ Some (bank_number bank)) where
@@ -65,19 +65,19 @@ module _ (u : ℕ) (bank : Bank) (old m1 : Moment) (durable : IsDurable u old) (
           pub alike_now : (m4 : Moment) → Settling 0 k (image u m3) (image u m4) → vote_of 0 (image u m4) ≡ k → AllVoteFor k (image u m4)
           alike_now m4 kept_3 settled_3 = alike k other (bank-small bank) (bank-small (other_bank bank)) (other-differs bank) img voted_1 near (3 - near) order (image u m2) kept_1 settled_1 (image u m3) kept_2 settled_2 (image u m4) kept_3 settled_3
 
--- a bank lies behind the votes
-pub bank-behind : (blocks : ℕ) (bank : Bank) (bytes image left : List ℕ) → Holds blocks (bank_number bank) bytes image → chosen_bank left ≡ Some (bank_number bank) → SameOutside 0 12288 image left → Holds blocks (bank_number bank) bytes left
-bank-behind blocks bank bytes image left h bank_is same = record {
+-- a bank lies after the votes
+pub bank-after : (blocks : ℕ) (bank : Bank) (bytes image left : List ℕ) → Holds blocks (bank_number bank) bytes image → chosen_bank left ≡ Some (bank_number bank) → SameOutside 0 12288 image left → Holds blocks (bank_number bank) bytes left
+bank-after blocks bank bytes image left h bank_is same = record {
   size = same.size ∙ h.size;
   votes = bank_is;
-  bank_is = ap (λ (l : List ℕ). take (bank_size blocks) l) (drop-behind same (start_of blocks bank) (bank-low blocks bank)) ∙ h.bank_is;
+  bank_is = ap (λ (l : List ℕ). take (bank_size blocks) l) (drop-after same (start_of blocks bank) (bank-low blocks bank)) ∙ h.bank_is;
 }
 
 module _ (j : Journal) (old : Moment) (held : IsHeld j old) where
   pub same_reading : (left : List ℕ) → Repairs (bank_number j.bank) (image j.unit old) left → reading left ≡ reading (image j.unit old)
   same_reading left r =
-      holds-reading j.blocks j.bank j.enough j.not_too_many j.version j.known held.payloads held.behind left (bank-behind j.blocks j.bank (written j.version held.payloads ++ held.behind) (image j.unit old) left held.bank r.bank_is r.same) held.ends
-      ∙ sym (holds-reading j.blocks j.bank j.enough j.not_too_many j.version j.known held.payloads held.behind (image j.unit old) held.bank held.ends)
+      holds-reading j.blocks j.bank j.enough j.not_too_many j.version j.known held.payloads held.after_records left (bank-after j.blocks j.bank (written j.version held.payloads ++ held.after_records) (image j.unit old) left held.bank r.bank_is r.same) held.ends
+      ∙ sym (holds-reading j.blocks j.bank j.enough j.not_too_many j.version j.known held.payloads held.after_records (image j.unit old) held.bank held.ends)
 
   pub mended : (left : List ℕ) → Repairs (bank_number j.bank) (image j.unit old) left
       → Mends (bank_number j.bank) (image j.unit old) left
@@ -86,8 +86,8 @@ module _ (j : Journal) (old : Moment) (held : IsHeld j old) where
   pub still_held : (now : Moment) → Repairs (bank_number j.bank) (image j.unit old) (image j.unit now) → IsDurable j.unit now → IsHeld j now
   still_held now r durable = record {
     payloads = held.payloads;
-    behind = held.behind;
-    bank = bank-behind j.blocks j.bank (written j.version held.payloads ++ held.behind) (image j.unit old) (image j.unit now) held.bank r.bank_is r.same;
+    after_records = held.after_records;
+    bank = bank-after j.blocks j.bank (written j.version held.payloads ++ held.after_records) (image j.unit old) (image j.unit now) held.bank r.bank_is r.same;
     end = held.end;
     ends = held.ends;
     blank = held.blank;

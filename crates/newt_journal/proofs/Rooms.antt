@@ -18,11 +18,11 @@ closed-room true n shut = refl
 closed-room false n shut = absurd (shut refl)
 
 module _ (j : Journal) (now : Moment) (held : IsHeld j now) where
-  tail_is : tail (image j.unit now) ≡ held.behind
-  tail_is = holds-tail j.blocks j.bank j.enough j.not_too_many j.version j.known held.payloads held.behind (image j.unit now) held.bank held.ends
+  tail_is : tail (image j.unit now) ≡ held.after_records
+  tail_is = holds-tail j.blocks j.bank j.enough j.not_too_many j.version j.known held.payloads held.after_records (image j.unit now) held.bank held.ends
 
-  long : length held.behind ≡ limit_of j.blocks j.bank - j.end
-  long = omega (arith, held.end, length-bank j.blocks j.bank j.enough j.not_too_many (written j.version held.payloads ++ held.behind) (image j.unit now) held.bank, length-append (written j.version held.payloads) held.behind)
+  long : length held.after_records ≡ limit_of j.blocks j.bank - j.end
+  long = omega (arith, held.end, length-bank j.blocks j.bank j.enough j.not_too_many (written j.version held.payloads ++ held.after_records) (image j.unit now) held.bank, length-append (written j.version held.payloads) held.after_records)
 
   pub tail_long : length (tail (image j.unit now)) ≡ limit_of j.blocks j.bank - j.end
   tail_long = ap length tail_is ∙ long
@@ -31,7 +31,7 @@ module _ (j : Journal) (now : Moment) (held : IsHeld j now) where
   tail_blank is_open n n_is = tail_is ∙ held.blank is_open ∙ ap (λ (k : ℕ). replicate k 255) (long ∙ sym n_is)
 
   pub version_is : version (image j.unit now) ≡ j.version
-  version_is = ap (λ (r : Reading). r.0) (holds-reading j.blocks j.bank j.enough j.not_too_many j.version j.known held.payloads held.behind (image j.unit now) held.bank held.ends)
+  version_is = ap (λ (r : Reading). r.0) (holds-reading j.blocks j.bank j.enough j.not_too_many j.version j.known held.payloads held.after_records (image j.unit now) held.bank held.ends)
 
   pub room_is : IsRoom (room j) (image j.unit now)
   room_is = record {

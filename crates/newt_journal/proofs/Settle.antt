@@ -70,7 +70,7 @@ pub other_vote : (b block k : ℕ) (img left : List ℕ) → b ≢ block → Set
 other_vote b block k img left differ (inl same) = ap (λ (l : List ℕ). vote_of b l) same
 other_vote b block k img left differ (inr torn) = elim (cases_lt b block) [
   | inl before ↦ get_or-same torn.1 (b * 4096) (omega (arith, before))
-  | inr behind ↦ get_or-after torn.1 (b * 4096) (omega (arith, behind, differ))
+  | inr after ↦ get_or-after torn.1 (b * 4096) (omega (arith, after, differ))
 ]
 
 -- and all of each

@@ -18,8 +18,8 @@ use Rattle.newt_journal.specs.declared.switching.Switching.{Switching}
 use Rattle.newt_journal.proofs.Steps.{bank-low, bank-fits, holds-reading, version-2}
 use Rattle.newt_journal.proofs.Finish.{Ends-blank}
 use Rattle.newt_journal.proofs.Erasing.{part-before}
-use Rattle.newt_journal.proofs.Blocks.{drop-behind}
-use Rattle.newt_journal.proofs.Repairing.{bank-behind}
+use Rattle.newt_journal.proofs.Blocks.{drop-after}
+use Rattle.newt_journal.proofs.Repairing.{bank-after}
 use Rattle.newt_journal.proofs.Beginning.{length-lead}
 use Rattle.newt_journal.proofs.Filling.{room_blank, write_leaves, write_filled}
 
@@ -35,7 +35,7 @@ bank-elsewhere blocks Second bytes base left h s =
     record {
       size = s.size ∙ h.size;
       votes = (λ i. chosen (get_or-same s 0 (omega arith) i) (get_or-same s 4096 (omega arith) i) (get_or-same s 8192 (omega arith) i)) ∙ h.votes;
-      bank_is = ap (λ (l : List ℕ). take (bank_size blocks) l) (drop-behind s (start_of blocks Second) (omega arith)) ∙ h.bank_is;
+      bank_is = ap (λ (l : List ℕ). take (bank_size blocks) l) (drop-after s (start_of blocks Second) (omega arith)) ∙ h.bank_is;
     }
 
 alike-elsewhere : (blocks k : ℕ) (bank : Bank) (base left : List ℕ) → AllVoteFor k base → SameOutside (start_of blocks bank) (bank_size blocks) base left → AllVoteFor k left
@@ -82,11 +82,11 @@ module _ (s : Switching) (now : Moment) (held : IsSwitching s now) where
   abbrev pub version : ℕ
   version = s.journal.version
 
-  pub elsewhere : (left : List ℕ) → SameOutside start size held.base left → Holds blocks (bank_number from) (written version held.payloads ++ held.behind) left
-  elsewhere left same = bank-elsewhere blocks from (written version held.payloads ++ held.behind) held.base left held.bank same
+  pub elsewhere : (left : List ℕ) → SameOutside start size held.base left → Holds blocks (bank_number from) (written version held.payloads ++ held.after_records) left
+  elsewhere left same = bank-elsewhere blocks from (written version held.payloads ++ held.after_records) held.base left held.bank same
 
   reads-payloads : (left : List ℕ) → SameOutside start size held.base left → reading left ≡ (version, Some held.payloads)
-  reads-payloads left same = holds-reading blocks from s.journal.enough s.journal.not_too_many version s.journal.known held.payloads held.behind left (elsewhere left same) held.ends
+  reads-payloads left same = holds-reading blocks from s.journal.enough s.journal.not_too_many version s.journal.known held.payloads held.after_records left (elsewhere left same) held.ends
 
   pub reads_now : reading img ≡ (version, Some held.payloads)
   reads_now = reads-payloads img held.filled.kept
@@ -133,7 +133,7 @@ module _ (s : Switching) (now : Moment) (held : IsSwitching s now) where
         switching_now = record {
           base = held.base;
           payloads = held.payloads;
-          behind = held.behind;
+          after_records = held.after_records;
           so_far = held.so_far ++ bytes;
           bank = held.bank;
           ends = held.ends;
@@ -200,8 +200,8 @@ module _ (s : Switching) (now : Moment) (held : IsSwitching s now) where
       module _ (to_bank : Bank) (to_is : to_bank ≡ to) where
         kept_from : (left : List ℕ) → chosen_bank left ≡ Some (bank_number from) → SameOutside 0 12288 (image u m1) left → reading left ≡ before
         kept_from left chosen_is same =
-            holds-reading blocks from s.journal.enough s.journal.not_too_many version s.journal.known held.payloads held.behind left
-            (bank-behind blocks from (written version held.payloads ++ held.behind) img left (elsewhere img held.filled.kept)
+            holds-reading blocks from s.journal.enough s.journal.not_too_many version s.journal.known held.payloads held.after_records left
+            (bank-after blocks from (written version held.payloads ++ held.after_records) img left (elsewhere img held.filled.kept)
             chosen_is (subst (λ (l : List ℕ). SameOutside 0 12288 l left) img_1 same)) held.ends
             ∙ sym reads_now
 
@@ -209,7 +209,7 @@ module _ (s : Switching) (now : Moment) (held : IsSwitching s now) where
         holds_to left chosen_is same = record {
           size = same.size ∙ ap length img_1 ∙ held.filled.kept.size ∙ held.bank.size;
           votes = chosen_is ∙ ap (λ (b : Bank). Some (bank_number b)) to_is;
-          bank_is = ap (λ (l : List ℕ). take size l) (drop-behind same start (bank-low blocks to) ∙ ap (λ (l : List ℕ). drop start l) img_1) ∙ other_is;
+          bank_is = ap (λ (l : List ℕ). take size l) (drop-after same start (bank-low blocks to) ∙ ap (λ (l : List ℕ). drop start l) img_1) ∙ other_is;
         }
 
         pub kept_to : (left : List ℕ) → chosen_bank left ≡ Some (bank_number to_bank) → SameOutside 0 12288 (image u m1) left → reading left ≡ after
@@ -239,7 +239,7 @@ module _ (s : Switching) (now : Moment) (held : IsSwitching s now) where
           pub stands : (j : Journal) → j.blocks ≡ blocks → j.bank ≡ to → j.end ≡ start + 21 + s.len → j.version ≡ 2 → j.closed ≡ false → IsDurable u m2 → HeldBy j (changes u m2)
           stands j blocks_is bank_is end_is new open_is durable = record {
             payloads = held.so_far ∷ [];
-            behind = rest;
+            after_records = rest;
             bank = subst (λ (v : ℕ). Holds j.blocks (bank_number j.bank) (written v (held.so_far ∷ []) ++ rest) (image u m2)) (sym new)
                 (subst (λ (b : Bank). Holds j.blocks (bank_number b) (written 2 (held.so_far ∷ []) ++ rest) (image u m2)) (sym bank_is)
                 (subst (λ (n : ℕ). Holds n (bank_number to) (written 2 (held.so_far ∷ []) ++ rest) (image u m2)) (sym blocks_is) (holds_to (image u m2) turned.0 turned.1)));
@@ -257,8 +257,8 @@ module _ (s : Switching) (now : Moment) (held : IsSwitching s now) where
 module _ (j : Journal) (len : ℕ) (old : Moment) (held : IsHeld j old) (to_bank : Bank) (to_is : to_bank ≡ other_bank j.bank) where
   elsewhere_first : (left : List ℕ) → SameOutside (start_of j.blocks to_bank) (bank_size j.blocks) (image j.unit old) left → reading left ≡ (j.version, Some held.payloads)
   elsewhere_first left same =
-      holds-reading j.blocks j.bank j.enough j.not_too_many j.version j.known held.payloads held.behind left
-      (bank-elsewhere j.blocks j.bank (written j.version held.payloads ++ held.behind) (image j.unit old) left held.bank
+      holds-reading j.blocks j.bank j.enough j.not_too_many j.version j.known held.payloads held.after_records left
+      (bank-elsewhere j.blocks j.bank (written j.version held.payloads ++ held.after_records) (image j.unit old) left held.bank
       (subst (λ (b : Bank). SameOutside (start_of j.blocks b) (bank_size j.blocks) (image j.unit old) left) to_is same)) held.ends
 
   pub begin_same : (left : List ℕ) → SameOutside (start_of j.blocks to_bank) (bank_size j.blocks) (image j.unit old) left → reading left ≡ reading (image j.unit old)
@@ -272,7 +272,7 @@ module _ (j : Journal) (len : ℕ) (old : Moment) (held : IsHeld j old) (to_bank
       record {
         base = image j.unit old;
         payloads = held.payloads;
-        behind = held.behind;
+        after_records = held.after_records;
         so_far = [];
         bank = held.bank;
         ends = held.ends;

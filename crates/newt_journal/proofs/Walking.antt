@@ -38,7 +38,7 @@ module _ (j : Journal) (now : Moment) (held : IsHeld j now) where
   bytes = image j.unit now
 
   pub read : records bytes ≡ Some held.payloads
-  read = ap (λ (r : Reading). r.1) (holds-reading j.blocks j.bank j.enough j.not_too_many j.version j.known held.payloads held.behind bytes held.bank held.ends)
+  read = ap (λ (r : Reading). r.1) (holds-reading j.blocks j.bank j.enough j.not_too_many j.version j.known held.payloads held.after_records bytes held.bank held.ends)
 
   -- all records from the first place on
   pub first_is : IsPlace j (first_place j) bytes
@@ -52,16 +52,16 @@ module _ (j : Journal) (now : Moment) (held : IsHeld j now) where
     same = some-inj [] (sym read ∙ all)
 
     abbrev rest : List ℕ
-    rest = records_bytes others ++ held.behind
+    rest = records_bytes others ++ held.after_records
 
-    split : written j.version held.payloads ++ held.behind ≡ written j.version passed ++ rest
-    split = ap (λ (l : List (List ℕ)). written j.version l ++ held.behind) same ∙ ap (λ (l : List ℕ). l ++ held.behind) (written-append j.version passed others) ∙ append_assoc (written j.version passed) (records_bytes others) held.behind
+    split : written j.version held.payloads ++ held.after_records ≡ written j.version passed ++ rest
+    split = ap (λ (l : List (List ℕ)). written j.version l ++ held.after_records) same ∙ ap (λ (l : List ℕ). l ++ held.after_records) (written-append j.version passed others) ∙ append_assoc (written j.version passed) (records_bytes others) held.after_records
 
     holds : Holds j.blocks (bank_number j.bank) (written j.version passed ++ rest ++ []) bytes
     holds = subst (λ (l : List ℕ). Holds j.blocks (bank_number j.bank) l bytes) (split ∙ sym (append-nil (written j.version passed ++ rest))) held.bank
 
     size : length (written j.version passed ++ rest) ≡ bank_size j.blocks
-    size = ap length (sym split) ∙ length-bank j.blocks j.bank j.enough j.not_too_many (written j.version held.payloads ++ held.behind) bytes held.bank
+    size = ap length (sym split) ∙ length-bank j.blocks j.bank j.enough j.not_too_many (written j.version held.payloads ++ held.after_records) bytes held.bank
 
     long_rest : length rest ≡ limit_of j.blocks j.bank - at
     long_rest = omega (arith, size, length-append (written j.version passed) rest, place)
@@ -70,14 +70,14 @@ module _ (j : Journal) (now : Moment) (held : IsHeld j now) where
     end_is = omega (arith, held.end, place, ap length (ap (λ (l : List (List ℕ)). written j.version l) same ∙ written-append j.version passed others), length-append (written j.version passed) (records_bytes others))
 
     small : length (records_bytes others) < 2 ^ 32
-    small = omega (arith, j.not_too_many, size, length-append (written j.version passed) rest, length-append (records_bytes others) held.behind)
+    small = omega (arith, j.not_too_many, size, length-append (written j.version passed) rest, length-append (records_bytes others) held.after_records)
 
     pub rest_is : between at (limit_of j.blocks j.bank) bytes ≡ rest
     rest_is = ap (λ (n : ℕ). take n (drop at bytes)) (sym long_rest) ∙ ap (λ (k : ℕ). take (length rest) (drop k bytes)) place
         ∙ holds-reads j.blocks j.bank j.enough j.not_too_many (written j.version passed) rest [] bytes holds
 
     pub from_is : payloads_from j at bytes ≡ Some others
-    from_is = ap (λ (l : List ℕ). payloads_after 0 l) rest_is ∙ payloads-flat others held.behind small held.ends
+    from_is = ap (λ (l : List ℕ). payloads_after 0 l) rest_is ∙ payloads-flat others held.after_records small held.ends
 
 pub all_from_first : (j : Journal) (now : Moment) (held : IsHeld j now) → payloads_from j (first_place j) (image j.unit now) ≡ records (image j.unit now)
 all_from_first j now held = from_is j now held [] held.payloads (read j now held) (first_place j) (omega arith) ∙ sym (read j now held)
@@ -98,23 +98,23 @@ module _ (j : Journal) (now : Moment) (held : IsHeld j now) (passed : List (List
   abbrev image_now : List ℕ
   image_now = image j.unit now
 
-  abbrev behind_record : List ℕ
-  behind_record = records_bytes more ++ held.behind
+  abbrev after_record : List ℕ
+  after_record = records_bytes more ++ held.after_records
 
   abbrev size_bytes : List ℕ
   size_bytes = length_bytes (length payload)
 
-  whole : Holds j.blocks (bank_number j.bank) (written j.version passed ++ (record_bytes payload ++ behind_record)) image_now
+  whole : Holds j.blocks (bank_number j.bank) (written j.version passed ++ (record_bytes payload ++ after_record)) image_now
   whole = subst (λ (l : List ℕ). Holds j.blocks (bank_number j.bank) l image_now)
-      (split j now held passed (payload ∷ more) all at place_is ∙ ap (λ (l : List ℕ). written j.version passed ++ l) (append_assoc (record_bytes payload) (records_bytes more) held.behind)) held.bank
+      (split j now held passed (payload ∷ more) all at place_is ∙ ap (λ (l : List ℕ). written j.version passed ++ l) (append_assoc (record_bytes payload) (records_bytes more) held.after_records)) held.bank
 
-  at_size : Holds j.blocks (bank_number j.bank) ((written j.version passed ++ 0 ∷ []) ++ size_bytes ++ (payload ++ behind_record)) image_now
+  at_size : Holds j.blocks (bank_number j.bank) ((written j.version passed ++ 0 ∷ []) ++ size_bytes ++ (payload ++ after_record)) image_now
   unfolding record_bytes
-  at_size = subst (λ (l : List ℕ). Holds j.blocks (bank_number j.bank) l image_now) (regroup_record (written j.version passed) size_bytes payload behind_record) whole
+  at_size = subst (λ (l : List ℕ). Holds j.blocks (bank_number j.bank) l image_now) (regroup_record (written j.version passed) size_bytes payload after_record) whole
 
-  at_payload : Holds j.blocks (bank_number j.bank) (((written j.version passed ++ 0 ∷ []) ++ size_bytes) ++ payload ++ behind_record) image_now
+  at_payload : Holds j.blocks (bank_number j.bank) (((written j.version passed ++ 0 ∷ []) ++ size_bytes) ++ payload ++ after_record) image_now
   unfolding record_bytes
-  at_payload = subst (λ (l : List ℕ). Holds j.blocks (bank_number j.bank) l image_now) (regroup_payload (written j.version passed) size_bytes payload behind_record) whole
+  at_payload = subst (λ (l : List ℕ). Holds j.blocks (bank_number j.bank) l image_now) (regroup_payload (written j.version passed) size_bytes payload after_record) whole
 
   pub to_end : j.end ≡ at + 5 + length payload + length (records_bytes more)
   to_end = omega (arith, end_is j now held passed (payload ∷ more) all at place_is, length-append (record_bytes payload) (records_bytes more), length-record payload)
@@ -126,13 +126,13 @@ module _ (j : Journal) (now : Moment) (held : IsHeld j now) (passed : List (List
   reads_size =
       let there : at + 1 ≡ start_of j.blocks j.bank + length (written j.version passed ++ 0 ∷ []) = omega (arith, from_front, length-append (written j.version passed) (0 ∷ [])) in
       ap (λ (k : ℕ). take 4 (drop k image_now)) there ∙ ap (λ (n : ℕ). take n (drop (start_of j.blocks j.bank + length (written j.version passed ++ 0 ∷ [])) image_now)) (sym (length-length_bytes (length payload)))
-      ∙ holds-reads j.blocks j.bank j.enough j.not_too_many (written j.version passed ++ 0 ∷ []) size_bytes (payload ++ behind_record) image_now at_size
+      ∙ holds-reads j.blocks j.bank j.enough j.not_too_many (written j.version passed ++ 0 ∷ []) size_bytes (payload ++ after_record) image_now at_size
 
   pub reads_payload : take (length payload) (drop (at + 5) image_now) ≡ payload
   reads_payload =
       let there : at + 5 ≡ start_of j.blocks j.bank + length ((written j.version passed ++ 0 ∷ []) ++ size_bytes) = omega (arith, from_front, length-append (written j.version passed ++ 0 ∷ []) size_bytes, length-append (written j.version passed) (0 ∷ []), length-length_bytes (length payload)) in
       ap (λ (k : ℕ). take (length payload) (drop k image_now)) there
-      ∙ holds-reads j.blocks j.bank j.enough j.not_too_many ((written j.version passed ++ 0 ∷ []) ++ size_bytes) payload behind_record image_now at_payload
+      ∙ holds-reads j.blocks j.bank j.enough j.not_too_many ((written j.version passed ++ 0 ∷ []) ++ size_bytes) payload after_record image_now at_payload
 
   module _ (n : ℕ) (n_small : n < 2 ^ 32) (number : length_bytes n ≡ take 4 (drop (at + 1) image_now)) where
     pub size_is : length payload ≡ n

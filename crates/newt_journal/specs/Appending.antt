@@ -1,4 +1,4 @@
--- What the draft of a record behind the others stands for.
+-- What the draft of a record after the others stands for.
 use Rattle.std.specs.Prelude.{IsTrue, Bool, ◌≡◌, ℕ, ◌+◌, ◌-◌, List, [], ◌∷◌, ◌++◌, length, take, drop, replicate}
 use Rattle.newt_host.specs.Moments.{Change, Moment, changes, bytes_after, LeftBy, SameOutside}
 use Rattle.newt_host.specs.Outside.{Outside, HasBlocks}
@@ -11,7 +11,7 @@ use Rattle.newt_journal.specs.declared.appending.Appending.{Appending}
 abbrev pub drafted : Appending → List ℕ → List ℕ
 drafted d image = take d.put (drop (d.journal.end + 5) image)
 
--- The bank has version 2. Behind a gate that is FF stand the length, what has been put, and blank bytes. A crash spoils nothing but the length and the payload.
+-- The bank has version 2. After a gate that is FF stand the length, what has been put, and blank bytes. A crash spoils nothing but the length and the payload.
 pub record DraftedBy (d : Appending) (done : List Change) : Type 0 where
   pub payloads : List (List ℕ)
   pub so_far : List ℕ

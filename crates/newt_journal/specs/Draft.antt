@@ -1,4 +1,4 @@
--- What the draft of a record stands for, behind the others or alone in the other bank.
+-- What the draft of a record stands for, after the others or alone in the other bank.
 use Rattle.std.specs.Prelude.{IsTrue, ◌≡◌, ℕ, Bool, true, false, ◌+◌, ◌-◌, List, [], ◌∷◌, ◌++◌, length, replicate, Option, Some}
 use Rattle.newt_host.specs.Moments.{image}
 use Rattle.newt_host.specs.Outside.{Outside, Work}
@@ -55,7 +55,7 @@ abbrev pub is_switch : Draft → Bool
 is_switch (Append a) = false
 is_switch (Switch s) = true
 
--- how many bytes will be left behind the record
+-- how many bytes will be left after the record
 abbrev pub rest_of : Draft → ℕ
 rest_of (Append a) = limit_of a.journal.blocks a.journal.bank - (a.journal.end + 5 + a.len)
 rest_of (Switch s) = bank_size s.journal.blocks - (21 + s.len)
@@ -78,7 +78,7 @@ abbrev pub commit_work : Bool → Work
 commit_work false = writing 1 0 2
 commit_work true = writing 3 3 7
 
--- A record of so many bytes was begun, behind the others or alone in the other bank, of which
+-- A record of so many bytes was begun, after the others or alone in the other bank, of which
 -- nothing is put yet; the unit reads as it did.
 pub record IsBegun (told : Bool) (journal : Journal) (len : ℕ) (alone : Bool) (draft : Draft)
     (old new : Outside) : Type 0 where
@@ -102,7 +102,7 @@ pub record IsSameRecord (before after : Draft) : Type 0 where
   pub place : place_of after ≡ place_of before
   pub front : front_of after ≡ front_of before
 
--- These bytes were put behind what was put before; the unit reads as it did.
+-- These bytes were put after what was put before; the unit reads as it did.
 pub record HasPut (told : Bool) (bytes : List ℕ) (before after : Draft) (old new : Outside)
     : Type 0 where
   pub draft_of : IsDraftOf told after new
@@ -112,7 +112,7 @@ pub record HasPut (told : Bool) (bytes : List ℕ) (before after : Draft) (old n
   pub same : IsTrue told → reading (image (unit_of before) new.now)
       ≡ reading (image (unit_of before) old.now)
 
--- The record was committed: the journal stands for its unit, behind whose last record all is blank.
+-- The record was committed: the journal stands for its unit, after whose last record all is blank.
 -- All votes agree where the record is alone.
 pub record IsFinished (told : Bool) (draft : Draft) (journal : Journal) (old new : Outside)
     : Type 0 where

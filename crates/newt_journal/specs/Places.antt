@@ -26,7 +26,7 @@ pub record IsPlace (j : Journal) (at : ℕ) (image : List ℕ) : Type 0 where
   pub all : records image ≡ Some (passed ++ others)
   pub place : at ≡ first_place j + length (records_bytes passed)
 
--- What is found at a place of the records: the record that begins there, behind which the others
+-- What is found at a place of the records: the record that begins there, after which the others
 -- stand, or none at their end.
 pub record Finds (told : Bool) (j : Journal) (at : ℕ) (image : List ℕ) (found : Option Found)
     : Type 0 where

@@ -21,7 +21,7 @@ mended_first bank image = if vote_of 2 image == 1 - bank then 2 else 1
 abbrev pub Settling : ℕ → ℕ → List ℕ → List ℕ → Type 0
 Settling block bank image left = (left ≡ image) ⊎ ((vote_of block image ≢ bank) × SameOutside (block * 4096) 4096 image left)
 
--- The same bank is chosen, and everything behind the votes is as it was. A block that votes for the
+-- The same bank is chosen, and everything after the votes is as it was. A block that votes for the
 -- bank is left alone; the others are mended in turn, the first block last.
 pub record Repairs (bank : ℕ) (image left : List ℕ) : Type 0 where
   pub bank_is : chosen_bank left ≡ Some bank

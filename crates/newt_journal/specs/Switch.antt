@@ -20,10 +20,10 @@ switched s image = take s.put (drop (switch_start s + 21) image)
 pub record SwitchedBy (s : Switching) (done : List Change) : Type 0 where
   pub base : List ℕ
   pub payloads : List (List ℕ)
-  pub behind : List ℕ
+  pub after_records : List ℕ
   pub so_far : List ℕ
-  pub bank : Holds s.journal.blocks (bank_number s.journal.bank) (written s.journal.version payloads ++ behind) base
-  pub ends : Ends behind
+  pub bank : Holds s.journal.blocks (bank_number s.journal.bank) (written s.journal.version payloads ++ after_records) base
+  pub ends : Ends after_records
   pub end : s.journal.end ≡ start_of s.journal.blocks s.journal.bank + length (written s.journal.version payloads)
   pub alike : AllVoteFor (bank_number s.journal.bank) base
   pub filled : FilledBy (switch_start s) (bank_size s.journal.blocks) base (lead s.len ++ so_far) (bank_size s.journal.blocks - 21 - s.put) done

@@ -1,4 +1,4 @@
-// A record that is being written behind the others.
+// A record that is being written after the others.
 ghost use Rattle.std.specs.Prelude.{IsTrue, ◌≡◌, ◌≤◌, ◌<◌, ◌+◌};
 ghost use Rattle.newt_journal.specs.Bank.{limit_of};
 
@@ -6,7 +6,7 @@ use crate::Journal;
 use crate::piece::program_piece;
 use newt_host::{Failed, Host};
 
-/// A record that is being written behind the others. It holds the journal until it is finished.
+/// A record that is being written after the others. It holds the journal until it is finished.
 #[derive(Drop)]
 pub struct Appending {
     pub(crate) journal: Journal,
@@ -27,7 +27,7 @@ impl Appending {
     ghost use Rattle.newt_journal.specs.declared.draft.Draft.TheVariants.{Append};
     ghost use Rattle.newt_journal.specs.Calls.{Programs, writing};
 
-    /// Begins a record of so many bytes: its length is written behind a gate that stays FF.
+    /// Begins a record of so many bytes: its length is written after a gate that stays FF.
     pub(crate) fn begin<H: Host>(
         journal: Journal,
         host: &mut H,
@@ -52,7 +52,7 @@ impl Appending {
         })
     }
 
-    /// Writes more of the payload, behind the gate that stays FF.
+    /// Writes more of the payload, after the gate that stays FF.
     pub(crate) fn put<H: Host>(&mut self, host: &mut H, bytes: &[u8]) -> Result<(), Failed>
         requires within { self.old.put + length bytes.now ≤ self.old.len }
         requires draft { IsAppendingOf H.told self.old (H.outside host.old) }

@@ -6,7 +6,7 @@ use crate::scan::read_length;
 use newt_host::{Failed, Host};
 
 /// A record that was found: the place of its payload, the payload's length in bytes, and the place
-/// behind it, where the next record begins.
+/// after it, where the next record begins.
 #[derive(Clone, Copy, Debug, PartialEq, Eq)]
 pub struct Found {
     pub at: u32,
@@ -39,7 +39,7 @@ impl Journal {
         self.bank.start(self.blocks) + 16
     }
 
-    /// The place behind the last record, where the next one begins.
+    /// The place after the last record, where the next one begins.
     pub fn end(&self) -> u32
         ensures place { result ≡ end_of self.now }
     {

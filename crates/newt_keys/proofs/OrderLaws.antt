@@ -65,4 +65,4 @@ no_prefix spec a b t ha hb e =
 
 -- the whole law
 pub order_as_keys : (spec : IndexSpec) → OrderAsKeys spec
-order_as_keys spec a b ha hb = (bytes_order spec a b ha hb, λ behind e. no_prefix spec a b behind ha hb e)
+order_as_keys spec a b ha hb = (bytes_order spec a b ha hb, λ after e. no_prefix spec a b after ha hb e)

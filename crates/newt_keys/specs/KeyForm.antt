@@ -1,4 +1,5 @@
--- The keys of a declaration, and the bytes of a key, which order as the keys do (this project's own).
+-- The keys of a declaration, and the bytes of a key, which order as the keys do (this project's
+-- own).
 use Rattle.std.specs.Prelude.{◌≡◌, ℕ, suc, zero, ◌+◌, ◌-◌, ◌^◌, ◌<◌, List, [], ◌∷◌, ◌++◌, map, ℤ, pos, negsuc, FitsSigned, All}
 use Rattle.std.specs.Int.{w32}
 use Rattle.std.specs.Ordering.{nat_cmp}
@@ -32,7 +33,8 @@ abbrev pub IsFirstThere : Key → Type 0
 IsFirstThere (missing ∷ _) = ⊥
 IsFirstThere _ = Unit {0}
 
--- a key of a declaration: its parts, the first of which is there; with no declaration it is the empty key (this project's own)
+-- a key of a declaration: its parts, the first of which is there; without a declaration the empty
+-- key (this project's own)
 abbrev pub IsKeyOf : IndexSpec → Key → Type 0
 IsKeyOf spec key = AreParts spec key × IsFirstThere key
 
@@ -62,7 +64,8 @@ value_bytes (whole n) = be32 (place_of n)
 value_bytes (letter c) = be16 c
 value_bytes (name bytes) = text_bytes bytes
 
--- a mark that sets a missing part before all values in both directions, and the value in its direction (this project's own)
+-- a mark that sets a missing part before all values in both directions, and the value in its
+-- direction (this project's own)
 abbrev pub part_bytes : Order → Part → List ℕ
 part_bytes d missing = 0 ∷ []
 part_bytes d a = 1 ∷ map (turned d) (value_bytes a)
@@ -74,9 +77,10 @@ key_bytes _ _ = []
 
 -- ---- the law
 
--- the bytes of two keys of a declaration order as the keys, and where the keys differ, neither's begin the other's (this project's own)
+-- the bytes of two keys of a declaration order as the keys, and where the keys differ, neither's
+-- bytes begin the other's (this project's own)
 abbrev pub OrderAsKeys : IndexSpec → Type 0
 OrderAsKeys spec =
     (a b : Key) → IsKeyOf spec a → IsKeyOf spec b
     → (slice_cmp nat_cmp (key_bytes spec a) (key_bytes spec b) ≡ key_cmp spec a b)
-    × ((behind : List ℕ) → key_bytes spec a ++ behind ≡ key_bytes spec b → a ≡ b)
+    × ((after : List ℕ) → key_bytes spec a ++ after ≡ key_bytes spec b → a ≡ b)

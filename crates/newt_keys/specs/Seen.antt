@@ -1,11 +1,11 @@
--- How the declarations and keys of the code are seen as those of the definition.
+-- How the definition sees the declarations and keys of the code.
 use Rattle.std.specs.Prelude.{List, map}
 use Rattle.newt_spec_store.specs.Keys as spec
 use Rattle.newt_keys.specs.declared.types.IndexPart.{IndexPart}
 use Rattle.newt_keys.specs.declared.types.Part.{Part}
 use Rattle.newt_keys.specs.declared.types.Part.TheVariants.{Missing, Text, Int, Char, Symbol}
 
--- the part of a key that a part of the code is (a word of these definitions)
+-- a part of a key of the code, as the definition has it (a word of these definitions)
 abbrev pub said : Part → spec.Part
 said Missing = spec.missing
 said (Text bytes) = spec.words bytes
@@ -13,7 +13,7 @@ said (Int number) = spec.whole number
 said (Char unit) = spec.letter unit
 said (Symbol name) = spec.name name
 
--- the part of a declaration that a part of the code is (a word of these definitions)
+-- a part of a declaration of the code, as the definition has it (a word of these definitions)
 abbrev pub declared : IndexPart → spec.IndexPart
 declared p = record { path = p.path; kind = p.kind; direction = p.order }
 

@@ -1,4 +1,4 @@
-//! Bytes of keys that order as the keys do, none of which begin those of another key.
+//! Bytes of keys that order as the keys do; those of one key never begin those of another.
 ghost use Rattle.std.specs.Prelude.{◌≡◌, ◌++◌, map, IfOk};
 ghost use Rattle.newt_keys.specs.KeyForm.{IsKeyOf, OrderAsKeys};
 ghost use Rattle.newt_keys.specs.KeyForm as form;
@@ -9,7 +9,7 @@ use crate::types::{IndexPart, IndexSpec, Key, Part};
 use newt_spec_store::Order;
 use std::alloc::{AllocError, Global};
 
-/// The bytes of a key. Those of two keys of the declaration order as the keys do, and where the
+/// The bytes of a key. The bytes of two keys of the declaration order as the keys do. Where the
 /// keys differ, neither's bytes begin the other's.
 pub fn key_bytes(alloc: Global, key: &Key, spec: &IndexSpec) -> Result<Vec<u8>, AllocError>
     requires { IsKeyOf spec.now key.now }
@@ -22,8 +22,8 @@ pub fn key_bytes(alloc: Global, key: &Key, spec: &IndexSpec) -> Result<Vec<u8>, 
     Ok(bytes)
 }
 
-/// The number of bytes of a key in whose texts no byte is 0. No clause speaks of room: with such
-/// bytes more is taken.
+/// The number of bytes of a key in whose texts no byte is 0. No clause speaks of room: a key with
+/// such bytes takes more.
 fn room_for(key: &[Part]) -> usize {
     let mut room: usize = 0;
     for part in key {

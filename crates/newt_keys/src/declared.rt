@@ -1,4 +1,4 @@
-//! The keys of graphs by declarations that need not be there.
+//! The keys of graphs by declarations that may be absent.
 ghost use Rattle.std.specs.Prelude.{◌≡◌, [], IfOk, IfSome, option_map, unwrap_or};
 ghost use Rattle.newt_keys.specs.KeyForm.{IsKeyOf};
 ghost use Rattle.newt_spec_store.specs.Keys as keys;
@@ -8,8 +8,8 @@ use crate::types::{IndexSpec, Key};
 use newt_graph::Graph;
 use std::alloc::{AllocError, Global};
 
-/// The key that a graph has by a declaration, or with none the empty key. None where the first part
-/// is missing; the graph's entry is then in no such index.
+/// The key that a graph has by a declaration; without a declaration the empty key. None where the
+/// first part is missing: the graph's entry is then in no such index.
 pub fn key_in(
     alloc: Global,
     spec: Option<&IndexSpec>,

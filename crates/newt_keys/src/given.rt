@@ -11,10 +11,10 @@ use crate::values::part_of;
 use newt_graph::{Graph, Node, Ref};
 use std::alloc::{AllocError, Global};
 
-/// The key that a value of a graph writes down: one value of the part's type for a declaration of
-/// one part, and an array without class of 1 to as many values for more, where nil and a value that
-/// is not given are missing parts and the first is there. None exactly where it is not of these
-/// types.
+/// The key that a value of a graph writes down. For a declaration of one part that is one value of
+/// the part's type. For one of more parts it is an array without class of 1 to as many values: nil
+/// and a value that is not given are missing parts, and the first part is there. None exactly where
+/// the value is none of these.
 pub fn key_from(
     alloc: Global,
     graph: &Graph,
@@ -34,7 +34,7 @@ pub fn key_from(
     }
 }
 
-/// The values of an array without class, where they are 1 to so many.
+/// The values of an array without class, where there are 1 to `most` of them.
 fn several_values(nodes: &[Node], at: Ref, most: usize) -> Option<&[Ref]>
     ensures { option_map (λ values. values.now) result
         ≡ option_and_then (query.keep (query.within most)) (query.plain_values nodes.now at) }
@@ -96,18 +96,18 @@ fn given_parts(
     let mut left = spec;
     let mut given = values;
     while let [part, rest @ ..] = left {
-        let (value, behind) = split_given(given);
+        let (value, after) = split_given(given);
         let Some(found) = given_part(alloc, nodes, part, value)? else {
             return Ok(None);
         };
         parts.push(found)?;
         left = rest;
-        given = behind;
+        given = after;
     }
     Ok(Some(parts))
 }
 
-/// The first value, if one is given, and those behind it.
+/// The first value, if one is given, and those after it.
 fn split_given(values: &[Ref]) -> (Option<Ref>, &[Ref])
     ensures { (p : keys.IndexPart) (ps : keys.IndexSpec)
         → query.padded (p ∷ ps) values.now ≡ (p, result.0) ∷ query.padded ps result.1.now }
@@ -118,8 +118,8 @@ fn split_given(values: &[Ref]) -> (Option<Ref>, &[Ref])
     }
 }
 
-/// The part that a value is: missing where it is nil or not given, none where it is not of the
-/// part's type.
+/// The part that a value is: missing where the value is nil or not given, none where it is not of
+/// the part's type.
 fn given_part(
     alloc: Global,
     nodes: &[Node],

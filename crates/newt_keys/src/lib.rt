@@ -3,8 +3,8 @@
 //!
 //! It stands on `newt_path` for the values at paths, on `newt_fold` for the folding of strings, and
 //! on the definition of keys. It carries this promise: the key of a graph, the key that a value
-//! writes down and the order of keys are the definition's, and the bytes of two keys of one
-//! declaration order as the keys, where neither's begin those of another key.
+//! writes down and the order of keys are the definition's. The bytes of two keys of one declaration
+//! order as the keys do, and where the keys differ, neither's bytes begin the other's.
 #![tactic(auto)]
 
 mod bytes;

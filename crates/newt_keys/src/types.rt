@@ -13,7 +13,7 @@ use newt_spec_store::{Kind, Order};
 use std::alloc::{AllocError, Global};
 use std::marker::Model;
 
-/// A part of a declaration: the path of its values, their type, and which way they are ordered.
+/// A part of a declaration: the path of its values, their type, and the order in which they stand.
 #[derive(Drop)]
 pub struct IndexPart {
     pub path: Path,
@@ -204,7 +204,7 @@ impl Key {
         }
     }
 
-    /// The key of these parts. That they are those of a declaration is for the caller to see
+    /// The key of these parts. The caller must see that they are those of a declaration
     /// (`IsKeyOf`).
     pub fn of(parts: Vec<Part>) -> Key
         ensures { result ≡ said_all parts.items }

@@ -1,5 +1,5 @@
 -- Entries that are added.
-use Rattle.std.proofs.Common.{◌≡◌, refl, ap, sym, ◌∙◌, ℕ, List, [], ◌∷◌, Bool, Option, Some, None, option_map, unwrap_or, replicate, not, nat_lt, ◌==◌, drop}
+use Rattle.std.proofs.Common.{◌≡◌, refl, ap, sym, ◌∙◌, ℕ, List, [], ◌∷◌, Bool, Option, Some, None, option_map, unwrap_or, not, nat_lt, ◌==◌, drop}
 use Rattle.std.specs.Option.{is_none}
 use Rattle.newt_base.specs.Refusals.{Checks, first_of}
 use Rattle.newt_base.specs.declared.Refusal.{Refusal}
@@ -15,13 +15,13 @@ use Rattle.newt_spec_world.specs.World.{World, device, store_of, default_unit, m
 use Rattle.newt_spec_world.specs.Reply.{Reply}
 use Rattle.newt_spec_world.specs.Changed.{changed}
 use Rattle.newt_spec_world.specs.Refused.{checks, on_some, not_mounted, no_soup, no_more_ids, full}
-use Rattle.newt_spec_world.specs.Answer.{answer, fields, new_uid}
+use Rattle.newt_spec_world.specs.Answer.{answer, new_uid}
 use Rattle.newt_laws_answers.specs.Tests.{soup_checks}
 use Rattle.newt_laws_answers.proofs.Tests.{add_tests, room_tests, with_added}
 use Rattle.newt_laws_answers.proofs.Firsts.{first-true}
 use Rattle.newt_laws_answers.specs.There.{OnUnit}
 use Rattle.newt_laws_answers.proofs.Units.{on-changed, soup-named}
-use Rattle.newt_laws_answers.proofs.Answers.{done, refused, refused-early, all-pass, unit-passes, soup-passes, mounted-passes, full-is}
+use Rattle.newt_laws_answers.proofs.Answers.{refused, refused-early, all-pass, unit-passes, soup-passes, mounted-passes, full-is}
 
 -- the tests of a graph, and more
 abbrev graph-tests : RawGraph → Checks → Checks
@@ -51,22 +51,6 @@ module _ (w : World) (u blocks : ℕ) (s : Store) (name : List ℕ) (p : Soup) (
   unfolding checks changed
   addx-checks = all-pass w u blocks s name p (graph-tests g (no_more_ids w u name ∷ full w u (command.Addx u name g) ∷ [])) h f ∙ tests-are (command.Addx u name g) refl
 
-  -- ---- add
-
-  pub add-refused : (r : Refusal) → first_of (add_tests blocks w.minute name g s p) ≡ Some r → answer w (command.Add u name g) ≡ (w, Reply.refused r)
-  add-refused r k = refused w (command.Add u name g) r (add-checks ∙ k)
-
-  pub add-done : first_of (add_tests blocks w.minute name g s p) ≡ None → w.cursors ≡ replicate 32 None → answer w (command.Add u name g) ≡ (with_added w u name g, Reply.number p.next_uid)
-  unfolding changed fields
-  add-done k none = done w (command.Add u name g) (add-checks ∙ k) none ∙ ap {B = World × Reply} (λ n. (with_added w u name g, Reply.number n)) uid-is
-
-  pub addx-refused : (r : Refusal) → first_of (add_tests blocks w.minute name g s p) ≡ Some r → answer w (command.Addx u name g) ≡ (w, Reply.refused r)
-  addx-refused r k = refused w (command.Addx u name g) r (addx-checks ∙ k)
-
-  pub addx-done : first_of (add_tests blocks w.minute name g s p) ≡ None → w.cursors ≡ replicate 32 None → answer w (command.Addx u name g) ≡ (with_added w u name g, Reply.number p.next_uid)
-  unfolding changed fields
-  addx-done k none = done w (command.Addx u name g) (addx-checks ∙ k) none ∙ ap {B = World × Reply} (λ n. (with_added w u name g, Reply.number n)) uid-is
-
 -- ---- to the default store
 
 module _ (w : World) (u blocks : ℕ) (s : Store) (name : List ℕ) (p : Soup) (g : RawGraph) (d : default_unit w ≡ u) (h : OnUnit w u blocks s) (f : soup_named name s ≡ Some p) where
@@ -77,15 +61,6 @@ module _ (w : World) (u blocks : ℕ) (s : Store) (name : List ℕ) (p : Soup) (
       ∙ mounted-passes w u blocks s (no_soup w u name ∷ graph-tests g (no_more_ids w u name ∷ full w u (command.Addu name g) ∷ [])) h
       ∙ soup-passes w u blocks s name p (graph-tests g (no_more_ids w u name ∷ full w u (command.Addu name g) ∷ [])) h f
       ∙ tests-are w u blocks s name p g h f (command.Addu name g) (ap (λ v. with_added w v name g) d)
-
-  pub addu-refused : (r : Refusal) → first_of (add_tests blocks w.minute name g s p) ≡ Some r → answer w (command.Addu name g) ≡ (w, Reply.refused r)
-  addu-refused r k = refused w (command.Addu name g) r (addu-checks ∙ k)
-
-  pub addu-done : first_of (add_tests blocks w.minute name g s p) ≡ None → w.cursors ≡ replicate 32 None → answer w (command.Addu name g) ≡ (with_added w u name g, Reply.added u p.next_uid)
-  unfolding changed fields
-  addu-done k none = done w (command.Addu name g) (addu-checks ∙ k) none
-      ∙ ap {B = World × Reply} (λ v. (with_added w v name g, Reply.added v (new_uid w v name))) d
-      ∙ ap {B = World × Reply} (λ n. (with_added w u name g, Reply.added u n)) (uid-is w u blocks s name p g h f)
 
 -- ---- refused before
 

@@ -97,16 +97,6 @@ module _ (w : World) (u blocks : ℕ) (s : Store) (name : List ℕ) (p : Soup) (
         both-pass (drop 3 (checks w (command.Copy u name uid v target))) ∙ passes (drop 4 (checks w (command.Copy u name uid v target)))
         ∙ ap first_of (room-is w v other t target q e.graph k g (command.Copy u name uid v target) copied)
 
-    pub copy-refused : (r : Refusal) → first_of (room_tests other w.minute target e.graph t q) ≡ Some r → answer w (command.Copy u name uid v target) ≡ (w, Reply.refused r)
-    copy-refused r x = refused w (command.Copy u name uid v target) r (copy-checks ∙ x)
-
-    pub copy-done : first_of (room_tests other w.minute target e.graph t q) ≡ None → w.cursors ≡ replicate 32 None
-        → answer w (command.Copy u name uid v target) ≡ (with_added w v target e.graph, Reply.number q.next_uid)
-    unfolding fields
-    copy-done x none = done w (command.Copy u name uid v target) (copy-checks ∙ x) (ap (λ (y : World). y.cursors) copied ∙ none)
-        ∙ ap {B = World × Reply} (λ y. (y, Reply.number (new_uid w v target))) copied
-        ∙ ap {B = World × Reply} (λ n. (with_added w v target e.graph, Reply.number n)) (uid-is w v other t target q e.graph k g)
-
     -- ---- move
 
     -- the world after a move

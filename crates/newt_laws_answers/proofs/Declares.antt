@@ -16,7 +16,7 @@ use Rattle.newt_base.specs.declared.Refusal.TheVariants.{Index as BadIndex, Key 
 use Rattle.newt_spec_image.specs.Pages.{cap}
 use Rattle.newt_spec_store.specs.Cost.{cost}
 use Rattle.newt_spec_store.specs.Keys.{Path, paths_of, same_paths, has_paths}
-use Rattle.newt_spec_store.specs.Store.{Store, Soup, soup_named, change_soup, with_index, without_index}
+use Rattle.newt_spec_store.specs.Store.{Store, Soup, soup_named, change_soup, with_index}
 use Rattle.newt_spec_world.specs.declared.command.Command.TheVariants as command
 use Rattle.newt_spec_world.specs.declared.command.PartWord.{PartWord}
 use Rattle.newt_spec_world.specs.World.{World, change_store}
@@ -87,14 +87,6 @@ module _ (w : World) (u blocks : ℕ) (s : Store) (name : List ℕ) (p : Soup) (
             ∙ ap {A = Bool} (λ b. first_of ((Limit, nat_le 16 (length p.specs)) ∷ (Full, b) ∷ [])) room-is
             ∙ sym (first-false BadIndex _ (drop 1 (index_tests blocks name (spec_of_words parts) s p)) (ap (λ paths. has_paths paths p.specs) (paths-same parts) ∙ new))
 
-        pub index-refused : (r : Refusal) → first_of (index_tests blocks name (spec_of_words parts) s p) ≡ Some r → answer w (command.Index u name parts) ≡ (w, Reply.refused r)
-        index-refused r k = refused w (command.Index u name parts) r (index-checks ∙ k)
-
-        pub index-done : first_of (index_tests blocks name (spec_of_words parts) s p) ≡ None → w.cursors ≡ replicate 32 None
-            → answer w (command.Index u name parts) ≡ (change_store w u (change_soup name (with_index (spec_of_words parts))), Reply.done)
-        unfolding changed fields
-        index-done k none = done w (command.Index u name parts) (index-checks ∙ k) none
-
   -- ---- an index is removed
 
   module _ (paths : List Path) where
@@ -104,11 +96,6 @@ module _ (w : World) (u blocks : ℕ) (s : Store) (name : List ℕ) (p : Soup) (
 
     pub unindex-missing : has_paths paths p.specs ≡ false → answer w (command.Unindex u name paths) ≡ (w, Reply.refused BadIndex)
     unindex-missing none = refused w (command.Unindex u name paths) BadIndex (unindex-there ∙ first-true BadIndex _ [] (ap not (has-is paths ∙ none)))
-
-    pub unindex-done : has_paths paths p.specs ≡ true → w.cursors ≡ replicate 32 None
-        → answer w (command.Unindex u name paths) ≡ (change_store w u (change_soup name (without_index paths)), Reply.done)
-    unfolding changed fields
-    unindex-done there none = done w (command.Unindex u name paths) (unindex-there ∙ first-false BadIndex _ [] (ap not (has-is paths ∙ there))) none
 
   -- ---- shown
 
@@ -175,14 +162,6 @@ module _ (w : World) (u : ℕ) (name : List ℕ) (path : Path) (symbols : List (
       pub tags-checks : first_of (checks w (command.SetTags u name path symbols)) ≡ first_of (tags_tests blocks name (record { path = path; symbols = symbols }) s)
       tags-checks = tags-there ∙ first-false Limit _ (drop 4 tags-rows) few ∙ ap {A = Bool} (λ b. first_of ((Full, b) ∷ [])) tags-room
 
-      pub set-tags-refused : (r : Refusal) → first_of (tags_tests blocks name (record { path = path; symbols = symbols }) s) ≡ Some r → answer w (command.SetTags u name path symbols) ≡ (w, Reply.refused r)
-      set-tags-refused r k = refused w (command.SetTags u name path symbols) r (tags-checks ∙ k)
-
-      pub set-tags-done : first_of (tags_tests blocks name (record { path = path; symbols = symbols }) s) ≡ None → w.cursors ≡ replicate 32 None
-          → answer w (command.SetTags u name path symbols) ≡ (change_store w u (tagged name (record { path = path; symbols = symbols })), Reply.done)
-      unfolding changed fields
-      set-tags-done k none = done w (command.SetTags u name path symbols) (tags-checks ∙ k) none
-
 -- ---- an info frame is set
 
 -- the literal nil is written in two bytes
@@ -229,11 +208,3 @@ module _ (w : World) (u : ℕ) (name : List ℕ) (g : RawGraph) where
     pub info-checks : first_of (checks w (command.SetInfo u name g)) ≡ first_of (info_tests blocks name (info_from g) s)
     info-checks = info-table ∙ all-pass w u blocks s name p (drop 3 info-rows) h f
         ∙ (λ i. first_of ((BadInfo, bad-is g i) ∷ (Size, large-is g i) ∷ (Full, info-room i) ∷ []))
-
-    pub set-info-refused : (r : Refusal) → first_of (info_tests blocks name (info_from g) s) ≡ Some r → answer w (command.SetInfo u name g) ≡ (w, Reply.refused r)
-    set-info-refused r k = refused w (command.SetInfo u name g) r (info-checks ∙ k)
-
-    pub set-info-done : first_of (info_tests blocks name (info_from g) s) ≡ None → w.cursors ≡ replicate 32 None
-        → answer w (command.SetInfo u name g) ≡ (change_store w u (informed name (info_from g)), Reply.done)
-    unfolding changed fields
-    set-info-done k none = done w (command.SetInfo u name g) (info-checks ∙ k) none

@@ -4,9 +4,9 @@ use Rattle.std.specs.Option.{is_none}
 use Rattle.newt_base.specs.Refusals.{Checks, first_of}
 use Rattle.newt_base.specs.declared.Refusal.{Refusal}
 use Rattle.newt_base.specs.declared.Refusal.TheVariants.{Entry as NoEntry}
-use Rattle.newt_spec_store.specs.Store.{Store, Soup, Entry, soup_named, entry_of, change_soup, remove_entry}
+use Rattle.newt_spec_store.specs.Store.{Store, Soup, Entry, soup_named, entry_of}
 use Rattle.newt_spec_world.specs.declared.command.Command.TheVariants as command
-use Rattle.newt_spec_world.specs.World.{World, soup_in, change_store}
+use Rattle.newt_spec_world.specs.World.{World, soup_in}
 use Rattle.newt_spec_world.specs.Reply.{Reply}
 use Rattle.newt_spec_world.specs.Changed.{changed}
 use Rattle.newt_spec_world.specs.Refused.{checks, no_entry}
@@ -41,11 +41,6 @@ module _ (w : World) (u blocks : ℕ) (s : Store) (name : List ℕ) (p : Soup) (
   unfolding checks changed fields
   getx-done e k none = done w (command.Getx u name uid) (all-there e k) none
       ∙ ap {B = World × Reply} (λ o. (w, or_nil (λ e. Reply.timed_nsof e.time e.graph) o)) (entry-named w u blocks s name p uid h f ∙ k)
-
-  pub remove-done : (e : Entry) → entry_of uid p ≡ Some e → w.cursors ≡ replicate 32 None
-      → answer w (command.Remove u name uid) ≡ (change_store w u (change_soup name (remove_entry uid)), Reply.done)
-  unfolding checks changed fields
-  remove-done e k none = done w (command.Remove u name uid) (all-there e k) none
 
   pub alias-done : (e : Entry) → entry_of uid p ≡ Some e → w.cursors ≡ replicate 32 None → answer w (command.Alias u name uid) ≡ (w, Reply.alias s.sig p.sig uid)
   unfolding checks changed fields

@@ -94,9 +94,9 @@ find-from sig k (d ∷ us) h = go (on_unit d) h (find-from sig (k + 1) us)
 pub find-none : (w : World) (sig : ℕ) → first_showing sig (faces w) ≡ None → find (λ m. m.1.sig == sig) (mounted w) ≡ None
 find-none w sig h = find-from sig 0 w.units h
 
-position-behind : {X : Type 0} (test : X → Bool) (k j : ℕ) (xs : List X) → position_from test k xs ≡ Some j → k ≤ j
-position-behind test k j [] h = absurd (none-some j h)
-position-behind test k j (x ∷ xs) h = go (test x) h (position-behind test (k + 1) j xs)
+position-after : {X : Type 0} (test : X → Bool) (k j : ℕ) (xs : List X) → position_from test k xs ≡ Some j → k ≤ j
+position-after test k j [] h = absurd (none-some j h)
+position-after test k j (x ∷ xs) h = go (test x) h (position-after test (k + 1) j xs)
   where
     go : (b : Bool) → cond b (Some k) (position_from test (k + 1) xs) ≡ Some j → (position_from test (k + 1) xs ≡ Some j → k + 1 ≤ j) → k ≤ j
     go true h more = omega (arith, some-same k j h)
@@ -111,7 +111,7 @@ found-from sig k zero j s (d ∷ us) at h e = go (on_unit d) e h
     test : (t : Store) → t ≡ s → (b : Bool) → cond b (Some k) (position_from (shows sig) (k + 1) (map face_of us)) ≡ Some j
         → cond b (Some (k, t)) (find (λ m. m.1.sig == sig) (mounted_from (k + 1) us)) ≡ Some (j, s)
     test t is true h = ap {B = Option (ℕ × Store)} (λ i. Some (i, t)) (some-same k j h) ∙ ap {B = Option (ℕ × Store)} (λ x. Some (j, x)) is
-    test t is false h = absurd (omega (arith, at, position-behind (shows sig) (k + 1) j (map face_of us) h))
+    test t is false h = absurd (omega (arith, at, position-after (shows sig) (k + 1) j (map face_of us) h))
 
     go : (o : Option Store) → o ≡ Some s → position_from (shows sig) k (face_store o ∷ map face_of us) ≡ Some j
         → find (λ m. m.1.sig == sig) (cons_option (option_map (λ s. (k, s)) o) (mounted_from (k + 1) us)) ≡ Some (j, s)

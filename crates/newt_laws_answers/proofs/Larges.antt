@@ -6,23 +6,22 @@ use Rattle.newt_base.specs.Refusals.{Checks, first_of}
 use Rattle.newt_base.specs.declared.Refusal.{Refusal}
 use Rattle.newt_base.specs.declared.Refusal.TheVariants.{Path as NoPath, Range}
 use Rattle.newt_spec_store.specs.Keys.{Path}
-use Rattle.newt_spec_store.specs.Store.{Store, Soup, Entry, soup_named, entry_of, change_soup, change_entry}
+use Rattle.newt_spec_store.specs.Store.{Store, Soup, Entry, soup_named, entry_of}
 use Rattle.newt_spec_world.specs.declared.command.Command.TheVariants as command
-use Rattle.newt_spec_world.specs.World.{World, entry_in, change_store}
+use Rattle.newt_spec_world.specs.World.{World, entry_in}
 use Rattle.newt_spec_world.specs.Reply.{Reply}
 use Rattle.newt_spec_graph.specs.Larges.{bytes_of_large, large_at, large_bytes}
-use Rattle.newt_spec_world.specs.Changed.{changed, patched, patched_at}
+use Rattle.newt_spec_world.specs.Changed.{changed}
 use Rattle.newt_spec_world.specs.Refused.{checks, on_some}
 use Rattle.newt_host.specs.Moments.{bytes_from}
 use Rattle.newt_spec_world.specs.Answer.{answer, fields, or_nil}
 use Rattle.newt_laws_answers.specs.Tests.{entry_checks}
-use Rattle.newt_laws_answers.proofs.Tests.{patch_tests, patched_within}
+use Rattle.newt_laws_answers.proofs.Tests.{patch_tests}
 use Rattle.newt_store_change.specs.Entries.{large_checks}
 use Rattle.newt_laws_answers.specs.There.{OnUnit}
 use Rattle.newt_laws_answers.proofs.Firsts.{first-true, first-false}
-use Rattle.newt_laws_answers.proofs.Units.{store-alike}
 use Rattle.newt_laws_answers.proofs.Answers.{done, refused, refused-early, entry-named}
-use Rattle.newt_laws_answers.proofs.Replaces.{entry-alike, there-passes}
+use Rattle.newt_laws_answers.proofs.Replaces.{there-passes}
 
 -- ---- refused before
 
@@ -42,7 +41,7 @@ module _ (w : World) (u blocks : ℕ) (s : Store) (name : List ℕ) (p : Soup) (
   there : entry_in w u name uid ≡ Some e
   there = entry-named w u blocks s name p uid h f ∙ here
 
-  -- the tests behind the entry's, by the entry
+  -- the tests after the entry's, by the entry
   abbrev tests : ℕ → Option Entry → Checks
   tests upto o =
       (NoPath, on_some o (λ e. is_none (large_at e.graph path)))
@@ -78,18 +77,3 @@ module _ (w : World) (u blocks : ℕ) (s : Store) (name : List ℕ) (p : Soup) (
     pub patch-checks : first_of (checks w (command.Vwrite u name uid path at bytes)) ≡ first_of (patch_tests node at (length bytes) e)
     patch-checks = vwrite-tests bytes ∙ first-false NoPath _ (drop 1 (large_checks path (at + length bytes) (Some e))) (ap is_none is)
         ∙ ap (λ o. first_of ((Range, nat_lt (length (bytes_of_large (option_and_then (slice_get e.graph.nodes) o))) (at + length bytes)) ∷ [])) is
-
-    pub vwrite-refused : (r : Refusal) → first_of (patch_tests node at (length bytes) e) ≡ Some r → answer w (command.Vwrite u name uid path at bytes) ≡ (w, Reply.refused r)
-    vwrite-refused r k = refused w (command.Vwrite u name uid path at bytes) r (patch-checks ∙ k)
-
-    vwrite-changed : changed w (command.Vwrite u name uid path at bytes) ≡ change_store w u (patched_within name uid node at bytes)
-    unfolding changed
-    vwrite-changed = store-alike w u blocks s (change_soup name (change_entry uid (λ e. record e { graph = patched path at bytes e.graph }))) (patched_within name uid node at bytes) h
-        (entry-alike name uid (λ e. record e { graph = patched path at bytes e.graph }) (λ e. record e { graph = patched_at (Some node) at bytes e.graph }) s p e f here
-        (ap {A = Option ℕ} {B = Entry} (λ o. record e { graph = patched_at o at bytes e.graph }) is))
-
-    pub vwrite-done : first_of (patch_tests node at (length bytes) e) ≡ None → w.cursors ≡ replicate 32 None
-        → answer w (command.Vwrite u name uid path at bytes) ≡ (change_store w u (patched_within name uid node at bytes), Reply.done)
-    unfolding fields
-    vwrite-done k none = done w (command.Vwrite u name uid path at bytes) (patch-checks ∙ k) (ap (λ (y : World). y.cursors) vwrite-changed ∙ none)
-        ∙ ap {B = World × Reply} (λ y. (y, Reply.done)) vwrite-changed

@@ -1,20 +1,17 @@
 -- What each change programs at most, in the words of the tests and of the entries that come and go.
-use Rattle.std.proofs.Common.{◌≡◌, ℕ, ◌+◌, true, false, cond, List, [], ◌∷◌, length, Option, Some, option_map, sum_by, refl, ◌∙◌, ap, arith}
+use Rattle.std.proofs.Common.{◌≡◌, ℕ, ◌+◌, true, false, cond, List, [], ◌∷◌, Option, Some, option_map, sum_by, refl, ◌∙◌, ap, arith}
 use Rattle.std.specs.Option.{is_some}
-use Rattle.std.specs.Prelude.{slice_get}
 use Rattle.newt_base.specs.Refusals.{Checks, first_of}
 use Rattle.newt_base.specs.declared.Refusal.{Refusal}
 use Rattle.newt_graph.specs.Graph.{RawGraph}
-use Rattle.newt_graph.specs.declared.node.Node.TheVariants.{Large}
 use Rattle.newt_laws_answers.specs.Bounds.{change_bytes, unless}
-use Rattle.newt_laws_answers.proofs.Tests.{add_tests, move_tests, moved_within, replace_tests, replaced, patch_tests, index_tests, tags_tests, tagged, info_tests, informed}
-use Rattle.newt_spec_store.specs.Cost.{entry_pages, patch_bytes, pages_bytes}
-use Rattle.newt_spec_store.specs.Keys.{IndexSpec, Path}
-use Rattle.newt_spec_store.specs.Store.{Store as Plain, Soup, Entry, TagTable, entry_of, change_soup, make_soup, drop_soup, add_entry, remove_entry, soup_of, entry_at, next_uid_of, with_index, without_index, with_graph}
-use Rattle.newt_store_change.specs.Change.{changed_by, refusals, refusal_of, entry_added, pages_if, pages_of_entry, pages_of_soup, pages_removed, pages_put, pages_gone, bytes_of, most_bytes, writes_directory}
+use Rattle.newt_laws_answers.proofs.Tests.{add_tests, move_tests, moved_within}
+use Rattle.newt_spec_store.specs.Cost.{entry_pages, pages_bytes}
+use Rattle.newt_spec_store.specs.Store.{Store as Plain, Soup, Entry, entry_of, change_soup, add_entry, remove_entry, soup_of, entry_at, next_uid_of}
+use Rattle.newt_store_change.specs.Change.{changed_by, refusals, refusal_of, entry_added, pages_if, pages_of_entry, pages_removed, pages_put, pages_gone, bytes_of, most_bytes, writes_directory}
 use Rattle.newt_store_change.specs.declared.change.Change.{Change}
 use Rattle.newt_store_change.specs.declared.change.Change.TheVariants as change
-use Rattle.newt_laws_answers.proofs.Refusals.{entry-there, drop-tests, dropped, index-tests, indexed, unindex-tests, unindexed, tags-tests, tagged-as, info-tests, informed-as, add-tests, added, remove-tests, removed, replace-tests, replaced-as, patch-tests, move-tests, moved}
+use Rattle.newt_laws_answers.proofs.Refusals.{entry-there, add-tests, added, remove-tests, removed, move-tests, moved}
 
 -- the pages of one entry
 one : (e : Entry) → entry_pages e ≡ sum_by entry_pages (e ∷ [])
@@ -32,29 +29,7 @@ bound-is change blocks now s t tests put gone first after bytes come go =
     ap (λ (n : ℕ). cond (is_some (refusal_of change blocks now s)) 0 n) (bytes ∙ (λ i. pages_bytes (pages_if (writes_directory change) (after i) + come i) (pages_if (writes_directory change) s + go i)))
     ∙ ap (λ (o : Option Refusal). cond (is_some o) 0 (change_bytes (writes_directory change) s t put gone)) first
 
-pub make-bound : (blocks now : ℕ) (name : List ℕ) (s : Plain) → most_bytes (change.MakeSoup name) blocks now s ≡ unless (refusals (change.MakeSoup name) blocks now s) (change_bytes true s (make_soup name s) [] [])
-make-bound blocks now name s = bound-is (change.MakeSoup name) blocks now s (make_soup name s) (refusals (change.MakeSoup name) blocks now s) [] [] refl refl refl refl refl
-
 module _ (blocks now sig : ℕ) (s : Plain) (p : Soup) (found : soup_of sig s ≡ Some p) where
-  pub drop-bound : most_bytes (change.DropSoup sig) blocks now s ≡ change_bytes true s (drop_soup p.name s) [] p.entries
-  drop-bound = bound-is (change.DropSoup sig) blocks now s (drop_soup p.name s) [] [] p.entries (drop-tests blocks now sig s p found) (dropped blocks now sig s p found) refl refl (ap pages_of_soup found)
-
-  pub index-bound : (spec : IndexSpec) → most_bytes (change.AddIndex sig spec) blocks now s ≡ unless (index_tests blocks p.name spec s p) (change_bytes true s (change_soup p.name (with_index spec) s) [] [])
-  index-bound spec = bound-is (change.AddIndex sig spec) blocks now s (change_soup p.name (with_index spec) s) (index_tests blocks p.name spec s p) [] []
-      (index-tests blocks now sig s p found spec) (indexed blocks now sig s p found spec) refl refl refl
-
-  pub unindex-bound : (paths : List Path) → most_bytes (change.DropIndex sig paths) blocks now s ≡ change_bytes true s (change_soup p.name (without_index paths) s) [] []
-  unindex-bound paths = bound-is (change.DropIndex sig paths) blocks now s (change_soup p.name (without_index paths) s) [] [] []
-      (unindex-tests blocks now sig s p found paths) (unindexed blocks now sig s p found paths) refl refl refl
-
-  pub tags-bound : (table : TagTable) → most_bytes (change.SetTags sig table) blocks now s ≡ unless (tags_tests blocks p.name table s) (change_bytes true s (tagged p.name table s) [] [])
-  tags-bound table = bound-is (change.SetTags sig table) blocks now s (tagged p.name table s) (tags_tests blocks p.name table s) [] []
-      (tags-tests blocks now sig s p found table) (tagged-as blocks now sig s p found table) refl refl refl
-
-  pub info-bound : (info : Option RawGraph) → most_bytes (change.SetInfo sig info) blocks now s ≡ unless (info_tests blocks p.name info s) (change_bytes true s (informed p.name info s) [] [])
-  info-bound info = bound-is (change.SetInfo sig info) blocks now s (informed p.name info s) (info_tests blocks p.name info s) [] []
-      (info-tests blocks now sig s p found info) (informed-as blocks now sig s p found info) refl refl refl
-
   module _ (g : RawGraph) where
     pub add-bound : most_bytes (change.Add sig g) blocks now s
         ≡ unless (add_tests blocks now p.name g s p) (change_bytes true s (change_soup p.name (add_entry now g) s) (record { uid = p.next_uid; time = now; graph = g } ∷ []) [])
@@ -70,18 +45,6 @@ module _ (blocks now sig : ℕ) (s : Plain) (p : Soup) (found : soup_of sig s �
     pub remove-bound : most_bytes (change.Remove sig uid) blocks now s ≡ change_bytes false s (change_soup p.name (remove_entry uid) s) [] (e ∷ [])
     remove-bound = bound-is (change.Remove sig uid) blocks now s (change_soup p.name (remove_entry uid) s) [] [] (e ∷ [])
         (remove-tests blocks now sig s p found uid e here) (removed blocks now sig s p found uid e here) refl refl goes
-
-    pub replace-bound : (g : RawGraph) → most_bytes (change.Replace sig uid g) blocks now s
-        ≡ unless (replace_tests blocks now p.name uid g s) (change_bytes false s (replaced now p.name uid g s) (with_graph now g e ∷ []) (e ∷ []))
-    replace-bound g = bound-is (change.Replace sig uid g) blocks now s (replaced now p.name uid g s) (replace_tests blocks now p.name uid g s) (with_graph now g e ∷ []) (e ∷ [])
-        (replace-tests blocks now sig s p found uid e here g) (replaced-as blocks now sig s p found uid e here g) refl
-        (ap (λ (o : Option Entry). pages_of_entry (option_map (with_graph now g) o)) (entry-there sig uid s p e found here) ∙ one (with_graph now g e)) goes
-
-    pub patch-bound : (node at : ℕ) (bytes : List ℕ) (class : ℕ) (large : List ℕ) → slice_get e.graph.nodes node ≡ Some (Large class large)
-        → most_bytes (change.Patch sig uid node at bytes) blocks now s ≡ unless (patch_tests node at (length bytes) e) (patch_bytes (length bytes))
-    unfolding most_bytes
-    patch-bound node at bytes class large is =
-        ap (λ (o : Option Refusal). cond (is_some o) 0 (patch_bytes (length bytes))) (patch-tests blocks now sig s p found uid e here node at bytes class large is)
 
     module _ (target : ℕ) (q : Soup) (into : soup_of target s ≡ Some q) where
       pub move-bound : most_bytes (change.Move sig uid target) blocks now s

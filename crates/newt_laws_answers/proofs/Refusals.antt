@@ -18,7 +18,7 @@ use Rattle.newt_spec_graph.specs.Larges.{bytes_of_large}
 use Rattle.newt_spec_world.specs.Changed.{patch_node, patched_at}
 use Rattle.newt_spec_store.specs.Store.{Store as Plain, Soup, Entry, TagTable, entry_of, change_soup, change_entry, drop_soup, add_entry, remove_entry, soup_of, entry_at, next_uid_of, with_index, without_index, with_graph, with_tags, with_info}
 use Rattle.newt_spec_store.specs.StoreOf.{with_bytes}
-use Rattle.newt_store_change.specs.Change.{changed_by, answer_of, refusals, changed_soup, dropped_soup, moved_entry, bytes_in, with_patch, patched_entry, large_in_entry, ends_behind, has_no_ids, is_too_large, is_bad_info, is_large_info, specs_of}
+use Rattle.newt_store_change.specs.Change.{changed_by, answer_of, refusals, changed_soup, dropped_soup, moved_entry, bytes_in, with_patch, patched_entry, large_in_entry, ends_past, has_no_ids, is_too_large, is_bad_info, is_large_info, specs_of}
 use Rattle.newt_store_change.specs.declared.change.Change.TheVariants as change
 
 -- the entry of a soup that is there
@@ -113,11 +113,11 @@ module _ (blocks now sig : ℕ) (s : Plain) (p : Soup) (found : soup_of sig s �
       patch-tests =
           ap (λ (o : Option Soup). first_of ((NoSoup, is_none o) ∷ later (entry_at sig uid s))) found
           ∙ ap (λ (o : Option Entry). first_of (later o)) (entry-there sig uid s p e found here)
-          ∙ ap (λ (o : Option Node). first_of ((NoPath, is_none (bytes_in o)) ∷ (Range, ends_behind at (length bytes) (bytes_in o)) ∷ [])) is
+          ∙ ap (λ (o : Option Node). first_of ((NoPath, is_none (bytes_in o)) ∷ (Range, ends_past at (length bytes) (bytes_in o)) ∷ [])) is
           ∙ ap (λ (o : Option Node). first_of ((Range, nat_lt (length (bytes_of_large o)) (at + length bytes)) ∷ [])) (sym is)
         where
           later : Option Entry → Checks
-          later o = (NoEntry, is_none o) ∷ (NoPath, is_none (large_in_entry node o)) ∷ (Range, ends_behind at (length bytes) (large_in_entry node o)) ∷ []
+          later o = (NoEntry, is_none o) ∷ (NoPath, is_none (large_in_entry node o)) ∷ (Range, ends_past at (length bytes) (large_in_entry node o)) ∷ []
 
     module _ (target : ℕ) (q : Soup) (into : soup_of target s ≡ Some q) where
       moved-with : (a b : Option Soup) (o : Option Entry) → soup_of sig s ≡ a → soup_of target s ≡ b → entry_at sig uid s ≡ o → changed_by (change.Move sig uid target) now s ≡ moved_entry o a b now s

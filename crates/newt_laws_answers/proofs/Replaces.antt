@@ -1,5 +1,5 @@
 -- Entries whose graph is replaced.
-use Rattle.std.proofs.Common.{◌≡◌, refl, ap, sym, ◌∙◌, ℕ, List, [], ◌∷◌, Bool, true, false, not, ◌&&◌, nat_lt, nat_le, Option, Some, None, option_and_then, unwrap_or, cond, find, replicate, drop, ◌==◌}
+use Rattle.std.proofs.Common.{◌≡◌, refl, ap, sym, ◌∙◌, ℕ, List, [], ◌∷◌, Bool, true, false, not, ◌&&◌, nat_lt, nat_le, Option, Some, None, option_and_then, unwrap_or, cond, find, drop, ◌==◌}
 use Rattle.std.specs.Option.{is_none}
 use Rattle.newt_base.specs.Names.{equal_text}
 use Rattle.newt_base.specs.Refusals.{Checks, first_of}
@@ -22,7 +22,7 @@ use Rattle.newt_spec_world.specs.World.{World, device, store_of, entry_in, chang
 use Rattle.newt_spec_world.specs.Reply.{Reply}
 use Rattle.newt_spec_world.specs.Changed.{changed, graph_after_set}
 use Rattle.newt_spec_world.specs.Refused.{checks, on_some, no_unit, not_mounted, no_soup, no_entry, full}
-use Rattle.newt_spec_world.specs.Answer.{answer, fields}
+use Rattle.newt_spec_world.specs.Answer.{answer}
 use Rattle.newt_laws_world.proofs.Frames.{set-frame, normal-frame}
 use Rattle.newt_laws_world.proofs.Rows.{and-left}
 use Rattle.newt_laws_answers.specs.Tests.{entry_checks}
@@ -30,7 +30,7 @@ use Rattle.newt_laws_answers.proofs.Tests.{replaced, replace_tests}
 use Rattle.newt_laws_answers.specs.There.{OnUnit}
 use Rattle.newt_laws_answers.proofs.Firsts.{first-true, first-false}
 use Rattle.newt_laws_answers.proofs.Units.{on-changed, store-alike}
-use Rattle.newt_laws_answers.proofs.Answers.{done, refused, refused-early, all-pass, entry-named, full-is}
+use Rattle.newt_laws_answers.proofs.Answers.{refused, refused-early, all-pass, entry-named, full-is}
 use Rattle.newt_laws_answers.proofs.Entries.{entry-passes}
 
 -- ---- changes that agree on what is changed
@@ -82,21 +82,13 @@ module _ (w : World) (u blocks : ℕ) (s : Store) (name : List ℕ) (p : Soup) (
         ∙ ap {A = Bool} (λ b. first_of ((Notframe, not (is_frame (object g.nodes g.root))) ∷ (Size, nat_lt 64_000 (skeleton_length g)) ∷ (Full, b) ∷ []))
         (full-replaced (command.Change u name uid g) g refl)
 
-    pub change-refused : (r : Refusal) → first_of (replace_tests blocks w.minute name uid g s) ≡ Some r → answer w (command.Change u name uid g) ≡ (w, Reply.refused r)
-    change-refused r k = refused w (command.Change u name uid g) r (change-checks ∙ k)
-
-    pub change-done : first_of (replace_tests blocks w.minute name uid g s) ≡ None → w.cursors ≡ replicate 32 None
-        → answer w (command.Change u name uid g) ≡ (change_store w u (replaced w.minute name uid g), Reply.done)
-    unfolding changed fields
-    change-done k none = done w (command.Change u name uid g) (change-checks ∙ k) none
-
   -- ---- set
 
   module _ (path : Path) (g : RawGraph) where
     there : entry_in w u name uid ≡ Some e
     there = entry-named w u blocks s name p uid h f ∙ here
 
-    -- the tests behind the entry's, by the entry
+    -- the tests after the entry's, by the entry
     abbrev tests : Option Entry → Checks
     tests o =
         (NoPath, on_some o (λ e. is_none (put e.graph path g)))
@@ -141,12 +133,3 @@ module _ (w : World) (u blocks : ℕ) (s : Store) (name : List ℕ) (p : Soup) (
             ∙ ap (λ x. first_of ((Size, nat_lt 64_000 (skeleton_length x)) ∷ full w u (command.Set u name uid path g) ∷ [])) after
             ∙ ap {A = Bool} (λ b. first_of ((Size, nat_lt 64_000 (skeleton_length new)) ∷ (Full, b) ∷ [])) (full-replaced (command.Set u name uid path g) new set-changed)
             ∙ sym (first-false Notframe _ (drop 1 (replace_tests blocks w.minute name uid new s)) (ap not framed))
-
-        pub set-refused : (r : Refusal) → first_of (replace_tests blocks w.minute name uid new s) ≡ Some r → answer w (command.Set u name uid path g) ≡ (w, Reply.refused r)
-        set-refused r k = refused w (command.Set u name uid path g) r (set-checks ∙ k)
-
-        pub set-done : first_of (replace_tests blocks w.minute name uid new s) ≡ None → w.cursors ≡ replicate 32 None
-            → answer w (command.Set u name uid path g) ≡ (change_store w u (replaced w.minute name uid new), Reply.done)
-        unfolding fields
-        set-done k none = done w (command.Set u name uid path g) (set-checks ∙ k) (ap (λ (y : World). y.cursors) set-changed ∙ none)
-            ∙ ap {B = World × Reply} (λ y. (y, Reply.done)) set-changed

@@ -6,7 +6,7 @@ use Rattle.newt_base.specs.declared.Refusal.{Refusal}
 use Rattle.newt_base.specs.declared.Refusal.TheVariants.{Exists, Limit, Ids, Full}
 use Rattle.newt_spec_image.specs.Pages.{cap}
 use Rattle.newt_spec_store.specs.Cost.{cost}
-use Rattle.newt_spec_store.specs.Store.{Store, Soup, soup_named, make_soup, drop_soup}
+use Rattle.newt_spec_store.specs.Store.{Store, soup_named, make_soup}
 use Rattle.newt_spec_world.specs.declared.command.Command.TheVariants as command
 use Rattle.newt_spec_world.specs.World.{World, mounted_store, soup_in, change_store}
 use Rattle.newt_spec_world.specs.Reply.{Reply}
@@ -18,7 +18,7 @@ use Rattle.newt_laws_answers.specs.There.{OnUnit}
 use Rattle.newt_store_change.specs.Change.{refusals}
 use Rattle.newt_store_change.specs.declared.change.Change.TheVariants.{MakeSoup}
 use Rattle.newt_laws_answers.proofs.Units.{on-changed, is-mounted, soup-named}
-use Rattle.newt_laws_answers.proofs.Answers.{done, refused, refused-early, unit-passes, all-pass, full-is}
+use Rattle.newt_laws_answers.proofs.Answers.{done, refused, refused-early, unit-passes, full-is}
 
 module _ (w : World) (u blocks : ℕ) (s : Store) (name : List ℕ) (h : OnUnit w u blocks s) where
   exists-is : is_some (soup_in w u name) ≡ is_some (soup_named name s)
@@ -45,16 +45,6 @@ module _ (w : World) (u blocks : ℕ) (s : Store) (name : List ℕ) (h : OnUnit 
 
   pub soup-refused : (r : Refusal) → first_of (refusals (MakeSoup name) blocks w.minute s) ≡ Some r → answer w (command.Soup u name) ≡ (w, Reply.refused r)
   soup-refused r k = refused w (command.Soup u name) r (soup-checks ∙ k)
-
-  pub soup-done : first_of (refusals (MakeSoup name) blocks w.minute s) ≡ None → w.cursors ≡ replicate 32 None
-      → answer w (command.Soup u name) ≡ (change_store w u (make_soup name), Reply.number s.next_soup)
-  unfolding changed fields
-  soup-done k none = done w (command.Soup u name) (soup-checks ∙ k) none
-      ∙ ap {B = World × Reply} (λ o. (change_store w u (make_soup name), or_nil (λ t. Reply.number t.next_soup) o)) (is-mounted w u blocks s h)
-
-  pub drop-done : (p : Soup) → soup_named name s ≡ Some p → w.cursors ≡ replicate 32 None → answer w (command.Drop u name) ≡ (change_store w u (drop_soup name), Reply.done)
-  unfolding checks changed fields
-  drop-done p f none = done w (command.Drop u name) (all-pass w u blocks s name p [] h f) none
 
 -- ---- refused before
 

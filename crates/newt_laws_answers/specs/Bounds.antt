@@ -1,4 +1,5 @@
--- How many bytes a command programs at most, on a unit whose bank is not closed and has room for them. All of it is this project's own.
+-- How many bytes a command programs at most, on a unit whose bank is not closed and has room for
+-- them. All of it is this project's own.
 use Rattle.std.specs.Prelude.{ℕ, ◌+◌, Bool, true, false, cond, ◌==◌, List, [], ◌∷◌, length, sum_by, Option, Some, None, is_some, option_map, if◌then◌else◌}
 use Rattle.newt_base.specs.Refusals.{Checks, first_of}
 use Rattle.newt_graph.specs.Graph.{RawGraph}
@@ -11,12 +12,13 @@ use Rattle.newt_spec_world.specs.Changed.{changed}
 use Rattle.newt_spec_world.specs.Refused.{checks}
 use Rattle.newt_store_change.specs.Change.{pages_if}
 
--- The bytes of the batch that makes one store of another: it puts the pages of the directory, where that is written, and of entries, and lets go those of the
--- directory before, then, and of the entries that were there. (this project's own)
+-- The bytes of the batch that makes store b of store a. It puts the pages of b's directory, if that
+-- is written, and of the entries that are put. It deletes the pages of a's directory, if that is
+-- written, and of the entries that are gone. (this project's own)
 abbrev pub change_bytes : Bool → Store → Store → List Entry → List Entry → ℕ
 change_bytes written a b put gone = pages_bytes (pages_if written b + sum_by entry_pages put) (pages_if written a + sum_by entry_pages gone)
 
--- nothing where a test holds (this project's own)
+-- n, but 0 where one of the tests holds (this project's own)
 abbrev pub unless : Checks → ℕ → ℕ
 unless tests n = cond (is_some (first_of tests)) 0 n
 
@@ -27,12 +29,13 @@ abbrev pub listed : Option Entry → List Entry
 listed None = []
 listed (Some e) = e ∷ []
 
--- the entries of a soup, none where there is no soup (a word of these definitions)
+-- the entries of a soup; none where there is no soup (a word of these definitions)
 abbrev pub entries_of : Option Soup → List Entry
 entries_of None = []
 entries_of (Some p) = p.entries
 
--- the entry that is new in a soup, with this graph: it has the id that was the next, and the present minute (a word of these definitions)
+-- the entry that is new in a soup, with this graph: it has the id that was the next, and the
+-- present minute (a word of these definitions)
 abbrev pub new_in : World → ℕ → List ℕ → RawGraph → Entry
 new_in w u s g = record { uid = next_uid_of (soup_in w u s); time = w.minute; graph = g }
 
@@ -40,8 +43,9 @@ new_in w u s g = record { uid = next_uid_of (soup_in w u s); time = w.minute; gr
 abbrev pub copied_in : World → ℕ → List ℕ → Option Entry → List Entry
 copied_in w u s e = listed (option_map (λ e. new_in w u s e.graph) e)
 
--- Which entries a command puts on a unit, that is appends or changes, and which it lets go there, that is changes or removes; none where it does not write the
--- unit's store. `w` is the world before, `v` the one after. (this project's own)
+-- Which entries a command puts on a unit, that is appends or changes, and which of its entries go,
+-- that is are changed or removed. None where it does not write the unit's store. `w` is the world
+-- before, `v` the one after. (this project's own)
 abbrev pub touched : World → World → Command → ℕ → Option (List Entry × List Entry)
 touched w v (command.Soup t s) u = if t == u then Some ([], []) else None
 touched w v (command.Drop t s) u = if t == u then Some ([], entries_of (soup_in w t s)) else None
@@ -60,8 +64,8 @@ touched w v (command.SetTags t s path symbols) u = if t == u then Some ([], []) 
 touched w v (command.SetInfo t s g) u = if t == u then Some ([], []) else None
 touched w v c u = None
 
--- The command writes the directory of a unit's store, if it writes the store: not where an entry goes, or gets another graph, since the directory says nothing
--- of these. (this project's own)
+-- The command writes the directory of a unit's store, if it writes the store. It does not where an
+-- entry goes or gets another graph, since the directory says nothing of these. (this project's own)
 abbrev pub rewrites_directory : Command → ℕ → Bool
 rewrites_directory (command.Set t s uid path g) u = false
 rewrites_directory (command.Change t s uid g) u = false
@@ -69,16 +73,18 @@ rewrites_directory (command.Remove t s uid) u = false
 rewrites_directory (command.Move t s uid x y) u = x == u
 rewrites_directory c u = true
 
--- the bytes of the change of a unit's store, of which these entries are put and let go (a word of these definitions)
+-- the bytes of a change of a unit's store that puts and deletes these entries; 0 where there is no
+-- such change (a word of these definitions)
 abbrev pub bytes_between : Bool → Option Store → Option Store → Option (List Entry × List Entry) → ℕ
 bytes_between written (Some a) (Some b) (Some (put, gone)) = change_bytes written a b put gone
 bytes_between written a b entries = 0
 
--- the most that a command programs where it is not refused (this project's own)
+-- the most bytes that a command programs on a unit where it is not refused (this project's own)
 abbrev pub bytes_done : World → World → Command → ℕ → ℕ
 bytes_done w v (command.Vwrite t s uid path at bytes) u = if t == u then patch_bytes (length bytes) else 0
 bytes_done w v c u = bytes_between (rewrites_directory c u) (store_on_unit w u) (store_on_unit v u) (touched w v c u)
 
--- The most bytes that a command but a format programs on a unit: none where it is refused or does not write the unit's store. (this project's own)
+-- The most bytes that a command but a format programs on a unit: none where it is refused or does
+-- not write the unit's store. (this project's own)
 unfoldable pub most_programmed : World → Command → ℕ → ℕ
 most_programmed w c u = unless (checks w c) (bytes_done w (changed w c) c u)

@@ -1,8 +1,10 @@
--- What is known of the mounted stores without their soups: of each unit, the signature and the name of the store that is mounted there. All of it is this project's own.
+-- What is known of the mounted stores without their soups: of each unit, the signature and the name
+-- of the store that is mounted there. All of it is this project's own.
 use Rattle.std.specs.Prelude.{ℕ, ◌+◌, Bool, false, ◌==◌, List, [], ◌∷◌, map, Option, Some, None, is_some, option_map, cond}
 use Rattle.std.specs.List.{cons_option, position_from}
 use Rattle.newt_spec_world.specs.World.{World, Device, on_unit}
 
+-- a face: the signature and the name of the mounted store, or none
 abbrev pub Face : Type 0
 Face = Option (ℕ × List ℕ)
 

@@ -11,7 +11,7 @@ use Rattle.newt_store_change.specs.Change.{pages_of_entry}
 
 -- ---- a step of a cursor
 
--- the pages of the entry of a unit that a reply shows, none where it shows no entry of the unit
+-- the pages of the entry of a unit that a reply shows; 0 where it shows no entry of the unit
 abbrev pub pages_shown : Reply → ℕ → ℕ
 pages_shown (Reply.current unit uid time graph) u =
     if unit == u then entry_pages (record { uid = uid; time = time; graph = graph }) else 0
@@ -19,7 +19,7 @@ pages_shown reply u = 0
 
 -- ---- a command that reads or changes entries
 
--- the name of a soup with an id, if a unit is this one
+-- the name of a soup with an id, if the two units are one
 abbrev pub if_on : ℕ → ℕ → List ℕ → ℕ → List (List ℕ × ℕ)
 if_on t u s uid = if t == u then (s, uid) ∷ [] else []
 
@@ -43,7 +43,7 @@ meant w (command.Copy t s uid x y) u = if_on t u s uid ++ next_if_on w x u y
 meant w (command.Move t s uid x y) u = if_on t u s uid ++ next_if_on w x u y
 meant w c u = []
 
--- the command is one of these
+-- the command names or appends entries
 abbrev pub means_entries : Command → Bool
 means_entries (command.Get t s uid) = true
 means_entries (command.Getx t s uid) = true
@@ -59,14 +59,14 @@ means_entries (command.Copy t s uid x y) = true
 means_entries (command.Move t s uid x y) = true
 means_entries c = false
 
--- the pages of these entries of a unit, as far as they are there
+-- the pages of those of these entries of a unit that are there
 abbrev pub pages_there : World → ℕ → List (List ℕ × ℕ) → ℕ
 pages_there w u entries = sum_by (λ e. pages_of_entry (entry_in w u e.0 e.1)) entries
 
--- the pages of the entries of a unit that a command names or appends, before it and after it
+-- the pages of the entries of a unit that a command names or appends: before it and after it, added
 unfoldable pub pages_meant : World → Command → ℕ → ℕ
 pages_meant w c u = pages_there w u (meant w c u) + pages_there (answer w c).0 u (meant w c u)
 
--- the most bytes that are fetched of a unit for such a command itself
+-- the most bytes that are fetched of a unit for such a command itself: 1,024 for each page
 abbrev pub most_fetched : World → Command → ℕ → ℕ
 most_fetched w c u = 1024 * pages_there w u (meant w c u)

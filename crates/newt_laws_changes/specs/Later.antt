@@ -15,7 +15,8 @@ pub record StoreLater (s t : Store) : Type 0 where
   pub next : s.next_soup ≤ t.next_soup
   pub soups : (q : Soup) → Among t.soups q → ((p : Soup) × Among s.soups p × SoupLater p q) ⊎ (s.next_soup ≤ q.sig)
 
--- No soup of this signature has an entry of this id, though both have been given. (this project's own)
+-- No soup of this signature has an entry of this id, though both have been given. (this project's
+-- own)
 pub record EntryGone (sig uid : ℕ) (s : Store) : Type 0 where
   pub sig_given : sig < s.next_soup
   pub uid_given : (p : Soup) → Among s.soups p → p.sig ≡ sig → uid < p.next_uid

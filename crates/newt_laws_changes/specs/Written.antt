@@ -1,5 +1,6 @@
--- What one change of a store writes: how its objects, the places of its entries and the ids that their records name were and are. Each object, place and name is
--- spoken of alone, so it does not matter in what order they are written. All of it is this project's own.
+-- What one change of a store writes: how its objects, the places of its entries and the ids that
+-- their records name were before it and are after it. Each object, place and name is spoken of
+-- alone, so it does not matter in what order they are written. All of it is this project's own.
 use Rattle.std.specs.Prelude.{◌≡◌, ◌≢◌, [], ℕ, ◌%◌, List, length, slice_get, Some, None}
 use Rattle.std.specs.FinMap as map
 use Rattle.newt_graph.specs.Graph.{RawGraph}
@@ -17,7 +18,8 @@ Names = ℕ → List ℕ
 abbrev pub AreFree : Objects → List ℕ → Type 0
 AreFree objects ids = (o : ℕ) → Among ids o → map.get objects o ≡ None
 
--- The record of this object names these ids now, and every other record the ids that it named. (this project's own)
+-- The record of this object names these ids now, and every other record the ids that it named.
+-- (this project's own)
 pub record NamesAre (id : ℕ) (ids : List ℕ) (named named' : Names) : Type 0 where
   pub names_it : named' id ≡ ids
   pub other_names : (r : ℕ) → r ≢ id → named' r ≡ named r
@@ -32,8 +34,9 @@ pub record HeadWritten (head : List ℕ) (objects objects' : Objects) : Type 0 w
   pub head_is : map.get objects' 0 ≡ Some head
   pub others : (id : ℕ) → id ≢ 0 → map.get objects' id ≡ map.get objects id
 
--- An entry's record is an object with an odd id that there was not, at its place, and its large binaries are objects that there were not; object 0 is these bytes;
--- all else is as it was. (this project's own)
+-- An entry is new. Its record is an object with an odd id that was not there, at its place, and its
+-- large binaries are objects that were not there. Object 0 is these bytes. All else is as it was.
+-- (this project's own)
 pub record EntryWritten (sig : ℕ) (e : Entry) (id : ℕ) (ids : List ℕ) (head : List ℕ) (objects objects' : Objects) (place place' : Places) (named named' : Names) : Type 0 where
   pub odd : id % 2 ≡ 1
   pub is_new : map.get objects id ≡ None
@@ -46,8 +49,9 @@ pub record EntryWritten (sig : ℕ) (e : Entry) (id : ℕ) (ids : List ℕ) (hea
   pub other_places : (t u : ℕ) → (t ≡ sig → u ≡ e.uid → ⊥) → place' t u ≡ place t u
   pub names_are : NamesAre id ids named named'
 
--- The object of an entry's place is the record of another entry of its id, whose large binaries are objects that there were not; those that the record named are
--- gone; all else is as it was. (this project's own)
+-- An entry has changed. The object of its place is the record of another entry of its id, whose
+-- large binaries are objects that were not there. Those that the record named before are gone. All
+-- else is as it was. (this project's own)
 pub record EntryRewritten (sig uid : ℕ) (e : Entry) (id : ℕ) (ids : List ℕ) (objects objects' : Objects) (place : Places) (named named' : Names) : Type 0 where
   pub is_placed : place sig uid ≡ Some id
   pub are_new : AreFree objects ids
@@ -57,7 +61,8 @@ pub record EntryRewritten (sig uid : ℕ) (e : Entry) (id : ℕ) (ids : List ℕ
   pub others : (o : ℕ) → o ≢ id → (Among ids o → ⊥) → (Among (named id) o → ⊥) → map.get objects' o ≡ map.get objects o
   pub names_are : NamesAre id ids named named'
 
--- The object of an entry's place is gone with those that it named, and the place; all else is as it was. (this project's own)
+-- An entry is gone: the object of its place with those that it named, and the place. All else is as
+-- it was. (this project's own)
 pub record EntryErased (sig uid id : ℕ) (objects objects' : Objects) (place place' : Places) (named named' : Names) : Type 0 where
   pub was_placed : place sig uid ≡ Some id
   pub is_gone : map.get objects' id ≡ None
@@ -67,7 +72,8 @@ pub record EntryErased (sig uid id : ℕ) (objects objects' : Objects) (place pl
   pub other_places : (t u : ℕ) → (t ≡ sig → u ≡ uid → ⊥) → place' t u ≡ place t u
   pub names_are : NamesAre id [] named named'
 
--- The objects of all places of a soup are gone with those that they named, and the places; object 0 is these bytes; all else is as it was. (this project's own)
+-- A soup is gone: the objects of all its places with those that they named, and the places. Object
+-- 0 is these bytes. All else is as it was. (this project's own)
 pub record SoupErased (sig : ℕ) (head : List ℕ) (objects objects' : Objects) (place place' : Places) (named named' : Names) : Type 0 where
   pub head_is : map.get objects' 0 ≡ Some head
   pub are_gone : (u id : ℕ) → place sig u ≡ Some id → map.get objects' id ≡ None
@@ -78,8 +84,10 @@ pub record SoupErased (sig : ℕ) (head : List ℕ) (objects objects' : Objects)
   pub no_names : (u id : ℕ) → place sig u ≡ Some id → named' id ≡ []
   pub other_names : (r : ℕ) → ((u : ℕ) → place sig u ≡ Some r → ⊥) → named' r ≡ named r
 
--- An entry's record is an object with an odd id that there was not, at its place, and its large binaries are objects that there were not; the object of another
--- entry's place is gone with those that it named, and the place; object 0 is these bytes; all else is as it was. (this project's own)
+-- An entry is new, and another one is gone. The record of the new one is an object with an odd id
+-- that was not there, at its place, and its large binaries are objects that were not there. The
+-- object of the other one's place is gone with those that it named, and the place. Object 0 is
+-- these bytes. All else is as it was. (this project's own)
 pub record EntryMoved (sig uid old to : ℕ) (e : Entry) (id : ℕ) (ids : List ℕ) (head : List ℕ) (objects objects' : Objects) (place place' : Places) (named named' : Names) : Type 0 where
   pub odd : id % 2 ≡ 1
   pub is_new : map.get objects id ≡ None
@@ -98,7 +106,8 @@ pub record EntryMoved (sig uid old to : ℕ) (e : Entry) (id : ℕ) (ids : List 
   pub names_none : named' old ≡ []
   pub other_names : (r : ℕ) → r ≢ id → r ≢ old → named' r ≡ named r
 
--- The object of one of an entry's large binaries has other bytes, as many; all else is as it was. (this project's own)
+-- One of an entry's large binaries has other bytes, as many as before: its object has them. All
+-- else is as it was. (this project's own)
 pub record EntryPatched (sig uid id node o : ℕ) (g : RawGraph) (bytes : List ℕ) (objects objects' : Objects) (place : Places) (named : Names) : Type 0 where
   pub is_placed : place sig uid ≡ Some id
   pub at : ℕ

@@ -62,8 +62,8 @@ pub fn places_are_apart()
         → (t u v w id : ℕ) → place t u ≡ Some id → place v w ≡ Some id → (t ≡ v) × (u ≡ w) }
 {}
 
-/// Each id of an entry and each signature of a soup was there before the change, or is not below
-/// the next one of before.
+/// Each entry id and each soup signature was there before the change, or is at least the one that
+/// was the next then.
 pub fn changes_give_new_ids()
     ensures made { (name : List ℕ) (s : Store) → StoreLater s (make_soup name s) }
     ensures dropped { (name : List ℕ) (s : Store) → StoreLater s (drop_soup name s) }

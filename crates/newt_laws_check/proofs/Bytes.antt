@@ -5,7 +5,7 @@ use Rattle.std.specs.Option.{unwrap_or}
 use Rattle.std.specs.Ordering.{nat_cmp, eq_by_cmp}
 use Rattle.std.specs.Cmp.{nat_cmp_total}
 use Rattle.std.proofs.lemmas.List.Elements.{All-take, All-drop, All-append, All-tail, All-nil}
-use Rattle.newt_spec_image.specs.Records.{and_then, bank_bytes, behind_header, body, chosen_bank, has_banks, header, length_at, payloads_after, records, versioned, versioned_body, with_first, without}
+use Rattle.newt_spec_image.specs.Records.{and_then, bank_bytes, after_header, body, chosen_bank, has_banks, header, length_at, payloads_after, records, versioned, versioned_body, with_first, without}
 use Rattle.newt_spec_image.specs.Pages.{Pages, Put, Change, pages, pages_after, is_change, said_by, change_in, after, puts_from, with_puts, without_numbers, short_at}
 use Rattle.newt_spec_image.specs.Objects.{Objects, AreObjectsOf, Extent, joined, data_at}
 use Rattle.newt_spec_nsof.specs.Text.{AreBytes}
@@ -95,17 +95,17 @@ after-whole (payload ∷ payloads) live all h w e = go (is_change payload) e (λ
 empty-whole : Whole map.empty
 empty-whole q p e = absurd (none-some p (sym (map.get-empty nat_cmp q) ∙ e))
 
-behind-bytes : (version : ℕ) (bytes : List ℕ) (found : ℕ × List ℕ) → AreBytes bytes → behind_header version bytes ≡ Some found → AreBytes found.1
-behind-bytes version bytes found h e =
+after-bytes : (version : ℕ) (bytes : List ℕ) (found : ℕ × List ℕ) → AreBytes bytes → after_header version bytes ≡ Some found → AreBytes found.1
+after-bytes version bytes found h e =
     let r = then-some (without (header version) bytes) (λ rest. Some (version, rest)) found e in
     subst (λ (found : ℕ × List ℕ). AreBytes found.1) (some-same (version, r.0) found r.2) (without-bytes (header version) bytes r.0 h r.1)
 
 versioned-bytes : (bytes : List ℕ) (found : ℕ × List ℕ) → AreBytes bytes → versioned bytes ≡ Some found → AreBytes found.1
-versioned-bytes bytes found h e = go (behind_header 1 bytes) refl e
+versioned-bytes bytes found h e = go (after_header 1 bytes) refl e
   where
-    go : (o : Option (ℕ × List ℕ)) → behind_header 1 bytes ≡ o → elim o [ Some old ↦ Some old | None ↦ behind_header 2 bytes ] ≡ Some found → AreBytes found.1
-    go None k e = behind-bytes 2 bytes found h e
-    go (Some old) k e = subst (λ (found : ℕ × List ℕ). AreBytes found.1) (some-same old found e) (behind-bytes 1 bytes old h k)
+    go : (o : Option (ℕ × List ℕ)) → after_header 1 bytes ≡ o → elim o [ Some old ↦ Some old | None ↦ after_header 2 bytes ] ≡ Some found → AreBytes found.1
+    go None k e = after-bytes 2 bytes found h e
+    go (Some old) k e = subst (λ (found : ℕ × List ℕ). AreBytes found.1) (some-same old found e) (after-bytes 1 bytes old h k)
 
 pub pages-bytes : (image : List ℕ) (live : Pages) → AreBytes image → pages image ≡ Some live → Whole live
 pages-bytes image live h e =

@@ -5,10 +5,10 @@ use Rattle.std.specs.Option.{unwrap_or}
 use Rattle.newt_spec_image.specs.Records.{and_then, body, chosen_bank, has_banks, length_at, payloads_after, records, with_first}
 use Rattle.newt_spec_image.specs.Pages.{Pages, Change, pages, pages_after, is_change, said_by, change_in, after}
 use Rattle.newt_spec_graph.proofs.Lists.{none-some, some-same}
-use Rattle.newt_spec_check.specs.Damage.{Gate, start_of, behind, gates_after, gates_behind, gates, first_gate, leaves_bank, is_unformed, if_missing, no_bank, no_header, long_record, bad_payload}
+use Rattle.newt_spec_check.specs.Damage.{Gate, start_of, versioned_in, gates_after, bank_gates, gates, first_gate, leaves_bank, is_unformed, if_missing, no_bank, no_header, long_record, bad_payload}
 use Rattle.newt_laws_check.proofs.Finds.{map-none, missing-none}
 
--- the payload behind a gate
+-- the payload after a gate
 abbrev pub payload_of : Gate → List ℕ
 payload_of g = take (length_at g.1) (drop 4 g.1)
 
@@ -27,7 +27,7 @@ long_in gs = find (λ g. leaves_bank g.1) gs
 abbrev pub bad_in : List Gate → Option Gate
 bad_in gs = find (λ g. is_unformed g.1) gs
 
--- a gate and those behind it
+-- a gate and those after it
 abbrev begun : Bool → Gate → List Gate → List Gate
 begun b g gs = cond b (g ∷ gs) []
 
@@ -38,7 +38,7 @@ one-gate g gs true true ps e h = ap (with_first (payload_of g)) h ∙ first-unle
     ∙ ap (λ t. unless (cond t (Some g) (long_in gs)) (map payload_of (g ∷ gs))) (sym e)
 one-gate g gs true false ps e h = ap (λ t. unless (cond t (Some g) (long_in gs)) (map payload_of (g ∷ gs))) (sym e)
 
--- the payloads of records are those behind their gates, where none leaves the bank
+-- the payloads of records are those after their gates, where none leaves the bank
 pub payloads-gates : (at skip : ℕ) (bytes : List ℕ) → payloads_after skip bytes ≡ unless (long_in (gates_after at skip bytes)) (map payload_of (gates_after at skip bytes))
 payloads-gates at zero [] = refl
 payloads-gates at (suc skip) [] = refl
@@ -80,11 +80,11 @@ pub record IsWhole (image : List ℕ) : Type 0 where
   pub record_is : long_record image ≡ None
   pub payload : bad_payload image ≡ None
 
--- the gates of a bank, by the bank that is chosen and the bytes behind the header of each
+-- the gates of a bank, by the bank that is chosen and the bytes after the header of each
 abbrev gates_of : (ℕ → ℕ) → Option ℕ → Option (List ℕ) → List Gate
-gates_of start bank bytes = unwrap_or (option_and_then (λ bank. option_map (gates_behind (start bank)) bytes) bank) []
+gates_of start bank bytes = unwrap_or (option_and_then (λ bank. option_map (bank_gates (start bank)) bytes) bank) []
 
--- the bytes behind a header, without its version
+-- the bytes after a header, without its version
 abbrev bytes_of : Option (ℕ × List ℕ) → Option (List ℕ)
 bytes_of found = and_then found (λ f. Some f.1)
 
@@ -117,10 +117,10 @@ some-pages start (Some bank) found v h r p = go (found bank) h r p
               (payloads-gates (start bank + 16) 0 all ∙ ap (λ o. unless o (map payload_of gs)) (map-none (λ (g : Gate). g.0) (long_in gs) r)) ∙ f.1,
         )
 
-has-body : (image : List ℕ) → has_banks image ≡ true → body image ≡ bytes_of (and_then (chosen_bank image) (behind image))
-has-body image h = ap (λ b. bytes_of (cond b (and_then (chosen_bank image) (behind image)) None)) h
+has-body : (image : List ℕ) → has_banks image ≡ true → body image ≡ bytes_of (and_then (chosen_bank image) (versioned_in image))
+has-body image h = ap (λ b. bytes_of (cond b (and_then (chosen_bank image) (versioned_in image)) None)) h
 
--- the four rows of a bank, what it holds behind its header, and the bytes of that
+-- the four rows of a bank, what it holds after its header, and the bytes of that
 abbrev AreNone : (ℕ → ℕ) → Option ℕ → (ℕ → Option (ℕ × List ℕ)) → Option (List ℕ) → Type 0
 AreNone start bank found body = (if_missing 0 bank ≡ None) × (option_and_then (λ bank. if_missing (start bank) (found bank)) bank ≡ None)
     × (first_gate leaves_bank (gates_of start bank body) ≡ None) × (first_gate is_unformed (gates_of start bank body) ≡ None)
@@ -156,14 +156,14 @@ some-records start (Some bank) found v h r = go (found bank) h r
 pub whole-records : (image : List ℕ) → has_banks image ≡ true → no_bank image ≡ None → no_header image ≡ None → long_record image ≡ None → (ps : List (List ℕ)) × (records image ≡ Some ps)
 whole-records image h v k r =
     let b = has-body image h in
-    let s = some-records (start_of image) (chosen_bank image) (behind image) v k (ap (λ o. first_gate leaves_bank (gates_of (start_of image) (chosen_bank image) o)) (sym b) ∙ r) in
+    let s = some-records (start_of image) (chosen_bank image) (versioned_in image) v k (ap (λ o. first_gate leaves_bank (gates_of (start_of image) (chosen_bank image) o)) (sym b) ∙ r) in
     (s.0, ap (λ o. and_then o (payloads_after 0)) b ∙ s.1)
 
 -- where none of the first four rows holds, the image has pages
 pub whole-pages : (image : List ℕ) → has_banks image ≡ true → IsWhole image → (live : Pages) × (pages image ≡ Some live)
 whole-pages image h w =
     let b = has-body image h in
-    let r = some-pages (start_of image) (chosen_bank image) (behind image) w.votes w.header_is
+    let r = some-pages (start_of image) (chosen_bank image) (versioned_in image) w.votes w.header_is
     (ap (λ o. first_gate leaves_bank (gates_of (start_of image) (chosen_bank image) o)) (sym b) ∙ w.record_is)
     (ap (λ o. first_gate is_unformed (gates_of (start_of image) (chosen_bank image) o)) (sym b) ∙ w.payload) in
     (r.0, ap (λ o. and_then (and_then o (payloads_after 0)) (λ payloads. pages_after payloads map.empty)) b ∙ r.1)
@@ -173,10 +173,10 @@ pub pages-whole : (image : List ℕ) (live : Pages) → pages image ≡ Some liv
 pages-whole image live h = go (has_banks image) refl
   where
     go : (b : Bool) → has_banks image ≡ b → IsWhole image
-    go false e = absurd (none-some live (ap (λ b. and_then (and_then (bytes_of (cond b (and_then (chosen_bank image) (behind image)) None)) (payloads_after 0)) (λ payloads. pages_after payloads map.empty)) (sym e) ∙ h))
+    go false e = absurd (none-some live (ap (λ b. and_then (and_then (bytes_of (cond b (and_then (chosen_bank image) (versioned_in image)) None)) (payloads_after 0)) (λ payloads. pages_after payloads map.empty)) (sym e) ∙ h))
     go true e =
         let b = has-body image e in
-        let r = some-none (start_of image) (chosen_bank image) (behind image) live (ap (λ o. and_then (and_then o (payloads_after 0)) (λ payloads. pages_after payloads map.empty)) (sym b) ∙ h) in
+        let r = some-none (start_of image) (chosen_bank image) (versioned_in image) live (ap (λ o. and_then (and_then o (payloads_after 0)) (λ payloads. pages_after payloads map.empty)) (sym b) ∙ h) in
         record {
           votes = r.0;
           header_is = r.1;

@@ -7,7 +7,7 @@ use Rattle.newt_spec_image.specs.Pages.{Pages, pages}
 use Rattle.newt_spec_image.specs.Records.{has_banks, version}
 use Rattle.newt_spec_nsof.specs.Text.{AreBytes}
 use Rattle.newt_spec_graph.proofs.Lists.{none-some, some-same, both-ways}
-use Rattle.newt_spec_store.specs.Image.{Objects as Rows}
+use Rattle.newt_spec_store.specs.Image.{ObjectList as Rows}
 use Rattle.newt_spec_store.specs.ImageStore.{store_of_image, objects_of}
 use Rattle.newt_spec_store.specs.Lies.{ReadsGraphs}
 use Rattle.newt_spec_store.specs.OfImage.{blocks_of}

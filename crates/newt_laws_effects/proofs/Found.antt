@@ -150,10 +150,27 @@ in-both w u name uid v target go es k =
       then = e.2;
     }
 
--- a soup that is there is found
+-- what is there is found
+pub store-found : (w : World) (u blocks : ℕ) (s : Store) (go : Store → Resolved) → OnUnit w u blocks s → in_store w u go ≡ go s
+store-found w u blocks s go h = ap (λ o. needs NoUnit o (λ d. needs Notmounted (store_if_mounted d) go)) h.device_is
+
 pub soup-found : (w : World) (u : ℕ) (name : List ℕ) (blocks : ℕ) (s : Store) (p : Soup) (go : Soup → Resolved) → OnUnit w u blocks s → soup_named name s ≡ Some p → in_soup w u name go ≡ go p
 soup-found w u name blocks s p go h f =
-    ap (λ o. needs NoUnit o (λ d. needs Notmounted (store_if_mounted d) (λ s. needs NoSoup (soup_named name s) go))) h.device_is ∙ ap (λ o. needs NoSoup o go) f
+    store-found w u blocks s (λ s. needs NoSoup (soup_named name s) go) h ∙ ap (λ o. needs NoSoup o go) f
+
+pub entry-found : (w : World) (u : ℕ) (name : List ℕ) (uid blocks : ℕ) (s : Store) (p : Soup) (e : Entry) (go : Soup → Entry → Resolved) → OnUnit w u blocks s → soup_named name s ≡ Some p
+    → entry_of uid p ≡ Some e → in_entry w u name uid go ≡ go p e
+entry-found w u name uid blocks s p e go h f here =
+    soup-found w u name blocks s p (λ p. needs NoEntry (entry_of uid p) (go p)) h f ∙ ap (λ o. needs NoEntry o (go p)) here
+
+pub both-found : (w : World) (u : ℕ) (name : List ℕ) (blocks : ℕ) (s : Store) (p : Soup) (v : ℕ) (target : List ℕ) (other : ℕ) (t : Store) (q : Soup) (go : Soup → Soup → Resolved)
+    → OnUnit w u blocks s → soup_named name s ≡ Some p → OnUnit w v other t → soup_named target t ≡ Some q → in_both w u name v target go ≡ go p q
+both-found w u name blocks s p v target other t q go h f k g =
+    (λ i. both NoUnit (h.device_is i) (k.device_is i) (λ a b. both Notmounted (store_if_mounted a) (store_if_mounted b) (λ s t. both NoSoup (soup_named name s) (soup_named target t) go)))
+    ∙ (λ i. both NoSoup (f i) (g i) go)
+
+pub passes : (r : Refusal) (b : Bool) (go : Resolved) → b ≡ false → passing (r, b) go ≡ go
+passes r b go e = ap (λ x. passing (r, x) go) e
 
 pub default-found : (w : World) (name : List ℕ) (s : Store) (p : Soup) (go : Soup → Resolved) → mounted_store w (default_unit w) ≡ Some s → soup_named name s ≡ Some p → in_default w name go ≡ go p
 default-found w name s p go h f =

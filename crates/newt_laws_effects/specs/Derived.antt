@@ -24,23 +24,23 @@ applied w (e ∷ es) = applied (change_store w e.unit (changed_by e.change w.min
 
 -- ---- which units they write
 
--- one of them is of the unit's store (this project's own)
+-- one of these changes is of the unit's store (this project's own)
 abbrev pub writes_of : List Effect → ℕ → Bool
 writes_of [] u = false
 writes_of (e ∷ es) u = (e.unit == u) || writes_of es u
 
 -- ---- notes
 
--- of a soup that is there (a word of these definitions)
+-- what is said of a soup; nothing where there is no soup (a word of these definitions)
 abbrev pub of_soup : {X : Type 0} → Option Soup → (Soup → List X) → List X
 of_soup None go = []
 of_soup (Some p) go = go p
 
--- an entry of a soup is changed so (this project's own)
+-- the note of this kind of an entry of a soup (this project's own)
 abbrev pub entry_note : Kind → ℕ → ℕ → Soup → List Event
 entry_note k u uid p = (p.name, record { kind = k; unit = u; soup = p.sig; uid = uid }) ∷ []
 
--- an entry is added to it (this project's own)
+-- the note that an entry is added to a soup (this project's own)
 abbrev pub add_note : ℕ → Soup → List Event
 add_note u p = entry_note kind.Add u p.next_uid p
 
@@ -56,7 +56,7 @@ notes_by u s (Replace sig uid g) = of_soup (soup_of sig s) (entry_note kind.Chan
 notes_by u s (Patch sig uid node at bytes) = of_soup (soup_of sig s) (entry_note kind.Change u uid)
 notes_by u s c = []
 
--- of a store that is there, else what is said of none (a word of these definitions)
+-- what is said of a store, else what is said where there is none (a word of these definitions)
 abbrev pub of_store : {X : Type 0} → Option Store → X → (Store → X) → X
 of_store None none go = none
 of_store (Some s) none go = go s
@@ -65,10 +65,11 @@ of_store (Some s) none go = go s
 abbrev pub on_store_of : {X : Type 0} → World → ℕ → X → (Store → X) → X
 on_store_of w u none go = of_store (mounted_store w u) none go
 
--- the notes of one change, and of all (this project's own)
+-- the notes of one change (this project's own)
 abbrev pub notes_at : World → Effect → List Event
 notes_at w e = on_store_of w e.unit [] (λ s. notes_by e.unit s e.change)
 
+-- the notes of all changes (this project's own)
 abbrev pub notes_of : World → List Effect → List Event
 notes_of w [] = []
 notes_of w (e ∷ es) = notes_at w e ++ notes_of w es
@@ -90,11 +91,13 @@ reach_by s c = nowhere
 abbrev pub reach_at : World → Effect → Reach
 reach_at w e = on_store_of w e.unit nowhere (λ s. reach_by s e.change)
 
--- the first of them that reaches something (this project's own)
+-- the first reach, or the second where the first is nowhere (this project's own)
 abbrev pub or_reach : Reach → Reach → Reach
 or_reach nowhere r = r
 or_reach first r = first
 
+-- what the changes reach: what the first of them reaches that reaches something (this project's
+-- own)
 abbrev pub reach_of : World → List Effect → Reach
 reach_of w [] = nowhere
 reach_of w (e ∷ es) = or_reach (reach_at w e) (reach_of w es)
@@ -109,7 +112,7 @@ moves_key (AddIndex sig spec) = true
 moves_key (SetTags sig table) = true
 moves_key c = false
 
--- and after one of these (this project's own)
+-- a hit can have another key after one of these changes (this project's own)
 abbrev pub moves_of : List Effect → Bool
 moves_of [] = false
 moves_of (e ∷ es) = moves_key e.change || moves_of es
@@ -121,19 +124,19 @@ abbrev pub bytes_at : World → Effect → ℕ → ℕ
 bytes_at w e u =
     if e.unit == u then on_store_of w e.unit 0 (λ s. bytes_of e.change w.minute s) else 0
 
--- and of all (this project's own)
+-- the bytes of all changes, on a unit (this project's own)
 abbrev pub programmed_of : World → List Effect → ℕ → ℕ
 programmed_of w [] u = 0
 programmed_of w (e ∷ es) u = bytes_at w e u + programmed_of w es u
 
 -- ---- what they are refused for
 
--- the tests of one change, on the device of its unit (this project's own)
+-- the tests of one change, on the store of its unit's device (this project's own)
 abbrev pub tests_on : Change → ℕ → Option Device → Checks
 tests_on c now None = []
 tests_on c now (Some d) = elim (store_of d.media) [ None ↦ [] | Some s ↦ refusals c d.blocks now s ]
 
--- and of all, each of the store before them (this project's own)
+-- the tests of all changes, each on the stores before all of them (this project's own)
 abbrev pub tests_of : World → List Effect → Checks
 tests_of w [] = []
 tests_of w (e ∷ es) = tests_on e.change w.minute (device w e.unit) ++ tests_of w es

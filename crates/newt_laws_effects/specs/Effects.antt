@@ -33,50 +33,52 @@ Resolved = Result (List Effect) Refusal
 
 -- ---- to find
 
--- what is there, or this refusal (a word of these definitions)
+-- goes on with what is there, else this refusal (a word of these definitions)
 abbrev pub needs : {X : Type 0} → Refusal → Option X → (X → Resolved) → Resolved
 needs r None go = Err r
 needs r (Some x) go = go x
 
--- a test that is passed (a word of these definitions)
+-- goes on where the test does not hold, else its refusal (a word of these definitions)
 abbrev pub passing : Check → Resolved → Resolved
 passing (r, true) go = Err r
 passing (r, false) go = go
 
--- the store that is mounted on a unit (this project's own)
+-- goes on with the store that is mounted on a unit (this project's own)
 abbrev pub in_store : World → ℕ → (Store → Resolved) → Resolved
 in_store w u go = needs NoUnit (device w u) (λ d. needs Notmounted (store_if_mounted d) go)
 
--- the soup of a name in it (this project's own)
+-- goes on with the soup of a name in that store (this project's own)
 abbrev pub in_soup : World → ℕ → List ℕ → (Soup → Resolved) → Resolved
 in_soup w u name go = in_store w u (λ s. needs NoSoup (soup_named name s) go)
 
--- an entry of that soup (this project's own)
+-- goes on with an entry of that soup (this project's own)
 abbrev pub in_entry : World → ℕ → List ℕ → ℕ → (Soup → Entry → Resolved) → Resolved
 in_entry w u name uid go = in_soup w u name (λ p. needs NoEntry (entry_of uid p) (go p))
 
--- the soup of a name in the default store (this project's own)
+-- goes on with the soup of a name in the default store (this project's own)
 abbrev pub in_default : World → List ℕ → (Soup → Resolved) → Resolved
 in_default w name go =
     needs Notmounted (mounted_store w (default_unit w)) (λ s. needs NoSoup (soup_named name s) go)
 
--- what two of them have, where each test is tried of both before the next (this project's own)
+-- goes on with two things that are there, else this refusal; so each test is tried of both before
+-- the next one (this project's own)
 abbrev pub both : {X Y : Type 0} → Refusal → Option X → Option Y → (X → Y → Resolved) → Resolved
 both r (Some x) (Some y) go = go x y
 both r x y go = Err r
 
--- two soups, on units that may be one (this project's own)
+-- goes on with two soups, on units that may be one (this project's own)
 abbrev pub in_both : World → ℕ → List ℕ → ℕ → List ℕ → (Soup → Soup → Resolved) → Resolved
 in_both w u name v target go =
     both NoUnit (device w u) (device w v) (λ a b.
     both Notmounted (store_if_mounted a) (store_if_mounted b) (λ s t.
     both NoSoup (soup_named name s) (soup_named target t) go))
 
--- one change (a word of these definitions)
+-- one change of the store of a unit (a word of these definitions)
 abbrev pub one : ℕ → Change → Resolved
 one u c = Ok (record { unit = u; change = c } ∷ [])
 
--- a move: one change of one store, or of two an add and then a remove (this project's own)
+-- a move: one change of one store; of two stores an add to one, and then a remove from the other
+-- (this project's own)
 abbrev pub moves : ℕ → ℕ → ℕ → Soup → Soup → Entry → Resolved
 moves u v uid p q e =
     if u == v then one u (change.Move p.sig uid q.sig) else
@@ -85,8 +87,8 @@ moves u v uid p q e =
 
 -- ---- the table
 
--- The table: what each command that changes stores resolves to. What a change is refused for itself
--- is its own (`refusals` of newt_store_change). (this project's own)
+-- The table: what each command that changes stores resolves to. What a change itself is refused for
+-- is `refusals` of newt_store_change. (this project's own)
 unfoldable pub effects : World → Command → Resolved
 effects w (command.Soup u s) = in_store w u (λ t. one u (change.MakeSoup s))
 effects w (command.Drop u s) = in_soup w u s (λ p. one u (change.DropSoup p.sig))

@@ -3,10 +3,10 @@
 //!
 //! It stands on the definitions of the world and the whole, and on newt_store_change, whose changes
 //! these are. What a command resolves to is a definition of its own (`specs/Effects`). Its promise:
-//! where a command resolves to changes, what it writes, changes, tells, reaches and programs is what
-//! follows from these (`changes_tell_the_tables`); it is refused for what it names or for what they
-//! are refused for (`changes_tell_the_refusals`), and so no unit is programmed more than they tell
-//! (`changes_tell_the_bytes`).
+//! where a command resolves to changes, what it writes, changes, notes, reaches and programs
+//! follows from these (`changes_tell_the_tables`). It is refused for what it names, or for what the
+//! changes are refused for (`changes_tell_the_refusals`). So no unit is programmed more than the
+//! changes program (`changes_tell_the_bytes`).
 #![tactic(auto)]
 
 mod tables;

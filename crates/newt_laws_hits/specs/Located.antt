@@ -1,4 +1,5 @@
--- A hit by its identity: the store is found by its signature, the soup by its own, and the entry by its id.
+-- A hit by its identity: the store is found by its signature, the soup by its own, and the entry by
+-- its id.
 use Rattle.std.specs.Prelude.{ℕ, Bool, ◌&&◌, ◌==◌, List, find, Option, None, option_map, option_and_then, cond}
 use Rattle.newt_base.specs.Names.{equal_text}
 use Rattle.newt_spec_store.specs.Store.{Entry, Soup, Store, entry_of, soup_of}
@@ -10,7 +11,8 @@ pub record Located : Type 0 where
   pub soup : Soup
   pub entry : Entry
 
--- the entry of this id in the soup of this signature in the store of this signature (this project's own)
+-- the entry of this id in the soup of this signature in the store of this signature (this project's
+-- own)
 abbrev pub located : List Store → ℕ → ℕ → ℕ → Option Located
 located stores store soup uid =
     option_and_then (λ s. option_and_then (λ p. option_map (λ e. record { store = s; soup = p; entry = e }) (entry_of uid p)) (soup_of soup s))
@@ -20,7 +22,7 @@ located stores store soup uid =
 abbrev pub takes_part : Query → Store → Soup → Bool
 takes_part q s p = in_scope q.scope s && (equal_text p.name q.name && carries q.spec.index p)
 
--- the hit that a located entry is, if it is one (this project's own)
+-- a located entry as a hit; none where it is not a hit (this project's own)
 abbrev pub located_hit : Query → Located → Option Hit
 located_hit q f = cond (takes_part q f.store f.soup) (hit_of q.spec f.store f.soup f.entry) None
 

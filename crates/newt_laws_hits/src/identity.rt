@@ -31,8 +31,8 @@ pub fn hits_are_looked_up()
         (option_map on (looked_up stores q at.store at.soup at.uid)) (on at) }
 {}
 
-/// An entry is located where its store and its soup are known, and what a cursor shows is where its
-/// hit is.
+/// An entry of a known store and soup is located by its id. What a cursor shows is the entry of its
+/// hit, looked up by its identity.
 pub fn entries_are_located()
     ensures known { (stores : List Store) (s : Store) (p : Soup) (uid : ℕ)
         → Pairs (λ s t. s.sig ≡ t.sig → ⊥) stores → Each (λ s. IsTrue (well_formed s)) stores
@@ -47,14 +47,15 @@ pub fn entries_are_located()
         (looked_up (mounted_stores w) q at.store at.soup at.uid) }
 {}
 
-/// Most commands leave nothing to settle, those on cursors among them.
+/// In a settled world, a command that moves no key leaves nothing to settle. Most commands are
+/// such, those on cursors among them.
 pub fn few_commands_settle()
     ensures { (w : World) (c : IsCommand) → AllValid w → MountedApart w → IsSettled w
         → moves_keys c ≡ false
         → answered w c None ≡ (changed w c, fields w (changed w c) c) }
 {}
 
-/// What is settled stays.
+/// To settle twice is to settle once.
 pub fn settling_twice_is_settling()
     ensures { (w : World) → settle (settle w) ≡ settle w }
 {}

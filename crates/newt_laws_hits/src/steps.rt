@@ -57,7 +57,7 @@ pub fn searches_count()
         (after q.spec.index (members_of stores q) at) }
 {}
 
-/// Each search leaves fewer hits of the union before it.
+/// Each search leaves fewer hits of the union ahead of it.
 pub fn searches_end()
     ensures next { (stores : List Store) (q : Query) (at h : Hit)
         → Pairs (λ s t. s.sig ≡ t.sig → ⊥) stores → Each (λ s. IsTrue (well_formed s)) stores

@@ -53,7 +53,7 @@ pub fn walks_count()
         → length (filter keep hs) ≡ counted keep (count_after index (filter keep hs)) (first hs) }
 {}
 
-/// From before all hits the next is the first, from behind all the previous is the last, and
+/// From before all hits the next is the first, from after all hits the previous is the last, and
 /// nothing is beyond.
 pub fn walks_begin_at_the_ends()
     ensures from_start { (index : IndexSpec) (hs : List Hit)
@@ -66,7 +66,7 @@ pub fn walks_begin_at_the_ends()
         → previous_place hs index start ≡ start }
 {}
 
-/// Each step of a walk leaves fewer hits before it.
+/// Each step of a walk leaves fewer hits ahead of it.
 pub fn walks_end()
     ensures next { (index : IndexSpec) (hs : List Hit) (place : Place) (h : Hit)
         → Pairs (λ a b. hit_cmp index a b ≡ Less) hs

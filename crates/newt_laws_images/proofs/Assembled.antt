@@ -11,7 +11,7 @@ use Rattle.newt_graph.specs.Graph.{RawGraph}
 use Rattle.newt_spec_store.specs.Store.{Entry, Soup, Store}
 use Rattle.newt_spec_store.specs.Sorted.{sorted_by}
 use Rattle.newt_spec_store.specs.Valid.{valid, keeps_version, well_formed, fits, valid_soup}
-use Rattle.newt_spec_store.specs.Image.{Objects, all_entries}
+use Rattle.newt_spec_store.specs.Image.{ObjectList, all_entries}
 use Rattle.newt_spec_store.specs.Reading.{whole, directory}
 use Rattle.newt_spec_graph.specs.Graph.{every}
 use Rattle.newt_spec_store.specs.StoreOf.{EntryRow, only, object_bytes, entry_of_row, rows_of, named_once, with_entries, in_a_soup, assembled, store_of}
@@ -160,7 +160,7 @@ any-sig (x ∷ ps) p (inr m) = go (x.sig == p.sig) (any-sig ps p m)
     go true h = refl
     go false h = h
 
-pub assembled-back : (graph_of : List ℕ → Option RawGraph) (objects : Objects) (blocks : ℕ) (s : Store) (rows : List EntryRow) (entries : List (ℕ × Entry)) → valid blocks s ≡ true
+pub assembled-back : (graph_of : List ℕ → Option RawGraph) (objects : ObjectList) (blocks : ℕ) (s : Store) (rows : List EntryRow) (entries : List (ℕ × Entry)) → valid blocks s ≡ true
     → named_once graph_of objects rows ≡ true → AreEntries s entries → assembled graph_of objects blocks (bare s) rows entries ≡ Some s
 assembled-back graph_of objects blocks s rows entries v once are =
     ap {A = List Soup} {B = Option Store} (λ ps. cond (named_once graph_of objects rows && list_all (in_a_soup graph_of (bare s)) entries && valid blocks (record s { soups = ps })) (Some (record s { soups = ps })) None) soups
@@ -187,7 +187,7 @@ rows-back [] h = refl
 rows-back (x ∷ laid) h = ap (λ o. every (o ∷ map (λ (o : ℕ × List ℕ). entry_row o.1) (map record_of laid))) (record-back x.soup x.entry x.ids h.0)
     ∙ ap (option_map (λ rs. row_of x.soup x.entry x.ids ∷ rs)) (rows-back laid h.1)
 
-entries-back : (graph_of : List ℕ → Option RawGraph) (objects : Objects) (laid : List Laid) → Each (λ x. Rattle.newt_spec_store.specs.Laid.FitsRecord x.soup x.entry x.ids) laid
+entries-back : (graph_of : List ℕ → Option RawGraph) (objects : ObjectList) (laid : List Laid) → Each (λ x. Rattle.newt_spec_store.specs.Laid.FitsRecord x.soup x.entry x.ids) laid
     → Each (λ x. graph_of (Rattle.newt_spec_nsof.specs.Flat.flat (Rattle.newt_spec_nsof.specs.Lengths.skeleton x.entry.graph)) ≡ Some (Rattle.newt_spec_nsof.specs.Lengths.skeleton x.entry.graph)) laid
     → Each (λ x. Each (Rattle.newt_spec_store.specs.Laid.IsThere objects) (Rattle.std.specs.Prelude.zip (Rattle.newt_spec_store.specs.Image.larges x.entry.graph) x.ids)) laid
     → every (map (entry_of_row graph_of objects) (map (λ x. row_of x.soup x.entry x.ids) laid)) ≡ Some (map (λ x. (x.soup, x.entry)) laid)
@@ -204,7 +204,7 @@ soups-bare (p ∷ ps) = let r = soups-bare ps in (ap suc r.0, ap (λ b. is_none 
 pub bare-keeps : (version : ℕ) (s : Store) → keeps_version version (bare s) ≡ keeps_version version s
 bare-keeps version s = let r = soups-bare s.soups in λ i. not (version == 1) || (nat_le (r.0 i) 64 && r.1 i)
 
-pub store-back : (graph_of : List ℕ → Option RawGraph) (version : ℕ) (objects : Objects) (blocks : ℕ) (s : Store) (laid : List Laid) → keeps_version version s ≡ true → valid blocks s ≡ true
+pub store-back : (graph_of : List ℕ → Option RawGraph) (version : ℕ) (objects : ObjectList) (blocks : ℕ) (s : Store) (laid : List Laid) → keeps_version version s ≡ true → valid blocks s ≡ true
     → IsLaid graph_of objects s laid → store_of graph_of version objects blocks ≡ Some s
 store-back graph_of version objects blocks s laid keeps v is =
     ap (option_and_then (λ d. option_and_then (λ rows. option_and_then (λ entries. assembled graph_of objects blocks d rows entries) (every (map (entry_of_row graph_of objects) rows))) (rows_of graph_of objects)))
@@ -223,7 +223,7 @@ checked-some true true s t h = (refl, Rattle.newt_spec_graph.proofs.Lists.some-s
 checked-some true false s t h = cc
 checked-some false b s t h = cc
 
-pub read-valid : (graph_of : List ℕ → Option RawGraph) (version : ℕ) (objects : Objects) (blocks : ℕ) (s : Store) → store_of graph_of version objects blocks ≡ Some s → valid blocks s ≡ true
+pub read-valid : (graph_of : List ℕ → Option RawGraph) (version : ℕ) (objects : ObjectList) (blocks : ℕ) (s : Store) → store_of graph_of version objects blocks ≡ Some s → valid blocks s ≡ true
 read-valid graph_of version objects blocks s = from-directory (option_and_then (λ bytes. only (keeps_version version) (whole (directory graph_of) bytes)) (object_bytes objects 0))
   where
     built : (d : Store) (rows : List EntryRow) (entries : List (ℕ × Entry)) → assembled graph_of objects blocks d rows entries ≡ Some s → valid blocks s ≡ true

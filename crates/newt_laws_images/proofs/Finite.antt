@@ -5,7 +5,7 @@ use Rattle.std.specs.FinMap as map
 use Rattle.std.proofs.lemmas.Bool.{and_parts}
 use lib.Dec.{T}
 use Rattle.newt_spec_image.specs.Objects.{Objects as Texts}
-use Rattle.newt_spec_store.specs.Image.{Objects}
+use Rattle.newt_spec_store.specs.Image.{ObjectList}
 use Rattle.newt_spec_store.specs.StoreOf.{object_bytes}
 use Rattle.newt_spec_graph.specs.Lists.{Each, Pairs, Among}
 use Rattle.newt_spec_graph.proofs.Lists.{each-at, some-same, none-some}
@@ -27,7 +27,7 @@ less-of a b h = grind arith
 
 -- ---- lists of objects
 
-found-bytes : (es : Objects) (id : ℕ) → object_bytes es id ≡ map.find nat_cmp id es
+found-bytes : (es : ObjectList) (id : ℕ) → object_bytes es id ≡ map.find nat_cmp id es
 found-bytes [] id = refl
 found-bytes (e ∷ es) id = ap (λ b. option_map (λ (o : ℕ × List ℕ). o.1) (cond b (Some e) (find (λ (o : ℕ × List ℕ). o.0 == id) es))) (same-key e.0 id)
     ∙ go (eq_by_cmp nat_cmp id e.0) (found-bytes es id)
@@ -37,23 +37,23 @@ found-bytes (e ∷ es) id = ap (λ b. option_map (λ (o : ℕ × List ℕ). o.1)
     go true k = refl
     go false k = k
 
-abbrev pub Rising : Objects → Type 0
+abbrev pub Rising : ObjectList → Type 0
 Rising es = Pairs (λ a b. a.0 < b.0) es
 
-below-each : (x : ℕ) (es : Objects) → map.Entries.below_all nat_cmp x es ≡ true → Each (λ (e : ℕ × List ℕ). x < e.0) es
+below-each : (x : ℕ) (es : ObjectList) → map.Entries.below_all nat_cmp x es ≡ true → Each (λ (e : ℕ × List ℕ). x < e.0) es
 below-each x [] h = tt
 below-each x (e ∷ es) h = let r = and_parts _ _ h in (less-of x e.0 r.0, below-each x es r.1)
 
-sorted-rising : (es : Objects) → map.is_sorted nat_cmp es ≡ true → Rising es
+sorted-rising : (es : ObjectList) → map.is_sorted nat_cmp es ≡ true → Rising es
 sorted-rising [] h = tt
 sorted-rising (e ∷ es) h = let r = and_parts _ _ h in (below-each e.0 es r.0, sorted-rising es r.1)
 
-rising-found : (es : Objects) (z : ℕ × List ℕ) → Rising es → Among es z → map.find nat_cmp z.0 es ≡ Some z.1
+rising-found : (es : ObjectList) (z : ℕ × List ℕ) → Rising es → Among es z → map.find nat_cmp z.0 es ≡ Some z.1
 rising-found [] z h m = absurd m
 rising-found (e ∷ es) z h (inl k) = subst (λ (y : ℕ × List ℕ). cond (eq_by_cmp nat_cmp y.0 e.0) (Some e.1) (map.find nat_cmp y.0 es) ≡ Some y.1) k (ap (λ b. cond b (Some e.1) (map.find nat_cmp e.0 es)) (tied e.0))
 rising-found (e ∷ es) z h (inr m) = ap (λ b. cond b (Some e.1) (map.find nat_cmp z.0 es)) (untied e.0 z.0 (each-at (λ (b : ℕ × List ℕ). e.0 < b.0) es z h.0 m)) ∙ rising-found es z h.1 m
 
-found-among : (es : Objects) (id : ℕ) (bytes : List ℕ) → map.find nat_cmp id es ≡ Some bytes → Among es (id, bytes)
+found-among : (es : ObjectList) (id : ℕ) (bytes : List ℕ) → map.find nat_cmp id es ≡ Some bytes → Among es (id, bytes)
 found-among [] id bytes h = absurd (none-some bytes h)
 found-among (e ∷ es) id bytes h = go (found-among es id bytes) (eq_by_cmp nat_cmp id e.0) refl h
   where

@@ -9,7 +9,7 @@ use Rattle.newt_spec_graph.specs.Graph.{every}
 use Rattle.newt_spec_graph.specs.Lists.{Each, Pairs, Among}
 use Rattle.newt_spec_graph.proofs.Lists.{each-at, each-from, some-same, none-some, filter-among}
 use Rattle.newt_spec_store.proofs.Sorting.{insert-among}
-use Rattle.newt_spec_store.specs.Image.{Objects}
+use Rattle.newt_spec_store.specs.Image.{ObjectList}
 use Rattle.newt_spec_store.specs.Laid.{ApartIds}
 use Rattle.newt_spec_store.specs.Reading.{whole, directory}
 use Rattle.newt_spec_store.specs.Sorted.{insert_by, sorted_by}
@@ -71,7 +71,7 @@ apart-from (x ∷ es) h = (
 
 -- ---- what was read
 
-pub record IsReading (graph_of : List ℕ → Option RawGraph) (version : ℕ) (objects : Objects) (blocks : ℕ) (s : Store) : Type 0 where
+pub record IsReading (graph_of : List ℕ → Option RawGraph) (version : ℕ) (objects : ObjectList) (blocks : ℕ) (s : Store) : Type 0 where
   pub bytes : List ℕ
   pub at_zero : object_bytes objects 0 ≡ Some bytes
   pub d : Store
@@ -92,7 +92,7 @@ checked-parts true true false s t h = cc
 checked-parts true false c s t h = cc
 checked-parts false b c s t h = cc
 
-pub reading : (graph_of : List ℕ → Option RawGraph) (version : ℕ) (objects : Objects) (blocks : ℕ) (s : Store) → store_of graph_of version objects blocks ≡ Some s → IsReading graph_of version objects blocks s
+pub reading : (graph_of : List ℕ → Option RawGraph) (version : ℕ) (objects : ObjectList) (blocks : ℕ) (s : Store) → store_of graph_of version objects blocks ≡ Some s → IsReading graph_of version objects blocks s
 reading graph_of version objects blocks s h = from-bytes (object_bytes objects 0) refl h
   where
     from-entries : (bytes : List ℕ) → object_bytes objects 0 ≡ Some bytes → (d : Store) → (whole (directory graph_of) bytes ≡ Some d) × (keeps_version version d ≡ true) → (rows : List EntryRow) → rows_of graph_of objects ≡ Some rows

@@ -14,7 +14,7 @@ use Rattle.newt_spec_nsof.specs.Flat.{flat}
 use Rattle.newt_spec_nsof.specs.Lengths.{skeleton, bare as bare_node}
 use Rattle.newt_spec_store.specs.Store.{Entry}
 use Rattle.newt_spec_store.specs.Image as image
-use Rattle.newt_spec_store.specs.Image.{Objects, larges, large_in, entry_bytes}
+use Rattle.newt_spec_store.specs.Image.{ObjectList, larges, large_in, entry_bytes}
 use Rattle.newt_spec_store.specs.Reading.{◌>>=◌, give, some_bytes, number, times}
 use Rattle.newt_spec_graph.specs.Graph.{every}
 use Rattle.newt_spec_store.specs.StoreOf.{LargeRow, large_row, entry_fields, entry_row, large_object, with_bytes, fill, with_larges, entry_of_row}
@@ -166,7 +166,7 @@ fill-back g = fold-fill g.root (map bare_node g.nodes) (larges g) ∙ ap {A = Li
 pub all-true : (a b c : Bool) → a ≡ true → b ≡ true → c ≡ true → (a && b && c) ≡ true
 all-true a b c h k l = grind (arith, h, k, l)
 
-pub every-back : (objects : Objects) (ls : List Named) → Each (IsThere objects) ls → every (map (large_object objects) (map row_of_large ls)) ≡ Some (map (λ (l : Named). l.0.1) ls)
+pub every-back : (objects : ObjectList) (ls : List Named) → Each (IsThere objects) ls → every (map (large_object objects) (map row_of_large ls)) ≡ Some (map (λ (l : Named). l.0.1) ls)
 every-back objects [] h = refl
 every-back objects (l ∷ ls) h = ap (λ o. every (o ∷ map (large_object objects) (map row_of_large ls))) (found l h.0)
     ∙ ap (option_map (λ xs. l.0.1 ∷ xs)) (every-back objects ls h.1)
@@ -193,7 +193,7 @@ zip-back : (ls : List (ℕ × List ℕ)) → zip (map (λ (l : ℕ × List ℕ).
 zip-back [] = refl
 zip-back (l ∷ ls) = ap (λ ks. l ∷ ks) (zip-back ls)
 
-pub larges-back : (graph_of : List ℕ → Option RawGraph) (objects : Objects) (soup : ℕ) (e : Entry) (ids : List ℕ) → length (larges e.graph) ≡ length ids → Each (IsThere objects) (zip (larges e.graph) ids)
+pub larges-back : (graph_of : List ℕ → Option RawGraph) (objects : ObjectList) (soup : ℕ) (e : Entry) (ids : List ℕ) → length (larges e.graph) ≡ length ids → Each (IsThere objects) (zip (larges e.graph) ids)
     → with_larges graph_of objects (row_of soup e ids) (skeleton e.graph) ≡ Some e.graph
 larges-back graph_of objects soup e ids h there =
     ap (λ b. cond b (option_map (λ bs. fold fill (skeleton e.graph) (zip (map (λ (l : LargeRow). l.0) (map row_of_large (zip (larges e.graph) ids))) bs))
@@ -213,7 +213,7 @@ larges-back graph_of objects soup e ids h there =
     test = and-true _ _ (ap (bytes_eq (map (λ (l : ℕ × List ℕ). l.0) (larges (skeleton e.graph)))) (zip-numbers (larges e.graph) ids h ∙ sym (same-numbers 0 e.graph.nodes)) ∙ bytes-same (map (λ (l : ℕ × List ℕ). l.0) (larges (skeleton e.graph))))
         (all-empty 0 e.graph.nodes)
 
-pub entry-back : (graph_of : List ℕ → Option RawGraph) (objects : Objects) (soup : ℕ) (e : Entry) (ids : List ℕ) → graph_of (flat (skeleton e.graph)) ≡ Some (skeleton e.graph)
+pub entry-back : (graph_of : List ℕ → Option RawGraph) (objects : ObjectList) (soup : ℕ) (e : Entry) (ids : List ℕ) → graph_of (flat (skeleton e.graph)) ≡ Some (skeleton e.graph)
     → length (larges e.graph) ≡ length ids → Each (IsThere objects) (zip (larges e.graph) ids) → entry_of_row graph_of objects (row_of soup e ids) ≡ Some (soup, e)
 entry-back graph_of objects soup e ids reads h there =
     ap (λ o. option_map (λ g. (soup, record { uid = e.uid; time = e.time; graph = g })) (option_and_then (with_larges graph_of objects (row_of soup e ids)) o)) (written-back graph_of (skeleton e.graph) reads)

@@ -13,7 +13,7 @@ use Rattle.newt_spec_nsof.specs.Lengths.{skeleton}
 use Rattle.newt_spec_graph.proofs.Lists.{some-same, none-some}
 use Rattle.newt_spec_store.specs.Store.{Entry}
 use Rattle.newt_base.specs.Text.{be16, be32}
-use Rattle.newt_spec_store.specs.Image.{Objects, larges, entry_bytes, large_row as large_row_bytes}
+use Rattle.newt_spec_store.specs.Image.{ObjectList, larges, entry_bytes, large_row as large_row_bytes}
 use Rattle.newt_spec_store.specs.StoreOf.{LargeRow, EntryRow, only, object_bytes, large_object, fill, names_larges, with_larges, entry_row, entry_of_row}
 use Rattle.newt_spec_store.specs.Laid.{Named, row_of_large, row_of, IsThere}
 use Rattle.newt_spec_store.specs.Lies.{entry_read}
@@ -28,7 +28,7 @@ use Rattle.newt_laws_images.proofs.Spelt.{Small, row_bytes, large_bytes, record-
 
 -- ---- large binaries
 
-pub large-parts : (objects : Objects) (l : LargeRow) (b : List ℕ) → large_object objects l ≡ Some b → (l.1 % 2 ≡ 0) × (0 < l.1) × (object_bytes objects l.1 ≡ Some b) × (length b ≡ l.2)
+pub large-parts : (objects : ObjectList) (l : LargeRow) (b : List ℕ) → large_object objects l ≡ Some b → (l.1 % 2 ≡ 0) × (0 < l.1) × (object_bytes objects l.1 ≡ Some b) × (length b ≡ l.2)
 large-parts objects l b h = go (object_bytes objects l.1) refl h
   where
     test : (t : Bool) (x : List ℕ) → ((l.1 % 2 == 0) && nat_lt 0 l.1 && (length x == l.2)) ≡ t → object_bytes objects l.1 ≡ Some x → cond t (Some x) None ≡ Some b
@@ -52,22 +52,22 @@ nodes_of ls = map (λ (l : LargeRow). l.0) ls
 abbrev pub ids_of : List LargeRow → List ℕ
 ids_of ls = map (λ (l : LargeRow). l.1) ls
 
-abbrev IsObject : Objects → LargeRow → List ℕ → Type 0
+abbrev IsObject : ObjectList → LargeRow → List ℕ → Type 0
 IsObject objects l b = large_object objects l ≡ Some b
 
-rows-are : (objects : Objects) (ls : List LargeRow) (bs : List (List ℕ)) → Both (IsObject objects) ls bs → ls ≡ map row_of_large (zip (zip (nodes_of ls) bs) (ids_of ls))
+rows-are : (objects : ObjectList) (ls : List LargeRow) (bs : List (List ℕ)) → Both (IsObject objects) ls bs → ls ≡ map row_of_large (zip (zip (nodes_of ls) bs) (ids_of ls))
 rows-are objects [] [] h = refl
 rows-are objects [] (b ∷ bs) h = absurd h
 rows-are objects (l ∷ ls) [] h = absurd h
 rows-are objects (l ∷ ls) (b ∷ bs) h = let p = large-parts objects l b h.0 in λ i. (l.0, l.1, sym p.3 i) ∷ rows-are objects ls bs h.1 i
 
-rows-there : (objects : Objects) (ls : List LargeRow) (bs : List (List ℕ)) → Both (IsObject objects) ls bs → Each (IsThere objects) (zip (zip (nodes_of ls) bs) (ids_of ls))
+rows-there : (objects : ObjectList) (ls : List LargeRow) (bs : List (List ℕ)) → Both (IsObject objects) ls bs → Each (IsThere objects) (zip (zip (nodes_of ls) bs) (ids_of ls))
 rows-there objects [] [] h = tt
 rows-there objects [] (b ∷ bs) h = absurd h
 rows-there objects (l ∷ ls) [] h = absurd h
 rows-there objects (l ∷ ls) (b ∷ bs) h = let p = large-parts objects l b h.0 in ((p.0, p.1, p.2), rows-there objects ls bs h.1)
 
-rows-long : (objects : Objects) (ls : List LargeRow) (bs : List (List ℕ)) → Both (IsObject objects) ls bs → length (nodes_of ls) ≡ length bs
+rows-long : (objects : ObjectList) (ls : List LargeRow) (bs : List (List ℕ)) → Both (IsObject objects) ls bs → length (nodes_of ls) ≡ length bs
 rows-long objects [] [] h = refl
 rows-long objects [] (b ∷ bs) h = absurd h
 rows-long objects (l ∷ ls) [] h = absurd h
@@ -79,7 +79,7 @@ zip-long (n ∷ ns) [] h = absurd (omega (arith, h))
 zip-long (n ∷ ns) (b ∷ bs) h = grind (arith, zip-long ns bs (omega (arith, h)))
 
 -- What a row has to do with its entry, whose large binaries have these objects.
-pub record IsRowOf (graph_of : List ℕ → Option RawGraph) (objects : Objects) (row : EntryRow) (sig : ℕ) (e : Entry) : Type 0 where
+pub record IsRowOf (graph_of : List ℕ → Option RawGraph) (objects : ObjectList) (row : EntryRow) (sig : ℕ) (e : Entry) : Type 0 where
   pub of_soup : row.soup ≡ sig
   pub of_uid : row.uid ≡ e.uid
   pub of_time : row.time ≡ e.time
@@ -90,13 +90,13 @@ pub record IsRowOf (graph_of : List ℕ → Option RawGraph) (objects : Objects)
   pub reads : graph_of (flat (skeleton e.graph)) ≡ Some (skeleton e.graph)
 
 -- the same of a graph
-record IsFilled (objects : Objects) (row : EntryRow) (g k : RawGraph) : Type 0 where
+record IsFilled (objects : ObjectList) (row : EntryRow) (g k : RawGraph) : Type 0 where
   of_larges : row.larges ≡ map row_of_large (zip (larges k) (ids_of row.larges))
   each_named : length (larges k) ≡ length (ids_of row.larges)
   there : Each (IsThere objects) (zip (larges k) (ids_of row.larges))
   skeleton_is : skeleton k ≡ g
 
-is-filled : (graph_of : List ℕ → Option RawGraph) (objects : Objects) (row : EntryRow) (g k : RawGraph) → with_larges graph_of objects row g ≡ Some k → IsFilled objects row g k
+is-filled : (graph_of : List ℕ → Option RawGraph) (objects : ObjectList) (row : EntryRow) (g k : RawGraph) → with_larges graph_of objects row g ≡ Some k → IsFilled objects row g k
 is-filled graph_of objects row g k h = test (names_larges row g) refl h
   where
     done : names_larges row g ≡ true → (bs : List (List ℕ)) → Both (IsObject objects) row.larges bs → fold fill g (zip (nodes_of row.larges) bs) ≡ k → IsFilled objects row g k
@@ -133,7 +133,7 @@ is-filled graph_of objects row g k h = test (names_larges row g) refl h
 pair-parts : (a b : ℕ) (x y : Entry) → ◌≡◌ {A = Option (ℕ × Entry)} (Some (a, x)) (Some (b, y)) → (a ≡ b) × (x ≡ y)
 pair-parts a b x y h = let k = some-same {X = ℕ × Entry} (a, x) (b, y) h in (ap {A = ℕ × Entry} (λ p. p.0) k, ap {A = ℕ × Entry} (λ p. p.1) k)
 
-pub row-of : (graph_of : List ℕ → Option RawGraph) (objects : Objects) (row : EntryRow) (sig : ℕ) (e : Entry) → entry_of_row graph_of objects row ≡ Some (sig, e) → IsRowOf graph_of objects row sig e
+pub row-of : (graph_of : List ℕ → Option RawGraph) (objects : ObjectList) (row : EntryRow) (sig : ℕ) (e : Entry) → entry_of_row graph_of objects row ≡ Some (sig, e) → IsRowOf graph_of objects row sig e
 row-of graph_of objects row sig e h = text (written graph_of row.text) refl h
   where
     done : (g k : RawGraph) → written graph_of row.text ≡ Some g → with_larges graph_of objects row g ≡ Some k
@@ -166,10 +166,10 @@ row-of graph_of objects row sig e h = text (written graph_of row.text) refl h
     text (Some g) w s = filled g (with_larges graph_of objects row g) w refl s
 
 -- a row of an entry is the one that is written
-pub is-row : (graph_of : List ℕ → Option RawGraph) (objects : Objects) (row : EntryRow) (sig : ℕ) (e : Entry) → IsRowOf graph_of objects row sig e → row ≡ row_of sig e (ids_of row.larges)
+pub is-row : (graph_of : List ℕ → Option RawGraph) (objects : ObjectList) (row : EntryRow) (sig : ℕ) (e : Entry) → IsRowOf graph_of objects row sig e → row ≡ row_of sig e (ids_of row.larges)
 is-row graph_of objects row sig e p = λ i. record { soup = p.of_soup i; uid = p.of_uid i; time = p.of_time i; text = p.text i; larges = p.of_larges i }
 
-pub row-back : (graph_of : List ℕ → Option RawGraph) (objects : Objects) (row : EntryRow) (sig : ℕ) (e : Entry) → IsRowOf graph_of objects row sig e → entry_of_row graph_of objects row ≡ Some (sig, e)
+pub row-back : (graph_of : List ℕ → Option RawGraph) (objects : ObjectList) (row : EntryRow) (sig : ℕ) (e : Entry) → IsRowOf graph_of objects row sig e → entry_of_row graph_of objects row ≡ Some (sig, e)
 row-back graph_of objects row sig e p = ap (entry_of_row graph_of objects) (is-row graph_of objects row sig e p)
     ∙ entry-back graph_of objects sig e (ids_of row.larges) p.reads p.each_named p.there
 

@@ -18,7 +18,7 @@ use Rattle.newt_laws_images.proofs.Texts.{written-parts}
 abbrev pub Small : List ℕ → Type 0
 Small bytes = Each (λ b. b < 256) bytes
 
--- The bytes behind a prefix that give a value make the value's bytes with it, and the value is as told.
+-- The bytes after a prefix that give a value make the value's bytes with it, and the value is as told.
 abbrev pub Ends : {A : Type 0} → List ℕ → Take A → (A → List ℕ) → (A → Type 0) → Type 0
 Ends {A} pre p w Q = (bytes rest : List ℕ) (a : A) → Small bytes → p bytes ≡ Some (a, rest) → (pre ++ bytes ≡ w a ++ rest) × Small rest × Q a
 
@@ -210,10 +210,10 @@ module _ (graph_of : List ℕ → Option RawGraph) where
   spells-info = ends-then [] (number 2) be16 (λ n. n < 65536) (graph graph_of) cost.info_bytes Anything spells-be16 (λ n _.
       ends-then (be16 n) (some_bytes n) (λ t. t) (λ t. (length t ≡ n) × Small t) (λ t bytes. option_map (λ g. (g, bytes)) (written graph_of t)) cost.info_bytes Anything (spells-some n)
       (λ t k bytes rest g small h. let r = spells-written t bytes rest g small h in
-      (ap (λ zs. zs ++ bytes) (ap (λ zs. be16 n ++ zs) (sym r.2) ∙ ap (λ m. be16 m ++ flat g) (sym k.0 ∙ ap length (sym r.2))) ∙ behind g t bytes rest r.2 r.0, r.1, tt)))
+      (ap (λ zs. zs ++ bytes) (ap (λ zs. be16 n ++ zs) (sym r.2) ∙ ap (λ m. be16 m ++ flat g) (sym k.0 ∙ ap length (sym r.2))) ∙ after g t bytes rest r.2 r.0, r.1, tt)))
     where
-      behind : (g : RawGraph) (t bytes rest : List ℕ) → flat g ≡ t → t ++ bytes ≡ flat g ++ rest → (be16 (length (flat g)) ++ flat g) ++ bytes ≡ (be16 (length (flat g)) ++ flat g) ++ rest
-      behind g t bytes rest e h = append_assoc (be16 (length (flat g))) (flat g) bytes ∙ ap (λ zs. be16 (length (flat g)) ++ zs) (ap (λ zs. zs ++ bytes) e ∙ h) ∙ sym (append_assoc (be16 (length (flat g))) (flat g) rest)
+      after : (g : RawGraph) (t bytes rest : List ℕ) → flat g ≡ t → t ++ bytes ≡ flat g ++ rest → (be16 (length (flat g)) ++ flat g) ++ bytes ≡ (be16 (length (flat g)) ++ flat g) ++ rest
+      after g t bytes rest e h = append_assoc (be16 (length (flat g))) (flat g) bytes ∙ ap (λ zs. be16 (length (flat g)) ++ zs) (ap (λ zs. zs ++ bytes) e ∙ h) ∙ sym (append_assoc (be16 (length (flat g))) (flat g) rest)
 
   -- the bytes of a tags declaration and an info frame
   abbrev extra : Option TagTable × Option RawGraph → List ℕ

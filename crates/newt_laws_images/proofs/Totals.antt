@@ -116,12 +116,12 @@ same-total R irr f (x ∷ xs) ys h k into from =
     let m = into x (inl refl) in
     ap (λ n. f x + n) (same-total R irr f xs (without ys x m) h.1 (pairs-without R ys x m k)
     (λ z n. without-among ys x m z (into z (inr n)) (λ e. irr x (subst (R x) (sym e) (each-at (R x) xs z h.0 n))))
-    (λ z n. behind z (from z (among-without ys x m z n)) (λ e. gone R irr ys x m k (subst (Among (without ys x m)) (sym e) n))))
+    (λ z n. after z (from z (among-without ys x m z n)) (λ e. gone R irr ys x m k (subst (Among (without ys x m)) (sym e) n))))
     ∙ sym (total-without f ys x m)
   where
-    behind : (z : _) → Among (x ∷ xs) z → (x ≡ z → ⊥) → Among xs z
-    behind z (inl e) n = absurd (n e)
-    behind z (inr m) n = m
+    after : (z : _) → Among (x ∷ xs) z → (x ≡ z → ⊥) → Among xs z
+    after z (inl e) n = absurd (n e)
+    after z (inr m) n = m
 
 -- ---- the entries of a store
 

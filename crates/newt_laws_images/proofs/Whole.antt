@@ -10,7 +10,7 @@ use Rattle.newt_spec_nsof.specs.Lengths.{skeleton}
 use Rattle.newt_spec_graph.specs.Lists.{Each, Pairs, Among, all_apart}
 use Rattle.newt_spec_graph.proofs.Lists.{each-at, each-from, each-more, list_all-each, some-same, pairs-more, pairs-flat_map, flat_map-among}
 use Rattle.newt_spec_store.specs.Store.{Entry, Store}
-use Rattle.newt_spec_store.specs.Image.{Objects, larges}
+use Rattle.newt_spec_store.specs.Image.{ObjectList, larges}
 use Rattle.newt_spec_store.specs.Laid.{Laid, IsLaid, FitsRecord, IsThere, row_of, row_of_large}
 use Rattle.newt_spec_store.specs.Lies.{LiesIn, Places, IsIn, ReadsGraphs}
 use Rattle.newt_spec_store.specs.StoreOf.{EntryRow, LargeRow, named_once, store_of}
@@ -62,7 +62,7 @@ among-any (k ∷ ns) n (inr m) = go (k == n) (among-any ns n m)
     go true h = refl
     go false h = h
 
-named-passes : (objects : Objects) (graph_of : List ℕ → Option RawGraph) (rows : List EntryRow) (named : List ℕ) → named_in rows ≡ named → Pairs (λ a b. a ≢ b) named
+named-passes : (objects : ObjectList) (graph_of : List ℕ → Option RawGraph) (rows : List EntryRow) (named : List ℕ) → named_in rows ≡ named → Pairs (λ a b. a ≢ b) named
     → Each (λ o. (o.0 ≡ 0) ⊎ (o.0 % 2 ≡ 1) ⊎ Among named o.0) objects → named_once graph_of objects rows ≡ true
 named-passes objects graph_of rows named is apart each = ap once is ∙ both _ _ (all-apart named apart) (list_all-each (passes named) objects (each-more _ _ objects one each))
   where

@@ -1,4 +1,5 @@
--- What is found where objects are read one by one: a directory, records of entries of its soups, and the objects that these name.
+-- What is found where objects are read one by one: a directory, records of entries of its soups,
+-- and the objects that these name.
 use Rattle.std.specs.Prelude.{◌≡◌, ◌≢◌, [], ℕ, ◌%◌, ◌<◌, List, map as list_map, Option, Some, None}
 use Rattle.std.specs.FinMap as map
 use Rattle.newt_graph.specs.Graph.{RawGraph}
@@ -16,7 +17,8 @@ pub record HasGiven (d : Store) (sig uid : ℕ) : Type 0 where
   pub of_sig : soup.sig ≡ sig
   pub below : uid < soup.next_uid
 
--- the bytes are the record of this entry among the objects, which is of a soup of the directory
+-- the bytes are the record of this entry among the objects, and the entry is of a soup of the
+-- directory
 pub record IsRecord (graph_of : List ℕ → Option RawGraph) (objects : Objects) (d : Store) (bytes : List ℕ) (sig : ℕ) (e : Entry) : Type 0 where
   pub are_bytes : AreBytes bytes
   pub read : entry_read graph_of objects bytes ≡ Some (sig, e)
@@ -31,7 +33,8 @@ ids_in (Some row) = list_map (λ l. l.1) row.larges
 abbrev pub ids_named : List ℕ → List ℕ
 ids_named bytes = ids_in (entry_row bytes)
 
--- Object 0 is this directory, in the form of this version. Each object with an odd id is a record, it is the object of its entry's place, and these are the ids that it names; there are no other
+-- Object 0 is this directory, in the form of this version. Each object with an odd id is a record.
+-- It is the object of its entry's place, and these are the ids that it names. There are no other
 -- places and no other names. Each other object is named, and none is named twice.
 pub record IsFound (graph_of : List ℕ → Option RawGraph) (version : ℕ) (objects : Objects) (place : Places) (named : ℕ → List ℕ) (d : Store) : Type 0 where
   pub directory : (bytes : List ℕ) × (map.get objects 0 ≡ Some bytes) × (directory_read graph_of version bytes ≡ Some d) × AreBytes bytes

@@ -1,4 +1,5 @@
-//! Laws of whole images: the functions that compute are the relations that say what is meant.
+//! Laws of whole images: the functions that compute agree with the relations that say what is
+//! meant.
 ghost use Rattle.std.specs.Prelude.{ℕ, ◌≡◌, List, IsTrue, Option, Some, None};
 ghost use Rattle.std.specs.FinMap as map;
 ghost use Rattle.newt_graph.specs.Graph.{RawGraph};

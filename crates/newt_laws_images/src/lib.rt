@@ -2,10 +2,10 @@
 //!
 //! It stands on the definitions of stores and images (`newt_spec_store`) and not on the world, so
 //! that a store on a unit can cite it. A valid store that objects write down is what they are read
-//! as, and no other is. A store lies in objects exactly where it is read of them, it costs the
-//! pages that they take, and a directory, records of entries and the large binaries that these name
-//! are such a store. The functions that compute the objects of pages and the store of an image are
-//! the relations that say what is meant.
+//! as, and no other is. A store lies in objects exactly where it is read of them, and it costs the
+//! pages that they take. A directory, records of entries and the large binaries that these name are
+//! such a store. The functions that compute the objects of pages and the store of an image agree
+//! with the relations that say what is meant.
 #![tactic(auto)]
 
 mod images;

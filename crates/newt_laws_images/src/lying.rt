@@ -15,8 +15,8 @@ ghost use Rattle.newt_spec_store.specs.Lies.{LiesIn, Places, ReadsGraphs, entry_
 ghost use Rattle.newt_spec_store.specs.StoreOf.{EntryRow, large_object, fill, store_of};
 ghost use Rattle.newt_spec_store.specs.Valid.{well_formed, keeps_version, valid};
 
-/// A store that lies in objects is what they are read as, it costs the pages that they take, and a
-/// store that is read lies in them.
+/// A store that lies in objects is what they are read as, and it costs the pages that they take. A
+/// store that is read lies in the objects.
 pub fn lying_stores_are_read()
     ensures back { (graph_of : List ℕ → Option RawGraph) (version : ℕ) (objects : Objects)
         (place : Places) (blocks : ℕ) (s : Store) → ReadsGraphs graph_of → LiesIn objects place s
@@ -43,8 +43,8 @@ pub fn stores_are_made_of_records()
         × IsTrue (well_formed s) × IsTrue (keeps_version version s) × (bare s ≡ d) }
 {}
 
-/// A record that is read alone is read among objects as its entry with their bytes, where each
-/// large binary has its object there; and no other record is read.
+/// A record that is read alone is read among objects where each of its large binaries has its
+/// object there: as its entry, with their bytes. No other record is read.
 pub fn records_are_read_alone()
     ensures filled { (graph_of : List ℕ → Option RawGraph) (objects : Objects) (bytes : List ℕ)
         (row : EntryRow) (g : RawGraph) (larges : List (List ℕ))

@@ -3,7 +3,7 @@ ghost use Rattle.std.specs.Prelude.{ℕ, ◌≡◌, List, IsTrue, Option, Some};
 ghost use Rattle.newt_graph.specs.Graph.{RawGraph};
 ghost use Rattle.newt_spec_store.specs.Store.{Store, Entry};
 ghost use Rattle.newt_spec_store.specs.Cost.{directory_bytes};
-ghost use Rattle.newt_spec_store.specs.Image.{Objects, entry_bytes};
+ghost use Rattle.newt_spec_store.specs.Image.{ObjectList, entry_bytes};
 ghost use Rattle.newt_spec_store.specs.Reading.{whole, directory};
 ghost use Rattle.newt_spec_store.specs.StoreOf.{entry_row, store_of};
 ghost use Rattle.newt_spec_store.specs.OfImage.{IsStoreOf};
@@ -21,14 +21,14 @@ pub fn records_are_read_back()
 
 /// A valid store that objects write down is what they are read as, and only valid stores are read.
 pub fn stores_are_read_back()
-    ensures back { (graph_of : List ℕ → Option RawGraph) (version : ℕ) (objects : Objects)
+    ensures back { (graph_of : List ℕ → Option RawGraph) (version : ℕ) (objects : ObjectList)
         (blocks : ℕ) (s : Store) (laid : List Laid) → IsTrue (keeps_version version s)
         → IsTrue (valid blocks s) → IsLaid graph_of objects s laid
         → store_of graph_of version objects blocks ≡ Some s }
-    ensures at_most_one { (graph_of : List ℕ → Option RawGraph) (objects : Objects) (blocks : ℕ)
+    ensures at_most_one { (graph_of : List ℕ → Option RawGraph) (objects : ObjectList) (blocks : ℕ)
         (s t : Store) (laid others : List Laid) → IsTrue (valid blocks s) → IsTrue (valid blocks t)
         → IsLaid graph_of objects s laid → IsLaid graph_of objects t others → s ≡ t }
-    ensures sound { (graph_of : List ℕ → Option RawGraph) (version : ℕ) (objects : Objects)
+    ensures sound { (graph_of : List ℕ → Option RawGraph) (version : ℕ) (objects : ObjectList)
         (blocks : ℕ) (s : Store) → store_of graph_of version objects blocks ≡ Some s
         → IsTrue (valid blocks s) }
 {}

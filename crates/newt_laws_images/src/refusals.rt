@@ -1,4 +1,4 @@
-//! Laws of objects that are no store.
+//! Laws of objects that are not a store.
 ghost use Rattle.std.specs.Prelude.{ℕ, ◌≡◌, ◌≢◌, ◌⊎◌, ◌%◌, ◌<◌, List, length, sum_by, Option, Some};
 ghost use Rattle.std.specs.Prelude.{None};
 ghost use Rattle.std.specs.FinMap as map;
@@ -13,8 +13,8 @@ ghost use Rattle.newt_spec_store.specs.Laid.{bare};
 ghost use Rattle.newt_spec_store.specs.Lies.{IsIn, ReadsGraphs, directory_read, entry_read};
 ghost use Rattle.newt_spec_store.specs.StoreOf.{store_of};
 
-/// A store that is read has its directory in object 0, an entry's record in each object with an odd
-/// id, and each other object is named by one.
+/// A store that is read has its directory in object 0, and an entry's record in each object with an
+/// odd id. Each other object is named by one of these.
 pub fn read_stores_have_their_parts()
     ensures directory { (graph_of : List ℕ → Option RawGraph) (version : ℕ) (objects : Objects)
         (blocks : ℕ) (s : Store) → store_of graph_of version (map.entries objects) blocks ≡ Some s
@@ -43,8 +43,8 @@ pub fn bad_directories_are_refused()
         → store_of graph_of version (map.entries objects) blocks ≡ Some s → ⊥ }
 {}
 
-/// Where an object with an odd id is no record, or is the record of an entry that is not given or
-/// stands twice, nothing is read.
+/// Where an object with an odd id is not a record, or is the record of an entry that is not given
+/// or stands twice, nothing is read.
 pub fn bad_records_are_refused()
     ensures unreadable { (graph_of : List ℕ → Option RawGraph) (version : ℕ) (objects : Objects)
         (blocks id : ℕ) (bytes : List ℕ) → map.get objects id ≡ Some bytes → id % 2 ≡ 1
@@ -83,7 +83,7 @@ pub fn bad_names_are_refused()
         → store_of graph_of version (map.entries objects) blocks ≡ Some s → ⊥ }
 {}
 
-/// Where the objects take more pages than a unit of so many blocks has, nothing is read.
+/// Where the objects take more pages than a unit of so many blocks may have, nothing is read.
 pub fn large_stores_are_refused()
     ensures { (graph_of : List ℕ → Option RawGraph) (version : ℕ) (objects : Objects) (blocks : ℕ)
         → ReadsGraphs graph_of → ((id : ℕ) (bytes : List ℕ) → map.get objects id ≡ Some bytes →

@@ -33,11 +33,11 @@ is_reached r place = false
 abbrev pub settle_where : Reach → World → Cursor → Cursor
 settle_where r w k = cond (is_reached r k.place) (settle_cursor w k) k
 
--- the same of all cursors (this project's own)
+-- the same for all cursors (this project's own)
 abbrev pub settle_reached : Reach → World → World
 settle_reached r w = record w { cursors = map (option_map (settle_where r w)) w.cursors }
 
--- one entry at most is reached (this project's own)
+-- at most one entry is reached (this project's own)
 abbrev pub is_of_one : Reach → Bool
 is_of_one (on_store store) = false
 is_of_one (on_soup store soup) = false
@@ -77,9 +77,9 @@ abbrev pub store_reach : Option Store → Reach
 store_reach None = nowhere
 store_reach (Some s) = on_store s.sig
 
--- The table: what each command reaches. An entry that is made or changed; all entries of a soup
--- whose declarations grow, and of a store that is mounted, since these can come back among the hits
--- with another key. (this project's own)
+-- The table: what each command reaches. It is an entry that is made or changed, or all entries of a
+-- soup whose declarations grow, or all entries of a store that is mounted. These can come back
+-- among the hits with another key. (this project's own)
 unfoldable pub reach : World → Command → Reach
 reach w (command.Mount u) = store_reach (store_on_unit w u)
 reach w (command.Index u s parts) = soup_reach w u s

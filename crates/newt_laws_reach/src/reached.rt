@@ -7,7 +7,8 @@ ghost use Rattle.newt_laws_world.specs.Settled.{IsSettled, MountedApart, moves_k
 ghost use Rattle.newt_laws_world.specs.Worlds.{AllValid};
 ghost use Rattle.newt_laws_reach.specs.Reach.{nowhere, reach, settle_reached};
 
-/// From a settled world, a command leaves only the cursors that it reaches to be settled.
+/// From a settled world, only the cursors that a command reaches have to be settled after it. A
+/// command that moves no key reaches none.
 pub fn commands_reach_few_cursors()
     ensures reached { (w : World) (c : IsCommand) → AllValid w → MountedApart w → IsSettled w
         → settle (changed w c) ≡ settle_reached (reach w c) (changed w c) }

@@ -9,7 +9,7 @@ use Rattle.newt_laws_changes.proofs.Later.{entry-gone, soup-gone, store-not, sto
 use Rattle.newt_laws_images.proofs.Assembled.{map-among, one-sig}
 use Rattle.newt_laws_images.proofs.Placed.{soups-rise}
 use Rattle.newt_laws_images.proofs.Stores.{IsSoup, is-soup, is-store}
-use Rattle.newt_laws_scripts.specs.Crashed.{CrashedAt, CrashedBehind, HasEntry, IdGiven, ReadsLater}
+use Rattle.newt_laws_scripts.specs.Crashed.{CrashedAt, CrashedAfter, HasEntry, IdGiven, ReadsLater}
 use Rattle.newt_laws_scripts.proofs.Follows.{begins}
 use Rattle.newt_laws_steps.specs.Answering.{ReadsOneOf}
 use Rattle.newt_laws_steps.specs.Steps.{StoresLater}
@@ -17,13 +17,13 @@ use Rattle.newt_laws_steps.proofs.Stepping.{stores-trans}
 use Rattle.newt_laws_whole.proofs.Sound.{between-later}
 use Rattle.newt_laws_world.proofs.Aliases.{named-by}
 use Rattle.newt_script_session.specs.Counted.{HasLeftCounted}
-use Rattle.newt_script_session.specs.Moments.{Behind, HasLeft, replies_begun}
+use Rattle.newt_script_session.specs.Moments.{LeftAfter, HasLeft, replies_begun}
 use Rattle.newt_script_session.specs.Named.{CountedNamed, RanNamed, first_world, held_by}
 use Rattle.newt_script_session.specs.Script.{script_items}
 use Rattle.newt_script_session.specs.declared.halt.Halt.{Halt}
 use Rattle.newt_spec_graph.specs.Lists.{Among, Each}
 use Rattle.newt_spec_graph.proofs.Lists.{among-append, each-at, each-from, each-list_all, none-some, rises-above, some-same}
-use Rattle.newt_spec_script.specs.Rows.{IsRun, Row, world_at, world_behind}
+use Rattle.newt_spec_script.specs.Rows.{IsRun, Row, world_at, last_world}
 use Rattle.newt_spec_script.specs.Script.{Item}
 use Rattle.newt_spec_store.specs.Store.{Entry, Soup, Store}
 use Rattle.newt_spec_store.specs.Valid.{valid_soup, well_formed}
@@ -53,7 +53,7 @@ module _ (reads : List ℕ → Option Store) where
   pub made-later : (s : Store) (image : List ℕ) → reads image ≡ Some s → ReadsLater reads (s ∷ []) image
   made-later s image is = record { found = s; read = is; was = s; among = inl refl; later = store-not s }
 
-  -- behind a number of rows, or one more
+  -- after a number of rows, or one more
   pub left-later : (h : Whole) (items : List Item) (rows : List (Row Whole)) (k m unit : ℕ) (s : Store) (image : List ℕ) → IsRun WholeStep h items rows → k ≤ m
       → Among (stores_on (world_at h rows k) unit) s
       → ((t : Store) → Among (stores_on (world_at h rows m) unit) t → ReadsOneOf reads (stores_on (world_at h rows m) unit ++ stores_on (world_at h rows (m + 1)) unit) image)
@@ -81,7 +81,7 @@ module _ (reads : List ℕ → Option Store) where
     abbrev rows : List (Row Whole)
     rows = ran.played.given.rows
 
-    pub run-left : (k unit : ℕ) (s : Store) (image : List ℕ) → CrashedBehind rows old new k unit image → Among (stores_on (world_at first rows k) unit) s
+    pub run-left : (k unit : ℕ) (s : Store) (image : List ℕ) → CrashedAfter rows old new k unit image → Among (stores_on (world_at first rows k) unit) s
         → ReadsLater reads (stores_on (world_at first rows k) unit) image
     run-left k unit s image c there =
         left-later first ran.played.given.first rows k (replies_begun rows (length c.shown)) unit s image ran.played.given.run c.begun there here.stores
@@ -92,9 +92,9 @@ module _ (reads : List ℕ → Option Store) where
         same : c.shown ≡ l.shown
         same = append_cancel_left (out_of old) c.shown l.shown l.grown
 
-        here : Behind reads (λ bytes. held_by names old unit ≡ Some bytes) first (ran.played.given.first ++ []) rows (replies_begun rows (length c.shown)) unit image
-        here = subst (λ (x : List ℕ). Behind reads (λ bytes. held_by names old unit ≡ Some bytes) first (ran.played.given.first ++ []) rows (replies_begun rows (length x)) unit image) (sym same)
-            (subst (λ (x : List (Row Whole)). Behind reads (λ bytes. held_by names old unit ≡ Some bytes) first (ran.played.given.first ++ []) x (replies_begun x (length l.shown)) unit image) (append-nil rows)
+        here : LeftAfter reads (λ bytes. held_by names old unit ≡ Some bytes) first (ran.played.given.first ++ []) rows (replies_begun rows (length c.shown)) unit image
+        here = subst (λ (x : List ℕ). LeftAfter reads (λ bytes. held_by names old unit ≡ Some bytes) first (ran.played.given.first ++ []) rows (replies_begun rows (length x)) unit image) (sym same)
+            (subst (λ (x : List (Row Whole)). LeftAfter reads (λ bytes. held_by names old unit ≡ Some bytes) first (ran.played.given.first ++ []) x (replies_begun x (length l.shown)) unit image) (append-nil rows)
             (l.leaves [] []))
 
   -- a run whose replies are counted
@@ -103,7 +103,7 @@ module _ (reads : List ℕ → Option Store) where
       → ReadsLater reads (stores_on (first_world reads names old) unit) image
   counted-left script result names old new ran unit s image shown c there =
       left-later first ran.given.first rows zero d.0 unit s image ran.given.run (omega arith) there
-      (subst (λ (x : List (Row Whole)). Behind reads (λ bytes. held_by names old unit ≡ Some bytes) first (items ++ []) x d.0 unit image) (append-nil rows) d.2).stores
+      (subst (λ (x : List (Row Whole)). LeftAfter reads (λ bytes. held_by names old unit ≡ Some bytes) first (items ++ []) x d.0 unit image) (append-nil rows) d.2).stores
     where
       first : Whole
       first = first_world reads names old
@@ -117,18 +117,18 @@ module _ (reads : List ℕ → Option Store) where
       l : HasLeftCounted reads first items rows (held_by names old unit) (out_of old) (out_of old ++ shown) unit image
       l = ran.crash unit c.start image (out_of old ++ shown) c.attached c.left
 
-      d : (done : ℕ) × (0 < length l.shown → done ≡ length items) × Behind reads (λ bytes. held_by names old unit ≡ Some bytes) first (items ++ []) (rows ++ []) done unit image
+      d : (done : ℕ) × (0 < length l.shown → done ≡ length items) × LeftAfter reads (λ bytes. held_by names old unit ≡ Some bytes) first (items ++ []) (rows ++ []) done unit image
       d = l.leaves [] []
 
-  -- once a byte of the summary is out: as behind all of them
+  -- once a byte of the summary is out: as after all of them
   pub summed-left : (script : List ℕ) (result : Result (Unit {0}) Halt) (names : List (List ℕ)) (old new : Outside) (ran : CountedNamed WholeStep reads script result names old new)
-      → (unit : ℕ) (s : Store) (image shown : List ℕ) → CrashedAt old new unit image shown → 0 < length shown → Among (stores_on (world_behind (first_world reads names old) ran.given.rows) unit) s
-      → ReadsLater reads (stores_on (world_behind (first_world reads names old) ran.given.rows) unit) image
+      → (unit : ℕ) (s : Store) (image shown : List ℕ) → CrashedAt old new unit image shown → 0 < length shown → Among (stores_on (last_world (first_world reads names old) ran.given.rows) unit) s
+      → ReadsLater reads (stores_on (last_world (first_world reads names old) ran.given.rows) unit) image
   summed-left script result names old new ran unit s image shown c some there =
       subst (λ (w : Whole). ReadsLater reads (stores_on w unit) image) all
       (left-later first ran.given.first rows d.0 d.0 unit s image ran.given.run (omega arith)
       (subst (λ (w : Whole). Among (stores_on w unit) s) (sym all) there)
-      (subst (λ (x : List (Row Whole)). Behind reads (λ bytes. held_by names old unit ≡ Some bytes) first (items ++ []) x d.0 unit image) (append-nil rows) d.2).stores)
+      (subst (λ (x : List (Row Whole)). LeftAfter reads (λ bytes. held_by names old unit ≡ Some bytes) first (items ++ []) x d.0 unit image) (append-nil rows) d.2).stores)
     where
       first : Whole
       first = first_world reads names old
@@ -142,7 +142,7 @@ module _ (reads : List ℕ → Option Store) where
       l : HasLeftCounted reads first items rows (held_by names old unit) (out_of old) (out_of old ++ shown) unit image
       l = ran.crash unit c.start image (out_of old ++ shown) c.attached c.left
 
-      d : (done : ℕ) × (0 < length l.shown → done ≡ length items) × Behind reads (λ bytes. held_by names old unit ≡ Some bytes) first (items ++ []) (rows ++ []) done unit image
+      d : (done : ℕ) × (0 < length l.shown → done ≡ length items) × LeftAfter reads (λ bytes. held_by names old unit ≡ Some bytes) first (items ++ []) (rows ++ []) done unit image
       d = l.leaves [] []
 
       out : 0 < length l.shown
@@ -153,8 +153,8 @@ module _ (reads : List ℕ → Option Store) where
           let b = ap {A = List Item} {B = ℕ} (λ xs. length xs) ran.given.split ∙ length-append ran.given.first ran.given.rest in
           let e = d.1 out in omega (arith, a, b, e)
 
-      all : world_at first rows d.0 ≡ world_behind first rows
-      all = ap (λ (x : List (Row Whole)). world_behind first x) (take_all d.0 rows enough)
+      all : world_at first rows d.0 ≡ last_world first rows
+      all = ap (λ (x : List (Row Whole)). last_world first x) (take_all d.0 rows enough)
 
   -- ---- the next run
 
@@ -197,7 +197,7 @@ module _ (reads : List ℕ → Option Store) where
     since-start left n = let q = begin.each n.was n.among in record { found = n.found; read = n.read; was = q.0; among = q.1; later = store-trans q.0 n.was n.found q.2 n.later }
 
     pub next-left : (limit : ℕ) (result : Result (Unit {0}) Halt) (new : Outside) (ran : RanNamed WholeStep reads limit result names old new) (left : List ℕ)
-        → CrashedBehind ran.played.given.rows old new 0 u left → ReadsLater reads before left
+        → CrashedAfter ran.played.given.rows old new 0 u left → ReadsLater reads before left
     next-left limit result new ran left c = since-start left (run-left limit result names old new ran zero u begin.some.0 left c begin.some.1)
 
     pub next-counted : (script : List ℕ) (result : Result (Unit {0}) Halt) (new : Outside) (ran : CountedNamed WholeStep reads script result names old new) (left shown : List ℕ)

@@ -4,7 +4,7 @@ use Rattle.std.specs.Prelude.{Result, Ok, Err, option_and_then, option_map, unwr
 use Rattle.newt_host.specs.Meanings.{held}
 use Rattle.newt_graph.specs.Graph.{RawGraph}
 use Rattle.newt_host.specs.Outside.{Outside}
-use Rattle.newt_laws_scripts.specs.Crashed.{CrashedBehind, HasEntry, IdGiven, IdGivenOn, ReadsLater}
+use Rattle.newt_laws_scripts.specs.Crashed.{CrashedAfter, HasEntry, IdGiven, IdGivenOn, ReadsLater}
 use Rattle.newt_laws_scripts.proofs.Outliving.{given-there, ids-later, mounted-only, next-later, resolves-later, run-left}
 use Rattle.newt_laws_steps.specs.Steps.{StoresLater}
 use Rattle.newt_laws_whole.specs.Runs.{IsSound}
@@ -213,7 +213,7 @@ module _ (h : Whole) (u : ℕ) (name : List ℕ) (g : RawGraph) (id : ℕ) where
   abbrev adds : Command
   adds = command.Add u name g
 
-  -- the entry is in the store behind it
+  -- the entry is in the store after it
   record Added (v : World) : Type 0 where
     p : Soup
     named : soup_in h.world u name ≡ Some p
@@ -283,7 +283,7 @@ module _ (reads : List ℕ → Option Store) (limit : ℕ) (result : Result (Uni
   abbrev at : ℕ → Whole
   at k = world_at (first_world reads names old) ran.played.given.rows k
 
-  pub alias-leads : (k m unit : ℕ) (a : Alias) (image : List ℕ) → IdGivenOn (at k).world unit a.soup a.uid → k ≤ m → CrashedBehind ran.played.given.rows old new m unit image
+  pub alias-leads : (k m unit : ℕ) (a : Alias) (image : List ℕ) → IdGivenOn (at k).world unit a.soup a.uid → k ≤ m → CrashedAfter ran.played.given.rows old new m unit image
       → (names' : List (List ℕ)) (old' : Outside) (u : ℕ) → length names' ≤ 8 → held_by names' old' u ≡ Some image
       → (items : List Item) (rows : List (Row Whole)) (j : ℕ) → IsRun WholeStep (first_world reads names' old') items rows
       → (spot : Spot) → resolved (world_at (first_world reads names' old') rows j).world a ≡ Some spot → spot.unit ≡ u

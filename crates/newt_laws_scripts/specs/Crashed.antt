@@ -11,7 +11,7 @@ use Rattle.newt_spec_store.specs.Store.{Entry, Soup, Store}
 use Rattle.newt_spec_whole.specs.Whole.{Whole}
 use Rattle.newt_spec_world.specs.World.{World, stores_on}
 
--- The image is read as a store that is a later one of one of these.
+-- The image is read as a store, and that is a later state of one of these stores.
 pub record ReadsLater (reads : List ℕ → Option Store) (before : List Store)
     (image : List ℕ) : Type 0 where
   pub found : Store
@@ -28,7 +28,7 @@ pub record CrashedAt (old new : Outside) (unit : ℕ) (image shown : List ℕ) :
   pub left : left_since new start unit image (out_of old ++ shown)
 
 -- The same, while at least k of the replies of the rows had begun.
-pub record CrashedBehind (rows : List (Row Whole)) (old new : Outside) (k unit : ℕ)
+pub record CrashedAfter (rows : List (Row Whole)) (old new : Outside) (k unit : ℕ)
     (image : List ℕ) : Type 0 where
   pub shown : List ℕ
   pub crashed : CrashedAt old new unit image shown

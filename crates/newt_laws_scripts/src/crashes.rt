@@ -4,7 +4,7 @@ ghost use Rattle.std.specs.Prelude.{Option, Some, Result};
 ghost use Rattle.newt_graph.specs.Graph.{RawGraph};
 ghost use Rattle.newt_host.specs.Outside.{Outside};
 ghost use Rattle.newt_laws_changes.specs.Later.{EntryGone, SoupGone};
-ghost use Rattle.newt_laws_scripts.specs.Crashed.{CrashedAt, CrashedBehind, HasEntry, IdGiven};
+ghost use Rattle.newt_laws_scripts.specs.Crashed.{CrashedAt, CrashedAfter, HasEntry, IdGiven};
 ghost use Rattle.newt_laws_scripts.specs.Crashed.{IdGivenOn, ReadsLater};
 ghost use Rattle.newt_laws_steps.specs.Answering.{ReadsOneOf};
 ghost use Rattle.newt_laws_steps.specs.Steps.{StoresLater};
@@ -12,7 +12,7 @@ ghost use Rattle.newt_laws_whole.specs.Runs.{IsSound};
 ghost use Rattle.newt_script_session.specs.Named.{CountedNamed, RanNamed, first_world, held_by};
 ghost use Rattle.newt_script_session.specs.declared.halt.Halt.{Halt as IsHalt};
 ghost use Rattle.newt_spec_graph.specs.Lists.{Among, Each};
-ghost use Rattle.newt_spec_script.specs.Rows.{IsRun, Row, world_at, world_behind};
+ghost use Rattle.newt_spec_script.specs.Rows.{IsRun, Row, world_at, last_world};
 ghost use Rattle.newt_spec_script.specs.Script.{Item as IsItem};
 ghost use Rattle.newt_spec_store.specs.OfImage.{blocks_of};
 ghost use Rattle.newt_spec_store.specs.Store.{Soup, Store};
@@ -24,19 +24,22 @@ ghost use Rattle.newt_spec_world.specs.Reply.{Reply};
 ghost use Rattle.newt_spec_world.specs.World.{World, mounted_store, soup_in, stores_on};
 ghost use Rattle.newt_spec_world.specs.declared.command.Command.TheVariants as command;
 
-/// What a crash leaves of a unit that has a store, or one of two, behind k replies that have begun,
-/// is read as one of these stores, later, whatever cards fail. So it is of a run of a script over
-/// the devices of names; of one whose replies are counted, since its start, and once a byte of the
-/// summary is out behind all of it; and of the rows of any run, where a crash leaves the unit as
-/// behind m of them, or one more. Of an image that is read as a store it is so of that store: as of
-/// what a crash leaves on a device to which a store was restored, once a byte of the reply is out.
+/// A crash comes after k replies have begun, and the unit had a store then, or one of two. What the
+/// crash leaves of the unit is read as a later state of one of these stores, whatever cards fail.
+/// So it is in a run of a script over the devices of names (`run`). So it is in a run whose replies
+/// are counted, from its start on (`counted`), and of the stores after all of it, once a byte of
+/// the summary is out (`summed`). So it is in the rows of any run, where a crash leaves the unit as
+/// after m of them, or one more (`rows`).
+///
+/// Of an image that is read as a store it is so of that store (`made`). Such an image is what a
+/// crash leaves on a device to which a store was restored, once a byte of the reply is out.
 pub fn crashes_leave_later_stores()
     ensures run { (reads : List ℕ → Option Store) (limit : ℕ)
         (result : Result (Unit {0}) IsHalt) (names : List (List ℕ)) (old new : Outside)
         (ran : RanNamed WholeStep reads limit result names old new) (k unit : ℕ) (s : Store)
         (image : List ℕ) → let rows = ran.played.given.rows in
         let before = stores_on (world_at (first_world reads names old) rows k).world unit in
-        CrashedBehind rows old new k unit image → Among before s → ReadsLater reads before image }
+        CrashedAfter rows old new k unit image → Among before s → ReadsLater reads before image }
     ensures counted { (reads : List ℕ → Option Store) (script : List ℕ)
         (result : Result (Unit {0}) IsHalt) (names : List (List ℕ)) (old new : Outside)
         → CountedNamed WholeStep reads script result names old new → (unit : ℕ) (s : Store)
@@ -46,7 +49,7 @@ pub fn crashes_leave_later_stores()
         (result : Result (Unit {0}) IsHalt) (names : List (List ℕ)) (old new : Outside)
         (ran : CountedNamed WholeStep reads script result names old new) (unit : ℕ) (s : Store)
         (image shown : List ℕ)
-        → let last = world_behind (first_world reads names old) ran.given.rows in
+        → let last = last_world (first_world reads names old) ran.given.rows in
         let before = stores_on last.world unit in CrashedAt old new unit image shown
         → 0 < length shown → Among before s → ReadsLater reads before image }
     ensures rows { (reads : List ℕ → Option Store) (h : Whole) (items : List IsItem)
@@ -60,9 +63,9 @@ pub fn crashes_leave_later_stores()
         → reads image ≡ Some s → ReadsLater reads (s ∷ []) image }
 {}
 
-/// A run over such an image has on the unit of its name's place stores that are later ones of
-/// those, in each of its worlds, whatever cards fail; and so is what a crash leaves of this run
-/// read. And since that is so of each run over the one before it, it is so of all.
+/// A run over such an image has later states of those stores on the unit of its name's place, in
+/// each of its worlds, whatever cards fail. What a crash leaves of this run is read as a later
+/// state too. Since that is so of each run over the one before it, it is so of all.
 pub fn later_runs_go_on()
     ensures worlds { (reads : List ℕ → Option Store) (before : List Store) (image : List ℕ)
         → ReadsLater reads before image → (names : List (List ℕ)) (old : Outside) (u : ℕ)
@@ -74,7 +77,7 @@ pub fn later_runs_go_on()
         → length names ≤ 8 → held_by names old u ≡ Some image → (limit : ℕ)
         (result : Result (Unit {0}) IsHalt) (new : Outside)
         (ran : RanNamed WholeStep reads limit result names old new) (left : List ℕ)
-        → CrashedBehind ran.played.given.rows old new 0 u left → ReadsLater reads before left }
+        → CrashedAfter ran.played.given.rows old new 0 u left → ReadsLater reads before left }
     ensures counted { (reads : List ℕ → Option Store) (before : List Store) (image : List ℕ)
         → ReadsLater reads before image → (names : List (List ℕ)) (old : Outside) (u : ℕ)
         → length names ≤ 8 → held_by names old u ≡ Some image → (script : List ℕ)
@@ -84,7 +87,7 @@ pub fn later_runs_go_on()
 {}
 
 /// An entry that is there has been given its id. An id that was given in all stores that a unit may
-/// have had is given in all later ones, where so the next one is another; and an entry or a soup
+/// have had is given in all later states of them, so the next one is another. An entry or a soup
 /// that was gone from them is gone.
 pub fn ids_outlive_crashes()
     ensures given { (s : Store) (sig uid : ℕ) → IsTrue (well_formed s) → HasEntry sig uid s
@@ -98,8 +101,8 @@ pub fn ids_outlive_crashes()
 {}
 
 /// An alias whose entry is gone from all stores that a unit may have had resolves to nothing on a
-/// unit that has later ones. One whose id was given in them resolves to an entry that was there, or
-/// to none.
+/// unit that has later states of them. An alias whose id was given in them resolves to an entry
+/// that was there, or to none.
 pub fn aliases_outlive_crashes()
     ensures gone { (before : List Store) (w : World) (u : ℕ) (a : IsAlias) (spot : Spot)
         → Each (EntryGone a.soup a.uid) before → StoresLater before (stores_on w u)
@@ -110,8 +113,8 @@ pub fn aliases_outlive_crashes()
         → (s : Store) × Among before s × HasEntry a.soup a.uid s }
 {}
 
-/// In every world of a run of a script, whatever cards fail, all is sound that was so at the start:
-/// over images that are read as valid stores.
+/// Each world of a run of a script is sound, whatever cards fail, where all images that are read as
+/// stores are read as valid ones.
 pub fn worlds_of_runs_are_sound()
     ensures run { (reads : List ℕ → Option Store) → ((image : List ℕ) (s : Store)
         → reads image ≡ Some s → IsTrue (valid (blocks_of image) s)) → (limit : ℕ)
@@ -125,9 +128,9 @@ pub fn worlds_of_runs_are_sound()
         → IsSound (world_at (first_world reads names old) ran.given.rows k) }
 {}
 
-/// In a sound world the id of each entry in a mounted store has been given in all that its unit may
-/// have: so has that of an alias that resolves, of one that is replied, and the id that an `add` is
-/// answered with.
+/// In a sound world the id of each entry in a mounted store has been given in all stores that its
+/// unit may have. So has the id of an alias that resolves, that of an alias that is replied, and
+/// the id that an `add` is answered with.
 pub fn ids_of_entries_have_been_given()
     ensures there { (h : Whole) (u : ℕ) (t : Store) (sig uid : ℕ) → IsSound h
         → mounted_store h.world u ≡ Some t → HasEntry sig uid t → IdGivenOn h.world u sig uid }
@@ -141,11 +144,12 @@ pub fn ids_of_entries_have_been_given()
         → (p : Soup) × (soup_in h.world u name ≡ Some p) × IdGivenOn v.world u p.sig id }
 {}
 
-/// The id of an alias was given behind k replies of a run. Whatever cards fail, and wherever behind
-/// these replies a crash comes, in every world of the next run over what it left the alias
-/// resolves, on that unit, to an entry that was there behind as many replies as had begun, or to
-/// none. So it is of stores in which it was given, and of every run over an image that is read as a
-/// later one of them, however many runs and crashes are between.
+/// The id of an alias was given after k replies of a run. A crash comes anywhere after these
+/// replies, and the next run is over the image that it left. In every world of that run, whatever
+/// cards fail, the alias resolves on that unit to an entry that was there after as many replies as
+/// had begun, or to none. The same holds where the id was given in some stores, of every run over
+/// an image that is read as a later state of one of them. It does not matter how many runs and
+/// crashes are between.
 pub fn aliases_lead_to_their_entry_or_to_none()
     ensures next { (reads : List ℕ → Option Store) (limit : ℕ) (result : Result (Unit {0}) IsHalt)
         (names : List (List ℕ)) (old new : Outside)
@@ -153,7 +157,7 @@ pub fn aliases_lead_to_their_entry_or_to_none()
         → let rows = ran.played.given.rows in let first = first_world reads names old in
         (k m unit : ℕ) (a : IsAlias) (image : List ℕ)
         → IdGivenOn (world_at first rows k).world unit a.soup a.uid → k ≤ m
-        → CrashedBehind rows old new m unit image → (names2 : List (List ℕ)) (old2 : Outside)
+        → CrashedAfter rows old new m unit image → (names2 : List (List ℕ)) (old2 : Outside)
         (u : ℕ) → length names2 ≤ 8 → held_by names2 old2 u ≡ Some image
         → let first2 = first_world reads names2 old2 in (items2 : List IsItem)
         (rows2 : List (Row Whole)) (j : ℕ) → IsRun WholeStep first2 items2 rows2 → (spot : Spot)

@@ -1,4 +1,4 @@
--- Behind any step the stores are valid that a unit has or may have.
+-- After any step the stores are valid that a unit has or may have.
 use Rattle.std.proofs.Common.{◌≡◌, refl, ap, sym, ◌∙◌, subst, ℕ, List, true, false, Bool, not, ◌⊎◌, inl, inr, Option, Some, None, option_map, option_and_then, unwrap_or, if◌then◌else◌, IsTrue}
 use Rattle.std.specs.Prelude.{slice_get, ⊤}
 use Rattle.newt_base.specs.Refusals.{first_of}

@@ -50,14 +50,14 @@ is-none-map : {X Y : Type 0} (g : X → Y) (o : Option X) → is_none (option_ma
 is-none-map g None = refl
 is-none-map g (Some x) = refl
 
--- tests in front are the same, and where none of them holds, those behind are
+-- tests in front are the same, and where none of them holds, those after are
 with-rest : (ks ls ms ns : Checks) → ks ≡ ls → (first_of ls ≡ None → ms ≡ ns) → first_of (ks ++ ms) ≡ first_of (ls ++ ns)
-with-rest ks ls ms ns same rest = ap (λ (x : Checks). first_of (x ++ ms)) same ∙ behind ls rest
+with-rest ks ls ms ns same rest = ap (λ (x : Checks). first_of (x ++ ms)) same ∙ after ls rest
   where
-    behind : (ls : Checks) → (first_of ls ≡ None → ms ≡ ns) → first_of (ls ++ ms) ≡ first_of (ls ++ ns)
-    behind [] rest = ap first_of (rest refl)
-    behind ((r, true) ∷ ls) rest = refl
-    behind ((r, false) ∷ ls) rest = behind ls rest
+    after : (ls : Checks) → (first_of ls ≡ None → ms ≡ ns) → first_of (ls ++ ms) ≡ first_of (ls ++ ns)
+    after [] rest = ap first_of (rest refl)
+    after ((r, true) ∷ ls) rest = refl
+    after ((r, false) ∷ ls) rest = after ls rest
 
 over-change : (m : Media) (h : Store → Store) (n : Media) → is_unsure n ≡ false → change_media h (over m n) ≡ over m (change_media h n)
 over-change m h blank e = refl
@@ -374,7 +374,7 @@ module _ (f : ℕ → Media) (w : World) (sure : MountedSure w) where
   full-m u c touched h = ap (λ (x : World). cost_test (device x u)) (changed-m c touched) ∙ cost-m f (changed w c) u (row-sure w c u h)
 
 module _ (f : ℕ → Media) (w : World) (sure : MountedSure w) where
-  -- tests in front that are the same, and that of the cost behind them
+  -- tests in front that are the same, and that of the cost after them
   then-full : (u : ℕ) (c : Command) (front : World → Checks) → front (meant_by f w) ≡ front w → (AllFalse (front w) → Touched w c × (unsure_on w u ≡ false))
       → first_of (front (meant_by f w) ++ full (meant_by f w) u c ∷ []) ≡ first_of (front w ++ full w u c ∷ [])
   then-full u c front same known = with-rest (front (meant_by f w)) (front w) (full (meant_by f w) u c ∷ []) (full w u c ∷ []) same

@@ -1,4 +1,4 @@
--- Runs where no device fails, and what is held behind any run.
+-- Runs where no device fails, and what is held after any run.
 use Rattle.std.proofs.Common.{◌≡◌, refl, ap, sym, ◌∙◌, subst, ℕ, List, [], ◌∷◌, true, false, Bool, ◌&&◌, inl, Option, Some, None, is_none, option_and_then, option_map, if◌then◌else◌}
 use Rattle.std.specs.Prelude.{Ok, Err, slice_get}
 use Rattle.newt_base.specs.Refusals.{first_of}
@@ -10,7 +10,7 @@ use Rattle.newt_spec_world.specs.Answer.{answer}
 use Rattle.newt_spec_world.specs.First.{device_of, media_of, unit_numbers, unit_of, world_of}
 use Rattle.newt_spec_world.specs.Step.{Step, plain, found, MayTurnOut, with_media, looks_at, look_checks, unsure_look, looks_anew}
 use Rattle.newt_spec_script.specs.Script.{Item, step, replies_to, world_after}
-use Rattle.newt_spec_script.specs.Rows.{IsRun, Goes, Row, replies_of, world_behind}
+use Rattle.newt_spec_script.specs.Rows.{IsRun, Goes, Row, replies_of, last_world}
 use Rattle.newt_laws_changes.specs.Later.{EntryGone, SoupGone}
 use Rattle.newt_laws_changes.proofs.Later.{entry-gone, soup-gone}
 use Rattle.newt_laws_steps.specs.Steps.{AllSure, AreQuiet, IsQuiet, WorldMayBeLater, EntryGoneOn, SoupGoneOn}
@@ -50,7 +50,7 @@ step-sure w (Ok c) h = answer-sure w c h
 step-sure w (Err refusal) h = h
 
 pub quiet-run : (w : World) (items : List Item) (rows : List (Row World)) → AllSure w → IsRun Step w items rows → AreQuiet rows
-    → (replies_of rows ≡ replies_to answer w items) × (world_behind w rows ≡ world_after answer w items)
+    → (replies_of rows ≡ replies_to answer w items) × (last_world w rows ≡ world_after answer w items)
 quiet-run w [] [] h run quiet = (refl, refl)
 quiet-run w [] (row ∷ rows) h run quiet = absurd run
 quiet-run w (x ∷ xs) [] h run quiet = absurd run
@@ -72,11 +72,11 @@ goes-later : (w : World) (x : Item) (v : World) (r : Reply) → Goes Step w x (v
 goes-later w (Ok c) v r s = step-later w c v r s
 goes-later w (Err refusal) v r s = subst (WorldMayBeLater w) (sym s.0) (later-not w)
 
-pub run-later : (w : World) (items : List Item) (rows : List (Row World)) → IsRun Step w items rows → WorldMayBeLater w (world_behind w rows)
+pub run-later : (w : World) (items : List Item) (rows : List (Row World)) → IsRun Step w items rows → WorldMayBeLater w (last_world w rows)
 run-later w [] [] run = later-not w
 run-later w [] (row ∷ rows) run = absurd run
 run-later w (x ∷ xs) [] run = absurd run
-run-later w (x ∷ xs) (row ∷ rows) run = later-trans w row.0 (world_behind row.0 rows) (goes-later w x row.0 row.1 run.0) (run-later row.0 xs rows run.1)
+run-later w (x ∷ xs) (row ∷ rows) run = later-trans w row.0 (last_world row.0 rows) (goes-later w x row.0 row.1 run.0) (run-later row.0 xs rows run.1)
 
 pub entries-later : (w v : World) (u sig uid : ℕ) → WorldMayBeLater w v → EntryGoneOn w u sig uid → EntryGoneOn v u sig uid
 entries-later w v u sig uid h g = let r = h u g.some.0 g.some.1 in record {

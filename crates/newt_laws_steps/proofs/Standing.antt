@@ -1,4 +1,4 @@
--- What stands behind any step: a mounted unit is sure, no cursor has another key than its hit, and no two mounted stores have one signature.
+-- What stands after any step: a mounted unit is sure, no cursor has another key than its hit, and no two mounted stores have one signature.
 use Rattle.std.proofs.Common.{◌≡◌, refl, ap, sym, ◌∙◌, subst, ℕ, zero, suc, List, [], ◌∷◌, true, false, Bool, inl, inr, cond, Option, Some, None, is_none, option_map, filter_map, IsTrue}
 use Rattle.std.specs.Prelude.{slice_get}
 use Rattle.std.specs.List.{cons_option}

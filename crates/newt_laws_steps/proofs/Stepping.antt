@@ -1,4 +1,4 @@
--- Steps where no device fails, and what is held behind any step.
+-- Steps where no device fails, and what is held after any step.
 use Rattle.std.proofs.Common.{◌≡◌, refl, ap, sym, ◌∙◌, subst, ℕ, List, [], ◌∷◌, true, false, Bool, ◌&&◌, not, ◌⊎◌, inl, inr, Option, Some, None, is_none, option_map, option_and_then, unwrap_or, if◌then◌else◌, IsTrue, ◌==◌}
 use Rattle.std.specs.Option.{is_some}
 use Rattle.std.proofs.lemmas.Bool.{eqb-true}

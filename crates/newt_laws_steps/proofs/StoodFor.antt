@@ -25,7 +25,7 @@ units-same (x ∷ xs) [] e h = absurd (omega arith)
 units-same (x ∷ xs) (y ∷ ys) e h =
     ap (λ (z : Option Device). z ∷ xs) (h zero (omega arith)) ∙ ap (λ (zs : List (Option Device)). y ∷ zs) (units-same xs ys (omega arith) (λ u l. h (suc u) (omega arith)))
 
--- the unit of a number is that of its function, and behind the eighth there is none
+-- the unit of a number is that of its function, and after the eighth there is none
 at-number : (f : ℕ → Option Device) (u : ℕ) → (flat (slice_get (map f unit_numbers) u) ≡ f u) ⊎ ((8 ≤ u) × (flat (slice_get (map f unit_numbers) u) ≡ None))
 at-number f zero = inl refl
 at-number f (suc zero) = inl refl

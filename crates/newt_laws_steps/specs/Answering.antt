@@ -11,15 +11,15 @@ use Rattle.newt_spec_world.specs.declared.command.Command.{Command}
 abbrev pub ReadsOneOf : (List ℕ → Option Store) → List Store → List ℕ → Type 0
 ReadsOneOf reads stores left = (s : Store) × Among stores s × (reads left ≡ Some s)
 
--- a unit that holds no store in w is not to hold one: it holds none in v either, or the command is
--- no format of it that is not refused
+-- A unit that holds no store in w is not to hold one. It holds none in v either, or the command is
+-- no format of it, or is refused.
 abbrev pub StaysBlank : World → Command → World → ℕ → Type 0
 StaysBlank w c v u = (formats w c u ≡ false) ⊎ IsBlankOn v u
 
--- While a command turns the world w into v, from a moment on: nothing is read and nothing is put
--- out. A unit that has a store in w, or one of two, is left as one of its stores in w or in v. Of a
--- unit that holds no store in w, and is not to hold one, the image, and what a crash may leave, are
--- as they were.
+-- What holds while a command turns the world w into v, from a moment on. Nothing is read and
+-- nothing is put out. A unit that has a store in w, or one of two, is left as one of its stores in
+-- w or in v. A unit that holds no store in w, and is not to hold one, keeps its image. A crash may
+-- leave of it only what it might have left before.
 pub record Answering (store_of_image : List ℕ → Option Store) (w : World) (c : Command) (v : World)
     (start now : Moment) : Type 0 where
   pub unread : taken now ≡ taken start

@@ -6,8 +6,8 @@ use Rattle.newt_spec_store.specs.Store.{Store}
 use Rattle.newt_spec_world.specs.First.{media_of, unit_numbers}
 use Rattle.newt_spec_world.specs.World.{World, Device, first_world}
 
--- No device, and nothing that is told of one, is other than it was, and nothing that is counted was
--- done to one.
+-- The devices are the same, and the same are attached. Nothing that is counted was done to one.
+-- With `told`, no unit was changed in between.
 pub record SameDevices (told : Bool) (old new : Outside) : Type 0 where
   pub cards : SameCards old new
   pub counts : SameCounts old new

@@ -1,8 +1,9 @@
--- Worlds in which it is known what a unit holds, for a world in which it is not. All of it is this project's own.
+-- A world in which it is not known what some units hold, and the worlds in which something is meant
+-- of them, that is assumed. All of it is this project's own.
 use Rattle.std.specs.Prelude.{◌≡◌, ℕ, zero, suc, true, false, List, [], ◌∷◌, Option, Some, None, option_map}
 use Rattle.newt_spec_world.specs.World.{World, Device, Media, blank, lost, is_unsure, device}
 
--- what is held, or what is meant where nothing is known of it
+-- what is held; or what is meant of it, where nothing is known
 abbrev pub over : Media → Media → Media
 over meant lost = meant
 over meant media = media
@@ -11,7 +12,7 @@ over meant media = media
 abbrev pub over_device : Media → Device → Device
 over_device meant d = record d { media = over meant d.media }
 
--- the units, where this is meant of each of which nothing is known
+-- the units, where this is meant of each one of which nothing is known
 abbrev pub over_units : (ℕ → Media) → List (Option Device) → List (Option Device)
 over_units meant [] = []
 over_units meant (d ∷ ds) = option_map (over_device (meant 0)) d ∷ over_units (λ u. meant (suc u)) ds
@@ -20,11 +21,11 @@ over_units meant (d ∷ ds) = option_map (over_device (meant 0)) d ∷ over_unit
 abbrev pub meant_by : (ℕ → Media) → World → World
 meant_by meant w = record w { units = over_units meant w.units }
 
--- of each unit that is mounted it is known what it holds
+-- it is known of each mounted unit what it holds
 abbrev pub MountedSure : World → Type 0
 MountedSure w = (u : ℕ) (d : Device) → device w u ≡ Some d → d.mounted ≡ true → is_unsure d.media ≡ false
 
--- this is meant of a unit, and of the others as before
+-- this is meant of one unit; of the others is meant what was before
 abbrev pub put_at : ℕ → Media → (ℕ → Media) → ℕ → Media
 put_at zero m meant zero = m
 put_at zero m meant (suc n) = meant (suc n)

@@ -15,20 +15,22 @@ AllSure w = (u : ℕ) → unsure_on w u ≡ false
 abbrev pub IsQuiet : Reply → Type 0
 IsQuiet reply = (u : ℕ) → reply ≡ Reply.thrown u → ⊥
 
--- no reply of a run does (this project's own)
+-- no reply of a run says so of any unit (this project's own)
 abbrev pub AreQuiet : {W : Type 0} → List (Row W) → Type 0
 AreQuiet {W} rows = Each (λ (row : Row W). IsQuiet row.1) rows
 
--- Stores one of which is held, later: each is a later one of one of those before, and there is one. (this project's own)
+-- Stores of which one is held, at a later time. Each of them is a later state of one of those
+-- before, and there is one. (this project's own)
 pub record StoresLater (before after : List Store) : Type 0 where
   pub each : (t : Store) → Among after t → (s : Store) × Among before s × StoreLater s t
   pub some : (t : Store) × Among after t
 
--- each unit that has a store, or one of two, has one later (this project's own)
+-- each unit that has a store, or one of two, has a later state of one of them (this project's own)
 abbrev pub WorldMayBeLater : World → World → Type 0
 WorldMayBeLater w v = (u : ℕ) (s : Store) → Among (stores_on w u) s → StoresLater (stores_on w u) (stores_on v u)
 
--- The unit has a store, or one of two, and no store that it may have has an entry of this id, though it was given. (this project's own)
+-- The unit has a store, or one of two, and no store that it may have has an entry of this id,
+-- though it was given. (this project's own)
 pub record EntryGoneOn (w : World) (u sig uid : ℕ) : Type 0 where
   pub some : (s : Store) × Among (stores_on w u) s
   pub gone : Each (EntryGone sig uid) (stores_on w u)

@@ -14,9 +14,9 @@ ghost use Rattle.newt_spec_world.specs.World.{Device, Media, World, IsBlankOn, d
 ghost use Rattle.newt_spec_world.specs.World.{settle, stores_on};
 ghost use Rattle.newt_spec_world.specs.declared.command.Command.{Command as IsCommand};
 
-/// What a value stands for goes by what has happened to its devices. A crash then leaves each unit
-/// that has a store, or one of two, as one of these, and of one that has none its image; and of each
-/// mounted unit it is known what it holds.
+/// While the same devices are attached, what a value stands for depends only on what has happened
+/// to them. A crash leaves each unit that has a store, or one of two, as one of these. Of a unit
+/// that has none it leaves the image. Of each mounted unit it is known what it holds.
 pub fn images_tell_worlds()
     ensures kept { (reads : List ℕ → Option Store) (marks : Marks) (old new : Outside) (w : World)
         → SameCards old new → ((u : ℕ) → changes u new.now ≡ changes u old.now)
@@ -31,8 +31,8 @@ pub fn images_tell_worlds()
         → StandsFor reads marks outside w → MountedSure w }
 {}
 
-/// A command that looks at a unit anew sees what its image is read as, and may find that there:
-/// where no device fails, the answer in the world as the command sees it is a step.
+/// A command that looks at a unit anew sees what its image is read as, and may find that there. So
+/// the answer in the world as the command sees it is a step.
 pub fn commands_see_images()
     ensures { (reads : List ℕ → Option Store) (marks : Marks) (outside : Outside) (w : World)
         (c : IsCommand) → StandsFor reads marks outside w
@@ -42,8 +42,9 @@ pub fn commands_see_images()
         → let a = answer (seen reads w outside.now c) c in Step w c a.0 a.1 }
 {}
 
-/// A value stands for the world in which nothing is known of the units of which a sync is due, and
-/// for those in which anything is meant of them that they may hold, and for no other.
+/// A value stands for the world in which nothing is known of the units of which a sync is due. It
+/// stands for the worlds in which anything is meant of these units that they may hold. It stands
+/// for no other world.
 pub fn values_stand_for_what_is_meant()
     ensures known { (reads : List ℕ → Option Store) (marks : Marks) (outside : Outside)
         → IsKept reads marks outside → StandsFor reads marks outside (known reads marks outside) }
@@ -56,9 +57,10 @@ pub fn values_stand_for_what_is_meant()
         → w ≡ meant_by (media_on w) (known reads marks outside) }
 {}
 
-/// A value keeps a world with a unit thrown out of which nothing is known from then on. Where that
-/// unit holds what its failure leaves of what was meant of it, and each other one of which a sync is
-/// due what is meant of it, the value stands for the world that was meant, with the unit thrown out.
+/// A unit is thrown out, and a value keeps the world in which nothing is known of it from then on.
+/// The unit holds what its failure leaves of what was meant of it. Each other unit of which a sync
+/// is due holds what is meant of it. Then the value stands for the world that was meant, with the
+/// unit thrown out.
 pub fn units_thrown_out_are_stood_for()
     ensures { (reads : List ℕ → Option Store) (marks : Marks) (outside : Outside) (w : World)
         (meant : ℕ → Media) (u : ℕ) (change : Media → Media) (d : Device) → MountedSure w

@@ -6,8 +6,8 @@ ghost use Rattle.newt_spec_world.specs.Step.{looks_anew, thrown_out, with_media}
 ghost use Rattle.newt_spec_world.specs.World.{World, Device, Media, lost, is_unsure, device, settle};
 ghost use Rattle.newt_spec_world.specs.declared.command.Command.{Command as IsCommand};
 
-/// Whatever is meant of units of which it is not known what they hold, a command that does not look
-/// at one of them is answered the same, and leaves them.
+/// Something is meant of the units of which it is not known what they hold. A command that does not
+/// look at one of them is answered the same, whatever is meant, and leaves them.
 pub fn answers_go_by_what_is_known()
     ensures answer { (meant : ℕ → Media) (w : World) (c : IsCommand) → MountedSure w
         → looks_anew w c ≡ None

@@ -1,4 +1,4 @@
--- A working copy behind a command.
+-- A working copy after a command.
 use Rattle.std.proofs.Common.{◌≡◌, refl, ap, sym, ◌∙◌, subst, ℕ, List, [], ◌∷◌, ◌++◌, true, false, Bool, cond, not, Option, Some, None, option_map, option_and_then}
 use Rattle.std.specs.Prelude.{slice_get, is_none, ◌==◌}
 use Rattle.std.specs.List.{position}

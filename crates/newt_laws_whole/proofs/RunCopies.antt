@@ -5,7 +5,7 @@ use Rattle.newt_base.specs.Refusals.{first_of}
 use Rattle.newt_base.specs.declared.Refusal.{Refusal}
 use Rattle.newt_base.specs.declared.Refusal.TheVariants.{Changed}
 use Rattle.newt_spec_graph.proofs.Lists.{both-ways, none-some}
-use Rattle.newt_spec_script.specs.Rows.{Goes, IsRun, Row, world_behind}
+use Rattle.newt_spec_script.specs.Rows.{Goes, IsRun, Row, last_world}
 use Rattle.newt_spec_script.specs.Script.{Item}
 use Rattle.newt_work.specs.Work.{Copy, copy_at, edited}
 use Rattle.newt_spec_world.specs.Alias.{Spot}
@@ -184,7 +184,7 @@ item-copies h (Ok c) row n k here s keeps = step-copies h c row.0 row.1 n k here
 item-copies h (Err x) row n k here s keeps = ap (λ (y : Whole). copy y n) s.0 ∙ here
 
 pub run-copies : (h : Whole) (items : List Item) (rows : List (Row Whole)) (n : ℕ) (k : Copy) → copy h n ≡ Some k → IsRun WholeStep h items rows → KeepsEdits n items rows
-    → copy (world_behind h rows) n ≡ Some (edited (put_all k.draft (edits_in n items rows)) k)
+    → copy (last_world h rows) n ≡ Some (edited (put_all k.draft (edits_in n items rows)) k)
 unfolding edits_in KeepsEdits
 run-copies h [] [] n k here run keeps = here
 run-copies h [] (row ∷ rows) n k here run keeps = absurd run
@@ -207,9 +207,9 @@ step-saves h n k v here s =
     save-plain = refl
 
 pub run-saves : (h : Whole) (items : List Item) (rows : List (Row Whole)) (n : ℕ) (k : Copy) (v : Whole) → copy h n ≡ Some k → k.draft ≡ k.base → IsRun WholeStep h items rows
-    → KeepsEdits n items rows → WholeStep (world_behind h rows) (command.Save n) v Reply.done → Saves (world_behind h rows) v k (put_all k.base (edits_in n items rows))
+    → KeepsEdits n items rows → WholeStep (last_world h rows) (command.Save n) v Reply.done → Saves (last_world h rows) v k (put_all k.base (edits_in n items rows))
 run-saves h items rows n k v here fresh run keeps save =
     let draft = put_all k.draft (edits_in n items rows) in
-    let s : Saves (world_behind h rows) v (edited draft k) draft = step-saves (world_behind h rows) n (edited draft k) v (run-copies h items rows n k here run keeps) save in
-    subst (λ g. Saves (world_behind h rows) v k (put_all g (edits_in n items rows))) fresh
+    let s : Saves (last_world h rows) v (edited draft k) draft = step-saves (last_world h rows) n (edited draft k) v (run-copies h items rows n k here run keeps) save in
+    subst (λ g. Saves (last_world h rows) v k (put_all g (edits_in n items rows))) fresh
     (record { spot = s.spot; lives = s.lives; same_time = s.same_time; same_graph = s.same_graph; after = s.after })

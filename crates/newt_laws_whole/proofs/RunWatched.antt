@@ -7,7 +7,7 @@ use Rattle.newt_base.specs.declared.Refusal.TheVariants.{Changed, Watch as NoWat
 use Rattle.newt_notify.specs.declared.note.Note.{Note}
 use Rattle.newt_notify.specs.Watch.{Watching, emptied}
 use Rattle.newt_spec_graph.proofs.Lists.{both-ways}
-use Rattle.newt_spec_script.specs.Rows.{IsRun, Row, world_behind}
+use Rattle.newt_spec_script.specs.Rows.{IsRun, Row, last_world}
 use Rattle.newt_spec_script.specs.Script.{Item}
 use Rattle.newt_work.specs.Work.{Copy}
 use Rattle.newt_spec_world.specs.Alias.{Spot}
@@ -23,7 +23,7 @@ use Rattle.newt_spec_whole.specs.Refused.{whole_checks}
 use Rattle.newt_spec_whole.specs.Answer.{notes_reply, refusal_reply, whole_answer, whole_answered, whole_fields}
 use Rattle.newt_spec_whole.specs.Step.{WholeStep}
 use Rattle.newt_laws_whole.specs.Since.{IsDone, if_done}
-use Rattle.newt_laws_whole.specs.Steps.{notes_behind, told_by}
+use Rattle.newt_laws_whole.specs.Steps.{notes_after, told_by}
 use Rattle.newt_laws_whole.specs.Told.{KeepsWatch, ends_notes, told_in, told_to, with_notes}
 use Rattle.newt_laws_whole.proofs.Asking.{other-steps}
 use Rattle.newt_laws_whole.proofs.Noted.{plain-told}
@@ -32,8 +32,8 @@ use Rattle.newt_laws_whole.proofs.Watched.{all-told, end, notes-taken, step-told
 
 -- ---- the notes of a step, by the reply
 
--- a command of the world tells what the world behind it tells
-pub plain-by : (h : Whole) (c : Command) (v : World) (r : Reply) → is_plain c ≡ true → notes_behind h.world c v r ≡ told_by h c v r
+-- a command of the world tells what the world after it tells
+pub plain-by : (h : Whole) (c : Command) (v : World) (r : Reply) → is_plain c ≡ true → notes_after h.world c v r ≡ told_by h c v r
 unfolding is_plain
 plain-by h (command.Save n) v r p = absurd (both-ways p)
 plain-by h _ v r p = refl
@@ -62,7 +62,7 @@ save-refused h n v Changed = go (option_and_then (living h) (copy h n))
 save-refused h n v _ = refl
 
 -- nothing is told of what is only read
-asks-none : (h : Whole) (c : Command) (v : World) (o : Option Refusal) (r : Reply) → is_plain c ≡ false → events_of h.world (asks h c) ≡ [] → notes_behind h.world c v r ≡ told_by h c v r
+asks-none : (h : Whole) (c : Command) (v : World) (o : Option Refusal) (r : Reply) → is_plain c ≡ false → events_of h.world (asks h c) ≡ [] → notes_after h.world c v r ≡ told_by h c v r
     → if_done o (events_of h.world (asks h c)) ≡ told_by h c v r
 asks-none h c v o r p none same = ap (if_done o) none ∙ none-done o ∙ sym (no-notes h.world v c r (other-events h.world c p)) ∙ same
 
@@ -115,8 +115,8 @@ step-watch h c v r n w here keeps s = go (is_plain c) refl
         (ap (λ (a : Whole × Reply). watch a.0 n) (sym is) ∙ step-told h c n w o here (λ e. keeps))
 
     go : (b : Bool) → is_plain c ≡ b → watch v n ≡ Some (with_notes (told_to w.name (told_by h c v.world r)) w)
-    go true p = by (notes_behind h.world c v.world r) (plain-by h c v.world r p)
-        (ap (λ (x : Whole). watch x n) (plain-told h c v r p s) ∙ all-told (notes_behind h.world c v.world r) h.watches n w here)
+    go true p = by (notes_after h.world c v.world r) (plain-by h c v.world r p)
+        (ap (λ (x : Whole). watch x n) (plain-told h c v r p s) ∙ all-told (notes_after h.world c v.world r) h.watches n w here)
     go false p = elim (other-steps h c v r p s) [
       | inl is ↦ answer-watch p (first_of (whole_checks h c)) is
       | inr t ↦ by [] (thrown-by h c v.world t.0 p ∙ ap (told_by h c v.world) (sym t.4))
@@ -126,7 +126,7 @@ step-watch h c v r n w here keeps s = go (is_plain c) refl
 -- ---- a run
 
 pub run-watch : (h : Whole) (items : List Item) (rows : List (Row Whole)) (n : ℕ) (w : Watching) → watch h n ≡ Some w → IsRun WholeStep h items rows → KeepsWatch n items
-    → watch (world_behind h rows) n ≡ Some (with_notes (told_to w.name (told_in h items rows)) w)
+    → watch (last_world h rows) n ≡ Some (with_notes (told_to w.name (told_in h items rows)) w)
 unfolding told_in
 run-watch h [] [] n w here run keeps = here ∙ ap {A = List Note} {B = Option Watching} (λ ns. Some (record w { notes = ns })) (sym (end w.notes))
 run-watch h [] (row ∷ rows) n w here run keeps = absurd run

@@ -1,4 +1,4 @@
--- What holds of a whole, and of its stores, behind each step and each run.
+-- What holds of a whole, and of its stores, after each step and each run.
 use Rattle.std.proofs.Common.{◌≡◌, ◌⊎◌, ◌≤◌, inl, inr, arith, refl, sym, ◌∙◌, subst, ℕ, zero, suc, List, [], ◌∷◌, true, false, Bool, cond, Option, Some, None, option_and_then, option_map, unwrap_or, IsTrue, if◌then◌else◌}
 use Rattle.std.specs.Prelude.{slice_get, replicate, Ok, Err}
 use Rattle.std.proofs.lemmas.Bool.{and_parts}
@@ -6,7 +6,7 @@ use Rattle.newt_base.specs.Refusals.{first_of}
 use Rattle.newt_base.specs.declared.Refusal.{Refusal}
 use Rattle.newt_spec_graph.specs.Lists.{Among, Each}
 use Rattle.newt_spec_graph.proofs.Lists.{both-ways, none-some, some-same}
-use Rattle.newt_spec_script.specs.Rows.{Goes, IsRun, Row, world_at, world_behind}
+use Rattle.newt_spec_script.specs.Rows.{Goes, IsRun, Row, world_at, last_world}
 use Rattle.newt_spec_script.specs.Script.{Item}
 use Rattle.newt_spec_store.specs.OfImage.{blocks_of}
 use Rattle.newt_spec_store.specs.Store.{Store}
@@ -126,12 +126,12 @@ between-later h (x ∷ xs) (row ∷ rows) zero (suc m) run low =
 between-later h (x ∷ xs) (row ∷ rows) (suc k) zero run low = absurd (omega (arith, low))
 between-later h (x ∷ xs) (row ∷ rows) (suc k) (suc m) run low = between-later row.0 xs rows k m run.1 (omega (arith, low))
 
-pub whole-run-later : (h : Whole) (items : List Item) (rows : List (Row Whole)) → IsRun WholeStep h items rows → WorldMayBeLater h.world (world_behind h rows).world
+pub whole-run-later : (h : Whole) (items : List Item) (rows : List (Row Whole)) → IsRun WholeStep h items rows → WorldMayBeLater h.world (last_world h rows).world
 whole-run-later h [] [] run = later-not h.world
 whole-run-later h [] (row ∷ rows) run = absurd run
 whole-run-later h (x ∷ xs) [] run = absurd run
 whole-run-later h (x ∷ xs) (row ∷ rows) run =
-    later-trans h.world row.0.world (world_behind row.0 rows).world (goes-later h x row run.0) (whole-run-later row.0 xs rows run.1)
+    later-trans h.world row.0.world (last_world row.0 rows).world (goes-later h x row run.0) (whole-run-later row.0 xs rows run.1)
 
 -- ---- what is sound stays so
 
@@ -200,7 +200,7 @@ asked-form h c d fits form k = only k
     only (inl e) = subst (λ (x : Command). IsTrue (has_form x)) e form
     only (inr k) = absurd k
 
--- the copies' drafts behind a step
+-- the copies' drafts after a step
 step-drafts : (h : Whole) (c : Command) (v : Whole) (r : Reply) → AllFormed h.world → DraftsFit h.copies → WholeStep h c v r → DraftsFit v.copies
 step-drafts h c v r formed fits (plain none is) = subst (λ (a : Whole × Reply). DraftsFit a.0.copies) is (drafts-fit h c formed fits)
 step-drafts h c v r formed fits (found {u} {v = x} looks has is) =

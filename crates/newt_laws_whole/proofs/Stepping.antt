@@ -5,7 +5,7 @@ use Rattle.newt_base.specs.Refusals.{first_of}
 use Rattle.newt_base.specs.declared.Refusal.{Refusal}
 use Rattle.newt_spec_graph.proofs.Lists.{none-some}
 use Rattle.newt_spec_script.specs.Script.{Item, step, replies_to, world_after}
-use Rattle.newt_spec_script.specs.Rows.{IsRun, Goes, Row, replies_of, world_behind}
+use Rattle.newt_spec_script.specs.Rows.{IsRun, Goes, Row, replies_of, last_world}
 use Rattle.newt_spec_world.specs.World.{World}
 use Rattle.newt_spec_world.specs.Reply.{Reply}
 use Rattle.newt_spec_world.specs.Answer.{answer}
@@ -15,7 +15,7 @@ use Rattle.newt_laws_steps.specs.Steps.{AllSure, AreQuiet, IsQuiet}
 use Rattle.newt_laws_steps.proofs.Stepping.{looks-sure, row-sure}
 use Rattle.newt_spec_whole.specs.Whole.{Whole, asks, in_world}
 use Rattle.newt_spec_whole.specs.Refused.{whole_checks}
-use Rattle.newt_spec_whole.specs.Answer.{whole_answer, whole_answered, world_after as world_behind_asked}
+use Rattle.newt_spec_whole.specs.Answer.{whole_answer, whole_answered, world_after as world_after_asked}
 use Rattle.newt_spec_whole.specs.Step.{WholeStep, plain, found, thrown, halfway}
 use Rattle.newt_laws_world.specs.Worlds.{is_plain}
 use Rattle.newt_laws_whole.specs.Steps.{notes_of, noting}
@@ -33,7 +33,7 @@ pub whole-sure : (h : Whole) (c : Command) → AllSure h.world → AllSure (whol
 unfolding whole_answer
 whole-sure h c sure = go (first_of (whole_checks h c))
   where
-    asked : (o : Option Command) → AllSure (world_behind_asked h.world o)
+    asked : (o : Option Command) → AllSure (world_after_asked h.world o)
     asked None = sure
     asked (Some d) = λ u. row-sure h.world d u (sure u)
 
@@ -50,7 +50,7 @@ step-sure h (Ok c) sure = whole-sure h c sure
 step-sure h (Err refusal) sure = sure
 
 pub quiet-whole-run : (h : Whole) (items : List Item) (rows : List (Row Whole)) → AllSure h.world → IsRun WholeStep h items rows → AreQuiet rows
-    → (replies_of rows ≡ replies_to whole_answer h items) × (world_behind h rows ≡ world_after whole_answer h items)
+    → (replies_of rows ≡ replies_to whole_answer h items) × (last_world h rows ≡ world_after whole_answer h items)
 quiet-whole-run h [] [] sure run quiet = (refl, refl)
 quiet-whole-run h [] (row ∷ rows) sure run quiet = absurd run
 quiet-whole-run h (x ∷ xs) [] sure run quiet = absurd run

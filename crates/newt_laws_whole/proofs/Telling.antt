@@ -1,4 +1,4 @@
--- Which notes a step of the world tells, by the world behind it.
+-- Which notes a step of the world tells, by the world after it.
 use Rattle.std.proofs.Common.{◌≡◌, inl, refl, ap, sym, ◌∙◌, subst, arith, ℕ, ◌+◌, List, [], ◌∷◌, true, false, Bool, not, cond, ◌==◌, ◌&&◌, Option, Some, None, option_map, option_and_then, unwrap_or, take, find, if◌then◌else◌}
 use Rattle.std.proofs.lemmas.Bool.{eqb-true}
 use Rattle.std.proofs.lemmas.Bool.Decides.{Decides-eqb}
@@ -27,23 +27,23 @@ use Rattle.newt_spec_whole.specs.Events.{Event, events}
 use Rattle.newt_spec_whole.specs.Step as wholes
 use Rattle.newt_spec_whole.specs.Step.{WholeStep, whole_thrown}
 use Rattle.newt_laws_whole.specs.Since.{if_done}
-use Rattle.newt_laws_whole.specs.Steps.{notes_of, noting, has_taken, is_past, notes_behind}
+use Rattle.newt_laws_whole.specs.Steps.{notes_of, noting, has_taken, is_past, notes_after}
 use Rattle.newt_laws_whole.proofs.Plain.{plain-turn}
 use Rattle.newt_laws_whole.proofs.Stepping.{plain-steps, found-steps}
 
 -- ---- a command that is done, or refused
 
 -- a reply that is no refusal and tells of no failure has all notes
-good-notes : (w v : World) (c : Command) (r : Reply) → is_fault r ≡ false → notes_behind w c v r ≡ events w c
+good-notes : (w v : World) (c : Command) (r : Reply) → is_fault r ≡ false → notes_after w c v r ≡ events w c
 good-notes w v c (Reply.refused x) h = absurd (both-ways (sym h))
 good-notes w v c (Reply.thrown u) h = absurd (both-ways (sym h))
 good-notes w v c _ h = refl
 
-pub answer-notes : (w : World) (c : Command) → let a = answer w c in notes_behind w c a.0 a.1 ≡ notes_of w c
+pub answer-notes : (w : World) (c : Command) → let a = answer w c in notes_after w c a.0 a.1 ≡ notes_of w c
 unfolding answer
 answer-notes w c = go (first_of (checks w c))
   where
-    go : (o : Option Refusal) → notes_behind w c (answered w c o).0 (answered w c o).1 ≡ if_done o (events w c)
+    go : (o : Option Refusal) → notes_after w c (answered w c o).0 (answered w c o).1 ≡ if_done o (events w c)
     go (Some r) = refl
     go None = let v = (answered w c None).0 in good-notes w v c (fields w v c) (fields_good w v c)
 
@@ -61,7 +61,7 @@ looked w c u h = go (looks_at c) h
     go None k = absurd (none-some u k)
     go (Some x) k = (x, refl)
 
-pub no-notes : (w v : World) (c : Command) (r : Reply) → events w c ≡ [] → notes_behind w c v r ≡ []
+pub no-notes : (w v : World) (c : Command) (r : Reply) → events w c ≡ [] → notes_after w c v r ≡ []
 no-notes w v c (Reply.refused x) h = refl
 no-notes w v c (Reply.thrown u) h = ap (λ es. if moves_away c u && has_taken w c v then take 1 es else []) h ∙ go (moves_away c u && has_taken w c v)
   where
@@ -104,7 +104,7 @@ own-id None = refl
 own-id (Some p) = ap not ((Decides-eqb p.next_uid p.next_uid).1 refl)
 
 same-not-taken : (w v : World) (c : Command) (u : ℕ) → ((t uid x : ℕ) (s y : List ℕ) → c ≡ command.Move t s uid x y → (x ≡ u → ⊥) → soup_in v x y ≡ soup_in w x y)
-    → notes_behind w c v (Reply.thrown u) ≡ []
+    → notes_after w c v (Reply.thrown u) ≡ []
 same-not-taken w v (command.Move t s uid x y) u same = go (moves_away (command.Move t s uid x y) u) refl
   where
     go : (b : Bool) → moves_away (command.Move t s uid x y) u ≡ b
@@ -139,7 +139,7 @@ mounted-change w x f st h = ap on_unit (device-same w x (λ d. record d { media 
     go None k = absurd (none-some st k)
     go (Some d) k = media d.mounted d.media k
 
--- the world behind such a move has given the next id
+-- the world after such a move has given the next id
 module _ (w : World) (t uid x u : ℕ) (s y : List ℕ) (moves : moves_away (command.Move t s uid x y) u ≡ true) (fine : AllFalse (checks w (command.Move t s uid x y))) where
   abbrev move : Command
   move = command.Move t s uid x y
@@ -171,9 +171,9 @@ module _ (w : World) (t uid x u : ℕ) (s y : List ℕ) (moves : moves_away (com
   target : mounted_store (copy_to w x y (entry_in w t s uid)) x ≡ Some (change_soup y added on.0)
   target = ap (λ (o : Option Entry). mounted_store (copy_to w x y o) x) from.1 ∙ mounted-change w x (change_soup y added) on.0 on.1
 
-  behind : mounted_store (changed w move) x ≡ Some (change_soup y added on.0)
+  after : mounted_store (changed w move) x ≡ Some (change_soup y added on.0)
   unfolding changed
-  behind = ap on_unit (device-other (copy_to w x y (entry_in w t s uid)) t
+  after = ap on_unit (device-other (copy_to w x y (entry_in w t s uid)) t
       (λ (d : Device). record d { media = change_media (change_soup s (remove_entry uid)) d.media }) x apart) ∙ target
 
   named : soup_named y on.0 ≡ Some into.0
@@ -181,7 +181,7 @@ module _ (w : World) (t uid x u : ℕ) (s y : List ℕ) (moves : moves_away (com
 
   soup-after : soup_in (world_halfway w move u) x y ≡ Some (added into.0)
   soup-after =
-      ap (option_and_then (soup_named y)) (out-other (changed w move) u x (either_of (store_on_unit w u)) differs ∙ behind)
+      ap (option_and_then (soup_named y)) (out-other (changed w move) u x (either_of (store_on_unit w u)) differs ∙ after)
       ∙ find-first (λ (p : Soup). equal_text p.name y) added (λ p. refl) on.0.soups ∙ ap (option_map added) named
 
   one-more : (n : ℕ) → not ((n + 1) == n) ≡ true
@@ -197,7 +197,7 @@ module _ (w : World) (t uid x u : ℕ) (s y : List ℕ) (moves : moves_away (com
       ∙ one-more into.0.next_uid
 
 pub halfway-notes : (w : World) (c : Command) (u : ℕ) → moves_away c u ≡ true → first_of (checks w c) ≡ None
-    → notes_behind w c (world_halfway w c u) (Reply.thrown u) ≡ take 1 (events w c)
+    → notes_after w c (world_halfway w c u) (Reply.thrown u) ≡ take 1 (events w c)
 halfway-notes w (command.Move t s uid x y) u moves done =
     let k = command.Move t s uid x y in
     ap (λ (b : Bool). if b && has_taken w k (world_halfway w k u) then take 1 (events w k) else []) moves
@@ -205,16 +205,16 @@ halfway-notes w (command.Move t s uid x y) u moves done =
 halfway-notes w _ u moves done = absurd (both-ways moves)
 
 -- a unit that is thrown out takes no note with it
-pub thrown-notes : (w : World) (c : Command) (u : ℕ) (change : Media → Media) → notes_behind w c (settle (thrown_out w u change)) (Reply.thrown u) ≡ []
+pub thrown-notes : (w : World) (c : Command) (u : ℕ) (change : Media → Media) → notes_after w c (settle (thrown_out w u change)) (Reply.thrown u) ≡ []
 thrown-notes w c u change = same-not-taken w (settle (thrown_out w u change)) c u
     (λ t uid x s y e differs. soup-by (settle (thrown_out w u change)) w x y (out-other w u x change differs))
 
 -- ---- a step
 
-pub steps-tell : (h : Whole) (c : Command) (v : World) (r : Reply) → is_plain c ≡ true → Step h.world c v r → WholeStep h c (noting h v (notes_behind h.world c v r)) r
+pub steps-tell : (h : Whole) (c : Command) (v : World) (r : Reply) → is_plain c ≡ true → Step h.world c v r → WholeStep h c (noting h v (notes_after h.world c v r)) r
 steps-tell h c v r p (plain none is) =
     subst (λ es. WholeStep h c (noting h v es) r)
-    (sym (ap (λ (a : World × Reply). notes_behind h.world c a.0 a.1) (sym is) ∙ answer-notes h.world c))
+    (sym (ap (λ (a : World × Reply). notes_after h.world c a.0 a.1) (sym is) ∙ answer-notes h.world c))
     (plain-steps h c v r p none is)
 steps-tell h c v r p (found {u} {v = x} looks has is) =
     let at = looked h.world c u looks in
@@ -228,8 +228,8 @@ steps-tell h c v r p (thrown {u} next is) =
     (ap {A = List Event} {B = World × List Event} (λ es. (v, es)) none ∙ ap {A = World} {B = World × List Event} (λ x. (x, [])) next))
     is
   where
-    none : notes_behind h.world c v r ≡ []
-    none = ap (notes_behind h.world c v) is
+    none : notes_after h.world c v r ≡ []
+    none = ap (notes_after h.world c v) is
         ∙ same-not-taken h.world v c u (λ t uid x s y e differs.
         soup-by v h.world x y (ap (λ (k : World). mounted_store k x) next ∙ out-other h.world u x (torn h.world c u) differs))
 steps-tell h c v r p (halfway {u} moves ok next is) =
@@ -238,6 +238,6 @@ steps-tell h c v r p (halfway {u} moves ok next is) =
     (ap {A = List Event} {B = World × List Event} (λ es. (v, es)) notes ∙ ap {A = World} {B = World × List Event} (λ x. (x, take 1 (events h.world c))) next))
     is
   where
-    notes : notes_behind h.world c v r ≡ take 1 (events h.world c)
-    notes = ap (notes_behind h.world c v) is ∙ ap (λ (x : World). notes_behind h.world c x (Reply.thrown u)) next
+    notes : notes_after h.world c v r ≡ take 1 (events h.world c)
+    notes = ap (notes_after h.world c v) is ∙ ap (λ (x : World). notes_after h.world c x (Reply.thrown u)) next
         ∙ halfway-notes h.world c u moves (is-accepted h.world c ok)

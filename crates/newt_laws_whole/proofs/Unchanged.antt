@@ -8,7 +8,7 @@ use Rattle.newt_base.specs.declared.Refusal.{Refusal}
 use Rattle.newt_graph.specs.Graph.{RawGraph}
 use Rattle.newt_spec_graph.specs.Lists.{Among}
 use Rattle.newt_spec_graph.proofs.Lists.{both-ways, none-some, some-same}
-use Rattle.newt_spec_script.specs.Rows.{IsRun, Row, thrown_count, throws, world_behind}
+use Rattle.newt_spec_script.specs.Rows.{IsRun, Row, thrown_count, throws, last_world}
 use Rattle.newt_spec_script.specs.Script.{Item}
 use Rattle.newt_spec_store.specs.Store.{Entry, Soup, Store, change_entry, change_soup, remove_entry, soup_named, with_graph}
 use Rattle.newt_spec_world.specs.Alias.{Spot}
@@ -32,7 +32,7 @@ use Rattle.newt_spec_whole.specs.Refused.{whole_checks}
 use Rattle.newt_spec_whole.specs.Step.{WholeStep, plain, found, thrown, halfway}
 use Rattle.newt_spec_whole.specs.Whole.{Whole, asks, change_of, copy, get_of, in_world, living, stores_on}
 use Rattle.newt_laws_whole.specs.Since.{if_done}
-use Rattle.newt_laws_whole.specs.Steps.{notes_of, notes_behind, noting, told_by}
+use Rattle.newt_laws_whole.specs.Steps.{notes_of, notes_after, noting, told_by}
 use Rattle.newt_laws_whole.specs.Told.{KeepEntries, entries_named, entries_on, told_in, told_to}
 use Rattle.newt_laws_whole.proofs.Asking.{other-steps}
 use Rattle.newt_laws_whole.proofs.Plain.{plain-answer}
@@ -290,8 +290,8 @@ pub step-keeps : (h : Whole) (c : Command) (v : Whole) (r : Reply) (name : List 
     → (r ≡ Reply.thrown u → ⊥) → Among (stores_on h u) s → KeepEntries name (stores_on h u) (stores_on v u)
 step-keeps h c v r name u s step none fine k = go (is_plain c) refl
   where
-    behind : is_plain c ≡ true → told_to name (notes_behind h.world c v.world r) ≡ []
-    behind p = ap (told_to name) (plain-by h c v.world r p) ∙ none
+    told_none : is_plain c ≡ true → told_to name (notes_after h.world c v.world r) ≡ []
+    told_none p = ap (told_to name) (plain-by h c v.world r p) ∙ none
 
     world-is : (w : World) → v.world ≡ w → KeepEntries name (stores_on h u) (worlds.stores_on w u) → KeepEntries name (stores_on h u) (stores_on v u)
     world-is w e keeps = subst (λ (x : World). KeepEntries name (stores_on h u) (worlds.stores_on x u)) (sym e) keeps
@@ -301,7 +301,7 @@ step-keeps h c v r name u s step none fine k = go (is_plain c) refl
         let both : (noting h (answer h.world c).0 (notes_of h.world c), (answer h.world c).1) ≡ (v, r) = sym (plain-answer h c p) ∙ is in
         world-is (answer h.world c).0 (sym (ap (λ (a : Whole × Reply). a.0.world) both))
         (answer-keeps name h.world c u s (format-sure h.world c u looks) k
-        (ap (told_to name) (sym (answer-notes h.world c) ∙ ap (λ (a : Whole × Reply). notes_behind h.world c a.0.world a.1) both) ∙ behind p))
+        (ap (told_to name) (sym (answer-notes h.world c) ∙ ap (λ (a : Whole × Reply). notes_after h.world c a.0.world a.1) both) ∙ told_none p))
     by p (found {u = x} {v = y} looks has is) =
         let both : (noting h (answer y c).0 (notes_of y c), (answer y c).1) ≡ (v, r) = sym (plain-answer (in_world h y) c p) ∙ is in
         world-is (answer y c).0 (sym (ap (λ (a : Whole × Reply). a.0.world) both)) (found-keeps name h.world y c x u s looks has k)
@@ -312,7 +312,7 @@ step-keeps h c v r name u s step none fine k = go (is_plain c) refl
         world-is (world_halfway h.world c x) (ap (λ (y : Whole). y.world) next)
         (halfway-keeps name h.world c x u moves (λ e. fine (is ∙ ap Reply.thrown (sym e)))
         (ap (told_to name) (sym (halfway-notes h.world c x moves (is-accepted h.world c ok)))
-        ∙ ap (told_to name) (sym (ap (λ (y : World). notes_behind h.world c y r) (ap (λ (y : Whole). y.world) next) ∙ ap (notes_behind h.world c (world_halfway h.world c x)) is)) ∙ behind p))
+        ∙ ap (told_to name) (sym (ap (λ (y : World). notes_after h.world c y r) (ap (λ (y : Whole). y.world) next) ∙ ap (notes_after h.world c (world_halfway h.world c x)) is)) ∙ told_none p))
 
     go : (b : Bool) → is_plain c ≡ b → KeepEntries name (stores_on h u) (stores_on v u)
     go true p = by p step
@@ -401,7 +401,7 @@ not-thrown : (u : ℕ) (r : Reply) → throws u r ≡ false → r ≡ Reply.thro
 not-thrown u r none e = both-ways (sym none ∙ ap (throws u) e ∙ (Decides-eqb u u).1 refl)
 
 pub run-keeps : (h : Whole) (items : List Item) (rows : List (Row Whole)) (name : List ℕ) (u : ℕ) (s : Store) → IsRun WholeStep h items rows → told_to name (told_in h items rows) ≡ []
-    → thrown_count u rows ≡ 0 → Among (stores_on h u) s → KeepEntries name (stores_on h u) (stores_on (world_behind h rows) u)
+    → thrown_count u rows ≡ 0 → Among (stores_on h u) s → KeepEntries name (stores_on h u) (stores_on (last_world h rows) u)
 unfolding told_in
 run-keeps h [] [] name u s run none fine k = keeps-all name (stores_on h u)
 run-keeps h [] (row ∷ rows) name u s run none fine k = absurd run
@@ -409,13 +409,13 @@ run-keeps h (x ∷ xs) [] name u s run none fine k = absurd run
 run-keeps h (Err x ∷ xs) (row ∷ rows) name u s run none fine k =
     let more = count-none (λ (row : Row Whole). throws u row.1) row rows fine in
     let same : stores_on row.0 u ≡ stores_on h u = ap (λ (y : Whole). stores_on y u) run.0.0 in
-    subst (λ (ss : List Store). KeepEntries name ss (stores_on (world_behind row.0 rows) u)) same
+    subst (λ (ss : List Store). KeepEntries name ss (stores_on (last_world row.0 rows) u)) same
     (run-keeps row.0 xs rows name u s run.1 none more.1 (subst (λ (ss : List Store). Among ss s) (sym same) k))
 run-keeps h (Ok c ∷ xs) (row ∷ rows) name u s run none fine k =
     let more = count-none (λ (row : Row Whole). throws u row.1) row rows fine in
     let both = append-none (told_to name (told_by h c row.0.world row.1)) (told_to name (told_in row.0 xs rows))
     (sym (told-more name (told_by h c row.0.world row.1) (told_in row.0 xs rows)) ∙ none) in
     let next = whole-later h c row.0 row.1 run.0 u s k in
-    keeps-trans name (stores_on h u) (stores_on row.0 u) (stores_on (world_behind row.0 rows) u)
+    keeps-trans name (stores_on h u) (stores_on row.0 u) (stores_on (last_world row.0 rows) u)
     (step-keeps h c row.0 row.1 name u s run.0 both.0 (not-thrown u row.1 more.0) k)
     (run-keeps row.0 xs rows name u next.some.0 run.1 both.1 more.1 next.some.1)

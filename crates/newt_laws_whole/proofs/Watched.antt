@@ -1,4 +1,4 @@
--- A watch behind a command.
+-- A watch after a command.
 use Rattle.std.proofs.Common.{◌≡◌, refl, ap, sym, ◌∙◌, ℕ, zero, suc, List, [], ◌∷◌, ◌++◌, true, false, Bool, if◌then◌else◌, Option, Some, None, option_map, map, append_assoc}
 use Rattle.std.specs.Prelude.{slice_get, is_none}
 use Rattle.std.specs.List.{position}

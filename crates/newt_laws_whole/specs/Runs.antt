@@ -28,9 +28,9 @@ AllFormed w = (u : ℕ) (t : Store) → mounted_store w u ≡ Some t → well_fo
 abbrev pub DraftsFit : List (Option Copy) → Type 0
 DraftsFit copies = (n : ℕ) (k : Copy) → copy_at n copies ≡ Some k → CanBeEntry k.draft
 
--- What holds of a whole at the start of a run and behind each of its steps: of each mounted unit it
--- is known what it holds; no cursor has another key than its hit; no two mounted stores have one
--- signature; each store that a unit has or may have is valid; and each draft can be the graph of an
+-- What holds of a whole at the start of a run and after each of its steps. Of each mounted unit it
+-- is known what it holds. No cursor has another key than its hit. No two mounted stores have one
+-- signature. Each store that a unit has or may have is valid. Each draft can be the graph of an
 -- entry. (this project's own)
 pub record IsSound (h : Whole) : Type 0 where
   pub sure : MountedSure h.world

@@ -35,7 +35,7 @@ abbrev pub edit_by : ℕ → Command → List Edit
 edit_by n (command.Edit m path g) = cond (m == n) ((path, g) ∷ []) []
 edit_by n _ = []
 
--- none where it is refused (a word of these definitions)
+-- the list; it is empty where there is a refusal (a word of these definitions)
 abbrev pub if_done : {X : Type 0} → Option Refusal → List X → List X
 if_done (Some r) xs = []
 if_done None xs = xs
@@ -47,8 +47,8 @@ ends_edits n (command.Revert m) = m == n
 ends_edits n (command.Discard m) = m == n
 ends_edits n _ = false
 
--- A save was done: the entry was still as the copy's base, and what it asks of the world is that its
--- graph is changed to this one. (this project's own)
+-- A save was done. The entry was still as the copy's base. The world after it is the one in which
+-- the entry's graph was changed to this one. (this project's own)
 pub record Saves (h v : Whole) (k : Copy) (draft : RawGraph) : Type 0 where
   pub spot : Spot
   pub lives : living h k ≡ Some spot

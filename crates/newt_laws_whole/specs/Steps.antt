@@ -1,4 +1,4 @@
--- The whole behind a step of its world.
+-- The whole after a step of its world.
 use Rattle.std.specs.Prelude.{ℕ, Bool, false, not, ◌==◌, ◌&&◌, List, [], take, Option, Some, None}
 use Rattle.newt_spec_graph.specs.Lists.{Among}
 use Rattle.std.specs.Prelude.{if◌then◌else◌}
@@ -28,29 +28,29 @@ abbrev pub is_past : ℕ → Option Soup → Bool
 is_past uid None = false
 is_past uid (Some p) = not (p.next_uid == uid)
 
--- the target of a move has taken an id from the one world to the other (this project's own)
+-- between the two worlds the target of a move has taken an id (this project's own)
 abbrev pub has_taken : World → Command → World → Bool
 has_taken w (command.Move t s uid x y) v = is_past (new_uid w x y) (soup_in v x y)
 has_taken w c v = false
 
--- The notes of a step, as the world behind it tells them: none of a command that is refused; where
--- the device of a unit failed, the first of a move away from it whose target has taken an id; and
--- else all of the command. (this project's own)
-abbrev pub notes_behind : World → Command → World → Reply → List Event
-notes_behind w c v (Reply.refused refusal) = []
-notes_behind w c v (Reply.thrown u) =
+-- The notes of a step, as the world after it shows them. A command that is refused gives none.
+-- Where the device of a unit failed, there is only the first note of a move away from it whose
+-- target has taken an id. Any other command gives all its notes. (this project's own)
+abbrev pub notes_after : World → Command → World → Reply → List Event
+notes_after w c v (Reply.refused refusal) = []
+notes_after w c v (Reply.thrown u) =
     if moves_away c u && has_taken w c v then take 1 (events w c) else []
-notes_behind w c v reply = events w c
+notes_after w c v reply = events w c
 
--- The notes of a step of the whole, as the world behind it and the reply tell them: of a save that
--- is done those of the change that it asks; of any other command those of the world's step.
--- (this project's own)
+-- The notes of a step of the whole, as the world after it and the reply show them. A save that is
+-- done gives those of the change that it asks, and any other save none. Any other command gives
+-- those of the world's step. (this project's own)
 abbrev pub told_by : Whole → Command → World → Reply → List Event
 told_by h (command.Save n) v Reply.done = events_of h.world (asks h (command.Save n))
 told_by h (command.Save n) v reply = []
-told_by h c v reply = notes_behind h.world c v reply
+told_by h c v reply = notes_after h.world c v reply
 
--- The world makes a step by one of the commands that this one asks in turn. (this project's own)
+-- The world makes a step by one of the commands that this command asks for. (this project's own)
 pub record WorldStep (h : Whole) (c : Command) (v : Whole) : Type 0 where
   pub asked : Command
   pub among : Among (asked_in_turn h c) asked

@@ -1,4 +1,4 @@
--- What a watch is told.
+-- The notes that a watch gets.
 use Rattle.std.specs.Prelude.{◌≡◌, ℕ, Bool, false, ◌==◌, List, [], ◌∷◌, ◌++◌}
 use Rattle.std.specs.Prelude.{Option, option_and_then, option_map, if◌then◌else◌, Ok, Err}
 use Rattle.newt_base.specs.Names.{equal_text}
@@ -38,7 +38,7 @@ entries_on w u name =
 
 -- ---- where devices may fail
 
--- the notes that the steps of a run tell, one after another; a line that is refused tells none
+-- the notes that the steps of a run give, one after another; a line that is refused gives none
 -- (this project's own)
 unfoldable pub told_in : Whole → List Item → List (Row Whole) → List Event
 told_in h (Ok c ∷ items) (row ∷ rows) = told_by h c row.0.world row.1 ++ told_in row.0 items rows
@@ -50,7 +50,7 @@ abbrev pub item_ends_notes : ℕ → Item → Bool
 item_ends_notes n (Ok c) = ends_notes n c
 item_ends_notes n (Err r) = false
 
--- none of the lines does (this project's own)
+-- none of the lines empties the watch or takes it away (this project's own)
 abbrev pub KeepsWatch : ℕ → List Item → Type 0
 KeepsWatch n items = Each (λ item. item_ends_notes n item ≡ false) items
 
@@ -59,7 +59,7 @@ KeepsWatch n items = Each (λ item. item_ends_notes n item ≡ false) items
 abbrev pub entries_named : List ℕ → Store → Option (List Entry)
 entries_named name s = option_map (λ p. p.entries) (soup_named name s)
 
--- Each of these stores has the entries of the soup of this name that one of those before had, and
+-- Each later store has the entries of the soup of this name that one of the stores before had. It
 -- has such a soup exactly where that one had it. (this project's own)
 abbrev pub KeepEntries : List ℕ → (before after : List Store) → Type 0
 KeepEntries name before after = (t : Store) → Among after t

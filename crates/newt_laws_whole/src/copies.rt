@@ -12,9 +12,9 @@ ghost use Rattle.newt_spec_world.specs.World.{mounted_store, soup_in, entry_in};
 ghost use Rattle.newt_spec_world.specs.declared.command.Command.TheVariants as command;
 ghost use Rattle.newt_work.specs.Work.{Copy, draft_with, drafted, opened, rebased};
 
-/// An open that is done makes a copy at the least free number of the entry as it is; a save that is
-/// done makes its draft the base, at the present minute, which is what the entry then is; a revert
-/// that is done begins anew from the entry as it is.
+/// An open that is done makes a copy of the entry as it is, at the least free number. A save that
+/// is done makes the draft the base, at the present minute, which is what the entry then is. A
+/// revert that is done begins anew from the entry as it is.
 pub fn copies_begin_from_the_entry()
     ensures opened { (h : Whole) (u : ℕ) (name : List ℕ) (uid n : ℕ) (t : Store) (p : Soup)
         (e : Entry) → IsDone h (command.Open u name uid) → free_copy h ≡ Some n

@@ -1,6 +1,6 @@
 //! Laws of watches and working copies beside the world, each as the contract of a function without
-//! a body: where no device fails (`runs`, `copies`, `watches`), and whatever fails (`steps`,
-//! `worlds`, `failures`).
+//! a body. Those of `runs`, `copies` and `watches` hold where no device fails; those of `steps`,
+//! `worlds` and `failures` whatever fails.
 //!
 //! It stands on the definitions of the whole (`newt_spec_whole`) and on the laws of the world and
 //! of its steps.

@@ -19,7 +19,7 @@ pub fn plain_commands()
         whole_answer h c ≡ (noting h a.0 (notes_of h.world c), a.1) }
 {}
 
-/// One that asks nothing of the world leaves it.
+/// A command that asks nothing of the world leaves it.
 pub fn other_commands()
     ensures { (h : Whole) (c : IsCommand) → asks h c ≡ None
         → (whole_answer h c).0.world ≡ h.world }

@@ -1,9 +1,9 @@
 //! Laws of steps of the whole, where devices may fail.
 ghost use Rattle.std.specs.Prelude.{ℕ, ◌≡◌, true, List, Option};
 ghost use Rattle.newt_laws_steps.specs.Steps.{AllSure, AreQuiet, IsQuiet};
-ghost use Rattle.newt_laws_whole.specs.Steps.{notes_behind, noting};
+ghost use Rattle.newt_laws_whole.specs.Steps.{notes_after, noting};
 ghost use Rattle.newt_laws_world.specs.Worlds.{is_plain};
-ghost use Rattle.newt_spec_script.specs.Rows.{IsRun, Row, replies_of, world_behind};
+ghost use Rattle.newt_spec_script.specs.Rows.{IsRun, Row, replies_of, last_world};
 ghost use Rattle.newt_spec_script.specs.Script.{Item as IsItem, replies_to, world_after};
 ghost use Rattle.newt_spec_store.specs.Store.{Store};
 ghost use Rattle.newt_spec_whole.specs.Answer.{whole_answer};
@@ -29,12 +29,12 @@ pub fn quiet_whole_steps_are_plain()
         → replies_of rows ≡ replies_to whole_answer h items }
     ensures world { (h : Whole) (items : List IsItem) (rows : List (Row Whole))
         → AllSure h.world → IsRun WholeStep h items rows → AreQuiet rows
-        → world_behind h rows ≡ world_after whole_answer h items }
+        → last_world h rows ≡ world_after whole_answer h items }
 {}
 
 /// Where the world makes a step by a command that is not of watches and copies, the whole makes one
-/// with the notes that the world behind it tells.
+/// too, with the notes that the world after it shows.
 pub fn steps_of_the_world_tell_their_notes()
     ensures { (h : Whole) (c : IsCommand) (v : World) (r : Reply) → is_plain c ≡ true
-        → Step h.world c v r → WholeStep h c (noting h v (notes_behind h.world c v r)) r }
+        → Step h.world c v r → WholeStep h c (noting h v (notes_after h.world c v r)) r }
 {}

@@ -11,8 +11,8 @@ ghost use Rattle.newt_spec_world.specs.World.{World};
 ghost use Rattle.newt_spec_world.specs.declared.command.Command.{Command as IsCommand};
 ghost use Rattle.newt_spec_world.specs.declared.command.Command.TheVariants as command;
 
-/// The notes of a watch are told as the last of them and the number of those that are lost, and it
-/// has none afterwards.
+/// A watch that is asked for its notes answers the last of them and the number of those that are
+/// lost, and has none afterwards.
 pub fn notes_are_taken_once()
     ensures { (h : Whole) (n : ℕ) (w : Watching) → IsDone h (command.Notes n) → watch h n ≡ Some w
         → (watch (whole_answer h (command.Notes n)).0 n ≡ Some (emptied w))

@@ -4,9 +4,9 @@ use Rattle.newt_host.specs.Moments.{Moment, MayLeave, changes, taken, output as 
 use Rattle.newt_spec_store.specs.Store.{Store}
 use Rattle.newt_spec_world.specs.World.{World, store_on_unit}
 
--- While a command turns the world w into v, from a moment on: nothing is read and nothing is put
--- out; a unit with a store in w is left as that store or as its store in v; a unit without a store
--- in w and in v is not touched.
+-- What holds while a command turns the world w into v, from a moment on. Nothing is read and
+-- nothing is put out. A unit with a store in w is left as that store or as its store in v. A unit
+-- without a store in w, and without one in v, is not touched.
 pub record Answering (store_of_image : List ℕ → Option Store) (w v : World) (start now : Moment) : Type 0 where
   pub unread : taken now ≡ taken start
   pub quiet : output_of now ≡ output_of start

@@ -6,8 +6,8 @@ use Rattle.newt_spec_store.specs.Store.{Entry, Soup, Store}
 use Rattle.newt_spec_query.specs.Hits.{Query, Hit, in_scope, carries, above, below, passes}
 use Rattle.newt_spec_graph.specs.Lists.{Among}
 
--- an entry of a soup of the query's name, in a store in its scope, that carries its index; the entry has a key, is in
--- bounds and passes
+-- A hit is an entry of a soup of the query's name, in a store in its scope. The soup carries the
+-- query's index. The entry has a key, is in bounds and passes.
 pub record IsHit (stores : List Store) (q : Query) (h : Hit) : Type 0 where
   pub «in» : Store
   pub of : Soup

@@ -5,7 +5,7 @@ use Rattle.newt_spec_world.specs.World.{World, mounted_store}
 use Rattle.newt_spec_world.specs.Alias.{Alias, Spot}
 use Rattle.newt_spec_graph.specs.Lists.{Among}
 
--- the entry of the alias's id in the soup and the mounted store of its signatures
+-- the spot has the entry of the alias's id, in the soup and the mounted store of its signatures
 pub record IsNamed (w : World) (a : Alias) (spot : Spot) : Type 0 where
   pub on : Store
   pub mounted_there : mounted_store w spot.unit ≡ Some on

@@ -10,7 +10,7 @@ pub record ReadsWithin (rs : Readers) : Type 0 where
   pub literals : (text : List ℕ) (g : RawGraph) → rs.literal_of text ≡ Some g → IsTrue (within_limits g)
   pub streams : (bytes : List ℕ) (g : RawGraph) → rs.stream_of bytes ≡ Ok g → IsTrue (within_limits g)
 
--- a command has the forms of its words; a refusal has none
+-- the words of a command have their forms; of a refusal nothing is asked
 abbrev pub ItemHasForm : Item → Type 0
 ItemHasForm (Ok c) = IsTrue (has_form c)
 ItemHasForm (Err r) = ⊤

@@ -1,4 +1,4 @@
--- What holds of worlds, and of the commands that they are asked.
+-- What holds of worlds, and of commands on them.
 use Rattle.std.specs.Prelude.{◌≡◌, ℕ, Bool, true, false, ◌&&◌, nat_le, IsTrue, List, length, Some, ⊤}
 use Rattle.std.specs.List.{list_all}
 use Rattle.newt_base.specs.Names.{is_name, same_name, is_identifier, valid_path}
@@ -12,22 +12,22 @@ use Rattle.newt_spec_world.specs.declared.command.Command.TheVariants as command
 use Rattle.newt_spec_world.specs.declared.command.PartWord.{PartWord}
 use Rattle.newt_spec_world.specs.World.{World, Device, Media, blank, one, two, lost, device}
 
--- it holds of each store that the media has or may have, with the number of blocks
+-- P holds of each store that the media has or may have, with the number of blocks
 abbrev pub OnMedia : (ℕ → Store → Type 0) → ℕ → Media → Type 0
 OnMedia P blocks blank = ⊤
 OnMedia P blocks (one s) = P blocks s
 OnMedia P blocks (two a b) = P blocks a × P blocks b
 OnMedia P blocks lost = ⊤
 
--- it holds of each store of the units that are meant
+-- P holds of each store of the units of which D holds
 abbrev pub OnUnits : (ℕ → Type 0) → (ℕ → Store → Type 0) → World → Type 0
 OnUnits D P w = (u : ℕ) → D u → (d : Device) → device w u ≡ Some d → OnMedia P d.blocks d.media
 
--- every store of the world is valid
+-- every store that a unit of the world has or may have is valid
 abbrev pub AllValid : World → Type 0
 AllValid w = OnUnits (λ u. ⊤) (λ blocks s. IsTrue (valid blocks s)) w
 
--- a signature is at most the largest
+-- a signature is at most the largest one, 536,870,911
 abbrev pub sig_fits : ℕ → Bool
 sig_fits sig = nat_le sig 536_870_911
 

@@ -23,7 +23,8 @@ pub fn other_commands_see_no_cursors()
         → fields (with_cursors ks w) (with_cursors ls v) c ≡ fields w v c }
 {}
 
-/// Such a command is answered as it is without cursors, and then those that are open are settled.
+/// Such a command is answered as it is where no cursor is open, and then those that are open are
+/// settled.
 pub fn other_commands_are_answered_without_cursors()
     ensures any { (ks : List (Option Cursor)) (w : World) (c : IsCommand) → uses_cursors c ≡ false
         → answered (with_cursors ks w) c None ≡ (

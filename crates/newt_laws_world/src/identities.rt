@@ -12,7 +12,8 @@ ghost use Rattle.newt_spec_world.specs.Answer.{after};
 ghost use Rattle.newt_spec_world.specs.declared.command.Command.{Command as IsCommand};
 ghost use Rattle.newt_spec_graph.specs.Lists.{Each, Among};
 
-/// Each unit keeps its store, whose ids and signatures are never given again.
+/// Each unit keeps its store, in a later state. An id or a signature that is gone from it is never
+/// given again.
 pub fn ids_are_given_once()
     ensures later { (w : World) (cs : List IsCommand) → WorldLater w (after w cs) }
     ensures entries { (s t : Store) (sig uid : ℕ) → StoreLater s t → EntryGone sig uid s
@@ -29,7 +30,8 @@ pub fn removed_is_gone()
         → soup_named name s ≡ Some p → SoupGone p.sig (drop_soup name s) }
 {}
 
-/// An alias names the entry of its signatures and id, and none where that entry is gone.
+/// An alias resolves to the entry of its signatures and id, and to none on a unit where that entry
+/// is gone.
 pub fn aliases_name_their_entry()
     ensures sound { (w : World) (a : IsAlias) (spot : Spot) → resolved w a ≡ Some spot
         → IsNamed w a spot }

@@ -2,9 +2,9 @@
 //! without a body.
 //!
 //! It stands on the crates of definitions (`newt_spec_graph`, `newt_spec_store`, `newt_spec_query`,
-//! `newt_spec_world`). A store that is valid stays valid under each command, a world whose cursors
-//! show the present keys stays so, an id or signature is given once, and a store that counts its
-//! cost as it goes has the cost made afresh. What images are read as is in `newt_laws_images`.
+//! `newt_spec_world`). A store that is valid stays valid under each command. A world whose cursors
+//! show the present keys stays so. An id or a signature is given once. What images are read as is
+//! in `newt_laws_images`, and what a change of one store does is in `newt_laws_changes`.
 #![tactic(auto)]
 
 mod cursors;

@@ -15,7 +15,9 @@ pub fn commands_have_their_forms()
         → Each ItemHasForm (items_of rs script) }
 {}
 
-/// What holds of a world holds of all later worlds of a script.
+/// What holds of a world holds of all later worlds of a script. Its stores are valid, where the
+/// words of the commands have their forms. Its cursors show the present keys. No two mounted stores
+/// have one signature.
 pub fn scripts_keep_all()
     ensures valid { (w : World) (items : List IsItem) → AllValid w → Each ItemHasForm items
         → AllValid (world_after answer w items) }

@@ -9,16 +9,16 @@ ghost use Rattle.newt_graph.specs.declared.node.Ref.TheVariants as refs;
 use newt_graph::{Node, Ref};
 use std::alloc::{AllocError, Global};
 
-/// How many references lead to a node.
+/// How many references lead to a node, counted up to two.
 #[derive(Clone, Copy)]
-pub enum Meetings {
+pub(crate) enum Meetings {
     None,
     One,
     More,
 }
 
 impl Meetings {
-    /// With one reference more.
+    /// With one more reference.
     fn more(self) -> Meetings
         ensures { result ≡ met self }
     {
@@ -30,7 +30,7 @@ impl Meetings {
 }
 
 /// Whether a node is a symbol.
-pub fn is_symbol(node: &Node) -> bool
+pub(crate) fn is_symbol(node: &Node) -> bool
     ensures { result ≡ printed.is_symbol node.now }
 {
     matches!(node, Node::Symbol(_))
@@ -104,8 +104,12 @@ fn is_met_again(meetings: &[Meetings], n: usize) -> bool
 }
 
 /// The label of each node: the next number from 0 on where more than one reference leads to it and
-/// it is no symbol, else none.
-pub fn labels(alloc: Global, nodes: &[Node], root: Ref) -> Result<Vec<Option<u32>>, AllocError>
+/// it is not a symbol, else none.
+pub(crate) fn labels(
+    alloc: Global,
+    nodes: &[Node],
+    root: Ref,
+) -> Result<Vec<Option<u32>>, AllocError>
     requires { length nodes.now ≤ 65535 }
     ensures { IfOk result (λ labels. labels.items ≡ printed.labels
         (record { nodes = nodes.now; root = root })) }

@@ -10,7 +10,7 @@ use std::marker::Model;
 
 /// What is printed so far, and below which number all objects have been met.
 #[derive(Drop)]
-pub struct Page {
+pub(crate) struct Page {
     text: Vec<u8>,
     met: usize,
 }
@@ -24,36 +24,36 @@ impl Model for Page {
 }
 
 impl Page {
-    /// A text behind which no object has been met.
-    pub fn behind(text: Vec<u8>) -> Page
+    /// A page with this text, on which no object has been met.
+    pub(crate) fn after(text: Vec<u8>) -> Page
         ensures { result ≡ (text.items, 0) }
     {
         Page { text, met: 0 }
     }
 
     /// The text alone.
-    pub fn into_text(self) -> Vec<u8>
+    pub(crate) fn into_text(self) -> Vec<u8>
         ensures { result.items ≡ self.0 }
     {
         self.text
     }
 
     /// Whether object n has been met.
-    pub fn has_met(&self, n: u32) -> bool
+    pub(crate) fn has_met(&self, n: u32) -> bool
         ensures { result ≡ nat_lt n self.now.1 }
     {
         (n as usize) < self.met
     }
 
     /// Object n and all before it have been met.
-    pub fn meet(&mut self, n: u32)
+    pub(crate) fn meet(&mut self, n: u32)
         ensures { self.new ≡ (self.old.0, n + 1) }
     {
         self.met = n as usize + 1;
     }
 
     /// Appends a text as it is.
-    pub fn put(&mut self, text: &[u8]) -> Result<(), AllocError>
+    pub(crate) fn put(&mut self, text: &[u8]) -> Result<(), AllocError>
         ensures { OnOk result (self.new ≡ spelled self.old (plain text.now)) }
     {
         self.text.extend_from_slice(text)?;
@@ -61,21 +61,21 @@ impl Page {
     }
 
     /// Appends an immediate, as a literal writes it.
-    pub fn word(&mut self, word: i32) -> Result<(), AllocError>
+    pub(crate) fn word(&mut self, word: i32) -> Result<(), AllocError>
         ensures { OnOk result (self.new ≡ spelled self.old (plain (printed.word_text word))) }
     {
         tokens::word(&mut self.text, word)
     }
 
     /// Appends a name, in bars where it has to be.
-    pub fn name(&mut self, name: &[u8]) -> Result<(), AllocError>
+    pub(crate) fn name(&mut self, name: &[u8]) -> Result<(), AllocError>
         ensures { OnOk result (self.new ≡ spelled self.old (plain (printed.name_text name.now))) }
     {
         tokens::name(&mut self.text, name)
     }
 
     /// Appends a string, in quotes.
-    pub fn string(&mut self, units: &[u16]) -> Result<(), AllocError>
+    pub(crate) fn string(&mut self, units: &[u16]) -> Result<(), AllocError>
         ensures { OnOk result (self.new ≡ spelled self.old (plain
             (printed.string_text units.now))) }
     {
@@ -83,14 +83,14 @@ impl Page {
     }
 
     /// Appends bytes, two hexadecimal digits each.
-    pub fn hex(&mut self, bytes: &[u8]) -> Result<(), AllocError>
+    pub(crate) fn hex(&mut self, bytes: &[u8]) -> Result<(), AllocError>
         ensures { OnOk result (self.new ≡ spelled self.old (plain (hex_text bytes.now))) }
     {
         tokens::hex(&mut self.text, bytes)
     }
 
-    /// A label and the mark behind it, or nothing.
-    pub fn label(&mut self, label: Option<u32>, mark: u8) -> Result<(), AllocError>
+    /// Appends a label and the mark after it, or nothing.
+    pub(crate) fn label(&mut self, label: Option<u32>, mark: u8) -> Result<(), AllocError>
         ensures { OnOk result (self.new ≡ spelled self.old (plain
             (printed.label_text label mark))) }
     {

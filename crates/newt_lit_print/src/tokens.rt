@@ -18,7 +18,7 @@ const TRUE: u32 = 26;
 /// Words of characters are below this bound: the greatest character is 65,535.
 const CHARACTERS: u32 = 1 << 20;
 
-/// A character, behind a backslash where it is one of the marks.
+/// A character, after a backslash where it is one of the marks.
 fn escaped(out: &mut Vec<u8>, marks: &[u8], c: u8) -> Result<(), AllocError>
     ensures { OnOk result (out.new.items ≡ out.old.items ++ printed.escaped marks.now c) }
 {
@@ -41,7 +41,7 @@ fn barred(out: &mut Vec<u8>, name: &[u8]) -> Result<(), AllocError>
 }
 
 /// A name as it stands where it is an identifier, else between bars.
-pub fn name(out: &mut Vec<u8>, name: &[u8]) -> Result<(), AllocError>
+pub(crate) fn name(out: &mut Vec<u8>, name: &[u8]) -> Result<(), AllocError>
     ensures { OnOk result (out.new.items ≡ out.old.items ++ printed.name_text name.now) }
 {
     if is_identifier(name) {
@@ -76,7 +76,7 @@ fn hex_byte(out: &mut Vec<u8>, byte: u8) -> Result<(), AllocError>
 }
 
 /// Two digits for each byte.
-pub fn hex(out: &mut Vec<u8>, bytes: &[u8]) -> Result<(), AllocError>
+pub(crate) fn hex(out: &mut Vec<u8>, bytes: &[u8]) -> Result<(), AllocError>
     ensures { OnOk result (out.new.items ≡ out.old.items ++ text.hex_text bytes.now) }
 {
     for byte in bytes {
@@ -106,7 +106,7 @@ fn character(out: &mut Vec<u8>, c: u16) -> Result<(), AllocError>
 }
 
 /// A number in decimal.
-pub fn decimal(out: &mut Vec<u8>, n: u32) -> Result<(), AllocError>
+pub(crate) fn decimal(out: &mut Vec<u8>, n: u32) -> Result<(), AllocError>
     ensures { OnOk result (out.new.items ≡ out.old.items ++ decimal n) }
 {
     out.extend_from_slice(Buffer::new().format(n).as_bytes())?;
@@ -122,7 +122,7 @@ fn integer(out: &mut Vec<u8>, n: i32) -> Result<(), AllocError>
 }
 
 /// An immediate word in the first form that fits.
-pub fn word(out: &mut Vec<u8>, word: i32) -> Result<(), AllocError>
+pub(crate) fn word(out: &mut Vec<u8>, word: i32) -> Result<(), AllocError>
     ensures { OnOk result (out.new.items ≡ out.old.items ++ printed.word_text word) }
 {
     let bits = word.cast_unsigned();
@@ -145,7 +145,7 @@ pub fn word(out: &mut Vec<u8>, word: i32) -> Result<(), AllocError>
 }
 
 /// A unit from 32 to 126 as itself, any other by four digits.
-pub fn unit(out: &mut Vec<u8>, unit: u16) -> Result<(), AllocError>
+pub(crate) fn unit(out: &mut Vec<u8>, unit: u16) -> Result<(), AllocError>
     ensures { OnOk result (out.new.items ≡ out.old.items ++ printed.unit_text unit) }
 {
     if 32 <= unit && unit <= 126 {
@@ -165,7 +165,7 @@ fn units(out: &mut Vec<u8>, units: &[u16]) -> Result<(), AllocError>
 }
 
 /// A string between its quotes.
-pub fn string(out: &mut Vec<u8>, text: &[u16]) -> Result<(), AllocError>
+pub(crate) fn string(out: &mut Vec<u8>, text: &[u16]) -> Result<(), AllocError>
     ensures { OnOk result (out.new.items ≡ out.old.items ++ printed.string_text text.now) }
 {
     out.push(b'"')?;

@@ -9,8 +9,8 @@ use crate::page::Page;
 use newt_graph::{MOST_OPEN, Node, Ref};
 use std::alloc::{AllocError, Global};
 
-/// Containers are open within one another as far as the limit, and then comes an object without
-/// values.
+/// Containers are open within one another up to the limit, and the last of them may hold an object
+/// without values.
 const LEVELS: u8 = MOST_OPEN + 1;
 
 /// The objects that are printed, and their labels.
@@ -189,7 +189,7 @@ impl Source<'_> {
         self.more_fields(page, tags, values, levels)
     }
 
-    /// The slots behind the first, and the closing brace.
+    /// The slots after the first one, and the closing brace.
     #[cycle(value)]
     fn more_fields(
         &self,
@@ -211,8 +211,13 @@ impl Source<'_> {
     }
 }
 
-/// The one text of a graph, behind a text.
-pub fn print(alloc: Global, text: Vec<u8>, nodes: &[Node], root: Ref) -> Result<Vec<u8>, AllocError>
+/// The one text of a graph, appended to a text.
+pub(crate) fn print(
+    alloc: Global,
+    text: Vec<u8>,
+    nodes: &[Node],
+    root: Ref,
+) -> Result<Vec<u8>, AllocError>
     requires { length nodes.now ≤ 65535 }
     ensures { IfOk result (λ whole. whole.items ≡ text.items ++ printed.literal
         (record { nodes = nodes.now; root = root })) }
@@ -222,7 +227,7 @@ pub fn print(alloc: Global, text: Vec<u8>, nodes: &[Node], root: Ref) -> Result<
         nodes,
         labels: &labels,
     };
-    let mut page = Page::behind(text);
+    let mut page = Page::after(text);
     source.value(&mut page, root, LEVELS)?;
     Ok(page.into_text())
 }

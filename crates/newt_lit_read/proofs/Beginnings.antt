@@ -1,4 +1,4 @@
--- What a value is by the first character behind its blanks, and what an immediate answers.
+-- What a value is by the first character after its blanks, and what an immediate answers.
 use Rattle.std.proofs.Common.{◌≡◌, ◌≤◌, ◌-◌, ℕ, zero, suc, List, [], ◌∷◌, length, get_or, take, drop, take_all, Option, Result, Ok, Err, OnOk, MatchResult, IsOkAnd, IsErrAnd, refl, sym, ap, subst, ◌∙◌, arith}
 use Rattle.std.specs.Prelude.{ℤ}
 use Rattle.newt_graph.specs.declared.node.Ref.{Ref}

@@ -6,13 +6,13 @@ use Rattle.newt_spec_literal.specs.Built.{Built}
 use Rattle.newt_graph.specs.Steps.{◌>>=◌}
 use Rattle.newt_lit_read.specs.Answers.{Fails}
 use Rattle.newt_lit_read.specs.Tokens.{mark_at}
-use Rattle.newt_lit_read.specs.Reading.{Reader, items_at, after_value, behind}
+use Rattle.newt_lit_read.specs.Reading.{Reader, items_at, after_value, headed}
 
 -- what was read before, and what is still read
 abbrev pub with_front : {A : Type 0} → List A → Option (List A × Built × List ℕ) → Option (List A × Built × List ℕ)
 with_front front read = read >>= λ x. Some (front ++ x.0, x.1, x.2)
 
-regroup : {A : Type 0} (front : List A) (n : A) (read : Option (List A × Built × List ℕ)) → with_front front (behind n read) ≡ with_front (front ++ n ∷ []) read
+regroup : {A : Type 0} (front : List A) (n : A) (read : Option (List A × Built × List ℕ)) → with_front front (headed n read) ≡ with_front (front ++ n ∷ []) read
 regroup {A} front n (Some x) = ap (λ (ns : List A). Some (ns, x.1, x.2)) (simp append_assoc)
 regroup front n None = refl
 
@@ -35,7 +35,7 @@ goes_on {A} read close front b rest v then after left total other h k lt going =
     go : (turns : ℕ) → length rest ≤ turns → with_front front (items_at read close turns b rest) ≡ total → Going read close (front ++ v ∷ []) then left total
     go zero enough same = absurd (omega (arith, lt, enough))
     go (suc turns) enough same =
-        let e : after_value close (items_at read close turns) v then (44, left) ≡ behind v (items_at read close turns then left) = rw other refl in
+        let e : after_value close (items_at read close turns) v then (44, left) ≡ headed v (items_at read close turns then left) = rw other refl in
         let one : with_front front (items_at read close (suc turns) b rest) ≡ with_front (front ++ v ∷ []) (items_at read close turns then left) =
         ap (with_front front) (one_turn read close turns b rest v then after (44, left) h k ∙ e) ∙ regroup front v (items_at read close turns then left) in
         record { turns = turns; enough = omega (arith, lt, enough); same = sym one ∙ same }

@@ -11,7 +11,7 @@ use Rattle.newt_graph.specs.Steps.{◌>>=◌}
 use Rattle.newt_lit_read.specs.declared.tokens.Start.TheVariants as start
 use Rattle.newt_spec_literal.specs.Words.{is_blank, skip, word_len, is_number, number, is_shown, are_digits, is_label, is_count, units_of}
 use Rattle.newt_spec_literal.specs.Grammar.{Mark, Pieces, Hex, HexByte, InName, InString, Name, Label, Tag, LargeBytes}
-use Rattle.newt_lit_read.specs.Tokens.{first_of, behind_mark, mark_at, word_at, word_value, negative_at, label_at, hex_at, code_word_at, character_at, Next, pieces_at, single, piece, next_in_name, next_in_string, next_byte, identifier_at, barred_at, name_at, tag_at, bytes_at, zeros_at, large_bytes_at}
+use Rattle.newt_lit_read.specs.Tokens.{first_of, after_mark, mark_at, word_at, word_value, negative_at, label_at, hex_at, code_word_at, character_at, Next, pieces_at, single, piece, next_in_name, next_in_string, next_byte, identifier_at, barred_at, name_at, tag_at, bytes_at, zeros_at, large_bytes_at}
 use Rattle.newt_lit_read.specs.Reading.{start_of}
 use Rattle.newt_lit_read.proofs.Characters.{one_of, small_units}
 
@@ -310,12 +310,12 @@ large_bytes_again text bytes (LargeBytes.each is) rest = each text bytes is rest
         by [] b e = absurd cc
         by (c ∷ cs) b e = let same : c ≡ b.0 = cc in rw (ap (λ (x : ℕ). eqb x 42) same ∙ b.3) e
 large_bytes_again _ _ (LargeBytes.zeros {digits = digits} is le) rest =
-    ap (λ (p : List ℕ × List ℕ). cond (is_count p.0 && leb (number p.0) 1_000_000) (behind_mark 62 (first_of p.1) >>= λ rest. Some (replicate (number p.0) 0, rest)) None) (word_again digits (62 ∷ rest) (digits_word 7 digits is) refl)
+    ap (λ (p : List ℕ × List ℕ). cond (is_count p.0 && leb (number p.0) 1_000_000) (after_mark 62 (first_of p.1) >>= λ rest. Some (replicate (number p.0) 0, rest)) None) (word_again digits (62 ∷ rest) (digits_word 7 digits is) refl)
     ∙ rw (is, le-leb _ _ le) refl
 
 -- ---- immediates
 
--- an immediate behind its first character, or a word
+-- an immediate after its first character, or a word
 pub negative_again : (digits : List ℕ) → is_number digits ≡ true → number digits ≤ 536_870_912 → (rest : List ℕ) → Ends rest → negative_at (digits ++ rest) ≡ Some (neg_ℤ (pos (4 * number digits)), rest)
 unfolding negative_at
 negative_again digits is le rest ends =

@@ -10,7 +10,7 @@ use Rattle.newt_base.specs.Names.{is_identifier}
 use Rattle.newt_graph.specs.Steps.{◌>>=◌}
 use Rattle.newt_spec_literal.specs.Words.{is_blank, skip, word_len, is_number, number, is_shown, is_barred, is_quoted, is_label, is_count, units_of}
 use Rattle.newt_spec_literal.specs.Grammar.{Mark, Pieces, Hex, HexByte, InName, InString, Name, Immediate, Label, Tag, LargeBytes}
-use Rattle.newt_lit_read.specs.Tokens.{first_of, behind_mark, mark_at, word_at, word_value, plain_at, negative_at, label_at, hex_at, code_word_at, character_at, Next, after_next, pieces_at, single, piece, escaped_in_name, next_in_name, escaped_in_string, next_in_string, next_byte, barred_at, name_at, if_colon, tag_at, bytes_at, zeros_at, large_bytes_at}
+use Rattle.newt_lit_read.specs.Tokens.{first_of, after_mark, mark_at, word_at, word_value, plain_at, negative_at, label_at, hex_at, code_word_at, character_at, Next, after_next, pieces_at, single, piece, escaped_in_name, next_in_name, escaped_in_string, next_in_string, next_byte, barred_at, name_at, if_colon, tag_at, bytes_at, zeros_at, large_bytes_at}
 use Rattle.newt_graph.proofs.Options.{bind_some, chosen, provided, some_is}
 use Rattle.newt_lit_read.proofs.Characters.{one_of, small_units}
 
@@ -21,9 +21,9 @@ pub record Takes (P : List ℕ → Type 0) (whole rest : List ℕ) : Type 0 wher
   pub is : P text
 
 -- blanks in front do not matter
-pub behind_blanks : (P : List ℕ → Type 0) → ((c : ℕ) (text : List ℕ) → is_blank c ≡ true → P text → P (c ∷ text)) → (whole rest : List ℕ) → Takes P (skip whole) rest → Takes P whole rest
-behind_blanks P blank [] rest t = t
-behind_blanks P blank (c ∷ cs) rest t = go (λ u. behind_blanks P blank cs rest u) (is_blank c) refl t
+pub after_blanks : (P : List ℕ → Type 0) → ((c : ℕ) (text : List ℕ) → is_blank c ≡ true → P text → P (c ∷ text)) → (whole rest : List ℕ) → Takes P (skip whole) rest → Takes P whole rest
+after_blanks P blank [] rest t = t
+after_blanks P blank (c ∷ cs) rest t = go (λ u. after_blanks P blank cs rest u) (is_blank c) refl t
   where
     go : (Takes P (skip cs) rest → Takes P cs rest) → (b : Bool) → is_blank c ≡ b → Takes P (cond b (skip cs) (c ∷ cs)) rest → Takes P (c ∷ cs) rest
     go others true is t =
@@ -46,7 +46,7 @@ fronted P Q c whole rest more p = record { text = c ∷ p.text; parts = ap (λ (
 -- ---- marks and words
 
 pub mark_takes : (whole : List ℕ) (m : ℕ × List ℕ) → mark_at whole ≡ Some m → Takes (Mark m.0) whole m.1
-mark_takes whole m e = behind_blanks (Mark m.0) (λ c text is mark. Mark.blank is mark) whole m.1 (go (skip whole) e)
+mark_takes whole m e = after_blanks (Mark m.0) (λ c text is mark. Mark.blank is mark) whole m.1 (go (skip whole) e)
   where
     go : (text : List ℕ) → first_of text ≡ Some m → Takes (Mark m.0) text m.1
     go [] e = absurd cc
@@ -56,16 +56,16 @@ pub first_tells : (text : List ℕ) (m : ℕ × List ℕ) → first_of text ≡ 
 first_tells [] m e = absurd cc
 first_tells (c ∷ rest) m e = ap (λ (x : ℕ × List ℕ). x.0 ∷ x.1) (some_is {x = (c, rest)} {y = m} e)
 
-pub behind_tells : (c : ℕ) (text rest : List ℕ) → behind_mark c (first_of text) ≡ Some rest → text ≡ c ∷ rest
-behind_tells c [] rest e = absurd cc
-behind_tells c (d ∷ ds) rest e =
+pub after_tells : (c : ℕ) (text rest : List ℕ) → after_mark c (first_of text) ≡ Some rest → text ≡ c ∷ rest
+after_tells c [] rest e = absurd cc
+after_tells c (d ∷ ds) rest e =
     let p = provided (eqb d c) (Some ds) rest e in
     ap (λ (x : ℕ). x ∷ ds) (eqb-true d c p.0) ∙ ap (λ (x : List ℕ). c ∷ x) (some_is {x = ds} {y = rest} p.1)
 
 word_takes : (P : List ℕ → Type 0) (whole : List ℕ) → P (word_at whole).0 → Takes P whole (word_at whole).1
 word_takes P whole is = record { text = (word_at whole).0; parts = sym (take-append-drop (word_len whole) whole); is = is }
 
--- a label's digits, and the mark behind them
+-- a label's digits, and the mark after them
 pub label_takes : (whole : List ℕ) (l : ℕ × ℕ × List ℕ) → label_at whole ≡ Some l → (digits : List ℕ) × Label digits l.0 × (whole ≡ digits ++ l.1 ∷ l.2)
 unfolding label_at
 label_takes whole l e =
@@ -248,7 +248,7 @@ name_takes (c ∷ cs) n e =
 
 pub tag_takes : (whole : List ℕ) (n : List ℕ × List ℕ) → tag_at whole ≡ Some n → Takes (λ text. Tag text n.0) whole n.1
 unfolding tag_at
-tag_takes whole n e = behind_blanks (λ text. Tag text n.0) (λ c text is tag. Tag.blank is tag) whole n.1 (go (skip whole) e)
+tag_takes whole n e = after_blanks (λ text. Tag text n.0) (λ c text is tag. Tag.blank is tag) whole n.1 (go (skip whole) e)
   where
     go : (text : List ℕ) → (name_at text >>= λ name. if_colon name.0 (mark_at name.1)) ≡ Some n → Takes (λ text. Tag text n.0) text n.1
     go text e =
@@ -336,8 +336,8 @@ zeros_take whole found e =
     let word = (word_at whole).0 in
     let p = provided (is_count word && leb (number word) 1_000_000) _ found e in
     let q = and_parts (is_count word) (leb (number word) 1_000_000) p.0 in
-    let r = bind_some (behind_mark 62 (first_of (word_at whole).1)) _ found p.1 in
-    let parts : whole ≡ word ++ 62 ∷ r.0 = sym (take-append-drop (word_len whole) whole) ∙ ap (λ (x : List ℕ). word ++ x) (behind_tells 62 (word_at whole).1 r.0 r.1) in
+    let r = bind_some (after_mark 62 (first_of (word_at whole).1)) _ found p.1 in
+    let parts : whole ≡ word ++ 62 ∷ r.0 = sym (take-append-drop (word_len whole) whole) ∙ ap (λ (x : List ℕ). word ++ x) (after_tells 62 (word_at whole).1 r.0 r.1) in
     subst (λ (f : List ℕ × List ℕ). (text : List ℕ) × (42 ∷ whole ≡ text ++ 62 ∷ f.1) × LargeBytes text f.0) (some_is r.2)
     (42 ∷ word, ap (λ (x : List ℕ). 42 ∷ x) parts, LargeBytes.zeros q.0 (leb-true _ _ q.1))
 

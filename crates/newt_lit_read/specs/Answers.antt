@@ -5,17 +5,18 @@ use Rattle.newt_graph.specs.declared.fault.GraphFault.TheVariants as graph
 use Rattle.newt_lit_read.specs.declared.fault.LitFault.{LitFault}
 use Rattle.newt_lit_read.specs.declared.fault.LitFault.TheVariants.{Literal, Memory}
 
--- a fault that fits what reading gives: nothing for Literal, anything where memory ran out
+-- A call failed. It is `Literal` only where reading gives none. Where memory ran out, nothing is
+-- said.
 abbrev pub Fails : {Y : Type 0} → LitFault → Option Y → Type 0
 Fails Literal read = read ≡ None
 Fails Memory read = Unit {0}
 
--- What a function returned, seen by view, is what reading gives, unless memory ran out.
+-- the result of a call, seen by `view`, is what reading gives; or the call failed
 abbrev pub Gives : {X Y : Type 0} → (X → Y) → Result X LitFault → Option Y → Type 0
 Gives view (Ok x) read = read ≡ Some (view x)
 Gives view (Err e) read = Fails e read
 
--- a text that passes a limit of a graph is no literal
+-- a text that passes a limit of a graph is not a literal
 abbrev pub fault_of : GraphFault → LitFault
 fault_of graph.Limit = Literal
 fault_of graph.Memory = Memory

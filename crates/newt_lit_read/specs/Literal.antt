@@ -9,10 +9,11 @@ use Rattle.newt_lit_read.specs.declared.fault.LitFault.{LitFault}
 use Rattle.newt_lit_read.specs.declared.fault.LitFault.TheVariants.{Literal}
 use Rattle.newt_lit_read.specs.Reading.{draft_at}
 
--- the graph of what was written down
+-- the graph of what was written down; none where it would pass a limit
 abbrev pub graph_of : Ref × Built → Option RawGraph
 graph_of found = normal_form (record { nodes = found.1.nodes; root = found.0 })
 
+-- the graph, or else `Literal`
 abbrev pub or_literal : Option RawGraph → Result RawGraph LitFault
 or_literal None = Err Literal
 or_literal (Some g) = Ok g
@@ -21,6 +22,6 @@ or_literal (Some g) = Ok g
 abbrev pub graph_read : List ℕ → Option RawGraph
 graph_read text = draft_at text >>= graph_of
 
--- the graph that a text is a literal of, or Literal
+-- the graph that a text is a literal of, or else `Literal`
 unfoldable pub literal_read : List ℕ → Result RawGraph LitFault
 literal_read text = or_literal (graph_read text)

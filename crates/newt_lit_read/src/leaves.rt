@@ -9,12 +9,12 @@ use crate::building::Building;
 use crate::fault::LitFault;
 use crate::names::name;
 use crate::pieces::{bytes, units};
-use crate::tokens::behind;
+use crate::tokens::after;
 use crate::words::{is_count, number, word};
 use newt_graph::{Bytes, MOST_DATA, Node, Ref, Units};
 use std::alloc::Global;
 
-/// A symbol, behind its quote.
+/// A symbol, after its quote.
 #[tactic(auto, unfolding(crate::specs::Reading::symbol_at))]
 pub(crate) fn symbol<'a>(
     alloc: Global,
@@ -31,7 +31,7 @@ pub(crate) fn symbol<'a>(
     Ok((Ref::Node(k), rest))
 }
 
-/// A string, behind its opening quote.
+/// A string, after its opening quote.
 #[tactic(auto, unfolding(crate::specs::Reading::string_at))]
 pub(crate) fn string<'a>(
     alloc: Global,
@@ -64,12 +64,12 @@ fn classed<'a>(
 {
     let n = building.hold()?;
     let (name, rest) = name(alloc, text)?;
-    let rest = behind(':', rest)?;
+    let rest = after(':', rest)?;
     let k = building.symbol(&name)?;
     Ok(((n, k), rest))
 }
 
-/// A binary, behind its angle bracket.
+/// A binary, after its angle bracket.
 #[tactic(auto, unfolding(crate::specs::Reading::binary_at))]
 fn binary<'a>(
     alloc: Global,
@@ -87,7 +87,7 @@ fn binary<'a>(
     Ok((Ref::Node(n), rest))
 }
 
-/// Zero bytes, behind the `*` before their count.
+/// Zero bytes, after the `*` before their count.
 #[tactic(auto, unfolding(crate::specs::Tokens::zeros_at))]
 fn zeros(alloc: Global, text: &[char]) -> Result<(Vec<u8>, &[char]), LitFault>
     ensures gives { Gives (λ x. (x.0.items, x.1.now)) result (zeros_at text.now) }
@@ -101,7 +101,7 @@ fn zeros(alloc: Global, text: &[char]) -> Result<(Vec<u8>, &[char]), LitFault>
     if count as usize > MOST_DATA {
         return Err(LitFault::Literal);
     }
-    let rest = behind('>', rest)?;
+    let rest = after('>', rest)?;
     Ok((vec![in alloc; 0; count as usize]?, rest))
 }
 
@@ -118,7 +118,7 @@ fn large_bytes(alloc: Global, text: &[char]) -> Result<(Vec<u8>, &[char]), LitFa
     }
 }
 
-/// A large binary, behind its two angle brackets.
+/// A large binary, after its two angle brackets.
 #[tactic(auto, unfolding(crate::specs::Reading::large_at))]
 fn large<'a>(
     alloc: Global,
@@ -132,12 +132,12 @@ fn large<'a>(
 {
     let ((n, class), rest) = classed(alloc, building, text)?;
     let (bytes, rest) = large_bytes(alloc, rest)?;
-    let rest = behind('>', rest)?;
+    let rest = after('>', rest)?;
     building.fill(n, Node::Large(class, Bytes::of(bytes)))?;
     Ok((Ref::Node(n), rest))
 }
 
-/// A binary or a large binary, behind the first angle bracket.
+/// A binary or a large binary, after the first angle bracket.
 #[tactic(auto, unfolding(crate::specs::Reading::angle_at))]
 pub(crate) fn angle<'a>(
     alloc: Global,

@@ -28,8 +28,8 @@ fn read(alloc: Global, text: &[char]) -> Result<Graph, LitFault>
 /// The graph that a text is a literal of. Blanks may stand around it.
 ///
 /// `Literal` comes exactly where there is no such graph: the text is none of the forms, or its
-/// graph would pass a limit of graphs, as more than 200 containers open within one another, or more
-/// than 65,535 nodes. `Memory` may come in place of any answer.
+/// graph would pass a limit of graphs. Such limits are 200 containers open within one another and
+/// 65,535 nodes. `Memory` may come in place of any answer.
 pub fn read_literal(alloc: Global, text: &str) -> Result<Graph, LitFault>
     // What is read is written so.
     ensures found { IfOk result (λ g. Reads (chars text.now) g) }

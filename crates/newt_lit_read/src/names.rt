@@ -34,7 +34,7 @@ fn identifier(alloc: Global, text: &[char]) -> Result<(Vec<u8>, &[char]), LitFau
     Ok((bytes_of(alloc, word)?, rest))
 }
 
-/// A name behind its opening bar.
+/// A name after its opening bar.
 #[tactic(auto, unfolding(crate::specs::Tokens::barred_at))]
 fn barred(alloc: Global, text: &[char]) -> Result<(Vec<u8>, &[char]), LitFault>
     ensures gives { Gives (λ x. (x.0.items, x.1.now)) result (barred_at text.now) }
@@ -47,7 +47,7 @@ fn barred(alloc: Global, text: &[char]) -> Result<(Vec<u8>, &[char]), LitFault>
     Ok((name, rest))
 }
 
-/// A name of 1 to 254 bytes, and the text behind it.
+/// A name of 1 to 254 bytes, and the text after it.
 #[tactic(auto, unfolding(crate::specs::Tokens::name_at))]
 pub(crate) fn name(alloc: Global, text: &[char]) -> Result<(Vec<u8>, &[char]), LitFault>
     ensures gives { Gives (λ x. (x.0.items, x.1.now)) result (name_at text.now) }
@@ -60,8 +60,7 @@ pub(crate) fn name(alloc: Global, text: &[char]) -> Result<(Vec<u8>, &[char]), L
     }
 }
 
-/// A name with a colon behind it, and the text behind that. Literal where something else stands
-/// there.
+/// A name, after it a colon, and after that the text. `Literal` where something else stands there.
 #[tactic(auto, unfolding(crate::specs::Tokens::tag_at))]
 pub(crate) fn tag(alloc: Global, text: &[char]) -> Result<(Vec<u8>, &[char]), LitFault>
     ensures gives { Gives (λ x. (x.0.items, x.1.now)) result (tag_at text.now) }

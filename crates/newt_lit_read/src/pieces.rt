@@ -10,7 +10,7 @@ use crate::fault::LitFault;
 use crate::words::{are_hex_digits, hex_number, is_barred};
 use std::alloc::{AllocError, Global};
 
-/// So many hexadecimal digits, and the text behind them.
+/// So many hexadecimal digits, and the text after them.
 #[tactic(auto, unfolding(crate::specs::Tokens::hex_at))]
 pub(crate) fn hex(count: usize, text: &[char]) -> Result<(u64, &[char]), LitFault>
     requires { count ≤ 8 }
@@ -28,7 +28,7 @@ pub(crate) fn hex(count: usize, text: &[char]) -> Result<(u64, &[char]), LitFaul
     Ok((hex_number(digits), rest))
 }
 
-/// Behind the backslash in a name.
+/// The byte after the backslash in a name.
 fn escaped_in_name(text: &[char]) -> Result<(char, &[char]), LitFault>
     ensures gives { Gives (λ x. (x.0, x.1.now)) result (escaped_in_name text.now) }
     ensures is_byte { IfOk result (λ x. x.0 < 127) }
@@ -40,7 +40,7 @@ fn escaped_in_name(text: &[char]) -> Result<(char, &[char]), LitFault>
     }
 }
 
-/// The next byte of a name, or none behind its closing bar.
+/// The next byte of a name, or none after its closing bar.
 #[tactic(auto, unfolding(crate::specs::Tokens::next_in_name))]
 fn next_in_name(text: &[char]) -> Result<(Option<u8>, &[char]), LitFault>
     ensures gives { Gives (λ x. (x.0, x.1.now)) result (next_in_name text.now) }
@@ -62,7 +62,7 @@ fn next_in_name(text: &[char]) -> Result<(Option<u8>, &[char]), LitFault>
     }
 }
 
-/// The bytes of a name, behind its opening bar.
+/// The bytes of a name, after its opening bar.
 pub(crate) fn between_bars(alloc: Global, text: &[char]) -> Result<(Vec<u8>, &[char]), LitFault>
     ensures gives { Gives (λ x. (x.0.items, x.1.now)) result
         (pieces_at single next_in_name (length text.now) text.now) }
@@ -80,7 +80,7 @@ pub(crate) fn between_bars(alloc: Global, text: &[char]) -> Result<(Vec<u8>, &[c
     }
 }
 
-/// Behind the backslash in a string.
+/// The character after the backslash in a string.
 fn escaped_in_string(text: &[char]) -> Result<(u32, &[char]), LitFault>
     ensures gives { Gives (λ x. (x.0, x.1.now)) result (escaped_in_string text.now) }
     ensures is_code { IfOk result (λ x. x.0 < 1114112) }
@@ -96,7 +96,7 @@ fn escaped_in_string(text: &[char]) -> Result<(u32, &[char]), LitFault>
     }
 }
 
-/// The next character of a string, or none behind its closing quote.
+/// The next character of a string, or none after its closing quote.
 #[tactic(auto, unfolding(crate::specs::Tokens::next_in_string))]
 fn next_in_string(text: &[char]) -> Result<(Option<u32>, &[char]), LitFault>
     ensures gives { Gives (λ x. (x.0, x.1.now)) result (next_in_string text.now) }
@@ -133,7 +133,7 @@ fn push_units(units: &mut Vec<u16>, code: u32) -> Result<(), AllocError>
     Ok(())
 }
 
-/// The units of a string, behind its opening quote.
+/// The units of a string, after its opening quote.
 pub(crate) fn units(alloc: Global, text: &[char]) -> Result<(Vec<u16>, &[char]), LitFault>
     ensures gives { Gives (λ x. (x.0.items, x.1.now)) result
         (pieces_at units_of next_in_string (length text.now) text.now) }
@@ -151,7 +151,7 @@ pub(crate) fn units(alloc: Global, text: &[char]) -> Result<(Vec<u16>, &[char]),
     }
 }
 
-/// The next byte in hexadecimal, or none behind the closing angle bracket.
+/// The next byte in hexadecimal, or none after the closing angle bracket.
 #[tactic(auto, unfolding(crate::specs::Tokens::next_byte))]
 fn next_byte(text: &[char]) -> Result<(Option<u8>, &[char]), LitFault>
     ensures gives { Gives (λ x. (x.0, x.1.now)) result (next_byte text.now) }

@@ -20,7 +20,7 @@ fn is_word(c: char) -> bool
     c.is_ascii_alphanumeric() || c == '_'
 }
 
-/// The text behind the blanks in front.
+/// The text after the blanks in front.
 pub(crate) fn skip(text: &[char]) -> &[char]
     ensures value { result.now ≡ skip text.now }
     ensures within { length result.now ≤ length text.now }
@@ -51,7 +51,7 @@ fn word_len(text: &[char]) -> usize
     len
 }
 
-/// The word in front, and the text behind it.
+/// The word in front, and the text after it.
 pub(crate) fn word(text: &[char]) -> (&[char], &[char])
     ensures value { (result.0.now, result.1.now) ≡ word_at text.now }
     ensures within { length result.1.now ≤ length text.now }
@@ -87,7 +87,7 @@ pub(crate) fn is_barred(c: char) -> bool
     ' ' <= c && c <= '~' && c != '|' && c != '\\'
 }
 
-/// Whether it stands for itself behind a `$`.
+/// Whether it stands for itself after a `$`.
 pub(crate) fn is_shown(c: char) -> bool
     ensures { result ≡ is_shown c }
 {

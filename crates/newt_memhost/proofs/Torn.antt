@@ -231,7 +231,7 @@ torn_is_one (Read u) = inr refl
 torn_is_one (Write u at n) = inr refl
 torn_is_one (Sync u done) = inl refl
 
--- how far a crash within a call has the log behind it
+-- how far a crash within a call has the log after it
 pub within-there : (log : List Happened) (call place n : ℕ) (h : Happened) → take place log ≡ before call log → slice_get log place ≡ call_at call log → place < length log → h ≡ get_or log place h → n ≡ length (torn (Some h))
     → (take (place + n) log ≡ within call log) × (place + n ≤ length log)
 within-there log call place n h front there low is n_is =

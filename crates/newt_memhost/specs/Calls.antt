@@ -11,16 +11,16 @@ use Rattle.newt_memhost.specs.declared.card.Device.{Device}
 use Rattle.newt_memhost.specs.declared.happened.Happened.{Happened}
 use Rattle.newt_memhost.specs.declared.log.Log.{Log}
 
--- a count after so many more; it stands still at its last value
+-- a count after so many more; it stays at its last value
 abbrev pub raised : ℕ → ℕ → ℕ
 raised more count = min (count + more) (2 ^ 64 - 1)
 
--- a count of faults after a call: one more where that failed, and else as it was
+-- a count of faults after a call: one more where that failed, and otherwise as it was
 abbrev pub faults_after : {T E : Type 0} → Result T E → ℕ → ℕ
 faults_after (Ok x) count = count
 faults_after (Err e) count = raised 1 count
 
--- a count of bytes after a call on so many of them: where that failed as it was
+-- a count of bytes after a call on so many of them; where that failed, as it was
 abbrev pub moved_after : {T E : Type 0} → ℕ → Result T E → ℕ → ℕ
 moved_after bytes (Ok x) count = raised bytes count
 moved_after bytes (Err e) count = count
@@ -30,7 +30,8 @@ abbrev pub worn : ℕ → ℕ → ℕ
 worn zero count = count
 worn (suc n) count = raised (suc n) count
 
--- A call was kept, as one more entry that has a number, on its unit or on none. It failed exactly where it was to fail.
+-- A call was kept: as one more entry that has a number, on its unit or on none. It failed exactly
+-- where it was to fail.
 pub record WasKept {T E : Type 0} (unit : Option ℕ) (fails : Bool) (result : Result T E) (old new : Log) : Type 0 where
   pub entry : Happened
   pub bytes : List ℕ
@@ -40,18 +41,21 @@ pub record WasKept {T E : Type 0} (unit : Option ℕ) (fails : Bool) (result : R
   pub is_on : unit_at (Some entry) ≡ unit
   pub failed : is_err result ≡ fails
 
--- There was less room than a call uses, and no memory for more: it failed, and nothing has happened.
+-- There was less room than a call uses, and no memory for more. The call failed, and nothing has
+-- happened.
 pub record HadNoRoom {T E : Type 0} (room : Type 0) (result : Result T E) (old new : Log) : Type 0 where
   pub entries_are : new.entries.items ≡ old.entries.items
   pub bytes_are : new.store.items ≡ old.store.items
   pub failed : IsErr result
   pub full : room → ⊥
 
--- What became of a call: nothing that happened before was forgotten, and nothing but that call has happened.
+-- What became of a call: nothing that happened before was forgotten, and nothing but that call has
+-- happened.
 abbrev pub Became : {T E : Type 0} → Option ℕ → Bool → Type 0 → Result T E → Log → Log → Type 0
 Became unit fails room result old new = WasKept unit fails result old new ⊎ HadNoRoom room result old new
 
--- A call uses one entry of the room of the log and at most so many bytes of it, and leaves the entries that wait for attaches.
+-- A call uses at most one entry of the room of the log and so many bytes of it. It leaves room for
+-- the entries that wait for attaches.
 pub record Keeps {T E : Type 0} (waiting bytes : ℕ) (unit : Option ℕ) (fails : Bool) (room : Type 0) (result : Result T E) (old new : Log) : Type 0 where
   pub became : Became unit fails room result old new
   pub waits : HasRoom waiting 0 new
@@ -60,9 +64,9 @@ pub record Keeps {T E : Type 0} (waiting bytes : ℕ) (unit : Option ℕ) (fails
   pub entries_left : vec_capacity old.entries ≤ vec_capacity new.entries
   pub bytes_left : vec_capacity old.store ≤ vec_capacity new.store
 
--- A call on a card leaves what is attached. It counts its fault where it failed, and else the
--- bytes that it programmed and fetched; and it counts an erase and a sync. No count falls. It keeps
--- whether it failed.
+-- A call on a card leaves what is attached. It counts its fault where it failed, and otherwise the
+-- bytes that it programmed and fetched. It counts an erase and a sync in any case. No count falls.
+-- The card keeps whether it failed.
 pub record OnCard {T E : Type 0} (work : Work) (result : Result T E) (old new : Card) : Type 0 where
   pub attached : new.attached ≡ old.attached
   pub name : new.name.items ≡ old.name.items
@@ -103,12 +107,13 @@ pub record HasRoomFor (entries bytes : ℕ) (output : Vec ℕ Global) (log : Log
   pub log_fits : HasRoom entries bytes log
   pub output_fits : vec_len output + bytes ≤ vec_capacity output
 
--- A call that was to program or erase a range, was kept and failed has the range pending, as it reads.
+-- A call that was to program or erase a range, was kept and failed: the range is pending with what
+-- it read.
 abbrev pub LeavesPending : {T E : Type 0} → ℕ → ℕ → ℕ → List ℕ → Result T E → Log → Log → Type 0
 LeavesPending unit at n held result old new = new.calls ≡ old.calls + 1 → OnErr result (now_of new ≡ On unit (Wrote at (take n (drop at held))) ∷ now_of old)
 
--- What a call does that is to put n bytes into a range: it reads like that, what happened is what
--- the card holds, and after an error the range is pending and reads as before.
+-- What a call does that is to put n bytes into a range. The range reads like these, and the card
+-- holds what has happened. After an error the range is pending and reads as before.
 pub record Puts {T E : Type 0} (unit at n : ℕ) (bytes : List ℕ) (result : Result T E)
     (old new : Card) (before now : Log) : Type 0 where
   pub event : Writes unit at bytes result (now_of before) (now_of now)
@@ -117,8 +122,9 @@ pub record Puts {T E : Type 0} (unit at n : ℕ) (bytes : List ℕ) (result : Re
   pub pending : LeavesPending unit at n old.held.items result before now
   pub unchanged : OnErr result (new.held.items ≡ old.held.items)
 
--- What a call does that is to print a piece: it is appended to the output, or the call failed and
--- the output is as it was. It uses no more room than the piece has bytes, and gives none up.
+-- What a call does that is to print a piece: the piece is appended to the output, or the call
+-- failed and the output is as it was. It uses no more room than the piece has bytes, and gives none
+-- up.
 pub record Prints {T E : Type 0} (waiting : ℕ) (fails : Bool) (piece : List ℕ) (result : Result T E)
     (shown now : Vec ℕ Global) (old new : Log) : Type 0 where
   pub printed : OnOk result (now_of new ≡ printed_after piece (now_of old))

@@ -10,30 +10,37 @@ abbrev pub name_of : Option Card → Option (List ℕ)
 name_of None = None
 name_of (Some c) = cond c.attached (Some c.name.items) None
 
+-- the number of its whole blocks, 0 where there is no unit
 abbrev pub blocks_of : Option Card → ℕ
 blocks_of None = 0
 blocks_of (Some c) = length c.first.items / 4096
 
+-- how many of its calls failed, 0 where there is no unit
 abbrev pub faults_of : Option Card → ℕ
 faults_of None = 0
 faults_of (Some c) = c.faults
 
+-- how many bytes of it were programmed, 0 where there is no unit
 abbrev pub programmed_of : Option Card → ℕ
 programmed_of None = 0
 programmed_of (Some c) = c.programmed
 
+-- how many bytes of it were fetched, 0 where there is no unit
 abbrev pub fetched_of : Option Card → ℕ
 fetched_of None = 0
 fetched_of (Some c) = c.fetched
 
+-- how many of its blocks were to be erased, 0 where there is no unit
 abbrev pub erased_of : Option Card → ℕ
 erased_of None = 0
 erased_of (Some c) = c.erased
 
+-- how often it was to be synced, 0 where there is no unit
 abbrev pub synced_of : Option Card → ℕ
 synced_of None = 0
 synced_of (Some c) = c.synced
 
+-- whether its last call failed
 abbrev pub broken_of : Option Card → Bool
 broken_of None = false
 broken_of (Some c) = c.broken
@@ -43,22 +50,27 @@ abbrev pub attached_device : List ℕ → List Card → Option (List ℕ)
 attached_device name [] = None
 attached_device name (c ∷ cards) = cond (c.attached && bytes_eq c.name.items name) (Some c.first.items) (attached_device name cards)
 
+-- the bytes of the device of a name, where it waits for a unit
 abbrev pub free_device : List ℕ → List Device → Option (List ℕ)
 free_device name [] = None
 free_device name (d ∷ shelf) = cond (bytes_eq d.name.items name) (Some d.first.items) (free_device name shelf)
 
+-- the first, where there is one, and otherwise the second
 abbrev pub or_else : Option (List ℕ) → Option (List ℕ) → Option (List ℕ)
 or_else None o = o
 or_else (Some x) o = Some x
 
+-- the bytes that the device of a name had at first, whether a unit has it or not
 abbrev pub device_of : List Card → List Device → List ℕ → Option (List ℕ)
 device_of cards shelf name = or_else (attached_device name cards) (free_device name shelf)
 
--- what has happened to a unit is what it holds: without a device nothing, and with one a history of its bytes
+-- what has happened to a unit is what it holds: nothing without a device, and a history of its
+-- bytes with one
 abbrev pub StandsAs : Bool → Card → List Change → Type 0
 StandsAs true c done = (bytes_after done ≡ c.held.items) × IsHistory (length c.first.items) done
 StandsAs false c done = (length done ≡ 0) × (length c.first.items ≡ 0)
 
+-- the same where there may be no unit: then nothing has happened
 abbrev pub Stands : Option Card → List Change → Type 0
 Stands None done = length done ≡ 0
 Stands (Some c) done = StandsAs c.attached c done

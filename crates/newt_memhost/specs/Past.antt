@@ -17,7 +17,8 @@ abbrev pub call_at : ℕ → List Happened → Option Happened
 call_at call [] = None
 call_at call (h ∷ log) = if nat_lt call (counts h) then Some h else call_at (call - counts h) log
 
--- A crash within a call comes at its end; within a sync it comes at the beginning, while its unit's ranges are pending.
+-- A crash within a call comes at its end. Within a sync it comes at the beginning, while its unit's
+-- ranges are pending.
 abbrev pub torn : Option Happened → List Happened
 torn None = []
 torn (Some (Attach u bytes)) = []
@@ -27,6 +28,7 @@ torn (Some (Read u)) = Read u ∷ []
 torn (Some (Write u at n)) = Write u at n ∷ []
 torn (Some (Sync u done)) = []
 
+-- what stands in the log when a crash comes within the call of a number
 abbrev pub within : ℕ → List Happened → List Happened
 within call log = before call log ++ torn (call_at call log)
 
@@ -40,6 +42,7 @@ unit_at (Some (Read u)) = Some u
 unit_at (Some (Write u at n)) = Some u
 unit_at (Some (Sync u done)) = Some u
 
+-- how many bytes an entry printed
 abbrev pub printed_by : Happened → ℕ
 printed_by (Attach u bytes) = 0
 printed_by (Take o) = 0
@@ -48,6 +51,7 @@ printed_by (Read u) = 0
 printed_by (Write u at n) = 0
 printed_by (Sync u done) = 0
 
+-- how many bytes of the input an entry took
 abbrev pub taken_by : Happened → ℕ
 taken_by (Attach u bytes) = 0
 taken_by (Take None) = 0

@@ -9,7 +9,7 @@ use Rattle.newt_memhost.specs.Outside.{outside_of}
 use Rattle.newt_memhost.specs.Words.{calls_of, failing_of, most_of}
 use Rattle.newt_memhost.specs.declared.host.MemHost.{MemHost}
 
--- the host has room for so many calls and bytes more, beside an attach of each of its devices
+-- the host has room for so many calls and bytes more, and for an attach of each device that waits
 abbrev pub HasRoomOf : ℕ → ℕ → MemHost → Type 0
 HasRoomOf calls bytes m = HasRoomFor (vec_len m.shelf + calls) bytes m.output m.log
 
@@ -22,9 +22,9 @@ pub record SamePlan (old new : MemHost) : Type 0 where
   pub failing : new.failing.items ≡ old.failing.items
   pub most : new.most ≡ old.most
 
--- A call that answers a Result was kept with the number that comes next, and failed exactly where
--- that is listed; or there was less room than it uses, one call and so many bytes, and then it
--- failed and nothing has happened. It uses no more room than that.
+-- What becomes of a call that answers a Result. Either it was kept with the number that comes next,
+-- and failed exactly where that number is listed. Or there was less room than it uses, one call and
+-- so many bytes; then it failed and nothing has happened. It uses no more room than that.
 pub record IsKept {T E : Type 0} (bytes : ℕ) (unit : Option ℕ) (result : Result T E)
     (old new : MemHost) : Type 0 where
   pub became : Became unit (is_listed old) (HasRoomOf 1 bytes old) result old.log new.log
@@ -32,8 +32,8 @@ pub record IsKept {T E : Type 0} (bytes : ℕ) (unit : Option ℕ) (result : Res
       → HasRoomOf (calls + 1) (more + bytes) old → HasRoomOf calls more new
   pub plan : SamePlan old new
 
--- A call on a unit counted its fault where it failed, and else the bytes that it programmed and
--- fetched. It counted its erase or its sync in any case.
+-- A call on a unit counted its fault where it failed, and otherwise the bytes that it programmed
+-- and fetched. It counted its erase or its sync in any case.
 pub record IsCounted {T E : Type 0} (unit : ℕ) (work : Work) (result : Result T E)
     (old new : Outside) : Type 0 where
   pub faults : new.dev_faults unit ≡ faults_after result (old.dev_faults unit)
@@ -57,7 +57,7 @@ pub record InputKept {E : Type 0} (bytes : ℕ) (result : Result ℕ E)
   pub faults : new.in_faults ≡ faults_after result old.in_faults
   pub kept : IsKept bytes None result old new
 
--- The same of the output. After an error nothing was printed.
+-- The same for the output. After an error nothing was printed.
 pub record OutputKept {E : Type 0} (bytes : ℕ) (result : Result ℕ E)
     (old new : MemHost) : Type 0 where
   pub piece : IfOk result (λ count. count ≡ min bytes old.most)
@@ -71,7 +71,7 @@ pub record AttachKept (old new : MemHost) : Type 0 where
   pub numbers : new.log.calls ≡ old.log.calls
   pub plan : SamePlan old new
 
--- A range that was to be written has failed: it is pending, and reads as before.
+-- A call that was to write a range was kept and failed: the range is pending, and reads as before.
 pub record LeavesRange {T E : Type 0} (unit at n : ℕ) (result : Result T E)
     (old new : MemHost) : Type 0 where
   pub pending : LeavesPending unit at n (image unit (outside_of old).now) result old.log new.log

@@ -3,14 +3,14 @@ ghost use Rattle.std.specs.Prelude.{◌≡◌, ◌*◌, ◌/◌, ◌<◌, ◌^�
 
 use std::alloc::{AllocError, Global};
 
-/// A device that no unit has yet: its name and its bytes, with a copy of them to be written and one
-/// for the log, so that an attach takes no memory.
+/// A device that no unit has yet: its name and its bytes. A copy of them to be written and one for
+/// the log are at hand, so that an attach takes no memory.
 #[derive(Drop)]
-pub struct Device {
-    pub name: Vec<u8>,
-    pub first: Vec<u8>,
-    pub held: Vec<u8>,
-    pub logged: Vec<u8>,
+pub(crate) struct Device {
+    pub(crate) name: Vec<u8>,
+    pub(crate) first: Vec<u8>,
+    pub(crate) held: Vec<u8>,
+    pub(crate) logged: Vec<u8>,
     ghost held_is: { held.items ≡ first.items },
     ghost logged_is: { logged.items ≡ first.items },
     ghost whole: { length first.items ≡ length first.items / 4096 * 4096 },
@@ -19,7 +19,7 @@ pub struct Device {
 
 impl Device {
     /// A device of these bytes.
-    pub fn new(alloc: Global, name: &str, bytes: &[u8]) -> Result<Self, AllocError>
+    pub(crate) fn new(alloc: Global, name: &str, bytes: &[u8]) -> Result<Self, AllocError>
         requires whole { length bytes.now ≡ length bytes.now / 4096 * 4096 }
         requires few { length bytes.now / 4096 < 2 ^ 32 }
         ensures name { IfOk result (λ device. device.name.items ≡ name.now) }
@@ -34,21 +34,21 @@ impl Device {
     }
 }
 
-/// A unit, with the bytes of its device at the attach and now, and with its counts. Without a
-/// device it has none.
+/// A unit: the bytes of its device at the attach and now, and its counts. Without a device it has
+/// no bytes.
 #[derive(Drop)]
-pub struct Card {
-    pub attached: bool,
-    pub name: Vec<u8>,
-    pub first: Vec<u8>,
-    pub held: Vec<u8>,
-    pub faults: u64,
-    pub programmed: u64,
-    pub fetched: u64,
-    pub erased: u64,
-    pub synced: u64,
-    // Whether the last call failed.
-    pub broken: bool,
+pub(crate) struct Card {
+    pub(crate) attached: bool,
+    pub(crate) name: Vec<u8>,
+    pub(crate) first: Vec<u8>,
+    pub(crate) held: Vec<u8>,
+    pub(crate) faults: u64,
+    pub(crate) programmed: u64,
+    pub(crate) fetched: u64,
+    pub(crate) erased: u64,
+    pub(crate) synced: u64,
+    /// Whether the last call failed.
+    pub(crate) broken: bool,
     ghost size: { length held.items ≡ length first.items },
     ghost whole: { length first.items ≡ length first.items / 4096 * 4096 },
     ghost few: { length first.items / 4096 < 2 ^ 32 },
@@ -57,8 +57,8 @@ pub struct Card {
 impl Card {
     ghost use Rattle.newt_memhost.specs.Cards.{IsEmpty};
 
-    /// No device.
-    pub fn new(alloc: Global) -> Self
+    /// A unit without a device.
+    pub(crate) fn new(alloc: Global) -> Self
         ensures { IsEmpty result }
     {
         Card {

@@ -10,7 +10,7 @@ use crate::past::Pick;
 use newt_host::Unit;
 use std::alloc::{AllocError, Global};
 
-// Chooses what is left of a range that now reads like this.
+/// Chooses what is left of a range that now reads like this.
 fn choose(pick: Pick, left: &mut Vec<u8>, at: usize, now: &[u8])
     requires { at + length now.now ≤ length left.old.items }
     ensures { left.new.items ≡ chosen pick at now.now left.old.items }
@@ -27,7 +27,7 @@ fn choose(pick: Pick, left: &mut Vec<u8>, at: usize, now: &[u8])
     }
 }
 
-// Other bytes in place of all that there are.
+/// Other bytes in place of all that there are.
 fn restart(image: &mut Vec<u8>, bytes: &[u8]) -> Result<(), AllocError>
     ensures { OnOk result (image.new.items ≡ bytes.now) }
 {
@@ -35,7 +35,8 @@ fn restart(image: &mut Vec<u8>, bytes: &[u8]) -> Result<(), AllocError>
     image.extend_from_slice(bytes)
 }
 
-// Goes on by one entry with its bytes: the image as it reads, and the one that the pick chooses.
+/// Goes on by one entry with its bytes: changes the image as it reads, and the one that the pick
+/// chooses.
 fn go_on(
     entry: &Happened,
     bytes: &[u8],
@@ -78,7 +79,7 @@ pub struct Crash {
 }
 
 /// What a pick chooses at the end of a log.
-pub fn build(
+pub(crate) fn build(
     alloc: Global,
     log: &[Happened],
     store: &[u8],

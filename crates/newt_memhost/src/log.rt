@@ -1,4 +1,4 @@
-//! The host's past, in room that can be taken beforehand.
+//! The host's past, in room that can be taken in advance.
 ghost use Rattle.std.specs.Prelude.{◌≡◌, ◌+◌, ◌-◌, ◌≤◌, ◌<◌, ◌++◌, ◌∷◌, [], length, IsTrue};
 ghost use Rattle.std.specs.Prelude.{vec_len, vec_capacity};
 ghost use Rattle.newt_memhost.specs.Happened.{after, bytes_of, calls_in, counts, total};
@@ -10,15 +10,15 @@ use std::alloc::Global;
 /// What has happened, the oldest first, and a store of the bytes that were taken, written or
 /// printed.
 #[derive(Drop)]
-pub struct Log {
-    pub entries: Vec<Happened>,
-    pub store: Vec<u8>,
-    pub calls: u64,
+pub(crate) struct Log {
+    pub(crate) entries: Vec<Happened>,
+    pub(crate) store: Vec<u8>,
+    pub(crate) calls: u64,
     ghost counted: { calls_in entries.items ≡ calls },
     ghost used: { total entries.items ≡ length store.items },
 }
 
-// Adds an entry for which there is room.
+/// Adds an entry for which there is room.
 fn push(entries: &mut Vec<Happened>, entry: Happened)
     requires { vec_len entries.old < vec_capacity entries.old }
     ensures items { entries.new.items ≡ entries.old.items ++ entry ∷ [] }
@@ -27,7 +27,7 @@ fn push(entries: &mut Vec<Happened>, entry: Happened)
     let _added = entries.push(entry);
 }
 
-// Adds bytes for which there is room.
+/// Adds bytes for which there is room.
 fn extend(store: &mut Vec<u8>, bytes: &[u8])
     requires { vec_len store.old + length bytes.now ≤ vec_capacity store.old }
     ensures items { store.new.items ≡ store.old.items ++ bytes.now }
@@ -41,8 +41,8 @@ impl Log {
     ghost use Rattle.newt_memhost.specs.Log.{Adds, HasRoom, NoSmaller, SamePast, now_of};
     ghost use Rattle.newt_memhost.specs.declared.happened.Happened.TheVariants.{Attach};
 
-    /// Nothing has happened.
-    pub fn new(alloc: Global) -> Self
+    /// A log in which nothing has happened.
+    pub(crate) fn new(alloc: Global) -> Self
         ensures entries { result.entries.items ≡ [] }
         ensures store { result.store.items ≡ [] }
         ensures calls { result.calls ≡ 0 }
@@ -55,7 +55,7 @@ impl Log {
     }
 
     /// Makes room for so many entries and bytes more, and answers whether there is that room.
-    pub fn reserve(&mut self, entries: usize, bytes: usize) -> bool
+    pub(crate) fn reserve(&mut self, entries: usize, bytes: usize) -> bool
         ensures past { SamePast self.old self.new }
         ensures more { NoSmaller self.old self.new }
         ensures room { IsTrue result → HasRoom entries bytes self.new }
@@ -65,7 +65,7 @@ impl Log {
     }
 
     /// Adds a call with its bytes, for which there is room.
-    pub fn add(&mut self, entry: Happened, bytes: &[u8])
+    pub(crate) fn add(&mut self, entry: Happened, bytes: &[u8])
         requires call { counts entry ≡ 1 }
         requires its { bytes_of entry ≡ length bytes.now }
         requires room { HasRoom 1 (length bytes.now) self.old }
@@ -77,7 +77,7 @@ impl Log {
     }
 
     /// Adds an attach, for which there is room.
-    pub fn attach(&mut self, unit: Unit, first: Vec<u8>)
+    pub(crate) fn attach(&mut self, unit: Unit, first: Vec<u8>)
         requires { vec_len self.old.entries < vec_capacity self.old.entries }
         ensures entries { self.new.entries.items ≡ self.old.entries.items ++ Attach unit first
             ∷ [] }

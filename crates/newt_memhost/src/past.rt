@@ -18,7 +18,7 @@ pub enum Pick {
 }
 
 impl Happened {
-    /// Whether it is a call that answers a Result, as a number.
+    /// Whether it is a call that answers a Result, as a number: 1 or 0.
     fn counts(&self) -> u64
         ensures { result ≡ counts self.now }
     {
@@ -29,7 +29,7 @@ impl Happened {
     }
 
     /// How many bytes of the store are its own.
-    pub fn bytes(&self) -> usize
+    pub(crate) fn bytes(&self) -> usize
         ensures { result ≡ bytes_of self.now }
     {
         match self {
@@ -38,8 +38,8 @@ impl Happened {
         }
     }
 
-    // Whether a crash within it comes after it, as a number.
-    fn behind(&self) -> usize
+    /// Whether a crash within it comes after it, as a number: 1 or 0.
+    fn torn_images(&self) -> usize
         ensures { result ≡ length (torn (Some self.now)) }
     {
         match self {
@@ -49,7 +49,7 @@ impl Happened {
     }
 
     /// How many bytes it printed.
-    pub fn printed(&self) -> usize
+    pub(crate) fn printed(&self) -> usize
         ensures { result ≡ printed_by self.now }
     {
         match self {
@@ -69,7 +69,7 @@ impl Happened {
     }
 
     /// The unit that a call was on.
-    pub fn unit(&self) -> Option<Unit>
+    pub(crate) fn unit(&self) -> Option<Unit>
         ensures { result ≡ unit_at (Some self.now) }
     {
         match self {
@@ -82,7 +82,7 @@ impl Happened {
 }
 
 /// The place in the log of the call of a number.
-pub fn place_of(log: &[Happened], call: u64) -> usize
+pub(crate) fn place_of(log: &[Happened], call: u64) -> usize
     ensures before { take result log.now ≡ before call log.now }
     ensures there { slice_get log.now result ≡ call_at call log.now }
     ensures inside { result ≤ length log.now }
@@ -98,22 +98,22 @@ pub fn place_of(log: &[Happened], call: u64) -> usize
     log.len()
 }
 
-/// How much of the log a crash within a call has behind it: the call itself too, but where it is a
+/// How much of the log comes before a crash within a call. It includes the call itself, except a
 /// sync.
-pub fn end_of(log: &[Happened], call: u64) -> usize
+pub(crate) fn end_of(log: &[Happened], call: u64) -> usize
     ensures within { take result log.now ≡ within call log.now }
     ensures inside { result ≤ length log.now }
 {
     let place = place_of(log, call);
     if place < log.len() {
-        place + log[place].behind()
+        place + log[place].torn_images()
     } else {
         place
     }
 }
 
 /// How many bytes were printed.
-pub fn printed_in(log: &[Happened]) -> u64
+pub(crate) fn printed_in(log: &[Happened]) -> u64
     requires { sum_by printed_by log.now < 2 ^ 64 }
     ensures { result ≡ sum_by printed_by log.now }
 {
@@ -125,7 +125,7 @@ pub fn printed_in(log: &[Happened]) -> u64
 }
 
 /// How many bytes of the input were taken.
-pub fn taken_in(log: &[Happened]) -> u64
+pub(crate) fn taken_in(log: &[Happened]) -> u64
     requires { sum_by taken_by log.now < 2 ^ 64 }
     ensures { result ≡ sum_by taken_by log.now }
 {

@@ -9,7 +9,7 @@ use crate::log::Log;
 use newt_host::Unit;
 
 /// The place of the first device of a name.
-pub fn find(shelf: &[Device], name: &[u8]) -> Option<usize>
+pub(crate) fn find(shelf: &[Device], name: &[u8]) -> Option<usize>
     ensures { MatchOption result (free_device name.now shelf.now ≡ None)
         (IsPlaceOf name.now shelf.now) }
 {
@@ -22,7 +22,7 @@ pub fn find(shelf: &[Device], name: &[u8]) -> Option<usize>
 }
 
 /// Gives a device to a unit that has none.
-pub fn give(card: &mut Card, log: &mut Log, unit: Unit, device: Device)
+pub(crate) fn give(card: &mut Card, log: &mut Log, unit: Unit, device: Device)
     requires { vec_len log.old.entries < vec_capacity log.old.entries }
     ensures card { HasMoved device card.old card.new }
     ensures logs { LogsAttach unit device.first.items log.old log.new }

@@ -11,7 +11,7 @@ use newt_host::Failed;
 
 /// Makes room for so many entries, and for so many bytes in the log and the output, and answers
 /// whether there is that room.
-pub fn reserve(output: &mut Vec<u8>, log: &mut Log, entries: usize, bytes: usize) -> bool
+pub(crate) fn reserve(output: &mut Vec<u8>, log: &mut Log, entries: usize, bytes: usize) -> bool
     ensures same_output { output.new.items ≡ output.old.items }
     ensures past { SamePast log.old log.new }
     ensures more { vec_capacity output.old ≤ vec_capacity output.new }
@@ -23,7 +23,7 @@ pub fn reserve(output: &mut Vec<u8>, log: &mut Log, entries: usize, bytes: usize
 }
 
 /// Keeps a call that takes a piece of the input, or that fails.
-pub fn take(log: &mut Log, waiting: usize, fails: bool, piece: &[u8]) -> Result<(), Failed>
+pub(crate) fn take(log: &mut Log, waiting: usize, fails: bool, piece: &[u8]) -> Result<(), Failed>
     requires { HasRoom waiting 0 log.old }
     ensures took { OnOk result (now_of log.new ≡ Took piece.now ∷ now_of log.old) }
     ensures same { OnErr result (now_of log.new ≡ now_of log.old) }
@@ -41,8 +41,8 @@ pub fn take(log: &mut Log, waiting: usize, fails: bool, piece: &[u8]) -> Result<
     Ok(())
 }
 
-/// Appends a piece to the output, or only keeps the call where it fails.
-pub fn print(
+/// Appends a piece to the output; where the call fails, only keeps the call.
+pub(crate) fn print(
     output: &mut Vec<u8>,
     log: &mut Log,
     waiting: usize,

@@ -16,7 +16,12 @@ use crate::log::Log;
 use newt_host::{Failed, Unit};
 
 /// Keeps a call that writes nothing.
-pub fn keep(log: &mut Log, waiting: usize, fails: bool, entry: Happened) -> Result<(), Failed>
+pub(crate) fn keep(
+    log: &mut Log,
+    waiting: usize,
+    fails: bool,
+    entry: Happened,
+) -> Result<(), Failed>
     requires call { counts entry ≡ 1 }
     requires quiet { bytes_of entry ≡ 0 }
     requires waits { HasRoom waiting 0 log.old }
@@ -35,7 +40,7 @@ pub fn keep(log: &mut Log, waiting: usize, fails: bool, entry: Happened) -> Resu
     Ok(())
 }
 
-// Puts bytes into a range of the card, or only into the log where it fails.
+/// Puts bytes into a range of the card; where the call fails, only into the log.
 fn write(
     card: &mut Card,
     log: &mut Log,
@@ -72,7 +77,7 @@ fn write(
 }
 
 /// Programs a range, whatever it reads.
-pub fn program(
+pub(crate) fn program(
     card: &mut Card,
     log: &mut Log,
     waiting: usize,
@@ -95,7 +100,7 @@ pub fn program(
 }
 
 /// Erases a block.
-pub fn erase(
+pub(crate) fn erase(
     card: &mut Card,
     log: &mut Log,
     waiting: usize,
@@ -115,8 +120,8 @@ pub fn erase(
     write(card, log, waiting, fails, unit, block * 4096, &[255; 4096])
 }
 
-/// Makes sure of the unit.
-pub fn sync(
+/// Makes what the unit reads durable.
+pub(crate) fn sync(
     card: &mut Card,
     log: &mut Log,
     waiting: usize,
@@ -148,7 +153,7 @@ pub fn sync(
 }
 
 /// Fills a buffer with what a range holds.
-pub fn read(
+pub(crate) fn read(
     card: &mut Card,
     log: &mut Log,
     waiting: usize,

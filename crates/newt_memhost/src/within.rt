@@ -13,7 +13,7 @@ use newt_host::Unit;
 use std::alloc::{AllocError, Global};
 
 /// What a pick chooses for a crash within a call.
-pub fn image_within(
+pub(crate) fn image_within(
     alloc: Global,
     log: &Log,
     unit: Unit,
@@ -28,12 +28,12 @@ pub fn image_within(
     ensures out { IfOk result (λ crash. crash.out ≡ length (output (moment_within call log.now))) }
 {
     let entries = log.entries.as_slice();
-    let behind = &entries[..end_of(entries, call)];
-    build(alloc, behind, &log.store, unit, pick)
+    let through = &entries[..end_of(entries, call)];
+    build(alloc, through, &log.store, unit, pick)
 }
 
 /// The unit that a call was on.
-pub fn unit_within(log: &Log, call: u64) -> Option<Unit>
+pub(crate) fn unit_within(log: &Log, call: u64) -> Option<Unit>
     ensures { result ≡ unit_at (call_at call log.now.entries.items) }
 {
     let entries = log.entries.as_slice();
@@ -46,7 +46,7 @@ pub fn unit_within(log: &Log, call: u64) -> Option<Unit>
 }
 
 /// The length of the output when a call began.
-pub fn printed_before(log: &Log, call: u64) -> u64
+pub(crate) fn printed_before(log: &Log, call: u64) -> u64
     ensures { result ≡ length (output (moment_before call log.now)) }
 {
     let entries = log.entries.as_slice();
@@ -54,7 +54,7 @@ pub fn printed_before(log: &Log, call: u64) -> u64
 }
 
 /// How much of the input was taken when a call began.
-pub fn taken_before(log: &Log, call: u64) -> u64
+pub(crate) fn taken_before(log: &Log, call: u64) -> u64
     ensures { result ≡ length (taken (moment_before call log.now)) }
 {
     let entries = log.entries.as_slice();

@@ -43,12 +43,12 @@ emptied w = watching w.name w.most
 abbrev pub with_note : Note → Watching → Watching
 with_note note w = record w { notes = w.notes ++ note ∷ [] }
 
--- the watch after a note of a soup of this name: it takes it where the name is its own
--- (this project's own)
+-- the watch after a note of a soup of this name, which it takes where the name is its own (this
+-- project's own)
 abbrev pub taking : List ℕ → Note → Watching → Watching
 taking name note w = if equal_text name w.name then with_note note w else w
 
--- what is kept as by a new watch of the same name (a word of these definitions)
+-- what a new watch of the same name would keep (a word of these definitions)
 abbrev pub as_new : Kept → Kept
 as_new kept = kept_of (watching kept.name kept.most)
 

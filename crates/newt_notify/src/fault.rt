@@ -7,7 +7,7 @@ use std::alloc::AllocError;
 /// Why nothing further is watched. The watches are not changed.
 #[derive(Clone, Copy, PartialEq, Eq, Debug)]
 pub enum WatchFault {
-    /// Eight watches are there.
+    /// There are eight watches.
     Limit,
     /// Memory was refused.
     Memory,

@@ -20,8 +20,8 @@ pub enum Kind {
     Remove,
 }
 
-/// A change of a soup: which unit has it, its signature, and the id of the entry, which is 0 where
-/// the soup itself was made or dropped.
+/// A change of a soup: the unit that has it, its signature, and the id of the entry. The id is 0
+/// where the soup itself was made or dropped.
 #[derive(Clone, Copy, Debug, PartialEq, Eq)]
 pub struct Note {
     pub kind: Kind,

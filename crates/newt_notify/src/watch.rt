@@ -8,8 +8,9 @@ use newt_base::Name;
 use std::alloc::{AllocError, Global};
 use std::marker::Model;
 
-/// The changes of all soups of one name since it was made or emptied: the last of them, as many as
-/// it keeps at most, and how many it lost before them. The count stops at 4,294,967,295.
+/// The changes of all soups of one name since the watch was made or emptied. It keeps the last of
+/// them, at most `most`, and how many it lost before them. The count of the lost stops at
+/// 4,294,967,295.
 #[derive(Drop)]
 pub struct Watch {
     name: Name,
@@ -62,7 +63,7 @@ impl Watch {
     }
 
     /// The notes, and the number of those that were lost. The watch is empty afterwards; where
-    /// memory is refused it is as before.
+    /// memory is refused, it is as before.
     pub fn take(&mut self) -> Result<Notes, AllocError>
         ensures lost { IfOk result (λ notes. notes.lost ≡ self.old.lost) }
         ensures last { IfOk result (λ notes. notes.list ≡ self.old.last) }

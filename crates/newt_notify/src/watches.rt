@@ -44,8 +44,8 @@ impl Watches {
         })
     }
 
-    /// Watches the soups of a name at the least free number, and answers this number. Limit exactly
-    /// where eight watches are there.
+    /// Watches the soups of a name at the least free number, and answers this number. `Limit`
+    /// exactly where there are eight watches.
     pub fn watch(&mut self, name: Name, most: u32) -> Result<u8, WatchFault>
         requires some { 1 ≤ most }
         requires few { most ≤ 64 }
@@ -79,8 +79,8 @@ impl Watches {
         note_each(&mut self.places, name, &note);
     }
 
-    /// The notes of a watch and the number of those that it lost. It is empty afterwards; where
-    /// memory is refused nothing is changed.
+    /// The notes of a watch, and the number of those that it lost. The watch is empty afterwards;
+    /// where memory is refused, nothing is changed.
     pub fn take(&mut self, number: u8) -> Result<Notes, AllocError>
         requires { IsSome (watch_at number self.old) }
         ensures lost { IfOk result (λ notes. Some notes.lost
@@ -94,7 +94,7 @@ impl Watches {
         take_at(&mut self.places[usize::from(number)])
     }
 
-    /// Takes a watch away. Nothing changes where no watch has this number. It takes no memory.
+    /// Takes a watch away. Where no watch has this number, nothing changes. It takes no memory.
     pub fn unwatch(&mut self, number: u8)
         ensures { self.new ≡ slice_set self.old number None }
     {
@@ -103,7 +103,7 @@ impl Watches {
         }
     }
 
-    /// The least free number. Limit exactly where eight watches are there.
+    /// The least free number. `Limit` exactly where there are eight watches.
     fn free(&self) -> Result<usize, WatchFault>
         ensures least { IfOk result (λ free. position is_none self.now ≡ Some free) }
         ensures below { IfOk result (λ free. free < 8) }

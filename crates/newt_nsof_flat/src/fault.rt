@@ -1,4 +1,4 @@
-//! Why bytes are no flat text.
+//! Why bytes are not a flat text.
 
 /// Why bytes were not read as the flat text of a graph.
 #[derive(Clone, Copy, Debug, PartialEq, Eq)]

@@ -1,5 +1,5 @@
-//! The graphs of records: frames that are read from their flat texts, each the one text that the
-//! program itself writes of a graph, and no other that spells it.
+//! Reads the graphs of records, which are frames, from their flat texts. A flat text is the one
+//! text that the program itself writes of a graph. No other text that spells the graph is taken.
 //!
 //! It stands on the reader and the writer of the streamed form, and on the definitions of stores.
 //! It carries this promise: a graph is read from exactly the bytes that are its flat text.

@@ -9,8 +9,8 @@ use newt_nsof_read::{NsofFault, decode};
 use newt_nsof_write::encode_flat_in;
 use std::alloc::Global;
 
-/// The graph whose flat text this is. `Bad` comes only where it is that of no graph: also where
-/// it spells one in another way.
+/// The graph whose flat text this is. `Bad` comes only where the text is the flat text of no graph,
+/// also where it spells one in another way.
 pub fn read_flat(alloc: Global, text: &[u8]) -> Result<Graph, FlatFault>
     ensures found { IfOk result (λ g. written stream_graph text.now ≡ Some g) }
     ensures bad { IsErrOf result FlatFault.Bad → written stream_graph text.now ≡ None }

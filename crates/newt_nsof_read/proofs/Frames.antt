@@ -16,7 +16,7 @@ use Rattle.newt_graph.proofs.Options.{bind_some, provided, some_is}
 use Rattle.newt_nsof_read.proofs.Fields.{Takes, Takes-then, count_takes}
 use Rattle.newt_graph.proofs.Distinct.{all_distinct_tells}
 use Rattle.newt_nsof_read.proofs.Names.{names, names-append, names-other, same_length}
-use Rattle.newt_nsof_read.proofs.Taken.{Taken, IsSound, add_adds, behind, label_sound, Lists, many_sound, many_length, label_lists}
+use Rattle.newt_nsof_read.proofs.Taken.{Taken, IsSound, add_adds, with_tag, label_sound, Lists, many_sound, many_length, label_lists}
 
 pub object_lists : (wide : Bool) (room : ℕ) → Lists (Object wide room) (Objects wide room)
 object_lists wide room = record {
@@ -63,7 +63,7 @@ frame_parts read met bytes found e =
       whole = some_is d.2;
     }
 
-pub frame_sound : (wide : Bool) (room : ℕ) (read : Reader Ref) → IsSound (Object wide room) read → IsSound (behind 6 (Object wide (suc room))) (frame_at read)
+pub frame_sound : (wide : Bool) (room : ℕ) (read : Reader Ref) → IsSound (Object wide room) read → IsSound (with_tag 6 (Object wide (suc room))) (frame_at read)
 frame_sound wide room read sound met bytes found fits e =
     let p = frame_parts read met bytes found e in
     let count = count_takes bytes p.count fits p.counted in
@@ -96,7 +96,7 @@ frame_sound wide room read sound met bytes found fits e =
     Object.frame (subst (Count count.0) (sym tags_len) count.1) (record { few = omega (arith, p.few, tags_len); distinct = all_distinct_tells tags p.distinct })
     (values_len ∙ sym tags_len) tagged valued in
     rw (opened.n, len) made in
-    subst (Taken (behind 6 (Object wide (suc room))) met bytes) p.whole (record {
+    subst (Taken (with_tag 6 (Object wide (suc room))) met bytes) p.whole (record {
       text = body;
       new = frame ∷ (labels.new ++ values.new);
       takes = takes;
@@ -126,7 +126,7 @@ plain_array_parts read met bytes found e =
     let p = provided (leb a.0.0 65535) (add met (Array None [])) b.0 b.1 in
     record { count = a.0; opened = b.0; values = d.0; counted = a.1; few = leb-true _ _ p.0; adds = p.1; valued = d.1; whole = some_is d.2 }
 
-pub plain_array_sound : (wide : Bool) (room : ℕ) (read : Reader Ref) → IsSound (Object wide room) read → IsSound (behind 5 (Object wide (suc room))) (plain_array_at read)
+pub plain_array_sound : (wide : Bool) (room : ℕ) (read : Reader Ref) → IsSound (Object wide room) read → IsSound (with_tag 5 (Object wide (suc room))) (plain_array_at read)
 plain_array_sound wide room read sound met bytes found fits e =
     let p = plain_array_parts read met bytes found e in
     let count = count_takes bytes p.count fits p.counted in
@@ -148,7 +148,7 @@ plain_array_sound wide room read sound met bytes found fits e =
     let made : Object wide (suc room) before met.numbered (5 ∷ body) (refs.Node (length before)) (node ∷ values.new) p.values.1.numbered =
     Object.plain_array (subst (Count count.0) (sym values_len) count.1) (omega (arith, p.few, values_len)) valued in
     rw (opened.n, len) made in
-    subst (Taken (behind 5 (Object wide (suc room))) met bytes) p.whole (record {
+    subst (Taken (with_tag 5 (Object wide (suc room))) met bytes) p.whole (record {
       text = body;
       new = node ∷ values.new;
       takes = Takes-then bytes count.0 p.count.1 values.text p.values.2 count.2 values.takes;
@@ -179,7 +179,7 @@ array_parts read met bytes found e =
     let p = provided (leb a.0.0 65535) (add met (Array None [])) b.0 b.1 in
     record { count = a.0; opened = b.0; label = c.0; values = d.0; counted = a.1; few = leb-true _ _ p.0; adds = p.1; labelled = c.1; valued = d.1; whole = some_is d.2 }
 
-pub array_sound : (wide : Bool) (room : ℕ) (read : Reader Ref) → IsSound (Object wide room) read → IsSound (behind 4 (Object wide (suc room))) (array_at read)
+pub array_sound : (wide : Bool) (room : ℕ) (read : Reader Ref) → IsSound (Object wide room) read → IsSound (with_tag 4 (Object wide (suc room))) (array_at read)
 array_sound wide room read sound met bytes found fits e =
     let p = array_parts read met bytes found e in
     let count = count_takes bytes p.count fits p.counted in
@@ -206,7 +206,7 @@ array_sound wide room read sound met bytes found fits e =
     let made : Object wide (suc room) before met.numbered (4 ∷ body) (refs.Node (length before)) (node ∷ (label.new ++ values.new)) p.values.1.numbered =
     Object.array (subst (Count count.0) (sym values_len) count.1) (omega (arith, p.few, values_len)) labelled valued in
     rw (opened.n, len) made in
-    subst (Taken (behind 4 (Object wide (suc room))) met bytes) p.whole (record {
+    subst (Taken (with_tag 4 (Object wide (suc room))) met bytes) p.whole (record {
       text = body;
       new = node ∷ (label.new ++ values.new);
       takes = Takes-then bytes count.0 p.count.1 (label.text ++ values.text) p.values.2 count.2 (Takes-then p.count.1 label.text p.label.2 values.text p.values.2 label.takes values.takes);

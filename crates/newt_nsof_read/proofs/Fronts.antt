@@ -1,4 +1,4 @@
--- The front of a text, and what is read behind it: together they are an object.
+-- The front of a text, and what is read after it: together they are an object.
 use Rattle.std.proofs.Common.{◌≡◌, ℕ, zero, suc, ◌-◌, ◌<◌, Bool, true, false, cond, ltb, leb, List, [], ◌∷◌, ◌++◌, length, Option, Some, None, refl, sym, ap, subst, ◌∙◌, append_assoc, arith, inl, inr}
 use Rattle.std.specs.Prelude.{slice_get, not, ◌&&◌}
 use Rattle.std.proofs.lemmas.Bool.{cases_lt, lt-ltb, le-ltb}
@@ -115,7 +115,7 @@ object_open wide room met [] = refl
 object_open wide room met (b ∷ rest) =
     bind_through (tag_of b) (allowed wide true met rest) (whole wide room) (object_by wide (Some (λ met rest. object_at wide room met rest)) met rest) (open_by wide room met rest)
 
--- an object is its front, and what is read behind it
+-- an object is its front, and what is read after it
 pub object_front : (wide : Bool) (room : ℕ) (met : Met) (bytes : List ℕ) → object_at wide room met bytes ≡ (front_of wide (ltb 0 room) met bytes >>= whole wide (room - 1))
 object_front wide zero met bytes = object_closed wide (zero - 1) met bytes
 object_front wide (suc room) met bytes =
@@ -275,13 +275,13 @@ object_is : (wide : Bool) (n : ℕ) (met : Met) (rest : List ℕ) (read : Option
 object_is wide n met rest read e =
     object_front wide (200 - n) met rest ∙ ap (λ (r : Option (Front × Met × List ℕ)). r >>= whole wide (200 - n - 1)) (ap (λ (b : Bool). front_of wide b met rest) (sym (may_is n)) ∙ e)
 
-pub goes_on : (wide : Bool) (os : List Opened) (met : Met) (rest : List ℕ) (front : Front) (then : Met) (behind : List ℕ) (total after : Option (Ref × Met × List ℕ))
-    → front_of wide (ltb (length os) 200) met rest ≡ Some (front, then, behind)
+pub goes_on : (wide : Bool) (os : List Opened) (met : Met) (rest : List ℕ) (front : Front) (then : Met) (remaining : List ℕ) (total after : Option (Ref × Met × List ℕ))
+    → front_of wide (ltb (length os) 200) met rest ≡ Some (front, then, remaining)
     → resumed wide 200 os (object_at wide (200 - length os) met rest) ≡ total
-    → after ≡ resumed wide 200 os (whole wide (200 - length os - 1) (front, then, behind))
+    → after ≡ resumed wide 200 os (whole wide (200 - length os - 1) (front, then, remaining))
     → after ≡ total
-goes_on wide os met rest front then behind total after read so_far entered =
-    entered ∙ sym (ap (resumed wide 200 os) (object_is wide (length os) met rest (Some (front, then, behind)) read)) ∙ so_far
+goes_on wide os met rest front then remaining total after read so_far entered =
+    entered ∙ sym (ap (resumed wide 200 os) (object_is wide (length os) met rest (Some (front, then, remaining)) read)) ∙ so_far
 
 pub ends : (e : NsofFault) (wide : Bool) (os : List Opened) (met : Met) (rest : List ℕ) (total : Option (Ref × Met × List ℕ))
     → Fails e (front_of wide (ltb (length os) 200) met rest)

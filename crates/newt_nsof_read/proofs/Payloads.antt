@@ -13,12 +13,12 @@ use Rattle.newt_graph.specs.Graph.{IsText, IsData}
 use Rattle.newt_graph.specs.Steps.{◌>>=◌}
 use Rattle.newt_spec_nsof.specs.Text.{Count, units_text, sides, corners, Label, Object}
 use Rattle.newt_nsof_read.specs.Met.{Met}
-use Rattle.newt_nsof_read.specs.Reading.{count_at, add, intern_each, rectangle_at, label_at, many_at, filled, unit_at, is_text_count, behind_zero, string_at, binary_at, large_data_at, large_at}
+use Rattle.newt_nsof_read.specs.Reading.{count_at, add, intern_each, rectangle_at, label_at, many_at, filled, unit_at, is_text_count, after_zero, string_at, binary_at, large_data_at, large_at}
 use Rattle.newt_graph.proofs.Options.{bind_some, unless, provided, some_is}
 use Rattle.newt_nsof_read.proofs.Fields.{IsBytes, IsBytes-take, IsBytes-drop, Takes, Takes-then, count_takes}
 use Rattle.newt_nsof_read.proofs.Larges.{large_takes}
 use Rattle.newt_nsof_read.proofs.Names.{names, names-other, same_length}
-use Rattle.newt_nsof_read.proofs.Taken.{Taken, IsSound, add_adds, interned_each, behind, label_sound}
+use Rattle.newt_nsof_read.proofs.Taken.{Taken, IsSound, add_adds, interned_each, with_tag, label_sound}
 
 -- ---- strings
 
@@ -54,13 +54,13 @@ units_take (suc n) met bytes found fits e =
       long = ap suc others.long;
     })
 
-pub string_sound : (wide : Bool) (room : ℕ) → IsSound (behind 8 (Object wide room)) string_at
+pub string_sound : (wide : Bool) (room : ℕ) → IsSound (with_tag 8 (Object wide room)) string_at
 unfolding string_at
 string_sound wide room met bytes found fits e =
     let a = bind_some (count_at bytes) _ found e in
     let b = bind_some (cond (is_text_count a.0.0) (many_at unit_at (a.0.0 / 2 - 1) met a.0.1) None) _ found a.2 in
     let c = bind_some (unit_at met b.0.2) _ found b.2 in
-    let d = bind_some (behind_zero c.0) _ found c.2 in
+    let d = bind_some (after_zero c.0) _ found c.2 in
     let f = bind_some (add met (Str b.0.0)) (λ added. Some (refs.Node added.0, added.1, d.0)) found d.2 in
     let p = provided (is_text_count a.0.0) _ b.0 b.1 in
     let z = provided (eqb c.0.0 0) _ d.0 d.1 in
@@ -79,7 +79,7 @@ string_sound wide room met bytes found fits e =
     let len : a.0.0 ≡ 2 * length b.0.0 + 2 = omega (arith, units.long, even, some) in
     let text_is : IsText b.0.0 = record { few = omega (arith, len, few); each = units.each } in
     let body = count.0 ++ (units_text b.0.0 ++ 0 ∷ 0 ∷ []) in
-    let taken : Taken (behind 8 (Object wide room)) met bytes (refs.Node f.0.0, f.0.1, d.0) = record {
+    let taken : Taken (with_tag 8 (Object wide room)) met bytes (refs.Node f.0.0, f.0.1, d.0) = record {
       text = body;
       new = Str b.0.0 ∷ [];
       takes = Takes-then bytes count.0 a.0.1 (units_text b.0.0 ++ 0 ∷ 0 ∷ []) d.0 count.2 (Takes-then a.0.1 (units_text b.0.0) b.0.2 (0 ∷ 0 ∷ []) d.0 units.takes ended);
@@ -89,7 +89,7 @@ string_sound wide room met bytes found fits e =
           let length_is : length met.nodes ≡ length before = same_length met.nodes before same in
           rw (added.n, added.numbered, length_is) (Object.string (subst (Count count.0) len count.1) text_is);
     } in
-    subst (Taken (behind 8 (Object wide room)) met bytes) (some_is f.2) taken
+    subst (Taken (with_tag 8 (Object wide room)) met bytes) (some_is f.2) taken
 
 -- ---- binaries
 
@@ -114,7 +114,7 @@ binary_parts met bytes found e =
     let u = unless (ltb (length c.0.2) a.0.0) _ found c.2 in
     record { count = a.0; opened = b.0; label = c.0; counted = a.1; few = leb-true _ _ p.0; adds = p.1; labelled = c.1; long = ltb-false _ _ u.0; whole = some_is u.1 }
 
-pub binary_sound : (wide : Bool) (room : ℕ) → IsSound (behind 3 (Object wide room)) binary_at
+pub binary_sound : (wide : Bool) (room : ℕ) → IsSound (with_tag 3 (Object wide room)) binary_at
 binary_sound wide room met bytes found fits e =
     let p = binary_parts met bytes found e in
     let payload = take p.count.0 p.label.2 in
@@ -131,7 +131,7 @@ binary_sound wide room met bytes found fits e =
     let rest = drop p.count.0 p.label.2 in
     let third : Takes p.label.2 payload rest = record { parts = sym (take-append-drop p.count.0 p.label.2); rest_fits = IsBytes-drop p.count.0 p.label.2 label.takes.rest_fits } in
     let body = count.0 ++ (label.text ++ payload) in
-    let taken : Taken (behind 3 (Object wide room)) met bytes (refs.Node p.opened.0, filled p.label.1 p.opened.0 node, rest) = record {
+    let taken : Taken (with_tag 3 (Object wide room)) met bytes (refs.Node p.opened.0, filled p.label.1 p.opened.0 node, rest) = record {
       text = body;
       new = node ∷ label.new;
       takes = Takes-then bytes count.0 p.count.1 (label.text ++ payload) rest count.2 (Takes-then p.count.1 label.text p.label.2 payload rest label.takes third);
@@ -147,7 +147,7 @@ binary_sound wide room met bytes found fits e =
           Object.binary (subst (Count count.0) (sym payload_len) count.1) is labelled in
           rw (opened.n, length_is) made;
     } in
-    subst (Taken (behind 3 (Object wide room)) met bytes) p.whole taken
+    subst (Taken (with_tag 3 (Object wide room)) met bytes) p.whole taken
 
 -- ---- large binaries
 
@@ -168,7 +168,7 @@ large_parts wide met bytes found e =
     let c = bind_some (large_data_at wide b.0.2) _ found b.2 in
     record { opened = a.0; label = b.0; payload = c.0; adds = a.1; labelled = b.1; read = c.1; whole = some_is c.2 }
 
-pub large_sound : (wide : Bool) (room : ℕ) → IsSound (behind 12 (Object wide room)) (large_at wide)
+pub large_sound : (wide : Bool) (room : ℕ) → IsSound (with_tag 12 (Object wide room)) (large_at wide)
 large_sound wide room met bytes found fits e =
     let p = large_parts wide met bytes found e in
     let node = Large p.label.0 p.payload.0 in
@@ -179,7 +179,7 @@ large_sound wide room met bytes found fits e =
     label.grown ∙ ap (λ (x : List Node). x ++ label.new) opened.nodes ∙ append_assoc met.nodes (Large 0 [] ∷ []) label.new in
     let grown : set p.label.1.nodes p.opened.0 node ≡ met.nodes ++ node ∷ label.new = rw (nodes, opened.n) (set-append_seam met.nodes (Large 0 []) label.new node) in
     let body = label.text ++ payload.text in
-    let taken : Taken (behind 12 (Object wide room)) met bytes (refs.Node p.opened.0, filled p.label.1 p.opened.0 node, p.payload.1) = record {
+    let taken : Taken (with_tag 12 (Object wide room)) met bytes (refs.Node p.opened.0, filled p.label.1 p.opened.0 node, p.payload.1) = record {
       text = body;
       new = node ∷ label.new;
       takes = Takes-then bytes label.text p.label.2 payload.text p.payload.1 label.takes payload.takes;
@@ -194,7 +194,7 @@ large_sound wide room met bytes found fits e =
           let made : Object wide room before met.numbered (12 ∷ body) (refs.Node (length before)) (node ∷ label.new) p.label.1.numbered = Object.large labelled payload.is in
           rw (opened.n, length_is) made;
     } in
-    subst (Taken (behind 12 (Object wide room)) met bytes) p.whole taken
+    subst (Taken (with_tag 12 (Object wide room)) met bytes) p.whole taken
 
 -- ---- small rectangles
 
@@ -213,7 +213,7 @@ rectangle_parts met top left bottom right rest found e =
     record { opened = a.0; tags = b.0; adds = a.1; tagged = b.1; whole = some_is b.2 }
 
 rectangle_taken : (wide : Bool) (room : ℕ) (met : Met) (top left bottom right : ℕ) (rest : List ℕ) (found : Ref × Met × List ℕ) → IsBytes (top ∷ left ∷ bottom ∷ right ∷ rest) → rectangle_at met (top ∷ left ∷ bottom ∷ right ∷ rest) ≡ Some found
-    → Taken (behind 11 (Object wide (suc room))) met (top ∷ left ∷ bottom ∷ right ∷ rest) found
+    → Taken (with_tag 11 (Object wide (suc room))) met (top ∷ left ∷ bottom ∷ right ∷ rest) found
 rectangle_taken wide room met top left bottom right rest found fits e =
     let p = rectangle_parts met top left bottom right rest found e in
     let opened = add_adds met (Frame [] []) p.opened p.adds in
@@ -222,7 +222,7 @@ rectangle_taken wide room met top left bottom right rest found fits e =
     let nodes : p.tags.1.nodes ≡ met.nodes ++ Frame [] [] ∷ tags.new =
     tags.grown ∙ ap (λ (x : List Node). x ++ tags.new) opened.nodes ∙ append_assoc met.nodes (Frame [] [] ∷ []) tags.new in
     let grown : set p.tags.1.nodes p.opened.0 node ≡ met.nodes ++ node ∷ tags.new = rw (nodes, opened.n) (set-append_seam met.nodes (Frame [] []) tags.new node) in
-    let taken : Taken (behind 11 (Object wide (suc room))) met (top ∷ left ∷ bottom ∷ right ∷ rest) (refs.Node p.opened.0, filled p.tags.1 p.opened.0 node, rest) = record {
+    let taken : Taken (with_tag 11 (Object wide (suc room))) met (top ∷ left ∷ bottom ∷ right ∷ rest) (refs.Node p.opened.0, filled p.tags.1 p.opened.0 node, rest) = record {
       text = top ∷ left ∷ bottom ∷ right ∷ [];
       new = node ∷ tags.new;
       takes = record { parts = refl; rest_fits = λ i. fits (suc (suc (suc (suc i)))) };
@@ -236,9 +236,9 @@ rectangle_taken wide room met top left bottom right rest found fits e =
           Object.rectangle (fits 0) (fits 1) (fits 2) (fits 3) (tags.interned (before ++ node ∷ []) after_node) in
           rw (opened.n, len, numbered) made;
     } in
-    subst (Taken (behind 11 (Object wide (suc room))) met (top ∷ left ∷ bottom ∷ right ∷ rest)) p.whole taken
+    subst (Taken (with_tag 11 (Object wide (suc room))) met (top ∷ left ∷ bottom ∷ right ∷ rest)) p.whole taken
 
-pub rectangle_sound : (wide : Bool) (room : ℕ) → IsSound (behind 11 (Object wide (suc room))) rectangle_at
+pub rectangle_sound : (wide : Bool) (room : ℕ) → IsSound (with_tag 11 (Object wide (suc room))) rectangle_at
 unfolding rectangle_at
 rectangle_sound wide room met [] found fits e = absurd cc
 rectangle_sound wide room met (a ∷ []) found fits e = absurd cc

@@ -22,7 +22,7 @@ pub bind_through : {A B C : Type 0} (m : Option A) (f : A → Option B) (g : B �
 bind_through (Some x) f g h same = same x
 bind_through None f g h same = refl
 
--- the values that are read behind another one
+-- the values that are read after another one
 closed_push : (o : Opened) (v : Ref) (read : Option (List Ref × Met × List ℕ)) → (read >>= closed (with_value o v)) ≡ ((read >>= λ others. Some (v ∷ others.0, others.1, others.2)) >>= closed o)
 closed_push o v None = refl
 closed_push o v (Some x) = ap (λ (vs : List Ref). Some (refs.Node o.n, filled x.1 o.n (node_of o.kind vs), x.2)) (append_assoc o.values (v ∷ []) x.0)

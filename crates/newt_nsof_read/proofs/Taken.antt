@@ -129,11 +129,11 @@ interned_each (name ∷ these) met found e =
       interned = λ before same. InternedEach.more (first.interned before same) (others.interned (before ++ first.new) (ap names first.grown ∙ names-append met.nodes before first.new same));
     })
 
--- the text behind a tag
-abbrev pub behind : {A : Type 0} → ℕ → Spelling A → Spelling A
-behind tag spells before numbered text value new after = spells before numbered (tag ∷ text) value new after
+-- the text after a tag
+abbrev pub with_tag : {A : Type 0} → ℕ → Spelling A → Spelling A
+with_tag tag spells before numbered text value new after = spells before numbered (tag ∷ text) value new after
 
-pub symbol_sound : IsSound (behind 7 SymbolText) symbol_at
+pub symbol_sound : IsSound (with_tag 7 SymbolText) symbol_at
 unfolding symbol_at
 symbol_sound met bytes found fits e =
     let a = bind_some (name_at bytes) (λ name. intern met name.0 >>= λ found. Some (found.0, numbering found.1 found.0, name.1)) found e in
@@ -141,7 +141,7 @@ symbol_sound met bytes found fits e =
     let b = bind_some (intern met name.0) (λ found. Some (found.0, numbering found.1 found.0, name.1)) found a.2 in
     let t = name_takes bytes name fits a.1 in
     let k = interned met name.0 b.0 b.1 in
-    let made : Taken (behind 7 SymbolText) met bytes (b.0.0, numbering b.0.1 b.0.0, name.1) = record {
+    let made : Taken (with_tag 7 SymbolText) met bytes (b.0.0, numbering b.0.1 b.0.0, name.1) = record {
       text = t.0 ++ name.0;
       new = k.new;
       takes = t.3;
@@ -149,7 +149,7 @@ symbol_sound met bytes found fits e =
       few = k.few;
       spelled = λ before same. rw k.numbered (SymbolText.symbol t.1 t.2 (k.interned before same));
     } in
-    subst (Taken (behind 7 SymbolText) met bytes) (some_is b.2) made
+    subst (Taken (with_tag 7 SymbolText) met bytes) (some_is b.2) made
 
 -- ---- numbered objects
 

@@ -30,7 +30,7 @@ fn differ(alloc: Global, tags: &[u32]) -> Result<bool, AllocError>
     are_distinct(alloc, tags)
 }
 
-/// A frame up to its values, behind its tag. No two of its slot tags are the same.
+/// A frame up to its values, after its tag. No two of its slot tags are the same.
 #[tactic(auto, unfolding(crate::specs::Stack::frame_front))]
 pub(crate) fn frame<'a>(
     alloc: Global,
@@ -52,7 +52,7 @@ pub(crate) fn frame<'a>(
     Ok((Front::Open(open), rest))
 }
 
-/// An array without a class up to its values, behind its tag.
+/// An array without a class up to its values, after its tag.
 #[tactic(auto, unfolding(crate::specs::Stack::plain_array_front))]
 pub(crate) fn plain_array<'a>(
     alloc: Global,
@@ -70,7 +70,7 @@ pub(crate) fn plain_array<'a>(
     Ok((Front::Open(open), rest))
 }
 
-/// An array with a class up to its values, behind its tag.
+/// An array with a class up to its values, after its tag.
 #[tactic(auto, unfolding(crate::specs::Stack::array_front))]
 pub(crate) fn array<'a>(
     alloc: Global,

@@ -2,7 +2,7 @@
 ghost use Rattle.std.specs.Prelude.{◌≡◌};
 ghost use Rattle.newt_nsof_read.specs.Met.{Met};
 ghost use Rattle.newt_nsof_read.specs.Reading.{Gives, many_at, unit_at, is_text_count, string_at};
-ghost use Rattle.newt_nsof_read.specs.Reading.{binary_at, behind_flag, large_data_at, large_at};
+ghost use Rattle.newt_nsof_read.specs.Reading.{binary_at, after_flag, large_data_at, large_at};
 
 use crate::fault::NsofFault;
 use crate::labels::label;
@@ -42,7 +42,7 @@ fn is_text_count(count: u32) -> bool
     count % 2 == 0 && 2 <= count && count as usize <= MOST_DATA
 }
 
-/// A string, behind its tag.
+/// A string, after its tag.
 #[tactic(auto, unfolding(crate::specs::Reading::string_at))]
 pub(crate) fn string<'a>(
     alloc: Global,
@@ -64,7 +64,7 @@ pub(crate) fn string<'a>(
     Ok((Ref::Node(n), rest))
 }
 
-/// A binary, behind its tag.
+/// A binary, after its tag.
 #[tactic(auto, unfolding(crate::specs::Reading::binary_at))]
 pub(crate) fn binary<'a>(
     alloc: Global,
@@ -91,10 +91,10 @@ pub(crate) fn binary<'a>(
     Ok((Ref::Node(n), rest))
 }
 
-/// Behind the flag of a large binary: any in the wide grammar, else 0 alone.
-#[tactic(auto, unfolding(crate::specs::Reading::behind_flag))]
-fn behind_flag(bytes: &[u8], wide: bool) -> Result<&[u8], NsofFault>
-    ensures { Gives (λ x. x.now) result (behind_flag wide bytes.now) }
+/// The bytes after the flag of a large binary: any flag in the wide grammar, else 0 alone.
+#[tactic(auto, unfolding(crate::specs::Reading::after_flag))]
+fn after_flag(bytes: &[u8], wide: bool) -> Result<&[u8], NsofFault>
+    ensures { Gives (λ x. x.now) result (after_flag wide bytes.now) }
 {
     let [flag, rest @ ..] = bytes else {
         return Err(NsofFault::Malformed);
@@ -106,13 +106,13 @@ fn behind_flag(bytes: &[u8], wide: bool) -> Result<&[u8], NsofFault>
     }
 }
 
-/// The bytes of a large binary, behind its class. The name of the compander, its parameters and a
+/// The bytes of a large binary, after its class. The name of the compander, its parameters and a
 /// number are dropped.
 #[tactic(auto, unfolding(crate::specs::Reading::large_data_at))]
 fn large_data(bytes: &[u8], wide: bool) -> Result<(&[u8], &[u8]), NsofFault>
     ensures { Gives (λ x. (x.0.now, x.1.now)) result (large_data_at wide bytes.now) }
 {
-    let rest = behind_flag(bytes, wide)?;
+    let rest = after_flag(bytes, wide)?;
     let (len, rest) = number(rest)?;
     if len as usize > MOST_DATA {
         return Err(NsofFault::Malformed);
@@ -125,7 +125,7 @@ fn large_data(bytes: &[u8], wide: bool) -> Result<(&[u8], &[u8]), NsofFault>
     front(len, rest)
 }
 
-/// A large binary, behind its tag.
+/// A large binary, after its tag.
 #[tactic(auto, unfolding(crate::specs::Reading::large_at))]
 pub(crate) fn large<'a>(
     alloc: Global,

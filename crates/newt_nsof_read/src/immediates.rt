@@ -7,7 +7,7 @@ use crate::fault::NsofFault;
 use crate::numbers::xlong;
 use newt_graph::Ref;
 
-/// A word that stands for itself, behind its tag. The low bits 01 are those of a pointer.
+/// A word that stands for itself, after its tag. Its low two bits are not 01, which mark a pointer.
 pub(crate) fn word(bytes: &[u8]) -> Result<(Ref, &[u8]), NsofFault>
     ensures { (met : Met) → Gives (λ x. (x.0, met, x.1.now)) result (immediate_at met bytes.now) }
 {
@@ -18,7 +18,7 @@ pub(crate) fn word(bytes: &[u8]) -> Result<(Ref, &[u8]), NsofFault>
     Ok((Ref::Imm(word), rest))
 }
 
-/// A character of one byte, behind its tag.
+/// A character of one byte, after its tag.
 pub(crate) fn character(bytes: &[u8]) -> Result<(Ref, &[u8]), NsofFault>
     ensures { (met : Met) → Gives (λ x. (x.0, met, x.1.now)) result (character_at met bytes.now) }
 {
@@ -28,7 +28,7 @@ pub(crate) fn character(bytes: &[u8]) -> Result<(Ref, &[u8]), NsofFault>
     }
 }
 
-/// A character of two bytes, behind its tag.
+/// A character of two bytes, after its tag.
 pub(crate) fn wide_character(bytes: &[u8]) -> Result<(Ref, &[u8]), NsofFault>
     ensures { (met : Met) → Gives (λ x. (x.0, met, x.1.now)) result
         (wide_character_at met bytes.now) }

@@ -7,7 +7,7 @@ use crate::numbers::{count, name};
 use crate::tag::{Tag, tag_of};
 use std::alloc::Global;
 
-/// A symbol, behind its tag: its name, which stands for the first symbol that is spelled alike.
+/// A symbol, after its tag: its name, which stands for the first symbol that is spelled alike.
 #[tactic(auto, unfolding(crate::specs::Reading::symbol_at))]
 pub(crate) fn symbol<'a>(
     alloc: Global,
@@ -22,7 +22,7 @@ pub(crate) fn symbol<'a>(
     Ok((k, rest))
 }
 
-/// The node of a numbered object, behind the tag of a precedent.
+/// The node of a numbered object, after the tag of a precedent.
 #[tactic(auto, unfolding(crate::specs::Reading::numbered_at))]
 pub(crate) fn numbered<'a>(seen: &Seen, bytes: &'a [u8]) -> Result<(u32, &'a [u8]), NsofFault>
     ensures { Gives (λ x. (x.0, x.1.now)) result (numbered_at seen.now bytes.now) }

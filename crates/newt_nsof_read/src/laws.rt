@@ -27,7 +27,7 @@ pub fn compressed_is_spelled_widely()
         ((g : RawGraph) → Spells bytes g → ⊥)) }
 {}
 
-/// What bytes are read as does not turn on memory.
+/// What bytes are read as does not depend on memory.
 pub fn no_want_of_memory()
     ensures { (bytes : List ℕ) → decoded bytes ≢ Err Memory }
 {}
@@ -37,7 +37,7 @@ pub fn one_graph()
     ensures { (bytes : List ℕ) (g h : RawGraph) → SpellsWide bytes g → SpellsWide bytes h → g ≡ h }
 {}
 
-/// No spelled text goes on as another one, also widely.
+/// No text that spells a graph is the beginning of another one that does, also widely.
 pub fn no_prefix()
     ensures { (bytes more : List ℕ) (g h : RawGraph) → SpellsWide bytes g
         → SpellsWide (bytes ++ more) h → more ≡ [] }

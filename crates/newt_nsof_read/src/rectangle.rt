@@ -28,7 +28,7 @@ fn integer(byte: u8) -> Ref
     Ref::Imm(4 * i32::from(byte))
 }
 
-/// A small rectangle, behind its tag.
+/// A small rectangle, after its tag.
 #[tactic(auto, unfolding(crate::specs::Reading::rectangle_at))]
 pub(crate) fn rectangle<'a>(
     alloc: Global,

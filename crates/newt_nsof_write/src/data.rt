@@ -57,7 +57,7 @@ pub(crate) fn binary(
     Ok(met)
 }
 
-/// What stands behind the class of a large binary that is not compressed.
+/// What stands after the class of a large binary that is not compressed.
 pub(crate) fn large_data(out: &mut Vec<u8>, bytes: &[u8]) -> Result<(), AllocError>
     requires { length bytes.now ≤ 1000000 }
     ensures { OnOk result (out.new.items ≡ out.old.items ++ large_text 0 0 [] [] bytes.now) }

@@ -170,7 +170,7 @@ lowered-full flags flags' numbers low low' clears less each sound group under nu
     (λ (f : list_any (λ n. number == n) numbers ≡ false). clears.each number true (sound group (omega arith) number is) ∙ ap (λ (b : Bool). Some (true && not b)) f)
     (true_or_false (list_any (λ n. number == n) numbers))
 
--- no group behind the last one is full
+-- no group after the last one is full
 pub low_within : (taken : Taken) → length taken.flags.items ≡ 65536 → AreFull taken → taken.low ≤ 2048
 low_within taken size full = ⊎_elim
     (λ (over : 2048 < taken.low). absurd (

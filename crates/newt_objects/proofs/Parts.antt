@@ -32,23 +32,23 @@ part_slice bytes at start end s e = ⊎_elim
 word_first : (n : ℕ) (rest : List ℕ) → n < 2 ^ 32 → word_at 0 (to_be_bytes w32 n ++ rest) ≡ n
 word_first n rest low = ap (from_be_bytes w32) (take_at (to_be_bytes w32 n) rest 4 refl) ∙ from_be_bytes-to_be_bytes_4 n low
 
-word_behind : (front : List ℕ) (at n : ℕ) (rest : List ℕ) → length front ≡ at → n < 2 ^ 32 → word_at at (front ++ (to_be_bytes w32 n ++ rest)) ≡ n
-word_behind front at n rest size low = ap (λ (l : List ℕ). from_be_bytes w32 (take 4 l)) (drop_at front (to_be_bytes w32 n ++ rest) at size) ∙ word_first n rest low
+word_after : (front : List ℕ) (at n : ℕ) (rest : List ℕ) → length front ≡ at → n < 2 ^ 32 → word_at at (front ++ (to_be_bytes w32 n ++ rest)) ≡ n
+word_after front at n rest size low = ap (λ (l : List ℕ). from_be_bytes w32 (take 4 l)) (drop_at front (to_be_bytes w32 n ++ rest) at size) ∙ word_first n rest low
 
 module _ (id part size : ℕ) (bytes : List ℕ) where
   split : written_page id part size bytes ≡ to_be_bytes w32 id ++ (to_be_bytes w32 part ++ (to_be_bytes w32 size ++ (bytes ++ replicate (500 - length bytes) 0)))
   unfolding written_page
   split = simp append_assoc
 
-  -- the header says which part it is, and the bytes stand behind it
+  -- the header says which part it is, and the bytes stand after it
   pub written_is_part : id < 2 ^ 32 → part < 2 ^ 32 → size < 2 ^ 32 → IsPart id part size (written_page id part size bytes)
   written_is_part i p s =
       let end : List ℕ = bytes ++ replicate (500 - length bytes) 0 in
       record {
         of_object = ap object_id split ∙ word_first id (to_be_bytes w32 part ++ (to_be_bytes w32 size ++ end)) i;
-        of_part = ap part_number split ∙ word_behind (to_be_bytes w32 id) 4 part (to_be_bytes w32 size ++ end) refl p;
+        of_part = ap part_number split ∙ word_after (to_be_bytes w32 id) 4 part (to_be_bytes w32 size ++ end) refl p;
         of_size = ap object_length (split ∙ sym (append_assoc (to_be_bytes w32 id) (to_be_bytes w32 part) (to_be_bytes w32 size ++ end)))
-            ∙ word_behind (to_be_bytes w32 id ++ to_be_bytes w32 part) 8 size end refl s;
+            ∙ word_after (to_be_bytes w32 id ++ to_be_bytes w32 part) 8 size end refl s;
       }
 
   pub written_begins : length bytes ≤ 500 → BeginsWith bytes (page_data (written_page id part size bytes))
@@ -68,7 +68,7 @@ written_parts-push part id bytes (n ∷ numbers) number =
     ap (λ (l : List (ℕ × List ℕ)). (n, written_page id part (length bytes) (part_bytes part bytes)) ∷ l) (written_parts-push (suc part) id bytes numbers number
     ∙ ap (λ (k : ℕ). written_parts (suc part) id bytes numbers ++ (number, written_page id k (length bytes) (part_bytes k bytes)) ∷ []) (let e : suc part + length numbers ≡ part + length (n ∷ numbers) = omega arith in e))
 
--- bytes in place of the first of the zeros behind some others
+-- bytes in place of the first of the zeros after some others
 zeros_filled : (front bytes page : List ℕ) (at more : ℕ) → length front ≡ at → page ≡ front ++ replicate (length bytes + more) 0 → overwritten page at bytes ≡ (front ++ bytes) ++ replicate more 0
 zeros_filled front bytes page at more size is =
     let zeros : List ℕ = replicate (length bytes + more) 0 in

@@ -73,7 +73,7 @@ numbers_read told numbers image from hs scanned = record {
       (cases_lt k l))
       (cases_eq k l)
 
--- what the search answers behind the headers that were read
+-- what the search answers after the headers that were read
 pub next_is : {told : Bool} {numbers now : Numbers} {image : List ℕ} {from : ℕ} {hs : List Header} {next : Option ℕ} (count : ℕ) → now ≡ numbers → ScannedTo told numbers image from hs → count ≡ length hs
     → ((read : List ℕ) → AreSomeBelow from now read → length read ≡ count → IsNext now from next) → IsNext numbers from next
 next_is {told} {numbers} {now} {image} {from} {hs} {next} count same scanned size says =

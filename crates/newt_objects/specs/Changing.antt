@@ -30,7 +30,7 @@ AreWhole live = (number : ℕ) (page : List ℕ) → map.get live number ≡ Som
 abbrev pub total_pages : Objects → ℕ
 total_pages texts = sum_by (λ e. pages_for (length e.1)) (map.entries texts)
 
--- An object is planned to become this one, or none: the plan is kept behind the others, the pages
+-- An object is planned to become this one, or none: the plan is kept after the others, the pages
 -- of the object that was there are deleted, and of the objects that would be held, others are made.
 pub record PlansOne (id : ℕ) (next : Option Extent) (becomes : Objects → Objects)
     (old new : Held) (before after : Change) : Type 0 where
@@ -41,7 +41,7 @@ pub record PlansOne (id : ℕ) (next : Option Extent) (becomes : Objects → Obj
   pub plan : new.plans ≡ old.plans ++ (id, next) ∷ []
   pub deletes : after.deletes ≡ before.deletes ++ numbers_of (held old id)
 
--- The parts of an object are put behind the other puts, under the first of these numbers, of which
+-- The parts of an object are put after the other puts, under the first of these numbers, of which
 -- there are enough.
 pub record PutsParts (id : ℕ) (bytes free : List ℕ) (old new : Change) : Type 0 where
   pub puts : new.puts ≡ old.puts ++ written_parts 0 id bytes (take (pages_for (length bytes)) free)

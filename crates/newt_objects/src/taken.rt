@@ -13,7 +13,7 @@ use crate::free::{PAGE_NUMBERS, mark, mark_numbers};
 use std::alloc::{AllocError, Global};
 use std::collections::BTreeMap;
 
-/// How many page numbers, one behind the other, are a group.
+/// How many page numbers, one after the other, are a group.
 pub(crate) const GROUP: u32 = 32;
 
 /// How many groups there are.

@@ -40,7 +40,7 @@ not_yet (id ∷ ids) zero once low m = m
 not_yet (id ∷ ids) (suc i) once low (inl e) = each-at (λ z. id ≢ z) ids (get_or ids i 0) once.0 (among-get ids i 0 (omega (arith, low))) e
 not_yet (id ∷ ids) (suc i) once low (inr m) = not_yet ids i once.1 (omega (arith, low)) m
 
--- the item of a loop is an element, and it comes behind those before it
+-- the item of a loop is an element, and it comes after those before it
 pub among-item : {X : Type 0} (xs : List X) (i : ℕ) (x : X) → i < length xs → x ≡ get_or xs i x → Among xs x
 among-item xs i x low is = subst (λ y. Among xs y) (sym is) (among-get xs i x low)
 

@@ -125,7 +125,7 @@ pub record CanBePlanned (objects : Held) (entry : Option NewEntry) (gone : List 
   pub ids : (e : NewEntry) → entry ≡ Some e → HasIds e
   pub apart : IsApart entry gone
   pub there : (id : ℕ) → Among gone id → IsSome (held objects id)
-  pub behind : (id : ℕ) → Among gone id → 0 < id
+  pub above : (id : ℕ) → Among gone id → 0 < id
   pub once : AreOnce gone
 
 -- a new entry whose objects have no plans yet

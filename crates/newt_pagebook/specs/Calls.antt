@@ -74,7 +74,7 @@ module _ {B : Type 0} (place : B → ℕ) (numbers : B → Numbers) (shown : B �
     pub full : IsErrOf result Full → cap_of (before.blocks (place old)) < set.len (changed_numbers batch (numbers old))
     pub fits : cap_of (before.blocks (place old)) < set.len (changed_numbers batch (numbers old)) → IsErrOf result Full
     pub unchanged : IsErrOf result Full → Keeps told old new before after
-    -- where the record has room behind the others, whatever the answer
+    -- where the record has room after the others, whatever the answer
     pub bound : IsTrue told → IsOpenFor (batch_bytes batch) (image (place old) before.now) → Spends (place old) (batch_bytes batch) 0 before after
     pub wears : IsTrue told → IsOpenFor (batch_bytes batch) (image (place old) before.now) → Wears (place old) 0 2 before after
     -- where it has none, whatever the answer: the live pages once, each block of the other bank

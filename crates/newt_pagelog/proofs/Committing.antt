@@ -28,7 +28,7 @@ pub record Written (told : Bool) (unit : ℕ) (work : Work) (kind : Bool) (paylo
   pub same : IsTrue told → reading (image unit now.now) ≡ reading (image unit old.now)
   pub stays : Stays told unit work done old now
 
--- where a record stands that is written behind the others, and one that is written alone
+-- where a record stands that is written after the others, and one that is written alone
 pub append-place : (d : Draft) → is_switch d ≡ false → (place_of d ≡ (journal_of d).end + 5) × (front_of d ≡ first_place (journal_of d))
 append-place (Append a) is = (refl, refl)
 append-place (Switch s) is = absurd (cc)
@@ -36,7 +36,7 @@ append-place (Switch s) is = absurd (cc)
 nothing_more : (a b : List ℕ) → a ≡ [] → a ++ b ≡ b
 nothing_more a b e = ap (λ (l : List ℕ). l ++ b) e
 
--- a record behind the others that was begun
+-- a record after the others that was begun
 pub begun : {told : Bool} {j : Journal} {len : ℕ} {alone : Bool} {d : Draft} {a b : Outside}
     → IsBegun told j len alone d a b
     → (IsTrue told → Leaves j.unit (ReadsAs (reading (image j.unit a.now))) a.now b.now)
@@ -74,7 +74,7 @@ pub first-either : {T E : Type 0} {r : Result T E} {told : Bool} {unit : ℕ} {w
     → Programs told unit w (ReadsAsEither (reading (image unit a.now)) after) r a b
 first-either after stays = writes-weaken (λ tells left e. inl e) stays
 
--- a bank of version 2 with blank bytes behind its records
+-- a bank of version 2 with blank bytes after its records
 pub open-for : {image : List ℕ} → version image ≡ 2 → (n : ℕ) → tail image ≡ replicate n 255 → IsOpenFor 0 image
 open-for new n blank = record {
   is_open = record {

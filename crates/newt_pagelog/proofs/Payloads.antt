@@ -170,10 +170,10 @@ get-puts zero i bytes d low = absurd (omega arith)
 get-puts (suc n) zero bytes d low = refl
 get-puts (suc n) (suc i) bytes d low =
     let at : 516 + 516 * i ≡ 516 * suc i = omega arith in
-    let behind : 516 + (516 * i + 4) ≡ 516 * suc i + 4 = omega arith in
+    let after : 516 + (516 * i + 4) ≡ 516 * suc i + 4 = omega arith in
     get-puts n i (drop 516 bytes) d (omega arith)
     ∙ ap (λ (l : List ℕ). (word_at 0 l, take 512 (drop (516 * i + 4) (drop 516 bytes)))) (drop-drop (516 * i) 516 bytes ∙ ap (λ (k : ℕ). drop k bytes) at)
-    ∙ ap (λ (l : List ℕ). (word_at (516 * suc i) bytes, take 512 l)) (drop-drop (516 * i + 4) 516 bytes ∙ ap (λ (k : ℕ). drop k bytes) behind)
+    ∙ ap (λ (l : List ℕ). (word_at (516 * suc i) bytes, take 512 l)) (drop-drop (516 * i + 4) 516 bytes ∙ ap (λ (k : ℕ). drop k bytes) after)
 
 says-what : (b : Bool) (said change : Change) → (if b then Some said else None) ≡ Some change → said ≡ change
 says-what true said change is = some_inj said change is

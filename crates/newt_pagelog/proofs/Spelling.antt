@@ -33,13 +33,13 @@ puts_read [] rest whole small = refl
 puts_read (p ∷ puts) rest whole small =
     let size : length p.1 ≡ 512 = All-head (λ (put : Put). length put.1 ≡ 512) p puts whole in
     let low : p.0 < 65536 = All-head (λ n. n < 65536) p.0 (map_list (λ (p : Put). p.0) puts) small in
-    let behind : List ℕ = flat_map written_put puts ++ rest in
+    let others : List ℕ = flat_map written_put puts ++ rest in
     let bytes : List ℕ = flat_map written_put (p ∷ puts) ++ rest in
-    let is : bytes ≡ to_be_bytes w32 p.0 ++ (p.1 ++ behind) = append_assoc (written_put p) (flat_map written_put puts) rest ∙ append_assoc (to_be_bytes w32 p.0) p.1 behind in
-    let number : word_at 0 bytes ≡ p.0 = ap (λ (l : List ℕ). from_be_bytes w32 (take 4 l)) is ∙ ap (from_be_bytes w32) (take_at (to_be_bytes w32 p.0) (p.1 ++ behind) 4 refl) ∙ from_be_bytes-to_be_bytes_4 p.0 (omega arith) in
-    let after : drop 4 bytes ≡ p.1 ++ behind = ap (λ (l : List ℕ). drop 4 l) is ∙ drop_at (to_be_bytes w32 p.0) (p.1 ++ behind) 4 refl in
-    let page : take 512 (drop 4 bytes) ≡ p.1 = ap (λ (l : List ℕ). take 512 l) after ∙ take_at p.1 behind 512 size in
-    let next : drop 516 bytes ≡ behind = ap (λ (l : List ℕ). drop 516 l) (append_assoc (written_put p) (flat_map written_put puts) rest) ∙ drop_at (written_put p) behind 516 (omega (arith, size)) in
+    let is : bytes ≡ to_be_bytes w32 p.0 ++ (p.1 ++ others) = append_assoc (written_put p) (flat_map written_put puts) rest ∙ append_assoc (to_be_bytes w32 p.0) p.1 others in
+    let number : word_at 0 bytes ≡ p.0 = ap (λ (l : List ℕ). from_be_bytes w32 (take 4 l)) is ∙ ap (from_be_bytes w32) (take_at (to_be_bytes w32 p.0) (p.1 ++ others) 4 refl) ∙ from_be_bytes-to_be_bytes_4 p.0 (omega arith) in
+    let after : drop 4 bytes ≡ p.1 ++ others = ap (λ (l : List ℕ). drop 4 l) is ∙ drop_at (to_be_bytes w32 p.0) (p.1 ++ others) 4 refl in
+    let page : take 512 (drop 4 bytes) ≡ p.1 = ap (λ (l : List ℕ). take 512 l) after ∙ take_at p.1 others 512 size in
+    let next : drop 516 bytes ≡ others = ap (λ (l : List ℕ). drop 516 l) (append_assoc (written_put p) (flat_map written_put puts) rest) ∙ drop_at (written_put p) others 516 (omega (arith, size)) in
     ap (λ (n : ℕ). (n, take 512 (drop 4 bytes)) ∷ puts_from (length puts) (drop 516 bytes)) number
     ∙ ap (λ (l : List ℕ). (p.0, l) ∷ puts_from (length puts) (drop 516 bytes)) page
     ∙ ap (λ (l : List Put). p ∷ l) (ap (puts_from (length puts)) next ∙ puts_read puts rest (All-tail (λ (put : Put). length put.1 ≡ 512) p puts whole) (All-tail (λ n. n < 65536) p.0 (map_list (λ (p : Put). p.0) puts) small))
@@ -48,10 +48,10 @@ deletes_read : (ns : List ℕ) → All (λ n. n < 65536) ns → deletes_from (le
 deletes_read [] small = refl
 deletes_read (n ∷ ns) small =
     let low : n < 65536 = All-head (λ n. n < 65536) n ns small in
-    let behind : List ℕ = flat_map written_delete ns in
-    let number : word_at 0 (to_be_bytes w32 n ++ behind) ≡ n = ap (from_be_bytes w32) (take_at (to_be_bytes w32 n) behind 4 refl) ∙ from_be_bytes-to_be_bytes_4 n (omega arith) in
-    ap (λ (k : ℕ). k ∷ deletes_from (length ns) (drop 4 (to_be_bytes w32 n ++ behind))) number
-    ∙ ap (λ (l : List ℕ). n ∷ l) (ap (deletes_from (length ns)) (drop_at (to_be_bytes w32 n) behind 4 refl) ∙ deletes_read ns (All-tail (λ n. n < 65536) n ns small))
+    let others : List ℕ = flat_map written_delete ns in
+    let number : word_at 0 (to_be_bytes w32 n ++ others) ≡ n = ap (from_be_bytes w32) (take_at (to_be_bytes w32 n) others 4 refl) ∙ from_be_bytes-to_be_bytes_4 n (omega arith) in
+    ap (λ (k : ℕ). k ∷ deletes_from (length ns) (drop 4 (to_be_bytes w32 n ++ others))) number
+    ∙ ap (λ (l : List ℕ). n ∷ l) (ap (deletes_from (length ns)) (drop_at (to_be_bytes w32 n) others 4 refl) ∙ deletes_read ns (All-tail (λ n. n < 65536) n ns small))
 
 module _ (change : Change) (batch : IsBatch change) (few_puts : length change.puts < 65536) (few_deletes : length change.deletes < 65536) where
   abbrev puts_bytes : List ℕ
@@ -77,8 +77,8 @@ module _ (change : Change) (batch : IsBatch change) (few_puts : length change.pu
       ∙ ap (λ (l : List ℕ). from_be_bytes w16 (take 2 l)) (drop_at (to_be_bytes w16 (length change.puts)) (to_be_bytes w16 (length change.deletes) ++ rest_bytes) 2 refl)
       ∙ ap (from_be_bytes w16) (take_at (to_be_bytes w16 (length change.deletes)) rest_bytes 2 refl) ∙ from_be_bytes-to_be_bytes_2 (length change.deletes) (omega (arith, few_deletes))
 
-  behind : drop 4 (written_change change) ≡ rest_bytes
-  behind = ap (λ (l : List ℕ). drop 4 l) (split ∙ sym (append_assoc (to_be_bytes w16 (length change.puts)) (to_be_bytes w16 (length change.deletes)) rest_bytes))
+  past_counts : drop 4 (written_change change) ≡ rest_bytes
+  past_counts = ap (λ (l : List ℕ). drop 4 l) (split ∙ sym (append_assoc (to_be_bytes w16 (length change.puts)) (to_be_bytes w16 (length change.deletes)) rest_bytes))
       ∙ drop_at (to_be_bytes w16 (length change.puts) ++ to_be_bytes w16 (length change.deletes)) rest_bytes 4 refl
 
   size_of_puts : length puts_bytes ≡ 516 * length change.puts
@@ -106,7 +106,7 @@ module _ (change : Change) (batch : IsBatch change) (few_puts : length change.pu
       let numbers = map_list (λ (p : Put). p.0) change.puts in
       ap (λ (n : ℕ). record { puts = puts_from n (drop 4 (written_change change)); deletes = deletes_from (short_at 2 (written_change change)) (drop (4 + 516 * n) (written_change change)) }) first
       ∙ ap (λ (l : List Put). record { puts = l; deletes = deletes_from (short_at 2 (written_change change)) (drop (4 + 516 * length change.puts) (written_change change)) })
-      (ap (puts_from (length change.puts)) behind ∙ puts_read change.puts deletes_bytes batch.whole_pages (front_small numbers change.deletes batch.small))
+      (ap (puts_from (length change.puts)) past_counts ∙ puts_read change.puts deletes_bytes batch.whole_pages (front_small numbers change.deletes batch.small))
       ∙ ap (λ (l : List ℕ). record { puts = change.puts; deletes = l })
       (ap (λ (n : ℕ). deletes_from n (drop (4 + 516 * length change.puts) (written_change change))) second ∙ ap (deletes_from (length change.deletes)) after_puts ∙ deletes_read change.deletes (back_small numbers change.deletes batch.small))
 

@@ -22,7 +22,7 @@ pub record HasRoomFor {V : Type 0} (batch : Change) (blocks : ℕ) (pages : Hash
 
 -- The records of a journal become these others, in version 2, at one moment, before and after which
 -- a crash leaves the old ones, in the version before, or these. The journal that is given back
--- stands for them on the same unit, with blank bytes behind them.
+-- stands for them on the same unit, with blank bytes after them.
 pub record Rewrites {E : Type 0} (told : Bool) (journal : Journal) (work : Work)
     (after : Option (List (List ℕ))) (result : Result Journal E) (old new : Outside) : Type 0 where
   pub stands : IfOk result (λ next. Stands told next new × (next.unit ≡ journal.unit))
@@ -64,7 +64,7 @@ commit_work blocks batch live = record {
   syncs = 14;
 }
 
--- where a batch has room behind the records, it is appended
+-- where a batch has room after the records, it is appended
 pub record AppendsWhereOpen (told : Bool) (unit : ℕ) (batch : Change) (old new : Outside)
     : Type 0 where
   pub costs : IsTrue told → IsOpenFor (batch_bytes batch) (image unit old.now)

@@ -40,7 +40,7 @@ pub record Begins (told : Bool) (journal : Journal) (len : ℕ) (alone : Bool) (
   pub begun : IsBegun told journal len alone draft old new
   pub steady : IsTrue told → IsSteady (unit_of draft) new.now
 
--- These bytes were written behind what was written before (this project's own).
+-- These bytes were written after what was written before (this project's own).
 pub record WritesMore (told : Bool) (unit : ℕ) (bytes : List ℕ) (before after : Draft) (old new : Outside) : Type 0 where
   pub draft : IsDraftOf told after new
   pub put : put_of after ≡ put_of before + length bytes

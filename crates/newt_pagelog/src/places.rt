@@ -127,7 +127,7 @@ fn replay_puts<H: Host>(
     Ok(true)
 }
 
-// Takes over the deletes of a record, behind its puts. False where one breaks a rule.
+// Takes over the deletes of a record, after its puts. False where one breaks a rule.
 fn replay_deletes<H: Host>(
     journal: &Journal,
     host: &mut H,

@@ -207,7 +207,7 @@ fn write_batch<V, H: Host>(
     Ok(())
 }
 
-/// Whether the bank of a journal has room for a batch behind the other records.
+/// Whether the bank of a journal has room for a batch after the other records.
 pub fn has_room<V>(journal: &Journal, pages: &Table<V>, batch: &Batch) -> bool
     requires { length pages.now.entries < 65536 }
     ensures fits { IsTrue result → payload_bytes (needed pages.now.entries batch.now)
@@ -223,7 +223,7 @@ pub fn has_room<V>(journal: &Journal, pages: &Table<V>, batch: &Batch) -> bool
     len <= journal.room() as usize
 }
 
-/// Writes a batch behind the other records: its puts, and the deletes of pages that are there.
+/// Writes a batch after the other records: its puts, and the deletes of pages that are there.
 pub fn append_batch<V, H: Host>(
     journal: Journal,
     host: &mut H,

@@ -2,7 +2,7 @@
 // all pages into the other bank.
 ghost use Rattle.std.specs.Prelude.{◌≡◌, ◌≤◌, OnOk};
 ghost use Rattle.std.specs.FinSet as set;
-ghost use Rattle.newt_spec_image.specs.Pages.{after as pages_behind};
+ghost use Rattle.newt_spec_image.specs.Pages.{after as pages_after};
 ghost use Rattle.newt_journal.specs.Journal.{room, unit_under, blocks_under};
 ghost use Rattle.newt_pagebook.specs.Batch.{IsBatch};
 ghost use Rattle.newt_pagebook.specs.Book.{changed_numbers};
@@ -19,7 +19,7 @@ use newt_pagebook::Batch;
 use newt_pagelog::{append_batch, has_room};
 
 // Appends a batch, and then applies it to the pages in memory.
-fn commit_behind<H: Host>(
+fn commit_after<H: Host>(
     journal: Journal,
     host: &mut H,
     pages: &mut Kept,
@@ -31,7 +31,7 @@ fn commit_behind<H: Host>(
     ensures commits { Commits H.told journal (append_work batch.now) batch.now result
         (H.outside host.old) (H.outside host.new) }
     ensures pages { OnOk result (map_of pages.new.entries
-        ≡ pages_behind batch.now (map_of pages.old.entries)) }
+        ≡ pages_after batch.now (map_of pages.old.entries)) }
     ensures sound { AreSound pages.new.entries }
 {
     let journal = append_batch(journal, host, pages, batch)?;
@@ -51,7 +51,7 @@ fn commit_beside<H: Host>(
     ensures commits { Commits H.told journal (switch_work (blocks_under journal)
         (set.len (changed_numbers batch.now (numbers_in pages.old.entries)))) batch.now result
         (H.outside host.old) (H.outside host.new) }
-    ensures pages { map_of pages.new.entries ≡ pages_behind batch.now (map_of pages.old.entries) }
+    ensures pages { map_of pages.new.entries ≡ pages_after batch.now (map_of pages.old.entries) }
     ensures sound { AreSound pages.new.entries }
 {
     apply(pages, batch);
@@ -71,13 +71,13 @@ pub(crate) fn commit_with<H: Host>(
         (set.len (changed_numbers batch.now (numbers_in pages.old.entries)))) batch.now result
         (H.outside host.old) (H.outside host.new) }
     ensures pages { OnOk result (map_of pages.new.entries
-        ≡ pages_behind batch.now (map_of pages.old.entries)) }
+        ≡ pages_after batch.now (map_of pages.old.entries)) }
     ensures sound { AreSound pages.new.entries }
     ensures appends { AppendsWhereOpen H.told (unit_under journal) batch.now
         (H.outside host.old) (H.outside host.new) }
 {
     if has_room(&journal, pages, batch) {
-        commit_behind(journal, host, pages, batch)
+        commit_after(journal, host, pages, batch)
     } else {
         commit_beside(journal, host, pages, batch)
     }

@@ -50,7 +50,7 @@ cached-at j img cached payloads at page are is there =
 pub cached-promoted : (j : Journal) (img : List ℕ) (t : ℕ → Bool) (old new : List (ℕ × List ℕ)) → new ≡ promoted t old → EachIsPageAtPlace j img old → EachIsPageAtPlace j img new
 cached-promoted j img t old new is are payloads all e there = are payloads all e (Contains-promoted t old e (subst (λ (es : List (ℕ × List ℕ)). Contains es e) is there))
 
--- more records behind those that were cached
+-- more records after those that were cached
 pub cached-appended : (told : Bool) (j k : Journal) (o : Outside) (now : List ℕ) (payload : List ℕ) → Stands told j o → IsTrue told → first_place k ≡ first_place j → j.end ≤ k.end → records now ≡ appended (records (image j.unit o.now)) payload
     → (payloads : List (List ℕ)) → records (image j.unit o.now) ≡ Some payloads → (cached : List (ℕ × List ℕ)) → EachIsPageAtPlace j (image j.unit o.now) cached → EachIsPageAtPlace k now cached
 cached-appended told j k o now payload stands tells same more added payloads is cached are others all e there =

@@ -1,4 +1,4 @@
--- Where the pages stand once a record is committed behind the others.
+-- Where the pages stand once a record is committed after the others.
 use Rattle.std.proofs.Common.{IsTrue, ◌≡◌, ℕ, ◌+◌, ◌*◌, ◌<◌, ◌≤◌, Bool, true, false, nat_eq, List, [], ◌∷◌, ◌++◌, length, Option, Some, refl, sym, ◌∙◌, ap, arith}
 use Rattle.std.specs.List.{filter}
 use Rattle.std.specs.Map.{lookup}
@@ -28,7 +28,7 @@ pub payloads_of : (told : Bool) (j : Journal) (places : Places) (o : Outside) �
 payloads_of true j places o holds = ((holds refl).payloads, λ _. (holds refl).read)
 payloads_of false j places o holds = ([], λ tells. absurd (cc))
 
--- where the pages of a record stand that is behind others
+-- where the pages of a record stand that is after others
 pub stand-appended : (j : Journal) (passed : List (List ℕ)) (payload : List ℕ) (change : Change) (first : ℕ) → change_in payload ≡ Some change → first ≡ first_place j + length (records_bytes passed) + 13
     → StandAt (page_of j (passed ++ payload ∷ [])) first change.puts
 stand-appended j passed payload change first says place i low =
@@ -43,7 +43,7 @@ front-same j passed payload places end end_is placed =
 pub moved-same : (j k : Journal) → first_place j ≡ first_place k → (payloads : List (List ℕ)) (places : Places) → map_of (lifted (page_of j payloads) places) ≡ map_of (lifted (page_of k payloads) places)
 moved-same j k same payloads places = lifted-same (page_of j payloads) (page_of k payloads) places (λ q at there. recorded-moved j k same payloads at 512)
 
--- more records behind them
+-- more records after them
 pub placed-wider : (j k : Journal) (places : Places) → first_place k ≡ first_place j → j.end ≤ k.end → ArePlaced j places → ArePlaced k places
 placed-wider j k places same more placed q at there = let p = placed q at there in record { small = p.small; low = omega (arith, same, p.low); high = omega (arith, more, p.high) }
 

@@ -78,7 +78,7 @@ copies-none told x a draft steady = record {
   writes = writes-none told x a draft steady;
 }
 
--- some, and more behind them
+-- some, and more after them
 pub copies-two : (told : Bool) (unit : ℕ) (first second all : Places) (x y z : Draft) (a b c : Outside) → all ≡ first ++ second → CopiesAll told unit first x y a b → CopiesAll told (unit_of y) second y z b c → CopiesAll told unit all x z a c
 copies-two told unit first second all x y z a b c is one other =
     let front = one.writes in
@@ -150,7 +150,7 @@ long-none n places e = omega (
   place-none n (lookup (nat_eq n) places) e,
 )
 
--- Behind a bound no number has a place.
+-- Above a bound no number has a place.
 no-place : (number : ℕ) (o : Option ℕ) → length (place_at number o) ≤ 0 → o ≡ None
 no-place number None few = refl
 no-place number (Some at) few = absurd (omega (arith, few))

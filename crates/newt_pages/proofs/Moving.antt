@@ -18,19 +18,19 @@ use Rattle.newt_pages.proofs.Tables.{length-lifted}
 pub stand-front : (page : ℕ → List ℕ) (first : ℕ) (xs ys : List Put) → StandAt page first (xs ++ ys) → StandAt page first xs
 stand-front page first xs ys stand i low = stand i (omega (arith, low, length-append xs ys)) ∙ ap (λ (p : Put). p.1) (get_or_append_left xs ys (0, []) i low)
 
-get-behind : (xs ys : List Put) (i : ℕ) (d : Put) → get_or (xs ++ ys) (length xs + i) d ≡ get_or ys i d
-get-behind [] ys i d = ap (λ (k : ℕ). get_or ys k d) (let e : 0 + i ≡ i = omega arith in e)
-get-behind (x ∷ xs) ys i d = ap (λ (k : ℕ). get_or (x ∷ (xs ++ ys)) k d) (let e : length (x ∷ xs) + i ≡ suc (length xs + i) = omega arith in e) ∙ get-behind xs ys i d
+get-after : (xs ys : List Put) (i : ℕ) (d : Put) → get_or (xs ++ ys) (length xs + i) d ≡ get_or ys i d
+get-after [] ys i d = ap (λ (k : ℕ). get_or ys k d) (let e : 0 + i ≡ i = omega arith in e)
+get-after (x ∷ xs) ys i d = ap (λ (k : ℕ). get_or (x ∷ (xs ++ ys)) k d) (let e : length (x ∷ xs) + i ≡ suc (length xs + i) = omega arith in e) ∙ get-after xs ys i d
 
-pub stand-behind : (page : ℕ → List ℕ) (first : ℕ) (xs ys : List Put) → StandAt page first (xs ++ ys) → StandAt page (first + 516 * length xs) ys
-stand-behind page first xs ys stand i low =
-    ap page (let e : first + 516 * length xs + 516 * i ≡ first + 516 * (length xs + i) = omega arith in e) ∙ stand (length xs + i) (omega (arith, low, length-append xs ys)) ∙ ap (λ (p : Put). p.1) (get-behind xs ys i (0, []))
+pub stand-after : (page : ℕ → List ℕ) (first : ℕ) (xs ys : List Put) → StandAt page first (xs ++ ys) → StandAt page (first + 516 * length xs) ys
+stand-after page first xs ys stand i low =
+    ap page (let e : first + 516 * length xs + 516 * i ≡ first + 516 * (length xs + i) = omega arith in e) ∙ stand (length xs + i) (omega (arith, low, length-append xs ys)) ∙ ap (λ (p : Put). p.1) (get-after xs ys i (0, []))
 
 pub stand-same : (page : ℕ → List ℕ) (first : ℕ) (xs ys : List Put) → xs ≡ ys → StandAt page first xs → StandAt page first ys
 stand-same page first xs ys is stand = subst (λ (l : List Put). StandAt page first l) is stand
 
 stand-last : (page : ℕ → List ℕ) (first : ℕ) (xs : List Put) (e : Put) → StandAt page first (xs ++ e ∷ []) → page (first + 516 * length xs) ≡ e.1
-stand-last page first xs e stand = ap page (let e : first + 516 * length xs ≡ first + 516 * length xs + 516 * 0 = omega arith in e) ∙ stand-behind page first xs (e ∷ []) stand 0 (omega arith)
+stand-last page first xs e stand = ap page (let e : first + 516 * length xs ≡ first + 516 * length xs + 516 * 0 = omega arith in e) ∙ stand-after page first xs (e ∷ []) stand 0 (omega arith)
 
 -- a page more, where the number has one
 module _ (fn old new : Places) (n at p first : ℕ) (there : lookup (nat_eq n) fn ≡ Some p) (updates : (q : ℕ) → lookup (nat_eq q) new ≡ cond (nat_eq n q) (Some at) (lookup (nat_eq q) old)) where

@@ -165,7 +165,7 @@ module _ (batch : Change) (is : IsBatch batch) (old left : Places) (numbered : A
         two false true o = refl
         two false false o = refl
 
-  -- and those that are put, behind them
+  -- and those that are put, after them
   abbrev pub whole : (ℕ → List ℕ) → Entries
   whole page = lifted page (below 65536 left) ++ batch.puts
 

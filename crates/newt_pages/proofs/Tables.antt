@@ -95,7 +95,7 @@ kept-lifted page places q = ap is_some (lookup-lifted page places q) ∙ some_ma
 pub needed-lifted : (page : ℕ → List ℕ) (places : Places) (change : Change) → needed (lifted page places) change ≡ needed places change
 needed-lifted page places change = λ i. record { puts = change.puts; deletes = filter (λ q. kept-lifted page places q i) change.deletes }
 
--- pages that stand one behind the other, whatever they are
+-- pages that stand one after the other, whatever they are
 abbrev pub any_pages : ℕ → List Put → ℕ → List ℕ
 any_pages first puts at = (get_or puts ((at - first) / 516) no_put).1
 

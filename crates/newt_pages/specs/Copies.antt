@@ -48,7 +48,7 @@ pub record IsCopying (told : Bool) (draft : Draft) (places : Places) (outside : 
   pub draft_of : IsSteadyDraft told draft outside
   pub placed : ArePlaced (journal_of draft) places
 
--- A page was written behind what was written before: that at a place of the records.
+-- A page was written after what was written before: that at a place of the records.
 pub record CopiesPage (told : Bool) (unit number at : ℕ) (before after : Draft) (old new : Outside) : Type 0 where
   pub page : List ℕ
   pub size : length page ≡ 512
@@ -63,7 +63,7 @@ pub record CopiesAll (told : Bool) (unit : ℕ) (places : Places) (before after 
   pub put : put_of after ≡ put_of before + 516 * length places
   pub writes : WritesMore told unit (flat_map written_put pages) before after old new
 
--- A whole payload was written: the pages at these places, and puts behind them.
+-- A whole payload was written: the pages at these places, and puts after them.
 pub record CopiesWhole (told : Bool) (unit : ℕ) (places : Places) (puts : List Put) (before after : Draft) (old new : Outside) : Type 0 where
   pub pages : Entries
   pub shows : IsTrue told → (payloads : List (List ℕ)) → records (image unit old.now) ≡ Some payloads → pages ≡ lifted (page_of (journal_of before) payloads) places

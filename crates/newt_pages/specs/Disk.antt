@@ -29,18 +29,18 @@ pub keys-lifted : (page : ℕ → List ℕ) (places : Places) → keys_of (lifte
 keys-lifted page [] = refl
 keys-lifted page (e ∷ places) = ap (λ (l : List ℕ). e.0 ∷ l) (keys-lifted page places)
 
--- the pages of these puts stand one behind the other, each behind its number
+-- the pages of these puts stand one after the other, each after its number
 abbrev pub StandAt : (ℕ → List ℕ) → ℕ → List Put → Type 0
 StandAt page first puts = (i : ℕ) → i < length puts → page (first + 516 * i) ≡ (get_or puts i (0, [])).1
 
--- A table has room for so many pages that stand one behind the other, the first at this place.
+-- A table has room for so many pages that stand one after the other, the first at this place.
 pub record TakesPages (count first : ℕ) (places : HashMap ℕ ℕ (BuildHasherDefault FoldHasher))
     : Type 0 where
   pub room : count ≤ hash.spare places
   pub unique : hash.IsUnique nat_eq places
   pub near : first + 516 * count < 2 ^ 32
 
--- The pages at the old places stand one behind the other, the first at this place: each number that
+-- The pages at the old places stand one after the other, the first at this place: each number that
 -- has a page has the same one.
 pub record MovesPages (first : ℕ) (old new : Places) : Type 0 where
   pub moved : (was is : ℕ → List ℕ) → StandAt is first (lifted was (below 65536 old)) → (q : ℕ)

@@ -1,4 +1,4 @@
-// A batch is committed behind the other records.
+// A batch is committed after the other records.
 ghost use Rattle.std.specs.Prelude.{IsTrue, ℕ, List, ◌≡◌, ◌≤◌, ◌+◌, ◌*◌, IfOk};
 ghost use Rattle.newt_host.specs.Moments.{image};
 ghost use Rattle.newt_journal.specs.Journal.{room, unit_under};
@@ -14,7 +14,7 @@ use newt_pagebook::Batch;
 use newt_pagelog::{Table, append_batch};
 
 /// Appends a batch, and then notes where its pages stand.
-pub(crate) fn commit_behind<H: Host>(
+pub(crate) fn commit_after<H: Host>(
     journal: Journal,
     host: &mut H,
     places: &mut Table<u32>,

@@ -10,7 +10,7 @@ ghost use Rattle.newt_pagelog.specs.Commits.{AppendsWhereOpen, Commits, commit_w
 ghost use Rattle.newt_pagelog.specs.Kept.{numbers_in};
 ghost use Rattle.newt_pages.specs.Disk.{EachIsPageAtPlace, IsReadyFor, TakesOver};
 
-use crate::append::commit_behind;
+use crate::append::commit_after;
 use crate::hand::{Cache, forget_all};
 use crate::switch::replace_all;
 use crate::table::{FIRST_PAGE, bound_of, move_pages, place_puts, remove_numbers, remove_puts};
@@ -70,7 +70,7 @@ pub(crate) fn commit_with<H: Host>(
         (H.outside host.old) (H.outside host.new) }
 {
     if has_room(&journal, places, batch) {
-        commit_behind(journal, host, places, batch)
+        commit_after(journal, host, places, batch)
     } else {
         forget_all(cache);
         commit_beside(journal, host, places, batch, live)

@@ -85,7 +85,7 @@ fn copy_pages<H: Host>(
     Ok(())
 }
 
-// Writes all pages as one payload: those at the places, and the given ones behind them.
+// Writes all pages as one payload: those at the places, and the given ones after them.
 fn copy_whole<H: Host>(
     draft: &mut Draft,
     host: &mut H,
@@ -111,7 +111,7 @@ fn copy_whole<H: Host>(
 }
 
 /// Writes all pages as one record into the other bank, once the votes are mended: those at the
-/// places, whose numbers are below the bound, and the given ones behind them.
+/// places, whose numbers are below the bound, and the given ones after them.
 pub(crate) fn replace_all<H: Host>(
     journal: Journal,
     host: &mut H,

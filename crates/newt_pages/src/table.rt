@@ -22,7 +22,7 @@ use newt_pagelog::Table;
 /// The bytes of a put in a record: the number of the page, and the page.
 pub(crate) const PUT: u32 = 516;
 
-/// How far behind the beginning of a record its first page stands: behind a gate, a length, two
+/// How far after the beginning of a record its first page stands: after a gate, a length, two
 /// counts and a number.
 pub(crate) const FIRST_PAGE: u32 = 13;
 
@@ -41,7 +41,7 @@ fn place_page(places: &mut Table<u32>, number: u32, at: u32)
     }
 }
 
-/// Notes where pages stand that were put one behind the other, the first at this place. There is
+/// Notes where pages stand that were put one after the other, the first at this place. There is
 /// room for them.
 pub(crate) fn place_puts(places: &mut Table<u32>, puts: &[(u32, Page)], first: u32)
     requires takes { TakesPages (length puts.now) first places.old }
@@ -89,7 +89,7 @@ pub(crate) fn remove_puts(places: &mut Table<u32>, puts: &[(u32, Page)])
     }
 }
 
-/// Takes over a batch whose pages were put one behind the other, the first at this place. There is
+/// Takes over a batch whose pages were put one after the other, the first at this place. There is
 /// room for them.
 pub(crate) fn apply(places: &mut Table<u32>, batch: &Batch, first: u32)
     requires takes { TakesPages (length batch.now.puts) first places.old }
@@ -136,8 +136,8 @@ pub(crate) fn bound_of(places: &Table<u32>, count: usize) -> u32
     65536
 }
 
-/// Notes that all pages stand one behind the other, in the order of their numbers, which are below
-/// the bound, the first at this place. Answers the place behind the last.
+/// Notes that all pages stand one after the other, in the order of their numbers, which are below
+/// the bound, the first at this place. Answers the place after the last.
 pub(crate) fn move_pages(places: &mut Table<u32>, bound: u32, first: u32) -> u32
     requires bound { IsBound bound places.old.entries }
     requires unique { hash.IsUnique nat_eq places.old }

@@ -1,4 +1,4 @@
--- In the nodes of a graph, a symbol and another graph behind them, each reference leads to a node, and each class and tag to a symbol.
+-- In the nodes of a graph, a symbol and another graph after them, each reference leads to a node, and each class and tag to a symbol.
 use Rattle.std.proofs.Common.{◌≡◌, ◌≢◌, ℕ, zero, suc, ◌+◌, ◌<◌, ◌≤◌, List, [], ◌∷◌, ◌++◌, length, map, All, get_or, Some, None, refl, sym, ap, subst, ◌∙◌, arith}
 use Rattle.std.specs.Prelude.{slice_get, AllPairs, set, is_none}
 use Rattle.std.specs.List.{enumerate_from}
@@ -54,7 +54,7 @@ node_joined nodes (Frame tags others) is values = record { labels = is.symbols; 
 pub graph_joined : (g : RawGraph) → IsGraph g → All (IsJoinedNode g.nodes) g.nodes
 graph_joined g graph k d lt = node_joined g.nodes (get_or g.nodes k d) (graph.each k d lt) (nodes_within g graph k d lt).values
 
--- ---- a graph behind other nodes
+-- ---- a graph after other nodes
 
 labels_renamed : (to : ℕ → ℕ) (node : Node) → labels_of (renamed to node) ≡ map to (labels_of node)
 labels_renamed to (Symbol name) = refl
@@ -116,8 +116,8 @@ all_numbered P i (x ∷ xs) h = All-cons (λ k. P k.1) (i, x) (enumerate_from (i
 pub append_joined : (old rest : List Node) → All (IsJoinedNode old) old → All (IsJoinedNode (old ++ rest)) old
 append_joined old rest h = All-weaker (IsJoinedNode old) (IsJoinedNode (old ++ rest)) (joined_more old (old ++ rest) (symbol_append old rest) (omega (arith, length-append old rest))) old h
 
-pub behind_joined : (old : List Node) (v : RawGraph) → IsGraph v → All (IsJoinedNode old) old → All (IsJoinedNode (joined old v.nodes)) (joined old v.nodes)
-behind_joined old v graph h =
+pub after_joined : (old : List Node) (v : RawGraph) → IsGraph v → All (IsJoinedNode old) old → All (IsJoinedNode (joined old v.nodes)) (joined old v.nodes)
+after_joined old v graph h =
     let to = goes_to old v.nodes in
     let all = joined old v.nodes in
     let added = map (λ k. renamed to k.1) (new_nodes old v.nodes) in

@@ -1,4 +1,4 @@
--- The symbol of a name among the nodes of a graph: one that is there, or a new one behind them.
+-- The symbol of a name among the nodes of a graph: one that is there, or a new one after them.
 use Rattle.std.proofs.Common.{◌≡◌, ℕ, suc, ◌+◌, ◌≤◌, List, [], ◌∷◌, ◌++◌, length, map, Bool, true, false, Option, Some, None, refl, sym, ap, subst, ◌∙◌, arith, cond, eqb, append_assoc, inl, inr, ◌⊎◌}
 use Rattle.std.specs.Prelude.{slice_get}
 use Rattle.std.specs.List.{position_from, sum_by}
@@ -41,9 +41,9 @@ found_before p i k (x ∷ xs) ys e = by (λ e. found_before p (i + 1) k xs ys e)
     by rest true is e = rw is e
     by rest false is e = rw is (rest e)
 
-found_behind : {X : Type 0} (p : X → Bool) (i : ℕ) (xs : List X) (y : X) (ys : List X) → position_from p i xs ≡ None → p y ≡ true → position_from p i (xs ++ y ∷ ys) ≡ Some (i + length xs)
-found_behind p i [] y ys e is = let sum : i ≡ i + 0 = omega arith in rw is (ap (λ (m : ℕ). Some m) sum)
-found_behind p i (x ∷ xs) y ys e is = by (λ e. found_behind p (i + 1) xs y ys e is) (p x) refl e
+found_after : {X : Type 0} (p : X → Bool) (i : ℕ) (xs : List X) (y : X) (ys : List X) → position_from p i xs ≡ None → p y ≡ true → position_from p i (xs ++ y ∷ ys) ≡ Some (i + length xs)
+found_after p i [] y ys e is = let sum : i ≡ i + 0 = omega arith in rw is (ap (λ (m : ℕ). Some m) sum)
+found_after p i (x ∷ xs) y ys e is = by (λ e. found_after p (i + 1) xs y ys e is) (p x) refl e
   where
     sum : i + 1 + length xs ≡ i + suc (length xs)
     sum = omega arith
@@ -103,7 +103,7 @@ named_new nodes name few e =
       alike = subst (λ (ns : List Node). IsAlike ns (length nodes) name) (sym all) (name, get_seam nodes (Symbol name) [], refl);
       first = λ later. subst (λ (ns : List Node). symbol_number (ns ++ later) name ≡ Some (length nodes)) (sym all)
           (subst (λ (ns : List Node). symbol_number ns name ≡ Some (length nodes)) (sym (append_assoc nodes (Symbol name ∷ []) later))
-          (number_from (nodes ++ Symbol name ∷ later) name ∙ found_behind (bears name) 0 nodes (Symbol name) later (sym (number_from nodes name) ∙ e) (self_named name) ∙ ap (λ (m : ℕ). Some m) sum));
+          (number_from (nodes ++ Symbol name ∷ later) name ∙ found_after (bears name) 0 nodes (Symbol name) later (sym (number_from nodes name) ∙ e) (self_named name) ∙ ap (λ (m : ℕ). Some m) sum));
       only = λ t other at.
           false_from_ne_true (bears name (Symbol other)) (λ is. none_alike nodes name found t (alike_from_named nodes t name (Symbol other) at is))
           ∙ sym (ne_eqb t (length nodes) (λ same. omega (arith, same, slice_get_within nodes t (Symbol other) at)));

@@ -1,4 +1,4 @@
--- The numbers that a builder gives to the nodes of a graph that is put behind others are those of the definition.
+-- The numbers that a builder gives to the nodes of a graph that is put after others are those of the definition.
 use Rattle.std.proofs.Common.{◌≡◌, ℕ, zero, suc, ◌+◌, ◌-◌, ◌<◌, ◌≤◌, List, [], ◌∷◌, ◌++◌, length, map, All, get_or, Bool, true, false, Option, Some, None, refl, sym, ap, subst, ◌∙◌, arith, eqb}
 use Rattle.std.specs.Prelude.{slice_get, filter, is_none, unwrap_or, option_and_then, ◌==◌}
 use Rattle.std.specs.List.{position_from, position_or_len, enumerate_from, sum_by}
@@ -17,7 +17,7 @@ use Rattle.newt_graph.specs.declared.node.Ref.TheVariants as refs
 use Rattle.newt_graph.specs.Graph.{RawGraph, IsGraph, IsAlike, payload, folded}
 use Rattle.newt_graph.specs.Raw.{renamed_ref, renamed, IsValue}
 use Rattle.newt_graph.specs.Draft.{is_alike, find_alike}
-use Rattle.newt_graph.specs.Import.{known_as, numbers_from, kept_of, looked_up, behind, with_graph}
+use Rattle.newt_graph.specs.Import.{known_as, numbers_from, kept_of, looked_up, after, with_graph}
 use Rattle.newt_spec_graph.specs.Slots.{is_named, symbol_number, new_nodes, goes_to}
 use Rattle.newt_graph.proofs.Options.{some_is}
 use Rattle.newt_graph.proofs.Elements.{at_map, any_at}
@@ -176,11 +176,11 @@ new_at old (x ∷ xs) i (suc k) j node is e none =
         ap (λ (m : ℕ). slice_get (lacking old i (x ∷ xs)) m) at
         ∙ (ap (λ (ks : List (ℕ × Node)). slice_get ks (suc (place_of j (lacking old (i + 1) xs)))) all ∙ rest)
 
-get_behind : {X : Type 0} (xs ys : List X) (k : ℕ) → slice_get (xs ++ ys) (length xs + k) ≡ slice_get ys k
-get_behind [] ys k = let e : 0 + k ≡ k = omega arith in ap (λ (m : ℕ). slice_get ys m) e
-get_behind (x ∷ xs) ys k = let e : suc (length xs) + k ≡ suc (length xs + k) = omega arith in ap (λ (m : ℕ). slice_get (x ∷ (xs ++ ys)) m) e ∙ get_behind xs ys k
+get_after : {X : Type 0} (xs ys : List X) (k : ℕ) → slice_get (xs ++ ys) (length xs + k) ≡ slice_get ys k
+get_after [] ys k = let e : 0 + k ≡ k = omega arith in ap (λ (m : ℕ). slice_get ys m) e
+get_after (x ∷ xs) ys k = let e : suc (length xs) + k ≡ suc (length xs + k) = omega arith in ap (λ (m : ℕ). slice_get (x ∷ (xs ++ ys)) m) e ∙ get_after xs ys k
 
--- the old nodes and those of a graph behind them
+-- the old nodes and those of a graph after them
 abbrev pub joined : List Node → List Node → List Node
 joined old new = old ++ map (λ k. renamed (goes_to old new) k.1) (new_nodes old new)
 
@@ -191,7 +191,7 @@ new_lands old new k node e none =
     let number : goes_to old new k ≡ length old + place_of k ks = goes_by old new k node e ∙ ap (λ (o : Option ℕ). unwrap_or o (length old + place_of k ks)) none in
     let there : slice_get ks (place_of k ks) ≡ Some (k, node) = new_at old new 0 k k node (omega arith) e none in
     ap (λ (m : ℕ). slice_get (joined old new) m) number
-    ∙ (get_behind old (map (λ k. renamed to k.1) ks) (place_of k ks) ∙ at_map (λ k. renamed to k.1) ks (place_of k ks) (k, node) there)
+    ∙ (get_after old (map (λ k. renamed to k.1) ks) (place_of k ks) ∙ at_map (λ k. renamed to k.1) ks (place_of k ks) (k, node) there)
 
 -- a symbol goes to one that is alike
 pub symbol_lands : (old new : List Node) (k : ℕ) (name : List ℕ) → slice_get new k ≡ Some (Symbol name) → IsAlike (joined old new) (goes_to old new k) name
@@ -303,26 +303,26 @@ kept_fewer old to (x ∷ xs) = by (kept_fewer old to xs) (known_as old x) refl
         subst (λ (ns : List Node). Fewer (x ∷ xs) (map (renamed to) ns)) (sym (kept_new old x xs known))
         (record { few = omega (arith, others.few); light = omega (arith, others.light, sum, one, payload_same to x) })
 
-behind_is : (old added : List Node) (root : Ref) → length old + length added ≤ 131072 → sum_by payload old + sum_by payload added ≤ 33554432 → behind old added root ≡ Some (root, old ++ added)
-behind_is old added root few light =
+after_is : (old added : List Node) (root : Ref) → length old + length added ≤ 131072 → sum_by payload old + sum_by payload added ≤ 33554432 → after old added root ≡ Some (root, old ++ added)
+after_is old added root few light =
     rw (le-leb (length (old ++ added)) 131072 (omega (arith, few, length-append old added)), le-leb (sum_by payload added) (33554432 - sum_by payload old) (omega (arith, light))) refl
 
 table_agrees : (old : List Node) (v : RawGraph) → Agree (length v.nodes) (looked_up (numbers_from old (length old) v.nodes)) (goes_to old v.nodes)
 table_agrees old v k lt = looked_up_goes old v.nodes k (get_or v.nodes k (Str [])) (any_at v.nodes k (Str []) lt)
 
--- a graph is put behind others as the definition says
-pub graph_behind : (old : List Node) (v : RawGraph) → IsGraph v → length old ≤ 65536 → sum_by payload old ≤ 16777216 → with_graph old v ≡ Some (renamed_ref (goes_to old v.nodes) v.root, joined old v.nodes)
+-- a graph is put after others as the definition says
+pub graph_after : (old : List Node) (v : RawGraph) → IsGraph v → length old ≤ 65536 → sum_by payload old ≤ 16777216 → with_graph old v ≡ Some (renamed_ref (goes_to old v.nodes) v.root, joined old v.nodes)
 unfolding with_graph
-graph_behind old v graph few light =
+graph_after old v graph few light =
     let table = looked_up (numbers_from old (length old) v.nodes) in
     let kept = kept_fewer old table v.nodes in
     let made : with_graph old v ≡ Some (renamed_ref table v.root, old ++ map (renamed table) (kept_of old v.nodes)) =
-    behind_is old (map (renamed table) (kept_of old v.nodes)) (renamed_ref table v.root) (omega (arith, few, kept.few, graph.few)) (omega (arith, light, kept.light, graph.light)) in
+    after_is old (map (renamed table) (kept_of old v.nodes)) (renamed_ref table v.root) (omega (arith, few, kept.few, graph.few)) (omega (arith, light, kept.light, graph.light)) in
     let root = ref_agrees (length v.nodes) table (goes_to old v.nodes) (table_agrees old v) v.root (root_within v graph) in
     let nodes = kept_agree old (length v.nodes) 0 table (goes_to old v.nodes) (table_agrees old v) v.nodes (nodes_within v graph) in
     made ∙ (ap (λ (r : Ref). Some (r, old ++ map (renamed table) (kept_of old v.nodes))) root ∙ ap (λ (ns : List Node). Some (renamed_ref (goes_to old v.nodes) v.root, old ++ ns)) nodes)
 
--- ---- a graph put behind nothing is itself
+-- ---- a graph put after nothing is itself
 
 unknown : (node : Node) → known_as [] node ≡ None
 unfolding find_alike
@@ -354,7 +354,7 @@ graph_alone g graph =
     let agree : Agree (length g.nodes) table (λ k. k) = λ k lt. let e : 0 + k ≡ k = omega arith in get_or_from_slice_get (numbers_from [] 0 g.nodes) k k 0 (counted g.nodes 0 k lt ∙ ap (λ (m : ℕ). Some m) e) in
     let kept = kept_fewer [] table g.nodes in
     let made : with_graph [] g ≡ Some (renamed_ref table g.root, map (renamed table) (kept_of [] g.nodes)) =
-    behind_is [] (map (renamed table) (kept_of [] g.nodes)) (renamed_ref table g.root) (omega (arith, kept.few, graph.few)) (omega (arith, kept.light, graph.light)) in
+    after_is [] (map (renamed table) (kept_of [] g.nodes)) (renamed_ref table g.root) (omega (arith, kept.few, graph.few)) (omega (arith, kept.light, graph.light)) in
     let root : renamed_ref table g.root ≡ g.root = ref_agrees (length g.nodes) table (λ k. k) agree g.root (root_within g graph) ∙ ref_id g.root in
     let nodes : map (renamed table) (kept_of [] g.nodes) ≡ g.nodes = ap (λ (ns : List Node). map (renamed table) ns) (all_kept g.nodes) ∙ nodes_same (length g.nodes) table agree g.nodes (nodes_within g graph) in
     made ∙ (ap (λ (r : Ref). Some (r, map (renamed table) (kept_of [] g.nodes))) root ∙ ap (λ (ns : List Node). Some (g.root, ns)) nodes)

@@ -28,7 +28,7 @@ use Rattle.newt_path.specs.Put.{IsFormOf, PassesALimit}
 use Rattle.newt_graph.proofs.Below.{root_within}
 use Rattle.newt_path.proofs.Numbers.{joined}
 use Rattle.newt_path.proofs.Named.{named, IsNamedBy}
-use Rattle.newt_path.proofs.Joins.{value_more, symbol_joined, graph_joined, append_joined, behind_joined, value_lands, set_other, set_here, symbol_stays, frame_joined}
+use Rattle.newt_path.proofs.Joins.{value_more, symbol_joined, graph_joined, append_joined, after_joined, value_lands, set_other, set_here, symbol_stays, frame_joined}
 use Rattle.newt_path.proofs.Reached.{Has, In, Closed, Labelled, all_reached}
 
 -- what a change is made in: a frame of the graph g, and the nodes with the name's symbol
@@ -133,7 +133,7 @@ named_joined g name tag graph by = elim by.all [
 ]
 
 alls_joined : (g : RawGraph) (name : List ℕ) (v : RawGraph) (tag : ℕ) → IsGraph g → IsNamedBy g.nodes name tag → IsGraph v → All (IsJoinedNode (all_of g name v)) (all_of g name v)
-alls_joined g name v tag graph by other = behind_joined (named g.nodes name) v other (named_joined g name tag graph by)
+alls_joined g name v tag graph by other = after_joined (named g.nodes name) v other (named_joined g name tag graph by)
 
 tag_symbol : (g : RawGraph) (name : List ℕ) (v : RawGraph) (tag : ℕ) → IsNamedBy g.nodes name tag → IsSymbol (all_of g name v) tag
 tag_symbol g name v tag by = (by.alike.0, get_append (named g.nodes name) _ tag (Symbol by.alike.0) by.alike.1)

@@ -14,7 +14,7 @@ use Rattle.newt_graph.specs.Draft.{IsJoined, with_symbol, with_set}
 use Rattle.newt_graph.specs.Import.{with_graph}
 use Rattle.newt_spec_graph.specs.Slots.{put_into}
 use Rattle.newt_path.specs.Put.{IsFormOf, PassesALimit, IsFrameOf}
-use Rattle.newt_path.proofs.Numbers.{graph_alone, graph_behind}
+use Rattle.newt_path.proofs.Numbers.{graph_alone, graph_after}
 use Rattle.newt_path.proofs.Named.{named, IsNamedBy, named_is, named_small}
 use Rattle.newt_path.proofs.Puts.{IsPlace, all_of, root_of, frame_of, named_at, set_gives, set_refuses, put_joined, full_passes, made_form, made_none}
 
@@ -57,17 +57,17 @@ named_so g name nodes more tag graph same e =
     let p = same_pair e (ap (λ (ns : List Node). with_symbol ns name) same ∙ n.1.made) in
     record { by = subst (IsNamedBy g.nodes name) (sym p.0) n.1; nodes_are = p.1 }
 
-value_behind : (g : RawGraph) (name : List ℕ) (tag : ℕ) (nodes : List Node) (v : RawGraph) → IsGraph g → IsGraph v → NamedSo g name tag nodes → with_graph nodes v ≡ Some (root_of g name v, all_of g name v)
-value_behind g name tag nodes v graph other so =
+value_after : (g : RawGraph) (name : List ℕ) (tag : ℕ) (nodes : List Node) (v : RawGraph) → IsGraph g → IsGraph v → NamedSo g name tag nodes → with_graph nodes v ≡ Some (root_of g name v, all_of g name v)
+value_after g name tag nodes v graph other so =
     let small = named_small g.nodes name tag so.by in
-    ap (λ (ns : List Node). with_graph ns v) so.nodes_are ∙ graph_behind (named g.nodes name) v other (omega (arith, small.few, graph.few)) (omega (arith, small.light, graph.light))
+    ap (λ (ns : List Node). with_graph ns v) so.nodes_are ∙ graph_after (named g.nodes name) v other (omega (arith, small.few, graph.few)) (omega (arith, small.light, graph.light))
 
 pub value_fits : (g : RawGraph) (name : List ℕ) (tag : ℕ) (nodes : List Node) (v : RawGraph) → IsGraph g → IsGraph v → NamedSo g name tag nodes → with_graph nodes v ≡ None → ⊥
-value_fits g name tag nodes v graph other so e = none-some _ (sym e ∙ value_behind g name tag nodes v graph other so)
+value_fits g name tag nodes v graph other so e = none-some _ (sym e ∙ value_after g name tag nodes v graph other so)
 
 pub stands : (g : RawGraph) (name : List ℕ) (tag : ℕ) (nodes more : List Node) (v : RawGraph) (value : Ref) → IsGraph g → IsGraph v → NamedSo g name tag nodes → with_graph nodes v ≡ Some (value, more) → Stands g name v tag value more
 stands g name tag nodes more v value graph other so e =
-    let p = same_pair e (value_behind g name tag nodes v graph other so) in
+    let p = same_pair e (value_after g name tag nodes v graph other so) in
     record { by = so.by; value_is = p.0; nodes_are = p.1 }
 
 place_of : (g : RawGraph) (name : List ℕ) (v : RawGraph) (tag frame : ℕ) (value : Ref) (nodes : List Node) → IsGraph g → (f : IsFrameOf g frame) → Stands g name v tag value nodes → IsPlace g name tag frame f.tags f.values

@@ -1,5 +1,6 @@
--- A comment above each definition states its rule and ends with whose the rule is: of Newton's papers (Newton Formats 1.1, Newton Programmer's Guide 2.0),
--- this project's own, or, for a mere word on lists, nodes or readers that states no rule, a word of these definitions.
+-- A comment above each definition states its rule, and ends with whose the rule is. It may be that
+-- of Newton's papers (Newton Formats 1.1, Newton Programmer's Guide 2.0), or this project's own. A
+-- mere word on lists, nodes or readers, which states no rule, is a word of these definitions.
 pub mod Names
 pub mod Faults
 pub mod Put

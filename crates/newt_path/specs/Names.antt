@@ -4,7 +4,8 @@ use Rattle.std.specs.List.{slice_split}
 use Rattle.newt_base.specs.Names.{valid_path}
 use Rattle.newt_graph.specs.Graph.{IsName}
 
--- one to eight names of slots, each a symbol's name (Newton Programmer's Guide 2.0, paths; the number is this project's own)
+-- one to eight names of slots, each a symbol's name (Newton Programmer's Guide 2.0, paths; the
+-- number is this project's own)
 pub record IsPath (path : List (List ℕ)) : Type 0 where
   pub some : 0 < length path
   pub few : length path ≤ 8

@@ -9,12 +9,14 @@ use Rattle.newt_graph.specs.Meeting.{normal_form}
 use Rattle.newt_spec_graph.specs.Limits.{is_within}
 use Rattle.newt_spec_graph.specs.Slots.{value_below}
 
--- There is a raw graph, and this graph is its normal form: by the relation, and by the function that finds it. (this project's own)
+-- There is a raw graph, and this graph is its normal form, both by the relation and by the function
+-- that finds it. (this project's own)
 abbrev pub IsFormOf : Option RawGraph → RawGraph → Type 0
 IsFormOf None graph = ⊥
 IsFormOf (Some raw) graph = IsNormalForm raw graph × (normal_form raw ≡ Some graph)
 
--- There is a raw graph, and no graph is its normal form: what would be it passes a limit. (this project's own)
+-- There is a raw graph, and no graph is its normal form: what would be it passes a limit. (this
+-- project's own)
 abbrev pub PassesALimit : Option RawGraph → Type 0
 PassesALimit None = ⊥
 PassesALimit (Some raw) = ((graph : RawGraph) → IsNormalForm raw graph → ⊥) × (is_within (normal_form raw) ≡ false)

@@ -9,7 +9,7 @@ use std::alloc::{AllocError, AllocFailed};
 /// Why bytes are not taken for a path.
 #[derive(Clone, Copy, PartialEq, Eq, Debug)]
 pub enum PathFault {
-    /// The text is not 1 to 8 identifiers of at most 254 bytes each with points between them.
+    /// The text is not 1 to 8 identifiers of at most 254 bytes each, with points between them.
     Path,
     /// Memory was refused.
     Memory,

@@ -6,8 +6,8 @@ use crate::path::Path;
 use crate::value::value_at;
 use newt_graph::{Graph, Node, Ref};
 
-/// The number of the large binary that a path of a graph reaches. None exactly where it reaches
-/// none. It takes no memory.
+/// The number of the large binary that a path of a graph reaches. None exactly where the path
+/// reaches none. It takes no memory.
 pub fn large_at(graph: &Graph, path: &Path) -> Option<u32>
     ensures { result ≡ large_at graph.now path.now }
 {

@@ -1,7 +1,9 @@
-//! Paths through the frames of a graph: reading one, the value that one reaches, and a change at
-//! one. It stands on `newt_base`, `newt_graph` and `newt_spec_graph`. The promise that it carries:
-//! `value_at` is the value that the path reaches by the definition, and `set_at` gives the normal
-//! form of the graph with the value put in its place, exactly where there is one.
+//! Paths through the frames of a graph: reading a path, the value that it reaches, and a change at
+//! it.
+//!
+//! It stands on `newt_base`, `newt_graph` and `newt_spec_graph`. It carries this promise:
+//! `value_at` is the value that the path reaches by the definition. `set_at` gives the normal form
+//! of the graph with the value put in its place, exactly where there is such a place.
 #![tactic(auto)]
 
 mod fault;

@@ -32,7 +32,7 @@ impl Model for Path {
 }
 
 impl Path {
-    /// Names that are a path already.
+    /// The path of names that are one already.
     pub fn of(items: Vec<Bytes>) -> Self
         requires { IsPath items.items }
         ensures { result ≡ items.items }
@@ -40,8 +40,8 @@ impl Path {
         Path { items }
     }
 
-    /// Reads 1 to 8 identifiers with points between them. `Path` comes only where the text is none;
-    /// `Memory` may come in place of any answer.
+    /// Reads 1 to 8 identifiers with points between them. `Path` comes only where the text is no
+    /// path; `Memory` may come in place of any answer.
     pub fn read(alloc: Global, text: &[u8]) -> Result<Path, PathFault>
         ensures ok { IfOk result (λ path. path_of text.now ≡ Some path) }
         ensures path { IsErrOf result PathFault.Path → path_of text.now ≡ None }
@@ -56,7 +56,7 @@ impl Path {
         Ok(Path { items })
     }
 
-    /// Whether two paths are one but for ASCII case. It takes no memory.
+    /// Whether two paths are alike but for ASCII case. It takes no memory.
     pub fn same(&self, other: &Path) -> bool
         ensures { result ≡ same_path self.now other.now }
     {
@@ -83,8 +83,8 @@ impl Path {
     }
 }
 
-/// Whether the names of one list are those of another but for ASCII case, as far as the shorter one
-/// goes.
+/// Whether the names of one list are those of another but for ASCII case, as far as the shorter
+/// list goes.
 fn all_same(names: &[Bytes], others: &[Bytes]) -> bool
     ensures { result ≡ list_all (λ s. same_name s.0 s.1) (zip names.now others.now) }
 {

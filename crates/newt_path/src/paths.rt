@@ -20,7 +20,7 @@ impl Model for Paths {
 }
 
 impl Paths {
-    /// Paths that are at hand.
+    /// The list of these paths.
     pub fn of(items: Vec<Path>) -> Self
         ensures { result ≡ items.items }
     {

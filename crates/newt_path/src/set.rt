@@ -16,9 +16,10 @@ use std::alloc::Global;
 
 /// The graph with the value in the last slot of the path, in the frame that the slots before it
 /// lead to. That frame is changed where it stands, so that every other way to it shows the change.
-/// A missing last slot is added as the last one. Of symbols that differ in case alone the graph's
-/// spelling stays, then the path's. What the root no longer reaches is gone. `NoPath` comes exactly
-/// where there is no such frame; `Limit` only where the result would pass a limit of one graph.
+/// A missing last slot is added after the others.
+/// Of symbols that differ in case alone, the graph's spelling stays, then the path's. What the root
+/// no longer reaches is gone. `NoPath` comes exactly where there is no such frame; `Limit` only
+/// where the result would pass a limit of one graph.
 pub fn set_at(alloc: Global, graph: &Graph, path: &Path, value: &Graph) -> Result<Graph, SetFault>
     ensures form { IfOk result (λ g. IsFormOf (put graph.now path.now value.now) g) }
     ensures no_path { IsErrOf result SetFault.NoPath ↔ (put graph.now path.now value.now ≡ None) }

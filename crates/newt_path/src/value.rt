@@ -41,14 +41,14 @@ pub fn slot_value(nodes: &[Node], value: Ref, name: &[u8]) -> Option<Ref>
     values.list().get(i).copied()
 }
 
-/// Which slot has this name, by the frame's tags.
+/// The number of the slot that has this name, by the frame's tags.
 fn slot_number(nodes: &[Node], tags: &[u32], name: &[u8]) -> Option<usize>
     ensures { result ≡ slot_number nodes.now name.now tags.now }
 {
     tags.iter().position(|tag| is_named(nodes, *tag, name))
 }
 
-/// Whether there is a node n, and it has this name.
+/// Whether there is a node n and it has this name.
 fn is_named(nodes: &[Node], n: u32, name: &[u8]) -> bool
     ensures { result ≡ is_named name.now (slice_get nodes.now n) }
 {

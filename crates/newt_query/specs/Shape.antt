@@ -5,8 +5,8 @@ use Rattle.newt_spec_store.specs.Keys.{Path}
 use Rattle.newt_spec_query.specs.Tags.{TagSpec}
 use Rattle.newt_spec_query.specs.Spec.{given, has_slot, query_paths, tag_spec, texts_given}
 
--- the paths of its index, none where it asks for no index; its tags, its words and texts, folded, and the mark for entire words
--- (Newton Programmer's Guide 2.0, query specs)
+-- the paths of its index, none where it asks for no index; its tags, its words and its texts,
+-- folded, and the mark for entire words (Newton Programmer's Guide 2.0, query specs)
 pub record Shape : Type 0 where
   pub paths : Option (List Path)
   pub tags : TagSpec
@@ -14,7 +14,8 @@ pub record Shape : Type 0 where
   pub texts : List (List ℕ)
   pub entire : Bool
 
--- what the frame says but for the keys, which are read once the index is known (Newton Programmer's Guide 2.0, query specs)
+-- what the frame says but for the keys, which are read once the index is known (Newton Programmer's
+-- Guide 2.0, query specs)
 abbrev pub shape_of : RawGraph → Shape
 shape_of g = record {
   paths = query_paths g;

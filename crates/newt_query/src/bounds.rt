@@ -62,13 +62,13 @@ pub(crate) fn range_given(
         → keys_fit graph.now (unwrap_or spec.now []) ≡ false }
 {
     let begin = key_given(alloc, graph, spec, b"beginKey")?;
-    let behind = key_given(alloc, graph, spec, b"beginExclKey")?;
+    let after = key_given(alloc, graph, spec, b"beginExclKey")?;
     let end = key_given(alloc, graph, spec, b"endKey")?;
     let before = key_given(alloc, graph, spec, b"endExclKey")?;
-    Ok((end_of(begin, behind), end_of(end, before)))
+    Ok((end_of(begin, after), end_of(end, before)))
 }
 
-/// The end of a range: one with its key, or another without it.
+/// An end of a range: with its key, or without it.
 fn end_of(with: Option<Key>, without: Option<Key>) -> Bound<Key>
     ensures { end_of result ≡ bound with without }
 {

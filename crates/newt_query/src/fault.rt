@@ -9,7 +9,7 @@ use std::alloc::AllocError;
 /// Why a graph is not taken for a query.
 #[derive(Clone, Copy, PartialEq, Eq, Debug)]
 pub enum ShapeFault {
-    /// It has not the form of a query.
+    /// The graph does not have the form of a query.
     Spec,
     /// Memory was refused.
     Memory,

@@ -14,8 +14,8 @@ use newt_keys::{Key, key_in};
 use newt_tags::TagTable;
 use std::alloc::{AllocError, Global};
 
-/// The key with which a query keeps an entry: by the tags declaration of its soup and its graph.
-/// None exactly where it is no hit.
+/// The key with which a query keeps an entry, by the tags declaration of its soup and its graph.
+/// None exactly where the entry is no hit.
 pub fn kept_key(
     alloc: Global,
     spec: &Spec,
@@ -52,8 +52,8 @@ pub fn is_kept(
     spec.passes(alloc, key, table, mask, Some(graph))
 }
 
-/// Whether a query keeps an entry that has this key and this mask, whatever its graph: no words or
-/// texts are asked for. It takes no memory.
+/// Whether a query keeps an entry that has this key and this mask, whatever its graph. The query
+/// asks for no words or texts. It takes no memory.
 pub fn is_kept_unread(spec: &Spec, key: &Key, table: Option<&TagTable>, mask: u64) -> bool
     requires { asks_texts spec.now ≡ false }
     ensures { (graph : RawGraph) → mask ≡ mask_by (option_map (λ t. t.now) table.entry) graph →

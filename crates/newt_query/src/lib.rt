@@ -1,9 +1,9 @@
 //! What the frame of a query asks, and which keys and entries it lets pass.
 //!
 //! It stands on `newt_path` for paths, `newt_fold` for words and texts, `newt_keys` for keys,
-//! `newt_tags` for tags, and on the definitions of queries in `newt_spec_query`. The promise that
-//! it carries: a frame is taken exactly where it has the form of a query, what is read is what the
-//! frame says, and a key and an entry pass exactly where the query keeps them.
+//! `newt_tags` for tags, and on the definitions of queries in `newt_spec_query`. It carries this
+//! promise: a frame is taken exactly where it has the form of a query, and what is read is what the
+//! frame says. A key and an entry pass exactly where the query keeps them.
 #![tactic(auto)]
 
 mod bounds;

@@ -37,7 +37,7 @@ pub(crate) fn index_paths(
     }
 }
 
-/// The values of an array without class, where they are 1 to 4.
+/// The values of an array without class, where there are 1 to 4 of them.
 fn few_values(nodes: &[Node], value: Ref) -> Option<&[Ref]>
     ensures { option_map (λ values. values.now) result
         ≡ option_and_then (keep (within 4)) (plain_values nodes.now value) }
@@ -80,7 +80,7 @@ fn path_of(alloc: Global, graph: &Graph, value: Ref) -> Result<Option<Path>, All
     }
 }
 
-/// The values of an array with class `pathExpr`, where they are 1 to 8.
+/// The values of an array with class `pathExpr`, where there are 1 to 8 of them.
 fn path_values(nodes: &[Node], value: Ref) -> Option<&[Ref]>
     ensures values { option_map (λ values. values.now) result ≡ path_values nodes.now value }
     ensures some { IfSome result (λ values. 0 < length values.now) }

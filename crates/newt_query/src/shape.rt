@@ -29,7 +29,7 @@ const SLOTS: [&str; 9] = [
     "entireWords",
 ];
 
-/// What the frame of a query says but for its keys, which are read once the types of its index are
+/// What the frame of a query says, except its keys. These are read once the types of its index are
 /// known.
 #[derive(Drop)]
 pub struct Shape {
@@ -49,8 +49,8 @@ impl Model for Shape {
 }
 
 impl Shape {
-    /// Reads a frame. A slot whose value is nil counts as missing. Spec exactly where the graph has
-    /// not the form of a query.
+    /// Reads a frame. A slot whose value is nil counts as missing. `Spec` exactly where the graph
+    /// does not have the form of a query.
     pub fn read(alloc: Global, graph: &Graph) -> Result<Shape, ShapeFault>
         ensures ok { IfOk result (λ shape. shape ≡ shape_of graph.now) }
         ensures form { IfOk result (λ _. is_query graph.now ≡ true) }
@@ -93,8 +93,8 @@ impl Shape {
     }
 }
 
-/// Whether the graph is a frame that has only slots of a query, whose keys stand beside an index
-/// path and whose mark for entire words is true.
+/// Whether the graph is a frame that has only slots of a query, in which keys stand only beside an
+/// index path and the mark for entire words is true.
 fn is_framed(graph: &Graph) -> bool
     ensures { result ≡ is_framed graph.now }
 {

@@ -44,7 +44,7 @@ impl Model for Spec {
 
 impl Shape {
     /// Binds the query to an index of its paths, or to none where it asks for none. The graph is
-    /// the one that was read. KeyType exactly where a key that it gives is not of the index's
+    /// the one that was read. `KeyType` exactly where a key that it gives is not of the index's
     /// types.
     pub fn bind(
         self,
@@ -95,8 +95,8 @@ impl Spec {
         !self.words.list().is_empty() || !self.texts.list().is_empty()
     }
 
-    /// Whether an entry passes: by its key, its mask by the soup's tags declaration and, where
-    /// words or texts are asked for, its graph.
+    /// Whether an entry passes: by its key, by its mask by the soup's tags declaration and, where
+    /// words or texts are asked for, by its graph.
     pub fn passes(
         &self,
         alloc: Global,

@@ -15,7 +15,7 @@ use std::marker::Model;
 
 /// A text with its case folded. Contracts see its characters.
 #[derive(Drop)]
-pub struct Text {
+pub(crate) struct Text {
     text: String,
 }
 
@@ -46,7 +46,7 @@ impl Text {
 
 /// Folded texts.
 #[derive(Drop)]
-pub struct Texts {
+pub(crate) struct Texts {
     items: Vec<Text>,
 }
 
@@ -59,7 +59,7 @@ impl Model for Texts {
 }
 
 impl Texts {
-    /// It takes no memory.
+    /// No texts. It takes no memory.
     pub(crate) fn empty(alloc: Global) -> Texts
         ensures { result ≡ [] }
     {
@@ -68,6 +68,7 @@ impl Texts {
         }
     }
 
+    /// The texts, in order.
     pub(crate) fn list(&self) -> &[Text]
         ensures { result.now ≡ self.now }
     {
@@ -75,8 +76,8 @@ impl Texts {
     }
 }
 
-/// The text of a value that is a string and not empty, or the texts of an array of such. None
-/// exactly where the value is neither.
+/// The text of a value that is a string and not empty, or the texts of an array of such strings.
+/// None exactly where the value is neither.
 #[tactic(auto, using(crate::proofs::Given::one_first, crate::proofs::Given::none_first))]
 pub(crate) fn texts_of(
     alloc: Global,
@@ -162,7 +163,7 @@ fn push_string(items: &mut Vec<Text>, alloc: Global, node: &Node) -> Result<(), 
     }
 }
 
-/// Whether each word begins in at least one of the strings or, where they are entire, is there.
+/// Whether each word begins a word of at least one of the strings or, if `entire`, is one.
 pub(crate) fn has_words(strings: &[Text], words: &[Text], entire: bool) -> bool
     ensures { result ≡ list_all (λ word. list_any (λ text. spec.has_word text word entire)
         strings.now) words.now }

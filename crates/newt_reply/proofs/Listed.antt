@@ -55,7 +55,7 @@ field_more : (fields : List (List ℕ)) (c : ℕ) (cs : List ℕ) → flat_map f
 field_more [] c cs = sym (append-nil (32 ∷ c ∷ cs))
 field_more (x ∷ fields) c cs = append_assoc (field x) (flat_map field fields) (32 ∷ c ∷ cs) ∙ ap (λ rest. field x ++ rest) (field_more fields c cs)
 
--- a field that has a character, behind the others
+-- a field that has a character, after the others
 pub one_field_more : (fields : List (List ℕ)) (text front spaced line : List ℕ) → 0 < length text → front ≡ ok fields
     → spaced ≡ front ++ 32 ∷ [] → line ≡ spaced ++ text → line ≡ ok (fields ++ text ∷ [])
 one_field_more fields [] front spaced line some front_is spaced_is line_is = absurd (omega (arith, some))

@@ -1,4 +1,5 @@
--- Parts of the texts of replies, with std's decimals. The text of a whole reply stays closed in proofs.
+-- Parts of the texts of replies, with std's decimals. The text of a whole reply stays closed in
+-- proofs.
 use Rattle.std.specs.Prelude.{ℕ, List, [], ◌∷◌, ◌++◌, map, flat_map, codes, decimal}
 use Rattle.newt_spec_literal.specs.Printed.{escaped}
 use Rattle.newt_spec_store.specs.Keys.{IndexSpec, IndexPart}

@@ -1,4 +1,4 @@
--- How the replies of the code are seen as those of the definition.
+-- How the definition sees the replies of the code.
 use Rattle.std.specs.Prelude.{ℕ, List, map}
 use Rattle.newt_spec_world.specs.Reply as world
 use Rattle.newt_reply.specs.declared.reply.Reply.{Reply}
@@ -14,7 +14,7 @@ store_row line = (line.unit, line.sig, line.name)
 abbrev pub soup_row : SoupLine → List ℕ × ℕ × ℕ
 soup_row line = (line.name, line.sig, line.count)
 
--- the reply that a reply of the code is
+-- a reply of the code, as the definition has it
 abbrev pub said : Reply → world.Reply
 said Done = world.done
 said (Number n) = world.number n

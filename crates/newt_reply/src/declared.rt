@@ -33,7 +33,7 @@ fn direction_word(order: Order) -> &'static [u8]
     }
 }
 
-/// Names behind a first one, each behind a point.
+/// Names that follow a first one, each after a point.
 fn push_names(text: &mut Vec<u8>, names: &[Bytes]) -> Result<(), AllocError>
     ensures { OnOk result (text.new.items ≡ text.old.items ++ flat_map (λ name. 46 ∷ name)
         names.now) }
@@ -47,7 +47,7 @@ fn push_names(text: &mut Vec<u8>, names: &[Bytes]) -> Result<(), AllocError>
 
 /// A path with points between its names.
 #[tactic(auto, using(crate::proofs::Pieces::path_is, crate::proofs::Pieces::no_path))]
-pub fn path_text(alloc: Global, path: &Path) -> Result<Vec<u8>, AllocError>
+pub(crate) fn path_text(alloc: Global, path: &Path) -> Result<Vec<u8>, AllocError>
     ensures { IfOk result (λ text. text.items ≡ spec.path_field path.now) }
 {
     let [first, rest @ ..] = path.list() else {
@@ -70,7 +70,7 @@ fn part_text(alloc: Global, part: &IndexPart) -> Result<Vec<u8>, AllocError>
     Ok(text)
 }
 
-/// Parts behind a first one, each behind a space.
+/// Parts that follow a first one, each after a space.
 fn push_parts(alloc: Global, text: &mut Vec<u8>, parts: &[IndexPart]) -> Result<(), AllocError>
     ensures { OnOk result (text.new.items ≡ text.old.items ++ flat_map
         (λ part. 32 ∷ part_item (declared part)) parts.now) }
@@ -95,7 +95,7 @@ fn parts_text(alloc: Global, parts: &[IndexPart]) -> Result<Vec<u8>, AllocError>
 }
 
 /// An index: its parts with a space between each two.
-pub fn spec_text(alloc: Global, spec: &IndexSpec) -> Result<Vec<u8>, AllocError>
+pub(crate) fn spec_text(alloc: Global, spec: &IndexSpec) -> Result<Vec<u8>, AllocError>
     ensures { IfOk result (λ text. text.items ≡ spec_item spec.now) }
 {
     parts_text(alloc, spec.list())
@@ -111,9 +111,13 @@ fn push_fields(line: &mut Vec<u8>, fields: &[Bytes]) -> Result<(), AllocError>
     Ok(())
 }
 
-/// `ok`, a field and names as fields behind it, with the end of the line.
+/// `ok`, a field and then names as fields, with the end of the line.
 #[tactic(auto, using(crate::proofs::Pieces::line_is))]
-pub fn names_line(alloc: Global, first: &[u8], names: &[Bytes]) -> Result<Vec<u8>, AllocError>
+pub(crate) fn names_line(
+    alloc: Global,
+    first: &[u8],
+    names: &[Bytes],
+) -> Result<Vec<u8>, AllocError>
     ensures { IfOk result (λ line. line.items ≡ ok_text (first.now ∷ names.now)) }
 {
     let mut line = Vec::from_slice(alloc, b"ok")?;

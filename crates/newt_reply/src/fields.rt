@@ -15,21 +15,21 @@ use newt_nsof_write::encode;
 use std::alloc::{AllocError, Global};
 
 /// A number in decimal.
-pub fn number_text(alloc: Global, number: u32) -> Result<Vec<u8>, AllocError>
+pub(crate) fn number_text(alloc: Global, number: u32) -> Result<Vec<u8>, AllocError>
     ensures { IfOk result (λ text. text.items ≡ decimal number) }
 {
     Ok(format!(in alloc; "{number}")?.into_bytes())
 }
 
 /// The hexadecimal digits of a graph's object stream.
-pub fn stream_text(alloc: Global, graph: &Graph) -> Result<Vec<u8>, AllocError>
+pub(crate) fn stream_text(alloc: Global, graph: &Graph) -> Result<Vec<u8>, AllocError>
     ensures { IfOk result (λ digits. digits.items ≡ hex_of (nsof graph.now)) }
 {
     let stream = encode(alloc, graph)?;
     hex_text(alloc, &stream)
 }
 
-/// A byte in quotes, behind a backslash where it is a quote or a backslash.
+/// A byte in quotes, after a backslash where it is a quote or a backslash.
 fn push_escaped(text: &mut Vec<u8>, byte: u8) -> Result<(), AllocError>
     ensures { OnOk result (text.new.items ≡ text.old.items ++ escaped (codes "\"\\") byte) }
 {
@@ -53,7 +53,7 @@ fn quoted_text(alloc: Global, bytes: &[u8]) -> Result<Vec<u8>, AllocError>
 }
 
 /// A name, in quotes where it holds a space, a quote or a backslash.
-pub fn name_text(alloc: Global, name: &Name) -> Result<Vec<u8>, AllocError>
+pub(crate) fn name_text(alloc: Global, name: &Name) -> Result<Vec<u8>, AllocError>
     ensures { IfOk result (λ text. text.items ≡ name_field name.now) }
 {
     let bytes = name.list();
@@ -79,7 +79,7 @@ fn alias_text(alloc: Global, store: u32, soup: u32, uid: u32) -> Result<Vec<u8>,
 }
 
 /// An alias as a literal.
-pub fn alias_literal(alloc: Global, alias: Alias) -> Result<Vec<u8>, AllocError>
+pub(crate) fn alias_literal(alloc: Global, alias: Alias) -> Result<Vec<u8>, AllocError>
     ensures { IfOk result (λ text. text.items ≡ alias_item alias.store alias.soup alias.uid) }
 {
     alias_text(alloc, alias.store.0, alias.soup.0, alias.uid.0)

@@ -9,7 +9,7 @@ use crate::rows::{SoupLine, StoreLine};
 use newt_keys::IndexSpec;
 use std::alloc::{AllocError, Global};
 
-/// An item behind a comma and a space, unless it is the first.
+/// An item after a comma and a space, unless it is the first.
 pub(crate) fn push_item(text: &mut Vec<u8>, first: bool, item: &[u8]) -> Result<(), AllocError>
     ensures { OnOk result (text.new.items ≡ (if first then text.old.items ++ item.now else
         text.old.items ++ codes ", " ++ item.now)) }
@@ -59,7 +59,7 @@ fn soup_text(alloc: Global, line: &SoupLine) -> Result<Vec<u8>, AllocError>
     three_words(alloc, &name, &sig, &count)
 }
 
-/// A mounted store behind the ones before it.
+/// A mounted store after the ones before it.
 fn push_store(
     alloc: Global,
     text: &mut Vec<u8>,
@@ -72,7 +72,7 @@ fn push_store(
     push_item(text, first, &store_text(alloc, line)?)
 }
 
-/// A soup behind the ones before it.
+/// A soup after the ones before it.
 fn push_soup(
     alloc: Global,
     text: &mut Vec<u8>,
@@ -85,7 +85,7 @@ fn push_soup(
     push_item(text, first, &soup_text(alloc, line)?)
 }
 
-/// An index behind the ones before it.
+/// An index after the ones before it.
 fn push_spec(
     alloc: Global,
     text: &mut Vec<u8>,
@@ -99,7 +99,7 @@ fn push_spec(
 }
 
 /// The mounted stores.
-pub fn stores_text(alloc: Global, lines: &[StoreLine]) -> Result<Vec<u8>, AllocError>
+pub(crate) fn stores_text(alloc: Global, lines: &[StoreLine]) -> Result<Vec<u8>, AllocError>
     ensures { IfOk result (λ text. text.items ≡ items (map store_item lines.now)) }
 {
     let mut text = Vec::new(alloc);
@@ -110,7 +110,7 @@ pub fn stores_text(alloc: Global, lines: &[StoreLine]) -> Result<Vec<u8>, AllocE
 }
 
 /// The soups of a store.
-pub fn soups_text(alloc: Global, lines: &[SoupLine]) -> Result<Vec<u8>, AllocError>
+pub(crate) fn soups_text(alloc: Global, lines: &[SoupLine]) -> Result<Vec<u8>, AllocError>
     ensures { IfOk result (λ text. text.items ≡ items (map soup_item lines.now)) }
 {
     let mut text = Vec::new(alloc);
@@ -121,7 +121,7 @@ pub fn soups_text(alloc: Global, lines: &[SoupLine]) -> Result<Vec<u8>, AllocErr
 }
 
 /// The indexes of a soup.
-pub fn specs_text(alloc: Global, specs: &[IndexSpec]) -> Result<Vec<u8>, AllocError>
+pub(crate) fn specs_text(alloc: Global, specs: &[IndexSpec]) -> Result<Vec<u8>, AllocError>
     ensures { IfOk result (λ text. text.items ≡ items (map spec_item specs.now)) }
 {
     let mut text = Vec::new(alloc);

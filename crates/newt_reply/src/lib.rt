@@ -1,10 +1,12 @@
 //! Replies of the program, and their lines of text.
 //!
-//! Stands on the refusals and the texts of numbers of `newt_base`, the graphs of `newt_graph`, the
-//! declarations of `newt_keys` and `newt_tags`, the notes of `newt_notify`, the aliases of
-//! `newt_entries_alias`, the writers of object streams and literals, and the definition of replies
-//! in `newt_spec_world`. It carries the promise that the text of a reply is exact: `write_reply`
-//! gives the one line that is defined of it.
+//! It stands on the refusals and the texts of numbers of `newt_base`, the graphs of `newt_graph`,
+//! the declarations of `newt_keys` and `newt_tags`, the notes of `newt_notify` and the aliases of
+//! `newt_entries_alias`. It writes with the writers of object streams and literals, by the
+//! definition of replies in `newt_spec_world`.
+//!
+//! It carries the promise that the text of a reply is exact: `write_reply` gives the one line that
+//! is defined for the reply.
 #![tactic(auto)]
 
 mod declared;

@@ -58,7 +58,7 @@ fn note_text(alloc: Global, note: &Note) -> Result<Vec<u8>, AllocError>
     }
 }
 
-/// A note behind the ones before it.
+/// A note after the ones before it.
 fn push_note(alloc: Global, text: &mut Vec<u8>, first: bool, note: &Note) -> Result<(), AllocError>
     ensures { OnOk result (text.new.items ≡ (if first then text.old.items ++ note_item note.now else
         text.old.items ++ codes ", " ++ note_item note.now)) }
@@ -67,7 +67,7 @@ fn push_note(alloc: Global, text: &mut Vec<u8>, first: bool, note: &Note) -> Res
 }
 
 /// The notes.
-pub fn notes_text(alloc: Global, notes: &[Note]) -> Result<Vec<u8>, AllocError>
+pub(crate) fn notes_text(alloc: Global, notes: &[Note]) -> Result<Vec<u8>, AllocError>
     ensures { IfOk result (λ text. text.items ≡ items (map note_item notes.now)) }
 {
     let mut text = Vec::new(alloc);

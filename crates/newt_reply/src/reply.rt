@@ -12,8 +12,8 @@ use newt_notify::Notes;
 pub enum Reply {
     /// It was done, and there is nothing to show.
     Done,
-    /// The id of an entry that was added, the signature of a soup that was made, how many hits
-    /// there are, or the number of a cursor, a watch or a working copy.
+    /// A number: the id of an entry that was added, the signature of a soup that was made, or how
+    /// many hits there are; or that of a cursor, a watch or a working copy.
     Number(u32),
     /// The unit and the id of an entry that was added to the default store.
     Added(Unit, Uid),
@@ -25,13 +25,13 @@ pub enum Reply {
     Soups(SoupRows),
     /// The indexes of a soup.
     Indexes(SpecRows),
-    /// The tags declaration of a soup, with nothing to show where there is none.
+    /// The tags declaration of a soup; nothing is shown where there is none.
     Tags(TagRow),
     /// Bytes, shown as hexadecimal text.
     Hex(Bytes),
     /// A graph, shown as the hexadecimal text of its object stream.
     Nsof(Graph),
-    /// A graph, shown as the literal that is printed of it.
+    /// A graph, shown as the literal that is printed for it.
     Literal(Graph),
     /// The minute and the graph of an entry, the graph as a literal.
     Timed(u32, Graph),
@@ -43,20 +43,20 @@ pub enum Reply {
     Where(Unit, Name, Uid),
     /// The unit, id, minute and graph of the entry at a cursor, the graph as a literal.
     Current(Unit, Uid, u32, Graph),
-    /// The entry at a cursor is there no more.
+    /// The entry at a cursor is no longer there.
     Deleted,
     /// There is no such entry, or a cursor is at one of its hits.
     Nil,
     /// A cursor is before its first hit.
     Begin,
-    /// A cursor is behind its last hit.
+    /// A cursor is after its last hit.
     End,
-    /// The notes of a watch, behind the number of those that it lost.
+    /// The notes of a watch, after the number of those that it lost.
     Notes(Notes),
-    /// It was refused, since the entry of a working copy has changed; the minute of the entry.
+    /// It was refused, since the entry of a working copy has changed; with the minute of the entry.
     Changed(u32),
     /// It was refused.
     Refused(Refusal),
-    /// The device of this unit failed, and the unit is mounted no more.
+    /// The device of this unit failed, and the unit is no longer mounted.
     Thrown(Unit),
 }

@@ -1,4 +1,4 @@
-//! What is told of stores and soups, of the indexes of a soup, and of its tags.
+//! What replies show of stores and soups, of the indexes of a soup, and of its tags.
 ghost use Rattle.std.specs.Prelude.{◌≡◌};
 
 use newt_base::{Name, Sig};
@@ -39,7 +39,7 @@ impl Model for StoreRows {
 }
 
 impl StoreRows {
-    /// These stores.
+    /// The list of these stores.
     pub fn of(items: Vec<StoreLine>) -> Self
         ensures { result ≡ items.items }
     {
@@ -54,7 +54,7 @@ impl StoreRows {
     }
 }
 
-/// The soups of a store, in order of making.
+/// The soups of a store, in the order in which they were made.
 #[derive(Drop)]
 pub struct SoupRows {
     items: Vec<SoupLine>,
@@ -70,14 +70,14 @@ impl Model for SoupRows {
 }
 
 impl SoupRows {
-    /// These soups.
+    /// The list of these soups.
     pub fn of(items: Vec<SoupLine>) -> Self
         ensures { result ≡ items.items }
     {
         SoupRows { items }
     }
 
-    /// All of them, in order of making.
+    /// All of them, in the order in which they were made.
     pub fn list(&self) -> &[SoupLine]
         ensures { result.now ≡ self.now }
     {
@@ -85,7 +85,7 @@ impl SoupRows {
     }
 }
 
-/// The indexes of a soup, in order of making.
+/// The indexes of a soup, in the order in which they were made.
 #[derive(Drop)]
 pub struct SpecRows {
     items: Vec<IndexSpec>,
@@ -101,14 +101,14 @@ impl Model for SpecRows {
 }
 
 impl SpecRows {
-    /// These indexes.
+    /// The list of these indexes.
     pub fn of(items: Vec<IndexSpec>) -> Self
         ensures { result ≡ items.items }
     {
         SpecRows { items }
     }
 
-    /// All of them, in order of making.
+    /// All of them, in the order in which they were made.
     pub fn list(&self) -> &[IndexSpec]
         ensures { result.now ≡ self.now }
     {

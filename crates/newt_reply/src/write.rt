@@ -141,7 +141,7 @@ fn table_line(alloc: Global, table: &TagTable) -> Result<Vec<u8>, AllocError>
     names_line(alloc, &path, table.symbols())
 }
 
-/// The tags declaration of a soup, with no fields where there is none.
+/// The tags declaration of a soup; no fields where there is none.
 #[tactic(auto, using(crate::proofs::Written::no_tags_text))]
 fn tags_line(alloc: Global, row: &TagRow) -> Result<Vec<u8>, AllocError>
     ensures { IfOk result (λ line. line.items ≡ written (spec.tags row.now.table)) }

@@ -60,7 +60,7 @@ row_gotokey cs = one_literal cursor (λ c g. command.Gotokey c g) cs
 
 -- ---- the two rows of `query`
 
--- all mounted stores behind a star, else the store on a unit
+-- all mounted stores after a star, else the store on a unit
 abbrev pub queried : Result (ℕ × List ℕ) Refusal → List ℕ → Reading
 queried (Ok (a, rest)) cs = after (name_of rest) (λ s rest. with_graph (literal_word (rest_of rest)) (command.QueryAll s))
 queried (Err refusal) cs = after (soup_of cs) (λ x rest. with_graph (literal_word (rest_of rest)) (command.Query x.0 x.1))

@@ -26,7 +26,7 @@ use Rattle.newt_script.specs.declared.fault.LineFault.TheVariants.{Refused}
 
 -- ---- how the code goes through a row
 
--- goes on behind words that have the form
+-- goes on after words that have the form
 abbrev pub after : {A : Type 0} → Result (A × List ℕ) Refusal → (A → List ℕ → Reading) → Reading
 after (Err refusal) more = Err (Refused refusal)
 after (Ok (a, rest)) more = more a rest

@@ -1,4 +1,4 @@
--- The faults of a line that come of its words.
+-- The faults of a line that come from its words.
 use Rattle.newt_base.specs.declared.Refusal.TheVariants.{Line as NotTheForm}
 use Rattle.newt_script_words.specs.declared.fault.WordFault.{WordFault}
 use Rattle.newt_script_words.specs.declared.fault.WordFault.TheVariants as word_fault

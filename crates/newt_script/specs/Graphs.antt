@@ -17,7 +17,7 @@ use Rattle.newt_spec_script.specs.Script.{Readers}
 use Rattle.newt_script.specs.declared.fault.LineFault.{LineFault}
 use Rattle.newt_script.specs.declared.fault.LineFault.TheVariants.{Refused}
 
--- the graph of a literal in bytes, which are no literal where they are no UTF-8
+-- the graph of a literal in bytes; bytes that are not UTF-8 are no literal
 unfoldable pub literal_of : List ℕ → Result RawGraph LitFault
 literal_of bytes = if is_utf8 bytes then literal_read (chars bytes) else Err lit_faults.Literal
 
@@ -47,31 +47,35 @@ readers = record { literal_of = literal_in; stream_of = stream_of }
 
 -- ---- as the code answers them
 
+-- a graph, or its refusal as the fault of a line
 abbrev pub or_fault : Result RawGraph Refusal → Result RawGraph LineFault
 or_fault (Ok graph) = Ok graph
 or_fault (Err refusal) = Err (Refused refusal)
 
+-- the graph of the stream in bytes that digits spell; malformed where they spell none
 abbrev pub digits_answer : Option (List ℕ) → Result RawGraph LineFault
 digits_answer None = Err (Refused refusals.Malformed)
 digits_answer (Some bytes) = or_fault (stream_of bytes)
 
--- the graph of HEX: malformed where the digits are no digits, or not even in number
+-- the graph of HEX; malformed where the digits are no digits, or not even in number
 unfoldable pub stream_word : List ℕ → Result RawGraph LineFault
 stream_word digits = digits_answer (hex_bytes digits)
 
+-- the bytes that digits spell; malformed where they spell none
 abbrev pub bytes_answer : Option (List ℕ) → Result (List ℕ) LineFault
 bytes_answer None = Err (Refused refusals.Malformed)
 bytes_answer (Some bytes) = Ok bytes
 
--- the bytes of HEX: malformed where the digits are no digits, or not even in number
+-- the bytes of HEX; malformed where the digits are no digits, or not even in number
 unfoldable pub bytes_word : List ℕ → Result (List ℕ) LineFault
 bytes_word digits = bytes_answer (hex_bytes digits)
 
+-- the graph of a literal, if there is one
 abbrev pub literal_answer : Option RawGraph → Result RawGraph LineFault
 literal_answer None = Err (Refused refusals.Literal)
 literal_answer (Some graph) = Ok graph
 
--- the graph of LIT; an empty one has not the form of a row
+-- the graph of LIT; an empty LIT does not have the form of a row
 unfoldable pub literal_word : List ℕ → Result RawGraph LineFault
 literal_word text =
     if length text == 0 then Err (Refused refusals.Line) else literal_answer (literal_in text)

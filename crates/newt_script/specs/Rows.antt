@@ -11,6 +11,7 @@ use Rattle.newt_script.specs.declared.fault.LineFault.TheVariants.{Refused}
 abbrev pub Reading : Type 0
 Reading = Result Command LineFault
 
+-- an item as the code answers it
 abbrev pub as_read : Item → Reading
 as_read (Ok command) = Ok command
 as_read (Err refusal) = Err (Refused refusal)

@@ -20,33 +20,35 @@ use Rattle.newt_script.specs.declared.verbs.WatchVerb.TheVariants as watch_verb
 use Rattle.newt_script.specs.declared.verbs.CopyVerb.{CopyVerb}
 use Rattle.newt_script.specs.declared.verbs.CopyVerb.TheVariants as copy_verb
 
--- ---- those whose rows have equal words behind them
+-- ---- the verbs that are followed by the same words
 
--- U behind them
+-- followed by U
 abbrev pub unit_word : UnitVerb → List ℕ
 unit_word unit_verb.Mount = codes "mount"
 unit_word unit_verb.Unmount = codes "unmount"
 unit_word unit_verb.Default = codes "default"
 unit_word unit_verb.Soups = codes "soups"
 
+-- the commands that these begin
 abbrev pub unit_command : UnitVerb → ℕ → Command
 unit_command unit_verb.Mount u = command.Mount u
 unit_command unit_verb.Unmount u = command.Unmount u
 unit_command unit_verb.Default u = command.Default u
 unit_command unit_verb.Soups u = command.Soups u
 
--- U S behind them
+-- followed by U S
 abbrev pub soup_word : SoupVerb → List ℕ
 soup_word soup_verb.Soup = codes "soup"
 soup_word soup_verb.Drop = codes "drop"
 soup_word soup_verb.Indexes = codes "indexes"
 
+-- the commands that these begin
 abbrev pub soup_command : SoupVerb → ℕ → List ℕ → Command
 soup_command soup_verb.Soup u s = command.Soup u s
 soup_command soup_verb.Drop u s = command.Drop u s
 soup_command soup_verb.Indexes u s = command.Indexes u s
 
--- U S UID behind them
+-- followed by U S UID
 abbrev pub entry_word : EntryVerb → List ℕ
 entry_word entry_verb.Get = codes "get"
 entry_word entry_verb.Getx = codes "getx"
@@ -54,6 +56,7 @@ entry_word entry_verb.Remove = codes "remove"
 entry_word entry_verb.Alias = codes "alias"
 entry_word entry_verb.Open = codes "open"
 
+-- the commands that these begin
 abbrev pub entry_command : EntryVerb → ℕ → List ℕ → ℕ → Command
 entry_command entry_verb.Get u s uid = command.Get u s uid
 entry_command entry_verb.Getx u s uid = command.Getx u s uid
@@ -61,16 +64,17 @@ entry_command entry_verb.Remove u s uid = command.Remove u s uid
 entry_command entry_verb.Alias u s uid = command.Alias u s uid
 entry_command entry_verb.Open u s uid = command.Open u s uid
 
--- U S UID U S behind them
+-- followed by U S UID U S
 abbrev pub transfer_word : TransferVerb → List ℕ
 transfer_word transfer_verb.Copy = codes "copy"
 transfer_word transfer_verb.Move = codes "move"
 
+-- the commands that these begin
 abbrev pub transfer_command : TransferVerb → ℕ → List ℕ → ℕ → ℕ → List ℕ → Command
 transfer_command transfer_verb.Copy u s uid v q = command.Copy u s uid v q
 transfer_command transfer_verb.Move u s uid v q = command.Move u s uid v q
 
--- C behind them
+-- followed by C
 abbrev pub cursor_word : CursorVerb → List ℕ
 cursor_word cursor_verb.Entry = codes "entry"
 cursor_word cursor_verb.Next = codes "next"
@@ -82,6 +86,7 @@ cursor_word cursor_verb.Which = codes "which"
 cursor_word cursor_verb.Clone = codes "clone"
 cursor_word cursor_verb.Close = codes "close"
 
+-- the commands that these begin
 abbrev pub cursor_command : CursorVerb → ℕ → Command
 cursor_command cursor_verb.Entry c = command.Entry c
 cursor_command cursor_verb.Next c = command.Next c
@@ -93,22 +98,24 @@ cursor_command cursor_verb.Which c = command.Which c
 cursor_command cursor_verb.Clone c = command.Clone c
 cursor_command cursor_verb.Close c = command.Close c
 
--- the number of a watch behind them
+-- followed by the number of a watch
 abbrev pub watch_word : WatchVerb → List ℕ
 watch_word watch_verb.Notes = codes "notes"
 watch_word watch_verb.Unwatch = codes "unwatch"
 
+-- the commands that these begin
 abbrev pub watch_command : WatchVerb → ℕ → Command
 watch_command watch_verb.Notes n = command.Notes n
 watch_command watch_verb.Unwatch n = command.Unwatch n
 
--- the number of a working copy behind them
+-- followed by the number of a working copy
 abbrev pub copy_word : CopyVerb → List ℕ
 copy_word copy_verb.Draft = codes "draft"
 copy_word copy_verb.Save = codes "save"
 copy_word copy_verb.Revert = codes "revert"
 copy_word copy_verb.Discard = codes "discard"
 
+-- the commands that these begin
 abbrev pub copy_command : CopyVerb → ℕ → Command
 copy_command copy_verb.Draft n = command.Draft n
 copy_command copy_verb.Save n = command.Save n
@@ -151,8 +158,8 @@ word_of (verb.Cursor v) = cursor_word v
 word_of (verb.OfWatch v) = watch_word v
 word_of (verb.OfCopy v) = copy_word v
 
--- those of the commands that hold a name, a path, a list, a graph or bytes: the rows of all other
--- words take no memory
+-- the words of the commands that hold a name, a path, a list, a graph or bytes; the rows of all
+-- other words take no memory
 abbrev pub memory_words : List (List ℕ)
 memory_words =
     codes "nsof" ∷ codes "lit" ∷ codes "format" ∷ codes "soup" ∷ codes "drop" ∷ codes "query"
@@ -162,5 +169,6 @@ memory_words =
     ∷ codes "index" ∷ codes "unindex" ∷ codes "indexes" ∷ codes "tags" ∷ codes "info"
     ∷ codes "watch" ∷ codes "open" ∷ codes "edit" ∷ []
 
+-- the word is one of these
 abbrev pub is_memory_word : List ℕ → Bool
 is_memory_word word = list_any (bytes_eq word) memory_words

@@ -1,4 +1,4 @@
-//! The rows of the table of commands that speak of cursors.
+//! The rows of the table of commands for cursors.
 ghost use Rattle.std.specs.Prelude.{◌≡◌, ◌≢◌, codes};
 ghost use Rattle.newt_script.specs.Rows.{row_reading};
 ghost use Rattle.newt_script.specs.Verbs.{cursor_word};
@@ -13,7 +13,7 @@ use std::alloc::Global;
 
 /// `query U S LIT` and `query * S LIT`
 #[tactic(auto, using(crate::proofs::CursorRows::row_query))]
-pub fn query(alloc: Global, words: &mut Words) -> Result<Command, LineFault>
+pub(crate) fn query(alloc: Global, words: &mut Words) -> Result<Command, LineFault>
     ensures { result ≢ Err LineFault.Memory → result ≡ row_reading (codes "query") words.old }
 {
     if words.star() {
@@ -26,7 +26,7 @@ pub fn query(alloc: Global, words: &mut Words) -> Result<Command, LineFault>
 
 /// `moveby C K`
 #[tactic(auto, using(crate::proofs::CursorRows::row_moveby))]
-pub fn moveby(words: &mut Words) -> Result<Command, LineFault>
+pub(crate) fn moveby(words: &mut Words) -> Result<Command, LineFault>
     ensures { result ≡ row_reading (codes "moveby") words.old }
 {
     let cursor = words.cursor()?;
@@ -37,7 +37,7 @@ pub fn moveby(words: &mut Words) -> Result<Command, LineFault>
 
 /// `goto C U UID`
 #[tactic(auto, using(crate::proofs::CursorRows::row_goto))]
-pub fn goto(words: &mut Words) -> Result<Command, LineFault>
+pub(crate) fn goto(words: &mut Words) -> Result<Command, LineFault>
     ensures { result ≡ row_reading (codes "goto") words.old }
 {
     let cursor = words.cursor()?;
@@ -49,7 +49,7 @@ pub fn goto(words: &mut Words) -> Result<Command, LineFault>
 
 /// `gotokey C LIT`
 #[tactic(auto, using(crate::proofs::CursorRows::row_gotokey))]
-pub fn gotokey(alloc: Global, words: &mut Words) -> Result<Command, LineFault>
+pub(crate) fn gotokey(alloc: Global, words: &mut Words) -> Result<Command, LineFault>
     ensures { result ≢ Err LineFault.Memory → result ≡ row_reading (codes "gotokey") words.old }
 {
     let cursor = words.cursor()?;
@@ -58,7 +58,7 @@ pub fn gotokey(alloc: Global, words: &mut Words) -> Result<Command, LineFault>
 
 /// `entry C`, `next C`, `prev C`, `reset C`, `end C`, `count C`, `which C`, `clone C` and `close C`
 #[tactic(auto, using(crate::proofs::CursorRows::row_cursor))]
-pub fn of_cursor(words: &mut Words, verb: CursorVerb) -> Result<Command, LineFault>
+pub(crate) fn of_cursor(words: &mut Words, verb: CursorVerb) -> Result<Command, LineFault>
     ensures { result ≡ row_reading (cursor_word verb) words.old }
 {
     let cursor = words.cursor()?;

@@ -1,5 +1,4 @@
-//! The rows of the table of commands that speak of the indexes, the tags and the info
-//! frame of a soup.
+//! The rows of the table of commands for the indexes, the tags and the info frame of a soup.
 ghost use Rattle.std.specs.Prelude.{◌≡◌, ◌≢◌, codes};
 ghost use Rattle.newt_script.specs.Rows.{row_reading};
 
@@ -11,7 +10,7 @@ use std::alloc::Global;
 
 /// `index U S PART..`
 #[tactic(auto, using(crate::proofs::ListedRows::row_index))]
-pub fn index(alloc: Global, words: &mut Words) -> Result<Command, LineFault>
+pub(crate) fn index(alloc: Global, words: &mut Words) -> Result<Command, LineFault>
     ensures { result ≢ Err LineFault.Memory → result ≡ row_reading (codes "index") words.old }
 {
     let (unit, name) = words.soup(alloc)?;
@@ -20,7 +19,7 @@ pub fn index(alloc: Global, words: &mut Words) -> Result<Command, LineFault>
 
 /// `unindex U S PATH..`
 #[tactic(auto, using(crate::proofs::ListedRows::row_unindex))]
-pub fn unindex(alloc: Global, words: &mut Words) -> Result<Command, LineFault>
+pub(crate) fn unindex(alloc: Global, words: &mut Words) -> Result<Command, LineFault>
     ensures { result ≢ Err LineFault.Memory → result ≡ row_reading (codes "unindex") words.old }
 {
     let (unit, name) = words.soup(alloc)?;
@@ -29,7 +28,7 @@ pub fn unindex(alloc: Global, words: &mut Words) -> Result<Command, LineFault>
 
 /// `tags U S` and `tags U S PATH SYM..`
 #[tactic(auto, using(crate::proofs::ListedRows::row_tags))]
-pub fn tags(alloc: Global, words: &mut Words) -> Result<Command, LineFault>
+pub(crate) fn tags(alloc: Global, words: &mut Words) -> Result<Command, LineFault>
     ensures { result ≢ Err LineFault.Memory → result ≡ row_reading (codes "tags") words.old }
 {
     let (unit, name) = words.soup(alloc)?;
@@ -42,7 +41,7 @@ pub fn tags(alloc: Global, words: &mut Words) -> Result<Command, LineFault>
 
 /// `info U S` and `info U S LIT`
 #[tactic(auto, using(crate::proofs::ListedRows::row_info))]
-pub fn info(alloc: Global, words: &mut Words) -> Result<Command, LineFault>
+pub(crate) fn info(alloc: Global, words: &mut Words) -> Result<Command, LineFault>
     ensures { result ≢ Err LineFault.Memory → result ≡ row_reading (codes "info") words.old }
 {
     let (unit, name) = words.soup(alloc)?;

@@ -1,4 +1,4 @@
-//! The rows of the table of commands that speak of entries.
+//! The rows of the table of commands for entries.
 ghost use Rattle.std.specs.Prelude.{◌≡◌, ◌≢◌, codes};
 ghost use Rattle.newt_script.specs.Rows.{row_reading};
 ghost use Rattle.newt_script.specs.Verbs.{entry_word, transfer_word};
@@ -12,7 +12,7 @@ use std::alloc::Global;
 
 /// `add U S LIT`
 #[tactic(auto, using(crate::proofs::RowTable::row_add))]
-pub fn add(alloc: Global, words: &mut Words) -> Result<Command, LineFault>
+pub(crate) fn add(alloc: Global, words: &mut Words) -> Result<Command, LineFault>
     ensures { result ≢ Err LineFault.Memory → result ≡ row_reading (codes "add") words.old }
 {
     let (unit, name) = words.soup(alloc)?;
@@ -21,7 +21,7 @@ pub fn add(alloc: Global, words: &mut Words) -> Result<Command, LineFault>
 
 /// `addx U S HEX`
 #[tactic(auto, using(crate::proofs::RowTable::row_addx))]
-pub fn addx(alloc: Global, words: &mut Words) -> Result<Command, LineFault>
+pub(crate) fn addx(alloc: Global, words: &mut Words) -> Result<Command, LineFault>
     ensures { result ≢ Err LineFault.Memory → result ≡ row_reading (codes "addx") words.old }
 {
     let (unit, name) = words.soup(alloc)?;
@@ -30,7 +30,7 @@ pub fn addx(alloc: Global, words: &mut Words) -> Result<Command, LineFault>
 
 /// `addu S LIT`
 #[tactic(auto, using(crate::proofs::RowTable::row_addu))]
-pub fn addu(alloc: Global, words: &mut Words) -> Result<Command, LineFault>
+pub(crate) fn addu(alloc: Global, words: &mut Words) -> Result<Command, LineFault>
     ensures { result ≢ Err LineFault.Memory → result ≡ row_reading (codes "addu") words.old }
 {
     let name = words.name(alloc)?;
@@ -39,7 +39,7 @@ pub fn addu(alloc: Global, words: &mut Words) -> Result<Command, LineFault>
 
 /// `set U S UID PATH LIT`
 #[tactic(auto, using(crate::proofs::RowTable::row_set))]
-pub fn set(alloc: Global, words: &mut Words) -> Result<Command, LineFault>
+pub(crate) fn set(alloc: Global, words: &mut Words) -> Result<Command, LineFault>
     ensures { result ≢ Err LineFault.Memory → result ≡ row_reading (codes "set") words.old }
 {
     let (unit, name, uid) = words.entry(alloc)?;
@@ -49,7 +49,7 @@ pub fn set(alloc: Global, words: &mut Words) -> Result<Command, LineFault>
 
 /// `change U S UID LIT`
 #[tactic(auto, using(crate::proofs::RowTable::row_change))]
-pub fn change(alloc: Global, words: &mut Words) -> Result<Command, LineFault>
+pub(crate) fn change(alloc: Global, words: &mut Words) -> Result<Command, LineFault>
     ensures { result ≢ Err LineFault.Memory → result ≡ row_reading (codes "change") words.old }
 {
     let (unit, name, uid) = words.entry(alloc)?;
@@ -58,7 +58,11 @@ pub fn change(alloc: Global, words: &mut Words) -> Result<Command, LineFault>
 
 /// `get U S UID`, `getx U S UID`, `remove U S UID`, `alias U S UID` and `open U S UID`
 #[tactic(auto, using(crate::proofs::RowTable::row_entry))]
-pub fn of_entry(alloc: Global, words: &mut Words, verb: EntryVerb) -> Result<Command, LineFault>
+pub(crate) fn of_entry(
+    alloc: Global,
+    words: &mut Words,
+    verb: EntryVerb,
+) -> Result<Command, LineFault>
     ensures { result ≢ Err LineFault.Memory → result ≡ row_reading (entry_word verb) words.old }
 {
     let (unit, soup, uid) = words.entry(alloc)?;
@@ -68,7 +72,7 @@ pub fn of_entry(alloc: Global, words: &mut Words, verb: EntryVerb) -> Result<Com
 
 /// `copy U S UID U S` and `move U S UID U S`
 #[tactic(auto, using(crate::proofs::RowTable::row_transfer))]
-pub fn of_transfer(
+pub(crate) fn of_transfer(
     alloc: Global,
     words: &mut Words,
     verb: TransferVerb,

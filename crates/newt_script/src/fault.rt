@@ -16,7 +16,7 @@ pub enum LineFault {
 }
 
 impl LineFault {
-    /// The words have not the form of the command.
+    /// The words do not have the form of the command.
     pub const FORM: LineFault = LineFault::Refused(Refusal::Line);
 }
 

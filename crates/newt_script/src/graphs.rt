@@ -1,4 +1,4 @@
-//! The graphs and bytes in a line: object streams and bytes in hexadecimal digits, and literals.
+//! The graphs and bytes in a line: object streams, bytes in hexadecimal digits, and literals.
 ghost use Rattle.std.specs.Prelude.{◌≡◌, ◌≢◌, Some, None, IfOk, IfErr};
 ghost use Rattle.newt_base.specs.Text.{hex_bytes};
 ghost use Rattle.newt_base.specs.declared.Refusal.TheVariants.{Malformed};
@@ -27,8 +27,8 @@ fn stream(alloc: Global, bytes: &[u8]) -> Result<Graph, LineFault>
     }
 }
 
-/// The graph of a literal in bytes. `Literal` comes exactly where they are no UTF-8, or the text is
-/// no literal.
+/// The graph of a literal in bytes. `Literal` comes exactly where they are not UTF-8, or the text
+/// is no literal.
 pub fn literal(alloc: Global, bytes: &[u8]) -> Result<Graph, LitFault>
     ensures reading { result ≢ Err LitFault.Memory → result ≡ spec.literal_of bytes.now }
 {
@@ -54,7 +54,7 @@ fn last_digits(alloc: Global, words: &Words) -> Result<Vec<u8>, LineFault>
 
 /// HEX: the graph of the object stream that is left of a line.
 #[tactic(auto, unfolding(crate::specs::Graphs::stream_word))]
-pub fn last_stream(alloc: Global, words: &Words) -> Result<Graph, LineFault>
+pub(crate) fn last_stream(alloc: Global, words: &Words) -> Result<Graph, LineFault>
     ensures { result ≢ Err LineFault.Memory → result ≡ spec.stream_word (rest_of words.now) }
 {
     let bytes = last_digits(alloc, words)?;
@@ -63,7 +63,7 @@ pub fn last_stream(alloc: Global, words: &Words) -> Result<Graph, LineFault>
 
 /// HEX: the bytes that are left of a line.
 #[tactic(auto, unfolding(crate::specs::Graphs::bytes_word))]
-pub fn last_bytes(alloc: Global, words: &Words) -> Result<Bytes, LineFault>
+pub(crate) fn last_bytes(alloc: Global, words: &Words) -> Result<Bytes, LineFault>
     ensures { result ≢ Err LineFault.Memory → result ≡ spec.bytes_word (rest_of words.now) }
 {
     Ok(Bytes::of(last_digits(alloc, words)?))
@@ -71,7 +71,7 @@ pub fn last_bytes(alloc: Global, words: &Words) -> Result<Bytes, LineFault>
 
 /// LIT: the graph of the literal that is left of a line, which is not empty.
 #[tactic(auto, unfolding(crate::specs::Graphs::literal_word, crate::specs::Graphs::literal_in))]
-pub fn last_literal(alloc: Global, words: &Words) -> Result<Graph, LineFault>
+pub(crate) fn last_literal(alloc: Global, words: &Words) -> Result<Graph, LineFault>
     ensures { result ≢ Err LineFault.Memory → result ≡ spec.literal_word (rest_of words.now) }
 {
     let text = words.rest();

@@ -1,4 +1,4 @@
-//! The rows of the table of commands that speak of the bytes of a large binary.
+//! The rows of the table of commands for the bytes of a large binary.
 ghost use Rattle.std.specs.Prelude.{◌≡◌, ◌≢◌, codes};
 ghost use Rattle.newt_script.specs.Rows.{row_reading};
 
@@ -10,7 +10,7 @@ use std::alloc::Global;
 
 /// `vread U S UID PATH AT LEN`
 #[tactic(auto, using(crate::proofs::LargeRows::row_vread))]
-pub fn vread(alloc: Global, words: &mut Words) -> Result<Command, LineFault>
+pub(crate) fn vread(alloc: Global, words: &mut Words) -> Result<Command, LineFault>
     ensures { result ≢ Err LineFault.Memory → result ≡ row_reading (codes "vread") words.old }
 {
     let (unit, name, uid) = words.entry(alloc)?;
@@ -23,7 +23,7 @@ pub fn vread(alloc: Global, words: &mut Words) -> Result<Command, LineFault>
 
 /// `vwrite U S UID PATH AT HEX`
 #[tactic(auto, using(crate::proofs::LargeRows::row_vwrite))]
-pub fn vwrite(alloc: Global, words: &mut Words) -> Result<Command, LineFault>
+pub(crate) fn vwrite(alloc: Global, words: &mut Words) -> Result<Command, LineFault>
     ensures { result ≢ Err LineFault.Memory → result ≡ row_reading (codes "vwrite") words.old }
 {
     let (unit, name, uid) = words.entry(alloc)?;

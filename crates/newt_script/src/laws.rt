@@ -15,10 +15,10 @@ pub fn commands_have_their_forms()
         → IsTrue (has_form c) }
 {}
 
-/// A script gives just the items that the two grammars say, and no others: a literal is the graph
-/// that its text is a literal of, and is refused only where it is one of no graph; an object stream
-/// is the graph that it spells, is compressed where it spells one but for a flag, and else
-/// malformed.
+/// A script gives just the items that the two grammars say, and no others. A literal is the graph
+/// that its text is a literal of, and is refused only where it is a literal of none. An object
+/// stream is the graph that it spells. It is compressed where it spells one but for a flag, and
+/// otherwise malformed.
 pub fn scripts_are_read_as_defined()
     ensures read { (script : List ℕ)
         → IsScript ReadsLiteral Spells SpellsWide script (items_of readers script) }

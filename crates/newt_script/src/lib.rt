@@ -1,9 +1,9 @@
 //! Lines of a script: what one line says.
 //!
-//! Stands on the words of `newt_script_words`, the refusals of `newt_base`, the readers of object
-//! streams and literals, and the definitions of commands and lines in `newt_spec_world` and
-//! `newt_spec_script`. It carries the promise that the reading of a line is exact: `line` answers
-//! the one command that the definition gives the line, or the one refusal of its reading, and
+//! It stands on the words of `newt_script_words`, the refusals of `newt_base`, the readers of
+//! object streams and literals, and the definitions of commands and lines in `newt_spec_world` and
+//! `newt_spec_script`. It carries the promise that a line is read exactly. `line` answers the one
+//! command that the definition gives the line, or the one refusal of its reading. It answers
 //! nothing exactly for a blank line or a `%` line.
 #![tactic(auto)]
 

@@ -52,11 +52,13 @@ fn spoken(alloc: Global, line: &[u8]) -> Result<Command, LineFault>
 }
 
 /// What a line says, without the byte 10 at its end: a command, or nothing where it is blank or a
-/// `%` line. The first refusal of its reading that holds is answered: `Longline` before `Command`,
-/// `Line`, and the fault of the graph or bytes at its end, `Malformed`, `Compressed` or `Literal`.
-/// One byte 13 at the end of the line is dropped. Memory is never wanting for a line whose command
-/// holds no name, path, list, graph or bytes, nor for one that is too long, has no command or says
-/// nothing. The language of lines is this project's own.
+/// `%` line. One byte 13 at the end of the line is dropped. The language of lines is this project's
+/// own.
+///
+/// Of the refusals of its reading the first that holds is answered: `Longline`, then `Command`,
+/// then `Line`, then the fault of the graph or bytes at its end, `Malformed`, `Compressed` or
+/// `Literal`. The answer `Memory` never comes for a line whose command holds no name, path, list,
+/// graph or bytes. Nor does it come for a line that is too long, has no command or says nothing.
 pub fn line(alloc: Global, bytes: &[u8]) -> Result<Option<Command>, LineFault>
     ensures reading { result ≢ Err LineFault.Memory → result ≡ line_command bytes.now }
     ensures no_memory { takes_memory (script.without_return bytes.now) ≡ false

@@ -1,4 +1,4 @@
-//! The rows of the table of commands, as far as they speak of graphs, stores and soups.
+//! The rows of the table of commands for graphs, stores and soups.
 ghost use Rattle.std.specs.Prelude.{◌≡◌, ◌≢◌, codes};
 ghost use Rattle.newt_script.specs.Rows.{row_reading};
 ghost use Rattle.newt_script.specs.Verbs.{soup_word, unit_word};
@@ -12,7 +12,7 @@ use std::alloc::Global;
 
 /// `nsof HEX`
 #[tactic(auto, using(crate::proofs::RowTable::row_nsof))]
-pub fn nsof(alloc: Global, words: &mut Words) -> Result<Command, LineFault>
+pub(crate) fn nsof(alloc: Global, words: &mut Words) -> Result<Command, LineFault>
     ensures { result ≢ Err LineFault.Memory → result ≡ row_reading (codes "nsof") words.old }
 {
     Ok(Command::Nsof(last_stream(alloc, words)?))
@@ -20,7 +20,7 @@ pub fn nsof(alloc: Global, words: &mut Words) -> Result<Command, LineFault>
 
 /// `lit LIT`
 #[tactic(auto, using(crate::proofs::RowTable::row_lit))]
-pub fn lit(alloc: Global, words: &mut Words) -> Result<Command, LineFault>
+pub(crate) fn lit(alloc: Global, words: &mut Words) -> Result<Command, LineFault>
     ensures { result ≢ Err LineFault.Memory → result ≡ row_reading (codes "lit") words.old }
 {
     Ok(Command::Lit(last_literal(alloc, words)?))
@@ -28,7 +28,7 @@ pub fn lit(alloc: Global, words: &mut Words) -> Result<Command, LineFault>
 
 /// `resolve LIT`
 #[tactic(auto, using(crate::proofs::RowTable::row_resolve))]
-pub fn resolve(alloc: Global, words: &mut Words) -> Result<Command, LineFault>
+pub(crate) fn resolve(alloc: Global, words: &mut Words) -> Result<Command, LineFault>
     ensures { result ≢ Err LineFault.Memory → result ≡ row_reading (codes "resolve") words.old }
 {
     Ok(Command::Resolve(last_literal(alloc, words)?))
@@ -36,7 +36,7 @@ pub fn resolve(alloc: Global, words: &mut Words) -> Result<Command, LineFault>
 
 /// `time T`
 #[tactic(auto, using(crate::proofs::RowTable::row_time))]
-pub fn time(words: &mut Words) -> Result<Command, LineFault>
+pub(crate) fn time(words: &mut Words) -> Result<Command, LineFault>
     ensures { result ≡ row_reading (codes "time") words.old }
 {
     let minute = words.number()?;
@@ -46,7 +46,7 @@ pub fn time(words: &mut Words) -> Result<Command, LineFault>
 
 /// `quit`
 #[tactic(auto, using(crate::proofs::RowTable::row_quit))]
-pub fn quit(words: &mut Words) -> Result<Command, LineFault>
+pub(crate) fn quit(words: &mut Words) -> Result<Command, LineFault>
     ensures { result ≡ row_reading (codes "quit") words.old }
 {
     words.end()?;
@@ -55,7 +55,7 @@ pub fn quit(words: &mut Words) -> Result<Command, LineFault>
 
 /// `format U NAME SIG`
 #[tactic(auto, using(crate::proofs::RowTable::row_format))]
-pub fn format(alloc: Global, words: &mut Words) -> Result<Command, LineFault>
+pub(crate) fn format(alloc: Global, words: &mut Words) -> Result<Command, LineFault>
     ensures { result ≢ Err LineFault.Memory → result ≡ row_reading (codes "format") words.old }
 {
     let (unit, name) = words.soup(alloc)?;
@@ -66,7 +66,7 @@ pub fn format(alloc: Global, words: &mut Words) -> Result<Command, LineFault>
 
 /// `stores`
 #[tactic(auto, using(crate::proofs::RowTable::row_stores))]
-pub fn stores(words: &mut Words) -> Result<Command, LineFault>
+pub(crate) fn stores(words: &mut Words) -> Result<Command, LineFault>
     ensures { result ≡ row_reading (codes "stores") words.old }
 {
     words.end()?;
@@ -75,7 +75,7 @@ pub fn stores(words: &mut Words) -> Result<Command, LineFault>
 
 /// `mount U`, `unmount U`, `default U` and `soups U`
 #[tactic(auto, using(crate::proofs::RowTable::row_unit))]
-pub fn of_unit(words: &mut Words, verb: UnitVerb) -> Result<Command, LineFault>
+pub(crate) fn of_unit(words: &mut Words, verb: UnitVerb) -> Result<Command, LineFault>
     ensures { result ≡ row_reading (unit_word verb) words.old }
 {
     let unit = words.unit()?;
@@ -85,7 +85,11 @@ pub fn of_unit(words: &mut Words, verb: UnitVerb) -> Result<Command, LineFault>
 
 /// `soup U NAME`, `drop U S` and `indexes U S`
 #[tactic(auto, using(crate::proofs::RowTable::row_soup))]
-pub fn of_soup(alloc: Global, words: &mut Words, verb: SoupVerb) -> Result<Command, LineFault>
+pub(crate) fn of_soup(
+    alloc: Global,
+    words: &mut Words,
+    verb: SoupVerb,
+) -> Result<Command, LineFault>
     ensures { result ≢ Err LineFault.Memory → result ≡ row_reading (soup_word verb) words.old }
 {
     let (unit, soup) = words.soup(alloc)?;

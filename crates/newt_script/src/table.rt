@@ -1,4 +1,4 @@
-//! The table of commands: what is read behind the first word of a line.
+//! The table of commands: what is read after the first word of a line.
 ghost use Rattle.std.specs.Prelude.{◌≡◌, ◌≢◌, false};
 ghost use Rattle.newt_script.specs.Rows.{row_reading};
 ghost use Rattle.newt_script.specs.Verbs.{word_of, is_memory_word};
@@ -10,9 +10,9 @@ use newt_script_words::Words;
 use newt_spec_world::Command;
 use std::alloc::Global;
 
-/// The command of the words behind the first one.
+/// The command of the words after the first one.
 #[tactic(auto, using(crate::proofs::Spoken::memory_of_rows))]
-pub fn row(alloc: Global, verb: Verb, words: &mut Words) -> Result<Command, LineFault>
+pub(crate) fn row(alloc: Global, verb: Verb, words: &mut Words) -> Result<Command, LineFault>
     ensures reading { result ≢ Err LineFault.Memory
         → result ≡ row_reading (word_of verb) words.old }
     ensures no_memory { is_memory_word (word_of verb) ≡ false → result ≢ Err LineFault.Memory }

@@ -11,9 +11,9 @@ use newt_base::{Name, Uid};
 use newt_host::Unit;
 use newt_spec_world::Command;
 
-/// The first word of a command. Those whose rows have equal words behind them stand together.
+/// A verb: the first word of a command. Verbs that are followed by the same words stand together.
 #[derive(Clone, Copy)]
-pub enum Verb {
+pub(crate) enum Verb {
     Quit,
     Stores,
     Time,
@@ -47,26 +47,26 @@ pub enum Verb {
     OfCopy(CopyVerb),
 }
 
-/// Those with `U` behind them.
+/// The verbs that are followed by `U`.
 #[derive(Clone, Copy)]
-pub enum UnitVerb {
+pub(crate) enum UnitVerb {
     Mount,
     Unmount,
     Default,
     Soups,
 }
 
-/// Those with `U S` behind them.
+/// The verbs that are followed by `U S`.
 #[derive(Clone, Copy)]
-pub enum SoupVerb {
+pub(crate) enum SoupVerb {
     Soup,
     Drop,
     Indexes,
 }
 
-/// Those with `U S UID` behind them.
+/// The verbs that are followed by `U S UID`.
 #[derive(Clone, Copy)]
-pub enum EntryVerb {
+pub(crate) enum EntryVerb {
     Get,
     Getx,
     Remove,
@@ -74,16 +74,16 @@ pub enum EntryVerb {
     Open,
 }
 
-/// Those with `U S UID U S` behind them.
+/// The verbs that are followed by `U S UID U S`.
 #[derive(Clone, Copy)]
-pub enum TransferVerb {
+pub(crate) enum TransferVerb {
     Copy,
     Move,
 }
 
-/// Those with `C` behind them.
+/// The verbs that are followed by `C`.
 #[derive(Clone, Copy)]
-pub enum CursorVerb {
+pub(crate) enum CursorVerb {
     Entry,
     Next,
     Prev,
@@ -95,24 +95,23 @@ pub enum CursorVerb {
     Close,
 }
 
-/// Those with the number of a watch behind them.
+/// The verbs that are followed by the number of a watch.
 #[derive(Clone, Copy)]
-pub enum WatchVerb {
+pub(crate) enum WatchVerb {
     Notes,
     Unwatch,
 }
 
-/// Those with the number of a working copy behind them.
+/// The verbs that are followed by the number of a working copy.
 #[derive(Clone, Copy)]
-pub enum CopyVerb {
+pub(crate) enum CopyVerb {
     Draft,
     Save,
     Revert,
     Discard,
 }
 
-/// All first words. A search looks at them one after another, so those that scripts repeat stand
-/// first.
+/// All verbs. A search looks at them one after another, so those that scripts repeat stand first.
 const VERBS: [Verb; 53] = [
     Verb::Cursor(CursorVerb::Next),
     Verb::Entry(EntryVerb::Get),
@@ -169,8 +168,8 @@ const VERBS: [Verb; 53] = [
     Verb::OfCopy(CopyVerb::Discard),
 ];
 
-/// The command that a word names.
-pub fn named(word: &[u8]) -> Option<Verb>
+/// The verb that a word names.
+pub(crate) fn named(word: &[u8]) -> Option<Verb>
     ensures { result ≡ find (λ verb. bytes_eq (word_of verb) word.now) VERBS }
 {
     VERBS.iter().copied().find(|verb| verb.word() == word)
@@ -231,7 +230,7 @@ impl UnitVerb {
     }
 
     /// The command that it begins.
-    pub fn command(self, unit: Unit) -> Command
+    pub(crate) fn command(self, unit: Unit) -> Command
         ensures { result ≡ unit_command self unit }
     {
         match self {
@@ -256,7 +255,7 @@ impl SoupVerb {
     }
 
     /// The command that it begins.
-    pub fn command(self, unit: Unit, soup: Name) -> Command
+    pub(crate) fn command(self, unit: Unit, soup: Name) -> Command
         ensures { result ≡ soup_command self unit soup }
     {
         match self {
@@ -282,7 +281,7 @@ impl EntryVerb {
     }
 
     /// The command that it begins.
-    pub fn command(self, unit: Unit, soup: Name, uid: Uid) -> Command
+    pub(crate) fn command(self, unit: Unit, soup: Name, uid: Uid) -> Command
         ensures { result ≡ entry_command self unit soup uid }
     {
         match self {
@@ -307,7 +306,7 @@ impl TransferVerb {
     }
 
     /// The command that it begins.
-    pub fn command(self, from: (Unit, Name, Uid), to: (Unit, Name)) -> Command
+    pub(crate) fn command(self, from: (Unit, Name, Uid), to: (Unit, Name)) -> Command
         ensures { result ≡ transfer_command self from.0 from.1 from.2 to.0 to.1 }
     {
         match self {
@@ -336,7 +335,7 @@ impl CursorVerb {
     }
 
     /// The command that it begins.
-    pub fn command(self, cursor: u8) -> Command
+    pub(crate) fn command(self, cursor: u8) -> Command
         ensures { result ≡ cursor_command self cursor }
     {
         match self {
@@ -365,7 +364,7 @@ impl WatchVerb {
     }
 
     /// The command that it begins.
-    pub fn command(self, watch: u8) -> Command
+    pub(crate) fn command(self, watch: u8) -> Command
         ensures { result ≡ watch_command self watch }
     {
         match self {
@@ -389,7 +388,7 @@ impl CopyVerb {
     }
 
     /// The command that it begins.
-    pub fn command(self, copy: u8) -> Command
+    pub(crate) fn command(self, copy: u8) -> Command
         ensures { result ≡ copy_command self copy }
     {
         match self {

@@ -1,4 +1,4 @@
-//! The rows of the table of commands that speak of watches and of working copies.
+//! The rows of the table of commands for watches and working copies.
 ghost use Rattle.std.specs.Prelude.{◌≡◌, ◌≢◌, codes};
 ghost use Rattle.newt_script.specs.Rows.{row_reading};
 ghost use Rattle.newt_script.specs.Verbs.{watch_word, copy_word};
@@ -12,7 +12,7 @@ use std::alloc::Global;
 
 /// `watch S LIMIT`
 #[tactic(auto, using(crate::proofs::WholeRows::row_watch))]
-pub fn watch(alloc: Global, words: &mut Words) -> Result<Command, LineFault>
+pub(crate) fn watch(alloc: Global, words: &mut Words) -> Result<Command, LineFault>
     ensures { result ≢ Err LineFault.Memory → result ≡ row_reading (codes "watch") words.old }
 {
     let name = words.name(alloc)?;
@@ -23,7 +23,7 @@ pub fn watch(alloc: Global, words: &mut Words) -> Result<Command, LineFault>
 
 /// `notes W` and `unwatch W`
 #[tactic(auto, using(crate::proofs::WholeRows::row_of_watch))]
-pub fn of_watch(words: &mut Words, verb: WatchVerb) -> Result<Command, LineFault>
+pub(crate) fn of_watch(words: &mut Words, verb: WatchVerb) -> Result<Command, LineFault>
     ensures { result ≡ row_reading (watch_word verb) words.old }
 {
     let watch = words.watch()?;
@@ -33,7 +33,7 @@ pub fn of_watch(words: &mut Words, verb: WatchVerb) -> Result<Command, LineFault
 
 /// `draft W`, `save W`, `revert W` and `discard W`
 #[tactic(auto, using(crate::proofs::WholeRows::row_of_copy))]
-pub fn of_copy(words: &mut Words, verb: CopyVerb) -> Result<Command, LineFault>
+pub(crate) fn of_copy(words: &mut Words, verb: CopyVerb) -> Result<Command, LineFault>
     ensures { result ≡ row_reading (copy_word verb) words.old }
 {
     let copy = words.copy()?;
@@ -43,7 +43,7 @@ pub fn of_copy(words: &mut Words, verb: CopyVerb) -> Result<Command, LineFault>
 
 /// `edit W PATH LIT`
 #[tactic(auto, using(crate::proofs::WholeRows::row_edit))]
-pub fn edit(alloc: Global, words: &mut Words) -> Result<Command, LineFault>
+pub(crate) fn edit(alloc: Global, words: &mut Words) -> Result<Command, LineFault>
     ensures { result ≢ Err LineFault.Memory → result ≡ row_reading (codes "edit") words.old }
 {
     let copy = words.copy()?;

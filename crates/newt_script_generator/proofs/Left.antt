@@ -21,7 +21,7 @@ line_written f text word i count early =
     let k : count - i ≡ suc (count - (i + 1)) = omega (arith, early) in
     append_assoc text (f word) (flat_map f (replicate (count - (i + 1)) word)) ∙ ap (λ (n : ℕ). text ++ flat_map f (replicate n word)) (sym k)
 
--- the pieces of a line, one behind the other, and its end
+-- the pieces of a line, one after the other, and its end
 pub joined : (old p m q n w o r i e : List ℕ)
     → (((((old ++ (p ++ m)) ++ (q ++ n)) ++ w) ++ o) ++ (r ++ i)) ++ (e ++ 10 ∷ []) ≡ old ++ (((((((((p ++ m) ++ q) ++ n) ++ w) ++ o) ++ r) ++ i) ++ e) ++ 10 ∷ [])
 joined old p m q n w o r i e =

@@ -17,8 +17,8 @@ const QUERY: &[u8] = b"query 0 Names {indexPath: [pathExpr: 'name, 'last]}\n";
 /// One more than the largest state of the generator.
 const STATES: u64 = 1 << 31;
 
-/// The script of a seed, which adds so many names and walks over them in order of their last ones.
-/// Of the seed its low 31 bits count. The script has `2 * count + 10` lines.
+/// The script of a seed, which adds `count` names and walks over them in the order of their last
+/// names. Only the low 31 bits of the seed count. The script has `2 * count + 10` lines.
 pub fn gen_script(alloc: Global, seed: u32, count: u32) -> Result<Vec<u8>, AllocError>
     ensures { IfOk result (λ text. text.items ≡ gen_script seed count) }
 {
@@ -66,7 +66,7 @@ fn push_entry(alloc: Global, text: &mut Vec<u8>, i: u32, drawn: u32) -> Result<(
     Ok(())
 }
 
-/// A number behind some text.
+/// A number after some text.
 fn push_field(
     alloc: Global,
     text: &mut Vec<u8>,

@@ -32,7 +32,7 @@ abbrev taken_first : List ℕ → Moment
 taken_first bytes = On 0 (Attached bytes) ∷ Took (1 ∷ []) ∷ []
 
 attached_too_late : (names : List (List ℕ)) (old new : Outside) (bytes : List ℕ) → old.now ≡ [] → held_by names old 0 ≡ Some bytes → new.now ≡ taken_first bytes → AttachedFirst names old new → ⊥
-attached_too_late names old new bytes none held is a = go a.behind.more a.then (sym is ∙ a.behind.is) ((Always-last a.still).0 ∙ ap taken none) (a.only 0 ∙ ap attaching held)
+attached_too_late names old new bytes none held is a = go a.after.more a.then (sym is ∙ a.after.is) ((Always-last a.still).0 ∙ ap taken none) (a.only 0 ∙ ap attaching held)
   where
     at_start : (more then : Moment) → [] ≡ more ++ then → changes 0 then ≡ Attached bytes ∷ [] → ⊥
     at_start [] then e only = let none : changes 0 then ≡ [] = ap (λ (m : Moment). changes 0 m) (sym e) in absurd (cc)

@@ -33,7 +33,7 @@ module _ (shows : Bool) where
   pub acts_took : (rows : List (Row Whole)) (bytes : List ℕ) (old then : Moment) → ActsInTime shows rows old then → ActsInTime shows rows old (Took bytes ∷ then)
   acts_took rows bytes old then acts unit = goes_on (Took bytes) then (acts unit) (λ differs. absurd (differs refl))
 
-  -- rows behind one another
+  -- rows after one another
   pub acts_both : (a b : List (Row Whole)) (old then now : Moment) → printed then ≡ printed old ++ put_out shows (output_of a) → ActsInTime shows a old then → ActsInTime shows b then now
       → ActsInTime shows (a ++ b) old now
   acts_both a b old then now put x y unit = only_append

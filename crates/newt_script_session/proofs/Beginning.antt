@@ -23,7 +23,7 @@ use Rattle.newt_spec_whole.specs.Whole.{Whole, bare_whole, stores_on}
 use Rattle.newt_spec_world.specs.World.{Device, flat, stores_of}
 use Rattle.newt_script_session.specs.Answered.{Given}
 use Rattle.newt_script_session.specs.Causes.{NoStreamFault}
-use Rattle.newt_script_session.specs.Counted.{Counted, CountedAt, HasLeftCounted}
+use Rattle.newt_script_session.specs.Counted.{CountedRun, CountedAt, HasLeftCounted}
 use Rattle.newt_script_session.specs.Counts.{summary_of}
 use Rattle.newt_script_session.specs.First.{unmounted}
 use Rattle.newt_script_session.specs.Moments.{Between, BlankThrough, CrashAt, HasLeft, replies_begun}
@@ -97,7 +97,7 @@ module _ (names : List (List ℕ)) (old mid new : Outside) (a : AreAttached true
     then = mid.now;
     still = quiet_first;
     only = λ unit. go unit (mid.card unit) refl;
-    behind = extends;
+    after = extends;
   }
     where
       go : (unit : ℕ) (o : Option (List ℕ)) → mid.card unit ≡ o → changes unit mid.now ≡ attaching (held_by names old unit)
@@ -213,7 +213,7 @@ module _ (names : List (List ℕ)) (old mid new : Outside) (a : AreAttached true
               has_left reads w t.0.first t.0.rows unit left shown (seen_named (CrashAt reads mid.now w t.0.first t.0.rows (printed mid.now)) t.6 cards fresh unknown history unit at left shown since_is might);
         }
 
-    pub named_counted : {T : Type 0} (script : List ℕ) (result : Result T Halt) → Counted step reads script result (first_world reads names old) mid new
+    pub named_counted : {T : Type 0} (script : List ℕ) (result : Result T Halt) → CountedRun step reads script result (first_world reads names old) mid new
         → CountedNamed step reads script result names old new
     named_counted script result s =
         let w = first_world reads names old in

@@ -66,7 +66,7 @@ read_run halt a b cause = subst (λ (h : Halt). HasCause h a b) (sym cause.0) ca
 -- ---- faults
 
 module _ {E F : Type 0} (Before : E → (old new : Outside) → Type 0) (After : F → (old new : Outside) → Type 0) (a b c : Outside) (none : NoStreamFault a b) where
-  -- of a call that comes behind calls which counted none, and with whose error the run ends
+  -- of a call that comes after calls which counted none, and with whose error the run ends
   pub faults_err : {T U : Type 0} (result : Result T F) (error : E) (fault : F) → result ≡ Err fault → (Before error b c → After fault a c) → Faults {T = U} Before (Err error) b c → Faults After result a c
   faults_err {T} {U} result error fault is turns f =
       subst (λ (v : Result T F). Faults After v a c) (sym is) (record { later = never_then none f.later; cause = turns f.cause; no_fault = tt })
@@ -163,7 +163,7 @@ answer_memory {a = a} {b = b} q = record { unread = q.unread; cards = q.cards; f
 pub answer_stopped : {told : Bool} {T : Type 0} {a b : Outside} → Unread told a b → OnDevices a b → AnswerCall {T = T} told (Err Memory) a b
 answer_stopped unread on = answer_memory (quiet_apply unread on)
 
--- calls behind calls that counted no fault
+-- calls after calls that counted no fault
 pub answer_then : {told : Bool} {T : Type 0} {result : Result T Halt} {a b c : Outside} → Quiet told a b → AnswerCall told result b c → AnswerCall told result a c
 answer_then {result = result} {a = a} {b = b} {c = c} q w = record {
   unread = unread-append q.unread w.unread;
@@ -178,7 +178,7 @@ answer_err {told} {T} {U} result halt {a} {b} {c} is q w = record {
   faults = faults_err HasSinkCause HasSinkCause a b c q.no_fault {T = T} {U = U} result halt halt is (λ cause. sink_from halt a b c q.no_fault cause) w.faults;
 }
 
--- a reply was put out behind them
+-- a reply was put out after them
 pub answer_put : {told : Bool} {T U : Type 0} {x : T} {y : U} {a b c : Outside} → Quiet told a b → WriteCall {T = U} told HasSinkCause (Ok y) b c → AnswerCall {T = T} told (Ok x) a c
 answer_put {T = T} {U = U} {x = x} {y = y} {a} {b} {c} q w = record {
   unread = unread-append q.unread w.unread;

@@ -10,14 +10,14 @@ use Rattle.newt_base.specs.declared.Refusal.{Refusal}
 use Rattle.newt_laws_steps.specs.Answering.{Answering, ReadsOneOf}
 use Rattle.newt_spec_graph.specs.Lists.{Among}
 use Rattle.newt_spec_graph.proofs.Lists.{among-left}
-use Rattle.newt_spec_script.specs.Rows.{Row, output_of, world_at, world_behind}
+use Rattle.newt_spec_script.specs.Rows.{Row, output_of, world_at, last_world}
 use Rattle.newt_spec_script.specs.Script.{Item}
 use Rattle.newt_spec_store.specs.Store.{Store}
 use Rattle.newt_spec_world.specs.Reply.{Reply, reply_line, reply_text}
 use Rattle.newt_spec_whole.specs.Whole.{Whole, stores_on, IsBlankOn}
 use Rattle.newt_spec_world.specs.declared.command.Command.{Command}
 use Rattle.newt_script_session.specs.Counted.{CountedAt}
-use Rattle.newt_script_session.specs.Moments.{Behind, Between, BlankThrough, CrashAt, Fresh, Leaves, SafeAt, Untouched, item_formats, replies_begun, begun, worlds_behind}
+use Rattle.newt_script_session.specs.Moments.{LeftAfter, Between, BlankThrough, CrashAt, Fresh, Leaves, SafeAt, Untouched, item_formats, replies_begun, begun, worlds_passed}
 use Rattle.newt_script_session.specs.Stream.{put_out}
 
 some_text : (r : Reply) → 0 < length (reply_text r)
@@ -37,7 +37,7 @@ pub none_put : (shows : Bool) (out : List ℕ) → out ++ put_out shows [] ≡ o
 none_put true out = append-nil out
 none_put false out = append-nil out
 
--- of one text behind another
+-- of one text after another
 pub both_put : (shows : Bool) (a b : List ℕ) → put_out shows (a ++ b) ≡ put_out shows a ++ put_out shows b
 both_put true a b = refl
 both_put false a b = refl
@@ -141,12 +141,12 @@ module _ (reads : List ℕ → Option Store) (start : Moment) where
   unfolding Leaves
   leaves_next F world items row rows unit left b = b
 
-  -- behind a whole reply
-  leaves_behind : (F : Type 0) (world : Whole) (item : Item) (items : List Item) (row : Row Whole) (rows : List (Row Whole)) (n m unit : ℕ) (left : List ℕ) → 0 < n → n - length (reply_text row.1) ≡ m
+  -- after a whole reply
+  leaves_after : (F : Type 0) (world : Whole) (item : Item) (items : List Item) (row : Row Whole) (rows : List (Row Whole)) (n m unit : ℕ) (left : List ℕ) → 0 < n → n - length (reply_text row.1) ≡ m
       → Leaves reads start (IsBlankOn world unit × F) row.0 items rows m unit left → Leaves reads start F world (item ∷ items) (row ∷ rows) n unit left
   unfolding Leaves
-  leaves_behind F world item items row rows zero m unit left some e l = absurd (omega arith)
-  leaves_behind F world item items row rows (suc n) m unit left some e l = subst (λ (k : ℕ). Leaves reads start (IsBlankOn world unit × F) row.0 items rows k unit left) (sym e) l
+  leaves_after F world item items row rows zero m unit left some e l = absurd (omega arith)
+  leaves_after F world item items row rows (suc n) m unit left some e l = subst (λ (k : ℕ). Leaves reads start (IsBlankOn world unit × F) row.0 items rows k unit left) (sym e) l
 
   -- within a reply
   leaves_within : (F : Type 0) (world : Whole) (item : Item) (items : List Item) (row : Row Whole) (rows : List (Row Whole)) (n unit : ℕ) (left : List ℕ) → n ≤ length (reply_text row.1)
@@ -154,7 +154,7 @@ module _ (reads : List ℕ → Option Store) (start : Moment) where
       → Leaves reads start F world (item ∷ items) (row ∷ rows) n unit left
   leaves_within F world item items row rows zero unit left fits b its = leaves_next F world (item ∷ items) row rows unit left b
   leaves_within F world item items row rows (suc n) unit left fits b its =
-      leaves_behind F world item items row rows (suc n) 0 unit left (omega arith) (omega arith) (leaves_first (IsBlankOn world unit × F) row.0 items rows unit left its)
+      leaves_after F world item items row rows (suc n) 0 unit left (omega arith) (omega arith) (leaves_first (IsBlankOn world unit × F) row.0 items rows unit left its)
 
 -- ---- moments
 
@@ -217,12 +217,12 @@ module _ (shows : Bool) (reads : List ℕ → Option Store) (start : Moment) whe
         shown = text ++ s.shown;
         out = s.out ∙ (append_assoc old (put_out shows text) (put_out shows s.shown) ∙ ap (λ t. old ++ t) (sym (both_put shows text s.shown)));
         safe = λ later more unit left may.
-            leaves_behind reads start (Fresh before unit) world item (items ++ later) row (rows ++ more) (length (text ++ s.shown)) (length s.shown) unit left
+            leaves_after reads start (Fresh before unit) world item (items ++ later) row (rows ++ more) (length (text ++ s.shown)) (length s.shown) unit left
             (omega (arith, some, size)) (omega (arith, size)) (s.safe later more unit left may);
       }
 
   pub safe_laters : (before : List Whole) (world : Whole) (first : List Item) (done : List (Row Whole)) (items : List Item) (more : List (Row Whole)) (old : List ℕ) (now : Moment) → length done ≡ length first
-      → SafeAt shows reads start (worlds_behind before world done) (world_behind world done) items more (old ++ put_out shows (output_of done)) now
+      → SafeAt shows reads start (worlds_passed before world done) (last_world world done) items more (old ++ put_out shows (output_of done)) now
       → SafeAt shows reads start before world (first ++ items) (done ++ more) old now
   unfolding output_of
   safe_laters before world [] [] items more old now size s = subst (λ (o : List ℕ). SafeAt shows reads start before world items more o now) (none_put shows old) s
@@ -234,7 +234,7 @@ module _ (shows : Bool) (reads : List ℕ → Option Store) (start : Moment) whe
       let sizes : length done ≡ length first = omega arith in
       safe_later before world item (first ++ items) row (done ++ more) old now
       (safe_laters (world ∷ before) next first done items more (old ++ put_out shows text) now sizes
-      (subst (λ (o : List ℕ). SafeAt shows reads start (worlds_behind (world ∷ before) next done) (world_behind next done) items more o now)
+      (subst (λ (o : List ℕ). SafeAt shows reads start (worlds_passed (world ∷ before) next done) (last_world next done) items more o now)
       (ap (λ t. old ++ t) (both_put shows text (output_of done)) ∙ sym (append_assoc old (put_out shows text) (put_out shows (output_of done)))) s))
 
 -- ---- what is said of a whole script
@@ -264,9 +264,9 @@ module _ (reads : List ℕ → Option Store) (start : Moment) where
       (counted (IsBlankOn world unit × F) row.0 (drop 1 items) rows (suc n - length (reply_text row.1)) unit left l)))
 
   -- at the start no world was before
-  pub behind_at : (world : Whole) (items : List Item) (rows : List (Row Whole)) (n unit : ℕ) (left : List ℕ) → Leaves reads start (Fresh [] unit) world items rows n unit left
-      → Behind reads (MayLeave unit start) world items rows (replies_begun rows n) unit left
-  behind_at world items rows n unit left l =
+  pub after_at : (world : Whole) (items : List Item) (rows : List (Row Whole)) (n unit : ℕ) (left : List ℕ) → Leaves reads start (Fresh [] unit) world items rows n unit left
+      → LeftAfter reads (MayLeave unit start) world items rows (replies_begun rows n) unit left
+  after_at world items rows n unit left l =
       let m = replies_begun rows n in
       weaken reads (MayLeave unit start) (Fresh [] unit × BlankThrough world rows m unit) (BlankThrough world rows m unit) (world_at world rows m) (drop m items) (world_at world rows (m + 1)) unit left (λ b. (tt, b))
       (counted (Fresh [] unit) world items rows n unit left l)
@@ -276,7 +276,7 @@ module _ (reads : List ℕ → Option Store) (start : Moment) where
   crash_always world items rows old now a = Always-map (λ m s. record {
     shown = s.shown;
     out = s.out;
-    leaves = λ later more unit left may. behind_at world (items ++ later) (rows ++ more) (length s.shown) unit left (s.safe later more unit left may);
+    leaves = λ later more unit left may. after_at world (items ++ later) (rows ++ more) (length s.shown) unit left (s.safe later more unit left may);
   }) a
 
   -- where the replies are not put out, so many of the items have been answered as have replies that have begun
@@ -289,14 +289,14 @@ module _ (reads : List ℕ → Option Store) (start : Moment) where
       replies_begun (rows ++ more) (length s.shown),
       (λ some. absurd (omega (arith, some))),
       (λ unit left may.
-          subst (λ (is : List Item). Behind reads (MayLeave unit start) world is (rows ++ more) (replies_begun (rows ++ more) (length s.shown)) unit left)
+          subst (λ (is : List Item). LeftAfter reads (MayLeave unit start) world is (rows ++ more) (replies_begun (rows ++ more) (length s.shown)) unit left)
           (sym (append_assoc first rest later) ∙ ap (λ (is : List Item). is ++ later) (sym split))
-          (behind_at world (first ++ (rest ++ later)) (rows ++ more) (length s.shown) unit left (s.safe (rest ++ later) more unit left may))),
+          (after_at world (first ++ (rest ++ later)) (rows ++ more) (length s.shown) unit left (s.safe (rest ++ later) more unit left may))),
     );
   }) a
 
--- behind all rows, where the unit held no store in the worlds up to there
-pub fresh_through : (world : Whole) (rows more : List (Row Whole)) (n unit : ℕ) (before : List Whole) → length rows ≡ n → Fresh before unit → BlankThrough world (rows ++ more) n unit → Fresh (worlds_behind before world rows) unit
+-- after all rows, where the unit held no store in the worlds up to there
+pub fresh_through : (world : Whole) (rows more : List (Row Whole)) (n unit : ℕ) (before : List Whole) → length rows ≡ n → Fresh before unit → BlankThrough world (rows ++ more) n unit → Fresh (worlds_passed before world rows) unit
 fresh_through world [] more n unit before size fresh b = fresh
 fresh_through world (row ∷ rows) more zero unit before size fresh b = absurd (omega arith)
 fresh_through world (row ∷ rows) more (suc n) unit before size fresh b =

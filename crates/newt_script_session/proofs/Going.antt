@@ -14,7 +14,7 @@ use Rattle.newt_script_session.specs.Answered.{Answered, Given, Ran}
 use Rattle.newt_script_session.specs.Lines.{ended_lines, unended, last_line, lines_of}
 use Rattle.newt_script_session.specs.Moments.{SafeAt, Untouched}
 use Rattle.newt_script_session.specs.Reading.{ActsInTime, ReadsInTime, start as takes_start}
-use Rattle.newt_spec_script.specs.Rows.{IsRun, output_of, Row, Stepping, world_behind}
+use Rattle.newt_spec_script.specs.Rows.{IsRun, output_of, Row, Stepping, last_world}
 use Rattle.newt_script_session.specs.Run.{AnsweredTaken, Halted, HaltedIn, IsReadThrough, IsTooLong}
 use Rattle.newt_script_session.specs.Script.{has_quit, commands_of, ended_items, quits, script_items}
 use Rattle.newt_script_session.specs.Session.{Session}
@@ -127,7 +127,7 @@ module _ (step : Stepping Whole) (reads : List ℕ → Option Store) where
         go = g.go;
         rows = g.rows;
         run = g.run;
-        answered = record { stands_for = f (world_behind world g.rows) a.stands_for; put = a.put; took = a.took; untouched = a.untouched };
+        answered = record { stands_for = f (last_world world g.rows) a.stands_for; put = a.put; took = a.took; untouched = a.untouched };
         threw = threw_same g.rows was mid is counts g.threw;
         failed = failed_same g.rows was mid is counts g.failed;
         in_time = g.in_time;
@@ -151,7 +151,7 @@ module _ (step : Stepping Whole) (reads : List ℕ → Option Store) where
         go = g.go;
         rows = g.rows;
         run = g.run;
-        answered = record { stands_for = f (world_behind world g.rows) a.stands_for; put = a.put; took = a.took; untouched = a.untouched };
+        answered = record { stands_for = f (last_world world g.rows) a.stands_for; put = a.put; took = a.took; untouched = a.untouched };
         threw = threw_same g.rows was mid is counts g.threw;
         failed = failed_same g.rows was mid is counts g.failed;
         in_time = takes_more bytes g.in_time (record {
@@ -173,7 +173,7 @@ module _ (step : Stepping Whole) (reads : List ℕ → Option Store) where
       (g : Going step reads world script taken left Later line had has old then was mid) where
     -- the world that is stood for then
     abbrev pub then_world : Whole
-    then_world = world_behind world g.rows
+    then_world = last_world world g.rows
 
     -- the items of the script are those of the lines that ended, and those of what is left
     pub items_left : script_items script ≡ ended_items taken ++ commands_of (lines_from line left)
@@ -317,7 +317,7 @@ module _ (step : Stepping Whole) (reads : List ℕ → Option Store) (limit : �
   in_time rows = only_append (in_time_more step world g.rows rows old.now then g.in_time) (only_none unread)
 
   -- the run was halted in the items that came next
-  pub session_part : {T U : Type 0} (result : Result T Halt) (halt : Halt) → result ≡ Err halt → Ran step true reads {T = U} (Err halt) (world_behind world g.rows) Next part half has then new.now mid new.dev_faults
+  pub session_part : {T U : Type 0} (result : Result T Halt) (halt : Halt) → result ≡ Err halt → Ran step true reads {T = U} (Err halt) (last_world world g.rows) Next part half has then new.now mid new.dev_faults
       → Session step reads limit result world old new
   unfolding ran_halted
   session_part {T} {U} result halt is r =
@@ -327,7 +327,7 @@ module _ (step : Stepping Whole) (reads : List ℕ → Option Store) (limit : �
       tt (in_time r.given.rows))
 
   -- they were answered, and they were the last
-  pub session_whole : {T U : Type 0} {x : T} {y : U} → more ≡ [] → Ran step true reads {T = U} (Ok y) (world_behind world g.rows) Next part half has then new.now mid new.dev_faults → IsReadThrough limit old.input new.input
+  pub session_whole : {T U : Type 0} {x : T} {y : U} → more ≡ [] → Ran step true reads {T = U} (Ok y) (last_world world g.rows) Next part half has then new.now mid new.dev_faults → IsReadThrough limit old.input new.input
       → Session {T = T} step reads limit (Ok x) world old new
   unfolding progress_more ran_all
   session_whole {T} {U} {x} none r read =
@@ -336,7 +336,7 @@ module _ (step : Stepping Whole) (reads : List ℕ → Option Store) (limit : �
       (progress_more step true reads world (script_items old.input) Later (commands_of (lines_from line left)) had half old.now then old.dev_faults mid so_far part more e Next has new.now new.dev_faults r) x none)
       read (in_time r.given.rows)
 
-  pub session_last : {T : Type 0} (result : Result T Halt) → more ≡ [] → Ran step true reads result (world_behind world g.rows) Next part half has then new.now mid new.dev_faults → OnOk result (IsReadThrough limit old.input new.input)
+  pub session_last : {T : Type 0} (result : Result T Halt) → more ≡ [] → Ran step true reads result (last_world world g.rows) Next part half has then new.now mid new.dev_faults → OnOk result (IsReadThrough limit old.input new.input)
       → Session step reads limit result world old new
   session_last (Ok x) none r read = session_whole none r read
   session_last (Err halt) none r read = session_part (Err halt) halt refl r

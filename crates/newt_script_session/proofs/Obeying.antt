@@ -13,7 +13,7 @@ use Rattle.newt_script_session.specs.Causes.{HasSinkCause}
 use Rattle.newt_script_session.specs.Moments.{SafeAt, Untouched}
 use Rattle.newt_script_session.specs.Reading.{ActsInTime}
 use Rattle.newt_script_session.specs.Run.{HaltedIn}
-use Rattle.newt_script_session.specs.Stream.{Puts, WroteSome, put_out}
+use Rattle.newt_script_session.specs.Stream.{PutsText, WroteSome, put_out}
 use Rattle.newt_laws_steps.specs.Thrown.{Failed, Threw}
 use Rattle.newt_script_session.specs.declared.halt.Halt.{Halt}
 use Rattle.newt_script_session.specs.declared.halt.Halt.TheVariants.{Memory, Source, Sink, TooLong}
@@ -44,7 +44,7 @@ module _ (step : Stepping Whole) (shows : Bool) (reads : List ℕ → Option Sto
   item_answering : (start : Moment) (before : List Whole) → Untouched start before world old → Always (SafeAt shows reads start before world (item ∷ []) (row ∷ []) (printed old)) old then
   item_answering start before u = Always-map (λ m a. safe_answering shows reads start before world item row old m u a) answering
 
-  item_moments : {T E : Type 0} (result : Result T E) (now : Moment) → AtRest reads row.0 then → Puts result (put_out shows text) then now
+  item_moments : {T E : Type 0} (result : Result T E) (now : Moment) → AtRest reads row.0 then → PutsText result (put_out shows text) then now
       → (start : Moment) (before : List Whole) → Untouched start before world old → Always (SafeAt shows reads start before world (item ∷ []) (row ∷ []) (printed old)) old now
   item_moments result now its puts start before u =
       Always-append (item_answering start before u)
@@ -53,7 +53,7 @@ module _ (step : Stepping Whole) (shows : Bool) (reads : List ℕ → Option Sto
       (its start (world ∷ before) (item_next start before u)) some) puts.moments)
 
   pub ran_item : {T U E : Type 0} (x : T) (y : U) (After : Whole → Type 0) (had has : List (List ℕ) → Type 0) (now : Moment) → AtRest reads row.0 then
-      → Puts {T = U} {E = E} (Ok y) (put_out shows text) then now → After row.0 → ((unit : ℕ) → changes unit now ≡ changes unit then)
+      → PutsText {T = U} {E = E} (Ok y) (put_out shows text) then now → After row.0 → ((unit : ℕ) → changes unit now ≡ changes unit then)
       → ((before : List (List ℕ)) → had before → has (before ++ text ∷ [])) → Ran step shows reads {T = T} (Ok x) world After (item ∷ []) had has old now was is
   ran_item {T} {U} {E} x y After had has now its puts means same took = record {
     given = one_given;
@@ -81,7 +81,7 @@ module _ (step : Stepping Whole) (shows : Bool) (reads : List ℕ → Option Sto
 
   -- the reply was not taken whole
   pub ran_untaken : {T U : Type 0} (result : Result T Halt) (halt : Halt) (After : Whole → Type 0) (had has : List (List ℕ) → Type 0) (now : Moment) (o n : Outside) → result ≡ Err halt
-      → AtRest reads row.0 then → HasSinkCause halt o n → Puts {T = U} (Err halt) (put_out shows text) then now → Ran step shows reads result world After (item ∷ []) had has old now was is
+      → AtRest reads row.0 then → HasSinkCause halt o n → PutsText {T = U} (Err halt) (put_out shows text) then now → Ran step shows reads result world After (item ∷ []) had has old now was is
   ran_untaken {T} {U} result halt After had has now o n ends its cause puts =
       subst (λ (v : Result T Halt). Ran step shows reads v world After (item ∷ []) had has old now was is) (sym ends) (record {
         given = one_given;

@@ -5,7 +5,7 @@ use Rattle.newt_host.specs.Outside.{Rose}
 use Rattle.newt_laws_steps.specs.Steps.{AllSure, AreQuiet}
 use Rattle.newt_laws_steps.specs.Thrown.{RoseBy, RowsThrew}
 use Rattle.newt_laws_whole.proofs.Stepping.{quiet-whole-run}
-use Rattle.newt_spec_script.specs.Rows.{IsRun, output_of, replies_of, reply_texts, Row, throws, thrown_count, world_behind}
+use Rattle.newt_spec_script.specs.Rows.{IsRun, output_of, replies_of, reply_texts, Row, throws, thrown_count, last_world}
 use Rattle.newt_spec_script.specs.Runs.{reply_texts as plain_texts, texts}
 use Rattle.newt_spec_script.specs.Script.{Item, replies_to, world_after}
 use Rattle.newt_spec_world.specs.Reply.{Reply, reply_text}
@@ -64,7 +64,7 @@ module _ (world : Whole) (items : List Item) (rows : List (Row Whole)) (was is :
   pub replies_are_plain : replies_of rows ≡ replies_to whole_answer world items
   replies_are_plain = (quiet-whole-run world items rows sure run (quiet_rows rows was is threw none)).0
 
-  pub world_is_plain : world_behind world rows ≡ world_after whole_answer world items
+  pub world_is_plain : last_world world rows ≡ world_after whole_answer world items
   world_is_plain = (quiet-whole-run world items rows sure run (quiet_rows rows was is threw none)).1
 
   pub texts_are_plain : reply_texts rows ≡ plain_texts whole_answer world items

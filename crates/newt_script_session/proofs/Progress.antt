@@ -6,9 +6,9 @@ use Rattle.newt_spec_script.specs.Script.{Item}
 use Rattle.newt_spec_store.specs.Store.{Store}
 use Rattle.newt_spec_whole.specs.Whole.{Whole}
 use Rattle.newt_script_session.specs.Answered.{Answered, Given, Ran}
-use Rattle.newt_script_session.specs.Moments.{SafeAt, Untouched, worlds_behind}
+use Rattle.newt_script_session.specs.Moments.{SafeAt, Untouched, worlds_passed}
 use Rattle.newt_script_session.specs.Reading.{ActsInTime}
-use Rattle.newt_spec_script.specs.Rows.{IsRun, output_of, reply_texts, Row, Stepping, world_behind}
+use Rattle.newt_spec_script.specs.Rows.{IsRun, output_of, reply_texts, Row, Stepping, last_world}
 use Rattle.newt_script_session.specs.Run.{HaltedIn}
 use Rattle.newt_script_session.specs.Stream.{WroteSome, put_out}
 use Rattle.newt_laws_steps.specs.Thrown.{RowsFailed, RowsThrew}
@@ -16,7 +16,7 @@ use Rattle.newt_script_session.specs.declared.halt.Halt.{Halt}
 use Rattle.newt_script_session.specs.declared.halt.Halt.TheVariants.{Memory, Source, Sink, TooLong}
 use Rattle.newt_script_session.proofs.Acting.{acts_both, acts_start}
 use Rattle.newt_script_session.proofs.Crashing.{AtRest, none_put, both_put, safe_here, safe_more, safe_laters}
-use Rattle.newt_script_session.proofs.Rows.{behind_append, output_append, output_none, replies_append, run_append, run_length, worlds_append}
+use Rattle.newt_script_session.proofs.Rows.{after_append, output_append, output_none, replies_append, run_append, run_length, worlds_append}
 use Rattle.newt_script_session.proofs.Throwing.{failed_both, threw_both, threw_none}
 use Rattle.newt_script_session.proofs.Writing.{wrote_some}
 
@@ -30,11 +30,11 @@ module _ (shows : Bool) where
     untouched = λ start before u. u;
   }
 
-  -- one part behind another
+  -- one part after another
   pub answered_both : (world : Whole) (Then Now : Whole → Type 0) (a b : List (Row Whole)) (had half has : List (List ℕ) → Type 0) (old then now : Moment)
-      → Answered shows world Then a had half old then → Answered shows (world_behind world a) Now b half has then now → Answered shows world Now (a ++ b) had has old now
+      → Answered shows world Then a had half old then → Answered shows (last_world world a) Now b half has then now → Answered shows world Now (a ++ b) had has old now
   answered_both world Then Now a b had half has old then now x y = record {
-    stands_for = subst Now (sym (behind_append world a b)) y.stands_for;
+    stands_for = subst Now (sym (after_append world a b)) y.stands_for;
     put = y.put
         ∙ (ap (λ o. o ++ put_out shows (output_of b)) x.put
         ∙ (append_assoc (printed old) (put_out shows (output_of a)) (put_out shows (output_of b))
@@ -42,9 +42,9 @@ module _ (shows : Bool) where
     took = λ before h. subst has (append_assoc before (reply_texts a) (reply_texts b) ∙ ap (λ (t : List (List ℕ)). before ++ t) (sym (replies_append a b)))
         (y.took (before ++ reply_texts a) (x.took before h));
     untouched = λ start before u.
-        subst (λ (vs : List Whole). Untouched start vs (world_behind world (a ++ b)) now) (sym (worlds_append before world a b))
-        (subst (λ (v : Whole). Untouched start (worlds_behind (worlds_behind before world a) (world_behind world a) b) v now) (sym (behind_append world a b))
-        (y.untouched start (worlds_behind before world a) (x.untouched start before u)));
+        subst (λ (vs : List Whole). Untouched start vs (last_world world (a ++ b)) now) (sym (worlds_append before world a b))
+        (subst (λ (v : Whole). Untouched start (worlds_passed (worlds_passed before world a) (last_world world a) b) v now) (sym (after_append world a b))
+        (y.untouched start (worlds_passed before world a) (x.untouched start before u)));
   }
 
 module _ (step : Stepping Whole) (shows : Bool) (reads : List ℕ → Option Store) where
@@ -77,7 +77,7 @@ module _ (step : Stepping Whole) (shows : Bool) (reads : List ℕ → Option Sto
       (p : Progress world all Later rest had has old then was mid) (part more : List Item) (e : rest ≡ part ++ more) where
     -- the world that is stood for then
     abbrev pub then_world : Whole
-    then_world = world_behind world p.rows
+    then_world = last_world world p.rows
 
     -- some of what is left is given
     abbrev given_part : Given step then_world part → Given step world all
@@ -92,17 +92,17 @@ module _ (step : Stepping Whole) (shows : Bool) (reads : List ℕ → Option Sto
 
     -- and answered, whole or not
     lifted : (items : List Item) (rows : List (Row Whole)) (start : Moment) (before : List Whole) (m : Moment)
-        → SafeAt shows reads start (worlds_behind before world p.rows) then_world items rows (printed then) m → SafeAt shows reads start before world (p.done ++ items) (p.rows ++ rows) (printed old) m
+        → SafeAt shows reads start (worlds_passed before world p.rows) then_world items rows (printed then) m → SafeAt shows reads start before world (p.done ++ items) (p.rows ++ rows) (printed old) m
     lifted items rows start before m s =
         safe_laters shows reads start before world p.done p.rows items rows (printed old) m (run_length step world p.done p.rows p.run)
-        (subst (λ (o : List ℕ). SafeAt shows reads start (worlds_behind before world p.rows) then_world items rows o m) p.answered.put s)
+        (subst (λ (o : List ℕ). SafeAt shows reads start (worlds_passed before world p.rows) then_world items rows o m) p.answered.put s)
 
     pub progress_part : (items : List Item) (rows : List (Row Whole)) (now : Moment)
         → ((start : Moment) (before : List Whole) → Untouched start before then_world then → Always (SafeAt shows reads start before then_world items rows (printed then)) then now)
         → (start : Moment) (before : List Whole) → Untouched start before world old → Always (SafeAt shows reads start before world (p.done ++ items) (p.rows ++ rows) (printed old)) old now
     progress_part items rows now a start before u =
         Always-append (Always-map (λ m s. safe_more shows reads start before world p.done items p.rows rows (printed old) m s) (p.moments start before u))
-        (Always-map (λ m s. lifted items rows start before m s) (a start (worlds_behind before world p.rows) (p.answered.untouched start before u)))
+        (Always-map (λ m s. lifted items rows start before m s) (a start (worlds_passed before world p.rows) (p.answered.untouched start before u)))
 
     -- all of that part was
     unfoldable pub progress_more : {T : Type 0} {x : T} (Next : Whole → Type 0) (has_more : List (List ℕ) → Type 0) (now : Moment) (is : ℕ → ℕ) → Ran step shows reads {T = T} (Ok x) then_world Next part has has_more then now mid is
@@ -191,7 +191,7 @@ module _ (step : Stepping Whole) (shows : Bool) (reads : List ℕ → Option Sto
   -- the last of them were, or the run was halted in them
   pub ran_last : {T : Type 0} (result : Result T Halt) (world : Whole) (all : List Item) (Later : Whole → Type 0) (rest : List Item) (had half : List (List ℕ) → Type 0) (old then : Moment) (was mid : ℕ → ℕ)
       → (p : Progress world all Later rest had half old then was mid) → (part : List Item) → rest ≡ part ++ [] → (Next : Whole → Type 0) (has : List (List ℕ) → Type 0) (now : Moment) (is : ℕ → ℕ)
-      → Ran step shows reads result (world_behind world p.rows) Next part half has then now mid is → Ran step shows reads result world Next all had has old now was is
+      → Ran step shows reads result (last_world world p.rows) Next part half has then now mid is → Ran step shows reads result world Next all had has old now was is
   ran_last (Ok x) world all Later rest had half old then was mid p part e Next has now is r =
       ran_all world all Next [] had has old now was is (progress_more world all Later rest had half old then was mid p part [] e Next has now is r) x refl
   ran_last {T} (Err halt) world all Later rest had half old then was mid p part e Next has now is r =

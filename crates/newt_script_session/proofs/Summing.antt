@@ -18,13 +18,13 @@ use Rattle.newt_spec_world.specs.Reply.{reply_text}
 use Rattle.newt_spec_whole.specs.Whole.{Whole}
 use Rattle.newt_script_session.specs.Answered.{Ran}
 use Rattle.newt_script_session.specs.Causes.{HasSinkCause}
-use Rattle.newt_script_session.specs.Counted.{Counted, CountedAt}
+use Rattle.newt_script_session.specs.Counted.{CountedRun, CountedAt}
 use Rattle.newt_script_session.specs.Counts.{Tallies, lines_of_tally, summary_of}
 use Rattle.newt_script_session.specs.Lines.{ended_lines, unended, last_line, lines_of}
-use Rattle.newt_script_session.specs.Moments.{BlankThrough, Fresh, worlds_behind}
-use Rattle.newt_spec_script.specs.Rows.{IsRun, reply_texts, Row, Stepping, world_at, world_behind}
+use Rattle.newt_script_session.specs.Moments.{BlankThrough, Fresh, worlds_passed}
+use Rattle.newt_spec_script.specs.Rows.{IsRun, reply_texts, Row, Stepping, world_at, last_world}
 use Rattle.newt_script_session.specs.Script.{commands_of, given, items_of, script_items}
-use Rattle.newt_script_session.specs.Stream.{Puts, WroteSome}
+use Rattle.newt_script_session.specs.Stream.{PutsText, WroteSome}
 use Rattle.newt_script_session.specs.declared.halt.Halt.{Halt}
 use Rattle.newt_script_session.specs.declared.tally.Tally.{Tally}
 use Rattle.newt_script_session.proofs.Acting.{acts_printing}
@@ -104,9 +104,9 @@ module _ (step : Stepping Whole) (reads : List ℕ → Option Store) (script : L
 
   -- a command was not answered
   pub counted_halted : {T U : Type 0} (result : Result T Halt) (halt : Halt) (Last : Whole → Type 0) (had has : List (List ℕ) → Type 0) → result ≡ Err halt → HasSinkCause halt old mid
-      → Ran step false reads {T = U} (Err halt) world Last (script_items script) had has old.now mid.now old.dev_faults mid.dev_faults → Counted step reads script result world old mid
+      → Ran step false reads {T = U} (Err halt) world Last (script_items script) had has old.now mid.now old.dev_faults mid.dev_faults → CountedRun step reads script result world old mid
   counted_halted {T} {U} result halt Last had has is cause r =
-      subst (λ (v : Result T Halt). Counted step reads script v world old mid) (sym is) (record {
+      subst (λ (v : Result T Halt). CountedRun step reads script v world old mid) (sym is) (record {
         given = r.given;
         out = tt;
         halted = halted_quiet halt old mid r.given.rest (summary_of r.given.rows) (out_of old) (out_of mid) cause (quiet {T = U} (Err halt) Last had has r);
@@ -118,7 +118,7 @@ module _ (step : Stepping Whole) (reads : List ℕ → Option Store) (script : L
 
   -- all were, and then the summary was written
   module _ {T : Type 0} (x : T) (Last : Whole → Type 0) (has : List (List ℕ) → Type 0) (first tally : Tally) (r : Ran step false reads {T = T} (Ok x) world Last (script_items script) (Tallies first) has old.now mid.now old.dev_faults mid.dev_faults)
-      (its : AtRest reads (world_behind world r.given.rows) mid.now) where
+      (its : AtRest reads (last_world world r.given.rows) mid.now) where
     abbrev rows : List (Row Whole)
     rows = r.given.rows
 
@@ -131,7 +131,7 @@ module _ (step : Stepping Whole) (reads : List ℕ → Option Store) (script : L
     same : out_of mid ≡ out_of old
     same = quiet {T = T} (Ok x) Last (Tallies first) has r
 
-    -- behind all of the items, while the summary is written
+    -- after all of the items, while the summary is written
     counted_last : (text : List ℕ) (now : Moment) → PrintsSome text mid.now now → CountedAt reads old.now world (script_items script) rows (out_of old) now
     counted_last text now some = record {
       shown = some.done;
@@ -141,22 +141,22 @@ module _ (step : Stepping Whole) (reads : List ℕ → Option Store) (script : L
         (λ out. refl),
         (λ unit left may.
             let n = length (script_items script) in
-            let last = world_behind world rows in
+            let last = last_world world rows in
             let all = rows ++ more in
             let size = run_length step world (script_items script) rows run_all in
-            let here_is : last ≡ world_at world all n = ap (world_behind world) (sym (take_at rows more n size)) in
-            let fresh : BlankThrough world all n unit → Fresh (worlds_behind [] world rows) unit = λ b. fresh_through world rows more n unit [] size tt b in
-            its_at reads (MayLeave unit old.now) (Fresh (worlds_behind [] world rows) unit) (BlankThrough world all n unit) last (world_at world all n) (drop n (script_items script ++ later))
+            let here_is : last ≡ world_at world all n = ap (last_world world) (sym (take_at rows more n size)) in
+            let fresh : BlankThrough world all n unit → Fresh (worlds_passed [] world rows) unit = λ b. fresh_through world rows more n unit [] size tt b in
+            its_at reads (MayLeave unit old.now) (Fresh (worlds_passed [] world rows) unit) (BlankThrough world all n unit) last (world_at world all n) (drop n (script_items script ++ later))
             (world_at world all (n + 1)) unit left here_is fresh
-            (its old.now (worlds_behind [] world rows) (r.done.1.untouched old.now [] (λ unit left f blank may. may)) unit left (left_same unit left mid.now now (prints_changes text mid.now now some unit) may))),
+            (its old.now (worlds_passed [] world rows) (r.done.1.untouched old.now [] (λ unit left f blank may. may)) unit left (left_same unit left mid.now now (prints_changes text mid.now now some unit) may))),
       );
     }
 
     pub counted_put : {U : Type 0} → Tallies first [] → ((texts : List (List ℕ)) → has texts → Tallies tally texts) → length script < 2 ^ 64 → (result : Result U Halt) (new : Outside)
-        → ((unit : ℕ) → new.dev_faults unit ≡ mid.dev_faults unit) → IfErr result (λ halt. HasSinkCause halt mid new) → Puts result (lines_of_tally tally) mid.now new.now → Counted step reads script result world old new
+        → ((unit : ℕ) → new.dev_faults unit ≡ mid.dev_faults unit) → IfErr result (λ halt. HasSinkCause halt mid new) → PutsText result (lines_of_tally tally) mid.now new.now → CountedRun step reads script result world old new
     counted_put none tallies size result new counts_same cause puts =
         let counts = tallies (reply_texts rows) (r.done.1.took [] none) (omega (arith, few_replies step world script rows run_all, size)) in
-        let put : Puts result (summary_of rows) mid.now new.now = subst (λ (t : List ℕ). Puts result t mid.now new.now) (tally_summary rows tally counts) puts in
+        let put : PutsText result (summary_of rows) mid.now new.now = subst (λ (t : List ℕ). PutsText result t mid.now new.now) (tally_summary rows tally counts) puts in
         record {
           given = r.given;
           out = on_ok_weaker result (λ e. (r.done.0, e ∙ ap (λ o. o ++ summary_of rows) same)) put.whole;

@@ -60,7 +60,7 @@ line_written old word n =
     append_assoc old word (32 ∷ (decimal n ++ 10 ∷ []))
     ∙ ap (λ (t : List ℕ). old ++ t) (sym (append_assoc word (32 ∷ decimal n) (10 ∷ [])) ∙ ap (λ (t : List ℕ). (word ++ 32 ∷ t) ++ 10 ∷ []) (sym (decimal_written n)))
 
--- the four lines behind one another
+-- the four lines after one another
 pushed : (a b c d t0 t1 t2 t3 t4 : List ℕ) → t0 ≡ [] → t1 ≡ t0 ++ a → t2 ≡ t1 ++ b → t3 ≡ t2 ++ c → t4 ≡ t3 ++ d → t4 ≡ a ++ b ++ c ++ d
 pushed a b c d t0 t1 t2 t3 t4 e0 e1 e2 e3 e4 =
     let all : t4 ≡ (((([] ++ a) ++ b) ++ c) ++ d) =

@@ -1,4 +1,4 @@
--- Counts of faults behind one another.
+-- Counts of faults after one another.
 use Rattle.std.proofs.Common.{◌≡◌, ℕ, ◌+◌, ◌≤◌, Bool, true, false, cond, List, [], ◌∷◌, ◌++◌, length, filter, refl, sym, ◌∙◌, ap, subst, arith}
 use Rattle.newt_host.specs.Outside.{Rose}
 use Rattle.newt_spec_script.specs.Rows.{Row, throws, thrown_count}
@@ -38,7 +38,7 @@ failed_one row was is failed unit none = go (throws unit row.1) refl
     go false e = failed unit e
     go true e = let one : 1 + 0 ≡ 0 = sym (thrown_one unit row [] ∙ ap (λ (b : Bool). cond b 1 0 + 0) e) ∙ none in absurd (omega (arith, one))
 
--- ---- rows behind one another
+-- ---- rows after one another
 
 both_rose : (a b was mid is : ℕ) → was ≤ mid → mid ≤ is → RoseBy a was mid → RoseBy b mid is → RoseBy (a + b) was is
 both_rose a b was mid is low high first second = omega (arith, first, second)
@@ -71,7 +71,7 @@ threw_same rows was mid is same t = record {
 pub failed_same : (rows : List (Row Whole)) (was mid is : ℕ → ℕ) → ((unit : ℕ) → is unit ≡ mid unit) → RowsFailed rows was mid → RowsFailed rows was is
 failed_same rows was mid is same t unit none = same unit ∙ t unit none
 
--- a reply was put out behind the command
+-- a reply was put out after the command
 pub threw_after : (reply : Reply) (was mid is : ℕ → ℕ) → ((unit : ℕ) → is unit ≡ mid unit) → Threw reply was mid → Threw reply was is
 threw_after reply was mid is same t = record {
   later = λ unit. omega (arith, same unit, t.later unit);

@@ -7,7 +7,7 @@ use Rattle.newt_host.proofs.Extending.{Always-prints_some}
 use Rattle.newt_host.proofs.Moments.{Always-append, Always-last, Always-map}
 use Rattle.newt_host.proofs.Printing.{changes-printed, output-printed, printed-append}
 use Rattle.newt_laws_steps.specs.Devices.{SameDevices}
-use Rattle.newt_script_session.specs.Stream.{Wrote, WroteSome, Puts}
+use Rattle.newt_script_session.specs.Stream.{Wrote, WroteSome, PutsText}
 
 pub nothing_wrote : (text out : List ℕ) → Wrote text text out out
 nothing_wrote text out = record { done = []; split = refl; out = sym (append-nil out) }
@@ -96,7 +96,7 @@ pub printed_none : (bytes : List ℕ) (old : Moment) → Always (PrintsSome byte
 printed_none bytes old = (printing_start bytes old).always
 
 -- all of it was printed
-pub puts_ok : {T E : Type 0} (x : T) (bytes rest : List ℕ) (old now : Moment) → Printing bytes rest old now → rest ≡ [] → Puts {T = T} {E = E} (Ok x) bytes old now
+pub puts_ok : {T E : Type 0} (x : T) (bytes rest : List ℕ) (old now : Moment) → Printing bytes rest old now → rest ≡ [] → PutsText {T = T} {E = E} (Ok x) bytes old now
 puts_ok x bytes rest old now p none = record {
   whole = grown_printed p.done old now p.moment ∙ ap (λ t. output old ++ t) (sym (p.split ∙ (ap (λ r. p.done ++ r) none ∙ append-nil p.done)));
   failed = tt;
@@ -104,13 +104,13 @@ puts_ok x bytes rest old now p none = record {
 }
 
 -- a first part of it was
-pub puts_err : {T E : Type 0} (result : Result T E) (error : E) (bytes : List ℕ) (old now : Moment) → result ≡ Err error → Always (PrintsSome bytes old) old now → Puts result bytes old now
+pub puts_err : {T E : Type 0} (result : Result T E) (error : E) (bytes : List ℕ) (old now : Moment) → result ≡ Err error → Always (PrintsSome bytes old) old now → PutsText result bytes old now
 puts_err {T} {E} result error bytes old now is always =
-    subst (λ (v : Result T E). Puts v bytes old now) (sym is) (record { whole = tt; failed = wrote_printed bytes old now (Always-last always); moments = always })
+    subst (λ (v : Result T E). PutsText v bytes old now) (sym is) (record { whole = tt; failed = wrote_printed bytes old now (Always-last always); moments = always })
 
-pub puts_nothing : {T E : Type 0} (error : E) (bytes : List ℕ) (old : Moment) → Puts {T = T} {E = E} (Err error) bytes old old
+pub puts_nothing : {T E : Type 0} (error : E) (bytes : List ℕ) (old : Moment) → PutsText {T = T} {E = E} (Err error) bytes old old
 puts_nothing error bytes old = puts_err (Err error) error bytes old old refl (printed_none bytes old)
 
 -- nothing was to be written
-pub puts_none : {T E : Type 0} (x : T) (old : Moment) → Puts {T = T} {E = E} (Ok x) [] old old
+pub puts_none : {T E : Type 0} (x : T) (old : Moment) → PutsText {T = T} {E = E} (Ok x) [] old old
 puts_none x old = puts_ok x [] [] old old (printing_start [] old) refl

@@ -7,9 +7,9 @@ use Rattle.newt_spec_store.specs.Store.{Store}
 use Rattle.newt_spec_whole.specs.Whole.{Whole}
 use Rattle.newt_script_session.specs.Causes.{flow_of}
 use Rattle.newt_script_session.specs.Lines.{ended_lines, unended}
-use Rattle.newt_script_session.specs.Moments.{SafeAt, Untouched, worlds_behind}
+use Rattle.newt_script_session.specs.Moments.{SafeAt, Untouched, worlds_passed}
 use Rattle.newt_script_session.specs.Reading.{ActsInTime}
-use Rattle.newt_spec_script.specs.Rows.{IsRun, output_of, reply_texts, Row, Stepping, world_behind}
+use Rattle.newt_spec_script.specs.Rows.{IsRun, output_of, reply_texts, Row, Stepping, last_world}
 use Rattle.newt_script_session.specs.Run.{HaltedIn}
 use Rattle.newt_script_session.specs.Script.{has_quit}
 use Rattle.newt_script_session.specs.Stream.{put_out}
@@ -18,22 +18,22 @@ use Rattle.newt_script_session.specs.declared.halt.Flow.{Flow}
 use Rattle.newt_script_session.specs.declared.halt.Flow.TheVariants.{Go}
 use Rattle.newt_script_session.specs.declared.halt.Halt.{Halt}
 
--- A piece was taken behind a line begun before: whether a line that ended in it quits, and the line
+-- A piece was taken after a line begun before: whether a line that ended in it quits, and the line
 -- that it leaves begun where none does.
 pub record Fed (begun piece : List ℕ) (flow : Flow) (line : List ℕ) : Type 0 where
   pub quits : flow ≡ flow_of (has_quit (ended_lines begun piece))
   pub line_is : flow ≡ Go → line ≡ unended begun piece
 
 module _ (shows : Bool) where
-  -- The rows were answered, and the world behind them is one of those that are stood for then. Each
-  -- reply was taken: the sink had some replies before and has these behind them.
+  -- The rows were answered, and the world after them is one of those that are stood for then. Each
+  -- reply was taken: the sink had some replies before, and now has these after them.
   pub record Answered (world : Whole) (StoodFor : Whole → Type 0) (rows : List (Row Whole))
       (had has : List (List ℕ) → Type 0) (old now : Moment) : Type 0 where
-    pub stands_for : StoodFor (world_behind world rows)
+    pub stands_for : StoodFor (last_world world rows)
     pub put : printed now ≡ printed old ++ put_out shows (output_of rows)
     pub took : (before : List (List ℕ)) → had before → has (before ++ reply_texts rows)
     pub untouched : (start : Moment) (before : List Whole) → Untouched start before world old
-        → Untouched start (worlds_behind before world rows) (world_behind world rows) now
+        → Untouched start (worlds_passed before world rows) (last_world world rows) now
 
 module _ (step : Stepping Whole) where
   -- The first of the items have been given, and these rows are a run over them.
@@ -45,9 +45,10 @@ module _ (step : Stepping Whole) where
     pub run : IsRun step world first rows
 
   module _ (shows : Bool) (store_of_image : List ℕ → Option Store) where
-    -- The answering of items came to a result: all were given and answered, or it was halted in the
-    -- first ones; whatever it is, their replies tell the faults of devices, nothing is done to one
-    -- while a reply is out in part, and a crash at each moment leaves what it may.
+    -- The answering of items came to a result. With an answer, all items were given and answered;
+    -- otherwise it was halted in the first ones. In both cases their replies tell the faults of
+    -- devices, nothing is done to a device while a reply is out in part, and a crash at each moment
+    -- leaves what it may.
     pub record Ran {T : Type 0} (result : Result T Halt) (world : Whole)
         (StoodFor : Whole → Type 0) (items : List Item) (had has : List (List ℕ) → Type 0)
         (old now : Moment) (was is : ℕ → ℕ) : Type 0 where

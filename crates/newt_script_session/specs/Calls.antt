@@ -1,4 +1,4 @@
--- What the calls of a script promise beside their own effect: of faults, of the input and of what
+-- What the calls of a script promise beside their own effect, on faults, on the input and on what
 -- is attached.
 use Rattle.std.specs.Prelude.{◌≡◌, Bool, IsTrue, Result, OnOk, IfErr}
 use Rattle.newt_host.specs.Moments.{Always, taken}
@@ -20,13 +20,12 @@ pub record Faults {T E : Type 0} (Cause : E → (old new : Outside) → Type 0) 
 abbrev pub OutputFailed : {E : Type 0} → E → (old new : Outside) → Type 0
 OutputFailed error old new = Rose old.out_faults new.out_faults
 
--- No byte of the input is read, at no moment.
+-- No byte of the input is read, at any moment.
 pub record Unread (told : Bool) (old new : Outside) : Type 0 where
   pub input : new.input ≡ old.input
   pub moments : IsTrue told → Always (λ m. taken m ≡ taken old.now) old.now new.now
 
--- What every call promises that puts out a text: no byte is read, and no device is other than it
--- was.
+-- What every call promises that puts out a text: no byte is read, and no device has changed.
 pub record WriteCall {T E : Type 0} (told : Bool) (Cause : E → (old new : Outside) → Type 0)
     (result : Result T E) (old new : Outside) : Type 0 where
   pub unread : Unread told old new
@@ -44,8 +43,7 @@ pub record AnswerCall {T : Type 0} (told : Bool) (result : Result T Halt)
 abbrev pub HasReadCause : Halt → (old new : Outside) → Type 0
 HasReadCause halt old new = (halt ≡ Source) × Rose old.in_faults new.in_faults
 
--- What a read of the input promises: the output has counted no fault, and no device is other than
--- it was.
+-- What a read of the input promises: the output has counted no fault, and no device has changed.
 pub record ReadCall {T : Type 0} (told : Bool) (result : Result T Halt)
     (old new : Outside) : Type 0 where
   pub devices : SameDevices told old new

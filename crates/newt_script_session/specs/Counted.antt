@@ -6,7 +6,7 @@ use Rattle.newt_host.specs.Moments.{Moment, MayLeave, Always, output as printed}
 use Rattle.newt_host.specs.Outside.{Outside}
 use Rattle.newt_script_session.specs.Answered.{Given}
 use Rattle.newt_script_session.specs.Counts.{summary_of}
-use Rattle.newt_script_session.specs.Moments.{Behind}
+use Rattle.newt_script_session.specs.Moments.{LeftAfter}
 use Rattle.newt_script_session.specs.Reading.{ActsInTime}
 use Rattle.newt_spec_script.specs.Rows.{Row, Stepping}
 use Rattle.newt_script_session.specs.Run.{SummaryHalted}
@@ -17,10 +17,10 @@ use Rattle.newt_spec_script.specs.Script.{Item}
 use Rattle.newt_spec_store.specs.Store.{Store}
 use Rattle.newt_spec_whole.specs.Whole.{Whole}
 
--- A crash at this moment: the output has grown by so much, a number of the items has been answered,
--- which is all of them where a byte is out, and the crash leaves each unit between the worlds
--- behind the rows of these items and behind one more, whatever rows follow. Behind the last row
--- both are one.
+-- A crash at this moment. The output has grown by so much. A number of the items has been answered,
+-- which is all of them where a byte is out. The crash leaves each unit between the worlds after the
+-- rows of these items and after one row more, whatever items and rows follow. After the last row
+-- the two worlds are the same.
 pub record CountedAt (store_of_image : List ℕ → Option Store) (start : Moment) (world : Whole)
     (items : List Item) (rows : List (Row Whole)) (old : List ℕ) (now : Moment) : Type 0 where
   pub shown : List ℕ
@@ -28,12 +28,12 @@ pub record CountedAt (store_of_image : List ℕ → Option Store) (start : Momen
   pub leaves : (later : List Item) (more : List (Row Whole)) → (done : ℕ)
       × (0 < length shown → done ≡ length items)
       × ((unit : ℕ) (left : List ℕ) → MayLeave unit now left
-      → Behind store_of_image (MayLeave unit start) world (items ++ later) (rows ++ more) done unit
+      → LeftAfter store_of_image (MayLeave unit start) world (items ++ later) (rows ++ more) done unit
       left)
 
--- What a crash has left on a unit whose device was held like this before the run, while that was
--- the output: the unit is between the worlds behind a number of the rows and behind one more,
--- whatever rows follow, and behind those of all items where a byte was out.
+-- What a crash has left on a unit, where its device was held like this before the run, and that was
+-- the output. The unit is between the worlds after a number of the rows and after one row more,
+-- whatever items and rows follow. Where a byte was out, that number is that of all items.
 pub record HasLeftCounted (store_of_image : List ℕ → Option Store) (world : Whole)
     (items : List Item) (rows : List (Row Whole)) (held : Option (List ℕ))
     (old out : List ℕ) (unit : ℕ) (left : List ℕ) : Type 0 where
@@ -41,13 +41,14 @@ pub record HasLeftCounted (store_of_image : List ℕ → Option Store) (world : 
   pub grown : out ≡ old ++ shown
   pub leaves : (later : List Item) (more : List (Row Whole)) → (done : ℕ)
       × (0 < length shown → done ≡ length items)
-      × Behind store_of_image (λ bytes. held ≡ Some bytes) world (items ++ later) (rows ++ more) done
+      × LeftAfter store_of_image (λ bytes. held ≡ Some bytes) world (items ++ later) (rows ++ more) done
       unit left
 
--- The script was answered from this world on, by a run over its first items, and with an answer
--- over all, and the replies counted: what was written of the summary, that nothing was done to a
--- device once a byte was out, and what a crash leaves at each moment.
-pub record Counted {T : Type 0} (step : Stepping Whole) (store_of_image : List ℕ → Option Store)
+-- The script was answered from this world on, by a run over its first items; with an answer, over
+-- all of them. Its replies were counted. This says what was written of the summary, which faults of
+-- devices the replies tell, that nothing was done to a device once a byte was out, and what a crash
+-- leaves at each moment.
+pub record CountedRun {T : Type 0} (step : Stepping Whole) (store_of_image : List ℕ → Option Store)
     (script : List ℕ) (result : Result T Halt) (world : Whole) (old new : Outside) : Type 0 where
   pub given : Given step world (script_items script)
   pub out : OnOk result ((given.rest ≡ []) × (out_of new ≡ out_of old ++ summary_of given.rows))

@@ -14,7 +14,7 @@ pub record Counts (tally : Tally) (texts : List (List ℕ)) : Type 0 where
   pub bytes : tally.bytes ≡ sum_by length texts
   pub few : sum_by length texts ≤ length texts * 2 ^ 64
 
--- so it is as long as its numbers reach
+-- so it is, as long as its numbers reach
 abbrev pub Tallies : Tally → List (List ℕ) → Type 0
 Tallies tally texts = length texts < 2 ^ 64 → Counts tally texts
 

@@ -6,7 +6,7 @@ unfoldable pub ended_lines : (begun text : List ℕ) → List (List ℕ)
 ended_lines begun [] = []
 ended_lines begun (b ∷ rest) = if b == 10 then begun ∷ ended_lines [] rest else ended_lines (begun ++ b ∷ []) rest
 
--- the line that it leaves begun
+-- the line that the text leaves begun
 unfoldable pub unended : (begun text : List ℕ) → List ℕ
 unended begun [] = begun
 unended begun (b ∷ rest) = if b == 10 then unended [] rest else unended (begun ++ b ∷ []) rest

@@ -20,12 +20,12 @@ use Rattle.newt_spec_script.specs.Rows.{Stepping}
 use Rattle.newt_laws_steps.specs.Thrown.{RowsFailed, RowsThrew}
 use Rattle.newt_script_session.specs.declared.halt.Halt.{Halt}
 
--- the world before the first command: the devices of the names as they are held, of which none is
+-- the world before the first command: the devices of the names as they are held, none of which is
 -- mounted, with no watches and no working copies
 abbrev pub first_world : (List ℕ → Option Store) → List (List ℕ) → Outside → Whole
 first_world store_of_image names old = whole_of store_of_image (held old) names
 
--- this holds of what a crash might have left on a unit at any moment since it was attached, while
+-- this holds for what a crash might have left on a unit at any moment since it was attached, while
 -- that was the output
 abbrev pub AtEachMoment : Outside → (Left : (unit : ℕ) → (left shown : List ℕ) → Type 0) → Type 0
 AtEachMoment new Left = (unit t : ℕ) (left shown : List ℕ) → since new unit ≡ Some t
@@ -41,14 +41,14 @@ attaching None = []
 attaching (Some bytes) = Attached bytes ∷ []
 
 -- Each device of the names, and no other, is attached to the unit of its place. That was all that
--- was done at first: until some moment nothing was read and nothing put out, and then each of them
+-- was done at first. Until some moment nothing was read and nothing put out; by then each of them
 -- was attached as it was held, and nothing else had been done to a device.
 pub record AttachedFirst (names : List (List ℕ)) (old new : Outside) : Type 0 where
   pub cards : (unit : ℕ) → new.card unit ≡ if_known old (slice_get names unit)
   pub then : Moment
   pub still : Always (λ m. (taken m ≡ taken old.now) × (output m ≡ output old.now)) old.now then
   pub only : (unit : ℕ) → changes unit then ≡ attaching (held_by names old unit)
-  pub behind : Extends then new.now
+  pub after : Extends then new.now
 
 -- no unit has another device than that of the name at its place
 abbrev pub HasNamed : List (List ℕ) → Outside → Type 0
@@ -66,9 +66,10 @@ pub record RanNamed {T : Type 0} (step : Stepping Whole) (store_of_image : List 
       played.given.rows
       (held_by names old unit) (out_of old) shown unit left)
 
--- A script in memory was answered, by a run over its first items, and with an answer over all, and
--- its replies counted: what was written is the summary, or a first part of it, and nothing was done
--- to a device once a byte was out.
+-- A script in memory was answered, by a run over its first items; with an answer, over all of them.
+-- Its replies were counted. What was written is the summary, or a first part of it. Nothing was
+-- done to a device once a byte was out. At each moment a crash might have left on a unit what it
+-- may.
 pub record CountedNamed {T : Type 0} (step : Stepping Whole)
     (store_of_image : List ℕ → Option Store) (script : List ℕ) (result : Result T Halt) (names : List (List ℕ))
     (old new : Outside) : Type 0 where

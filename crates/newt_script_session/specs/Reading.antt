@@ -6,7 +6,7 @@ use Rattle.newt_spec_script.specs.Rows.{IsRun, output_of, Row, Stepping}
 use Rattle.newt_script_session.specs.Script.{ended_items, quits}
 use Rattle.newt_script_session.specs.Stream.{put_out}
 
--- From one moment to another, what is seen of the outside only changes where P holds just before.
+-- From one moment to another, what is seen of the outside changes only where P holds just before.
 pub data ChangesOnlyWhere {A : Type 0} (seen : Moment → A) (P : Moment → Type 0) (old : Moment)
     : Moment → Type 0 where
   start : ChangesOnlyWhere seen P old old
@@ -14,8 +14,8 @@ pub data ChangesOnlyWhere {A : Type 0} (seen : Moment → A) (P : Moment → Typ
       → (seen (event ∷ now) ≢ seen now → P now) → ChangesOnlyWhere seen P old (event ∷ now)
 
 module _ (step : Stepping Whole) where
-  -- These bytes were taken since: the first of the rows are those of the lines that ended in them,
-  -- the replies of these are out, and none of these lines is a well-formed quit.
+  -- These bytes were taken since then. The first of the rows are those of the lines that ended in
+  -- them, the replies of these rows are out, and none of these lines is a well-formed quit.
   pub record IsAnswered (world : Whole) (rows : List (Row Whole)) (old now : Moment) : Type 0 where
     pub bytes : List ℕ
     pub since : taken now ≡ taken old ++ bytes
@@ -26,12 +26,12 @@ module _ (step : Stepping Whole) where
     pub out : printed now ≡ printed old ++ output_of first
     pub no_quit : quits bytes ≡ false
 
-  -- The input is not read ahead of a reply that is due, and not behind a quit.
+  -- The input is not read ahead of a reply that is due, and not after a quit.
   abbrev pub ReadsInTime : Whole → List (Row Whole) → (old now : Moment) → Type 0
   ReadsInTime world rows old now = ChangesOnlyWhere taken (IsAnswered world rows old) old now
 
--- The replies to the first of the rows are out, each of them whole, and nothing else; where they are
--- kept nothing is.
+-- The replies to the first of the rows are out, each of them whole, and nothing else; where replies
+-- are kept, nothing is out.
 pub record AreWhole (shows : Bool) (rows : List (Row Whole)) (old now : Moment) : Type 0 where
   pub first : List (Row Whole)
   pub more : List (Row Whole)

@@ -21,7 +21,7 @@ pub record IsReadThrough (limit : ℕ) (script left : List ℕ) : Type 0 where
   pub ends : (left ≡ []) ⊎ (quits taken ≡ true)
   pub not_too_long : IsTooLong limit script → ⊥
 
--- what is written of the replies of rows where the run is halted in them: a first part
+-- what is written of the replies to rows where the run is halted in them: a first part
 abbrev pub HaltedIn : Halt → (rows : List (Row Whole)) → (old now : List ℕ) → Type 0
 HaltedIn Memory rows old now = WroteSome (output_of rows) old now
 HaltedIn Sink rows old now = WroteSome (output_of rows) old now
@@ -36,7 +36,7 @@ pub record AnsweredTaken (items : List Item) (rows : List (Row Whole))
   pub items_are : items ≡ ended_items taken
   pub out : now ≡ old ++ output_of rows
 
--- what a run leaves that is halted behind these items of the script, which gave these rows
+-- what a run leaves that is halted after these items of the script, which gave these rows
 abbrev pub Halted : ℕ → Halt → List Item → List (Row Whole) → (script left old now : List ℕ) → Type 0
 Halted limit Memory items rows script left old now = HaltedIn Memory rows old now
 Halted limit Sink items rows script left old now = HaltedIn Sink rows old now
@@ -44,8 +44,8 @@ Halted limit Source items rows script left old now = AnsweredTaken items rows sc
 Halted limit TooLong items rows script left old now = IsTooLong limit script
     × (items ≡ ended_items (take limit script)) × (now ≡ old ++ output_of rows)
 
--- What is written of a summary where the run is halted: nothing, or a first part of it behind all
--- replies, of which none is left.
+-- What is written of a summary where the run is halted: nothing, or a first part of it after all
+-- items were answered.
 abbrev pub SummaryHalted : Halt → List Item → (summary old now : List ℕ) → Type 0
 SummaryHalted Memory rest summary old now = (now ≡ old) ⊎ ((rest ≡ []) × WroteSome summary old now)
 SummaryHalted Sink rest summary old now = (now ≡ old) ⊎ ((rest ≡ []) × WroteSome summary old now)

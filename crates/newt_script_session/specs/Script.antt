@@ -10,8 +10,8 @@ use Rattle.newt_script.specs.declared.fault.LineFault.{LineFault}
 use Rattle.newt_script.specs.declared.fault.LineFault.TheVariants.{Refused, Memory}
 use Rattle.newt_script_session.specs.Lines.{ended_lines}
 
--- what a reading gives, which is nothing for a blank line or a % line; no reading is defined to
--- want memory
+-- what a reading gives, which is nothing for a blank line or a % line; no reading is defined to run
+-- out of memory
 abbrev pub given : Result (Option Command) LineFault → List Item
 given (Ok None) = []
 given (Ok (Some command)) = Ok command ∷ []

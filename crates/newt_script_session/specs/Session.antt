@@ -14,11 +14,12 @@ use Rattle.newt_script_session.specs.Script.{script_items}
 use Rattle.newt_laws_steps.specs.Thrown.{RowsFailed, RowsThrew}
 use Rattle.newt_script_session.specs.declared.halt.Halt.{Halt}
 
--- The script of the input was answered from this world on, by a run over its first items, and with
--- an answer over all: what was written, what was read, how far the run came where it was halted,
--- and, whatever the result is, that nothing was read ahead of a reply that was due, that nothing was
--- done to a device while a reply was out in part, that the replies that tell a fault of a device are
--- at most as many as its faults that were counted, and that where none tells one none was counted.
+-- The script of the input was answered from this world on, by a run over its first items; with an
+-- answer, over all of them. This says what was written, what was read, and how far the run came
+-- where it was halted. Whatever the result is, nothing was read ahead of a reply that was due, and
+-- nothing was done to a device while a reply was out in part. The replies that tell a fault of a
+-- device are at most as many as its faults that were counted. Where none tells one, none was
+-- counted.
 pub record Played {T : Type 0} (step : Stepping Whole) (limit : ℕ) (result : Result T Halt)
     (world : Whole) (old new : Outside) : Type 0 where
   pub given : Given step world (script_items old.input)
@@ -31,8 +32,8 @@ pub record Played {T : Type 0} (step : Stepping Whole) (limit : ℕ) (result : R
   pub threw : RowsThrew given.rows old.dev_faults new.dev_faults
   pub failed : RowsFailed given.rows old.dev_faults new.dev_faults
 
--- The same, and at each moment a crash leaves each unit as it is behind some first rows, every row
--- among them whose reply has begun.
+-- The same; and at each moment a crash leaves each unit as it is after some first rows, among them
+-- every row whose reply has begun.
 pub record Session {T : Type 0} (step : Stepping Whole) (store_of_image : List ℕ → Option Store)
     (limit : ℕ) (result : Result T Halt) (world : Whole) (old new : Outside) : Type 0 where
   pub played : Played step limit result world old new

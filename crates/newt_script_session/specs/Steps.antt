@@ -11,10 +11,10 @@ use Rattle.newt_spec_whole.specs.Whole.{Whole}
 use Rattle.newt_spec_world.specs.declared.command.Command.{Command}
 use Rattle.newt_laws_steps.specs.Thrown.{Failed, Threw}
 
--- A command was given in a world: there is a step, whatever became of the call, and at each moment
--- a crash leaves each unit as in the one world or in the other. The faults of devices are those that
--- the reply tells, also where memory was refused: then there are none. Where it was answered, the
--- reply is that of the step, and the next world is one of those that are stood for then.
+-- A command was given in a world. Whatever became of the call, there is a step; its reply tells the
+-- faults of devices that were counted; and at each moment a crash leaves each unit as in the one
+-- world or in the other. Where the command was answered, the reply is that of the step, and the
+-- next world is one of those that are stood for then.
 pub record Stepped {E : Type 0} (step : Stepping Whole) (store_of_image : List ℕ → Option Store)
     (command : Command) (result : Result given.Reply E) (world : Whole) (StoodFor : Whole → Type 0)
     (old now : Moment) (was is : ℕ → ℕ) : Type 0 where

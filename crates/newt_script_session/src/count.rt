@@ -2,9 +2,9 @@
 ghost use Rattle.std.specs.Prelude.{IsTrue};
 ghost use Rattle.newt_script_session.specs.Calls.{AnswerCall, WriteCall};
 ghost use Rattle.newt_script_session.specs.Causes.{HasSinkCause};
-ghost use Rattle.newt_script_session.specs.Counted.{Counted};
+ghost use Rattle.newt_script_session.specs.Counted.{CountedRun};
 ghost use Rattle.newt_script_session.specs.Counts.{lines_of_tally};
-ghost use Rattle.newt_script_session.specs.Stream.{Puts};
+ghost use Rattle.newt_script_session.specs.Stream.{PutsText};
 ghost use Rattle.newt_spec_whole.specs.Whole.{Whole};
 
 use crate::feed::answer_text;
@@ -17,7 +17,7 @@ use std::alloc::Global;
 
 /// Writes all lines of a tally.
 fn put_tally<H: Host>(alloc: Global, host: &mut H, tally: &Tally) -> Result<(), Halt>
-    ensures puts { IsTrue H.told → Puts result (lines_of_tally tally.now)
+    ensures puts { IsTrue H.told → PutsText result (lines_of_tally tally.now)
         (H.outside host.old).now (H.outside host.new).now }
     ensures call { WriteCall H.told HasSinkCause result
         (H.outside host.old) (H.outside host.new) }
@@ -32,7 +32,7 @@ fn put_tally<H: Host>(alloc: Global, host: &mut H, tally: &Tally) -> Result<(), 
 }
 
 /// Answers a script up to a line that ends it, and then writes the summary of the replies.
-pub fn tally_script<H: Host, I: Interpreter>(
+pub(crate) fn tally_script<H: Host, I: Interpreter>(
     alloc: Global,
     host: &mut H,
     interpreter: &mut I,
@@ -41,7 +41,7 @@ pub fn tally_script<H: Host, I: Interpreter>(
     requires stands { I.stands H.told interpreter.old (H.outside host.old) }
     ensures counted { IsTrue H.told → (world : Whole)
         → I.means interpreter.old (H.outside host.old) world
-        → Counted I.step I.store_of_image script.now result world
+        → CountedRun I.step I.store_of_image script.now result world
         (H.outside host.old) (H.outside host.new) }
     ensures call { AnswerCall H.told result (H.outside host.old) (H.outside host.new) }
 {

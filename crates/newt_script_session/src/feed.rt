@@ -23,9 +23,9 @@ fn first_line(text: &[u8]) -> Option<(&[u8], &[u8])>
     Some((&text[..end], &text[end + 1..]))
 }
 
-/// Answers each line that ends in the piece, up to one that quits. The line is the one begun before
-/// it, and is left at the one begun in it.
-pub fn feed<H: Host, I: Interpreter, S: Sink>(
+/// Answers each line that ends in the piece, up to one that quits. `line` is the line begun before
+/// the piece, and becomes the one begun in it.
+pub(crate) fn feed<H: Host, I: Interpreter, S: Sink>(
     alloc: Global,
     host: &mut H,
     interpreter: &mut I,
@@ -63,7 +63,7 @@ pub fn feed<H: Host, I: Interpreter, S: Sink>(
 }
 
 /// Answers what follows the last line end, where it is not empty.
-pub fn finish<H: Host, I: Interpreter, S: Sink>(
+pub(crate) fn finish<H: Host, I: Interpreter, S: Sink>(
     alloc: Global,
     host: &mut H,
     interpreter: &mut I,
@@ -89,7 +89,7 @@ pub fn finish<H: Host, I: Interpreter, S: Sink>(
 }
 
 /// Answers the lines of a whole text, up to one that quits: all of it is one piece.
-pub fn answer_text<H: Host, I: Interpreter, S: Sink>(
+pub(crate) fn answer_text<H: Host, I: Interpreter, S: Sink>(
     alloc: Global,
     host: &mut H,
     interpreter: &mut I,

@@ -1,8 +1,8 @@
-//! How the answering of lines goes on, and why it ends early.
+//! Whether a script goes on after some lines, and why a run ends early.
 
 /// Whether the script goes on after some lines.
 #[derive(Clone, Copy, Debug, PartialEq, Eq)]
-pub enum Flow {
+pub(crate) enum Flow {
     Go,
     Quit,
 }

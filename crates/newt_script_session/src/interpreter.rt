@@ -22,7 +22,7 @@ use newt_script::Command;
 use std::alloc::{AllocError, Global};
 
 /// What answers commands over the devices of a host. It and the devices stand for a world, with
-/// watches and working copies beside it, or for several where they do not tell all of it.
+/// watches and working copies beside it. Where they do not tell all of it, they stand for several.
 pub trait Interpreter: Sized + Drop {
     /// The store that an image is read as.
     ghost store_of_image: { List ℕ → Option Store };
@@ -30,13 +30,13 @@ pub trait Interpreter: Sized + Drop {
     /// How a command may turn one world into the next, and what is replied.
     ghost step: { Whole → asked.Command → Whole → plain.Reply → Type 0 };
 
-    /// It stands for the devices, of a host that tells bytes or of one that does not.
+    /// It stands for the devices of a host, which tells bytes or does not.
     ghost stands: { Bool → Self → Outside → Type 0 };
 
-    /// It stands for this world, among others that it may stand for.
+    /// It stands for this world, perhaps among others.
     ghost means: { Self → Outside → Whole → Type 0 };
 
-    /// Attaches the devices of the names, each to the unit of its place, and begins with them:
+    /// Attaches the devices of the names, each to the unit of its place. It begins with them, and
     /// nothing is mounted.
     fn new<H: Host>(alloc: Global, host: &mut H, names: &[String]) -> Result<Self, AllocError>
         requires few { length names.now ≤ 8 }
@@ -48,9 +48,9 @@ pub trait Interpreter: Sized + Drop {
         ensures attached { AreAttached H.told (map string_bytes names.now)
             (H.outside host.old) (H.outside host.new) };
 
-    /// Answers one command, by a step from each world that it stands for. A device that fails ends
-    /// nothing: its unit is thrown out, and the reply says so. The error is that memory was refused,
-    /// and after it the interpreter is spent.
+    /// Answers one command, by a step from each world that it stands for. A device that fails does
+    /// not end the run: its unit is thrown out, and the reply says so. The error is that memory was
+    /// refused; after it the interpreter is spent.
     fn apply<H: Host>(&mut self, host: &mut H, command: Command) -> Result<Reply, AllocError>
         requires stands { stands H.told self.old (H.outside host.old) }
         requires form { IsTrue (has_form command) }
@@ -65,7 +65,7 @@ pub trait Interpreter: Sized + Drop {
     ghost has_world: { (it : Self) (outside : Outside) → stands true it outside
         → (world : Whole) × means it outside world };
 
-    /// Where no device is other than it was, it stands as before.
+    /// Where no device has changed, it stands as before.
     ghost kept: { (told : Bool) (it : Self) (old new : Outside) → SameDevices told old new
         → stands told it old → stands told it new };
 

@@ -13,8 +13,8 @@ use newt_host::Host;
 use std::alloc::Global;
 
 /// Attaches the devices of the names, each to the unit of its place, and answers the script of the
-/// input over them. It is halted where more than `limit` bytes come before the end of the input and
-/// no line that quits ended within the first `limit`.
+/// input over them. It halts where more than `limit` bytes come before the end of the input and no
+/// line that quits ended within the first `limit` bytes.
 pub fn run_named<H: Host, I: Interpreter>(
     alloc: Global,
     host: &mut H,
@@ -35,8 +35,8 @@ pub fn run_named<H: Host, I: Interpreter>(
     run_script(alloc, host, &mut interpreter, limit)
 }
 
-/// Attaches the devices of the names, each to the unit of its place, answers a script over them,
-/// and writes the summary of its replies and nothing else.
+/// Attaches the devices of the names, each to the unit of its place, and answers a script over
+/// them. It writes the summary of the replies and nothing else.
 pub fn tally_named<H: Host, I: Interpreter>(
     alloc: Global,
     host: &mut H,

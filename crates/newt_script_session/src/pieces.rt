@@ -16,8 +16,8 @@ use std::alloc::{AllocError, Global};
 /// The most bytes that are read at once.
 const PIECE: usize = 65536;
 
-/// Moves the next bytes of the input to the front of the buffer, at most so many, and answers how
-/// many: none only at the end of the input, or where none are asked for.
+/// Moves the next bytes of the input to the front of the buffer, at most `most`, and answers how
+/// many. It moves none only at the end of the input, or where none are asked for.
 pub fn read_piece<H: Host>(host: &mut H, buffer: &mut [u8], most: usize) -> Result<usize, Halt>
     requires { most ≤ length buffer.old }
     ensures within { IfOk result (λ n. n ≤ most) }
@@ -87,9 +87,9 @@ pub fn piece_buffer(alloc: Global) -> Result<Vec<u8>, AllocError>
     vec![in alloc; 0u8; PIECE]
 }
 
-/// Reads a script of at most so many bytes and answers its lines as they come, up to one that
+/// Reads a script of at most `limit` bytes, and answers its lines as they come, up to one that
 /// quits.
-pub fn run_script<H: Host, I: Interpreter>(
+pub(crate) fn run_script<H: Host, I: Interpreter>(
     alloc: Global,
     host: &mut H,
     interpreter: &mut I,

@@ -4,7 +4,7 @@ ghost use Rattle.newt_reply.specs.Said.{said};
 ghost use Rattle.newt_spec_world.specs.Reply.{reply_text};
 ghost use Rattle.newt_script_session.specs.Calls.{OutputFailed, WriteCall};
 ghost use Rattle.newt_script_session.specs.Causes.{HasSinkCause};
-ghost use Rattle.newt_script_session.specs.Stream.{Puts, put_out};
+ghost use Rattle.newt_script_session.specs.Stream.{PutsText, put_out};
 
 use crate::halt::Halt;
 use crate::write::write_all;
@@ -13,7 +13,7 @@ use newt_reply::{Reply, write_reply};
 use std::alloc::Global;
 
 /// What takes the replies to a script, one after another.
-pub trait Sink: Sized {
+pub(crate) trait Sink: Sized {
     /// It puts out each reply that it takes, or keeps them all to itself.
     ghost shows: { Bool };
 
@@ -25,7 +25,7 @@ pub trait Sink: Sized {
         ensures took { OnOk result ((texts : List (List ℕ)) → has self.old texts
             → has self.new (texts ++ text.now ∷ [])) }
         ensures puts { IsTrue H.told
-            → Puts result (put_out shows text.now) (H.outside host.old).now
+            → PutsText result (put_out shows text.now) (H.outside host.old).now
             (H.outside host.new).now }
         ensures call { WriteCall H.told OutputFailed result
             (H.outside host.old) (H.outside host.new) };
@@ -33,7 +33,7 @@ pub trait Sink: Sized {
 
 /// The output of the host.
 #[derive(Drop)]
-pub struct Output;
+pub(crate) struct Output;
 
 impl Sink for Output {
     ghost shows = { true };
@@ -46,7 +46,7 @@ impl Sink for Output {
 }
 
 /// Hands a reply to the sink.
-pub fn put_reply<H: Host, S: Sink>(
+pub(crate) fn put_reply<H: Host, S: Sink>(
     alloc: Global,
     host: &mut H,
     sink: &mut S,
@@ -54,7 +54,7 @@ pub fn put_reply<H: Host, S: Sink>(
 ) -> Result<(), Halt>
     ensures took { OnOk result ((texts : List (List ℕ)) → S.has sink.old texts
         → S.has sink.new (texts ++ reply_text (said reply.now) ∷ [])) }
-    ensures puts { IsTrue H.told → Puts result (put_out S.shows (reply_text (said reply.now)))
+    ensures puts { IsTrue H.told → PutsText result (put_out S.shows (reply_text (said reply.now)))
         (H.outside host.old).now (H.outside host.new).now }
     ensures call { WriteCall H.told HasSinkCause result
         (H.outside host.old) (H.outside host.new) }

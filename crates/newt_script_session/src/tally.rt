@@ -7,22 +7,22 @@ use crate::sink::Sink;
 use newt_host::{Failed, Host};
 use std::alloc::{AllocError, Global};
 
-/// What replies come to. Each number stops at the last of its type.
+/// What replies come to: a tally. Each number stops at the last of its type.
 #[derive(Drop)]
-pub struct Tally {
+pub(crate) struct Tally {
     /// The replies.
-    pub commands: u64,
+    pub(crate) commands: u64,
     /// Those that begin with `ok`.
-    pub oks: u64,
+    pub(crate) oks: u64,
     /// Those that begin with `error`.
-    pub errors: u64,
+    pub(crate) errors: u64,
     /// Their bytes, with those of their ends.
-    pub bytes: u128,
+    pub(crate) bytes: u128,
 }
 
 impl Tally {
-    /// That of no reply.
-    pub fn new() -> Tally
+    /// The tally of no reply.
+    pub(crate) fn new() -> Tally
         ensures { Tallies result [] }
     {
         Tally {
@@ -48,9 +48,9 @@ impl Tally {
         };
     }
 
-    /// The lines that tell the replies, those that are ok, those that are refusals, and the bytes
-    /// of all (this project's own).
-    pub fn lines(&self, alloc: Global) -> Result<Vec<u8>, AllocError>
+    /// The lines of the summary: how many replies there are, how many are ok, how many are
+    /// refusals, and how many bytes they have (this project's own).
+    pub(crate) fn lines(&self, alloc: Global) -> Result<Vec<u8>, AllocError>
         ensures { IfOk result (λ text. text.items ≡ lines_of_tally self.now) }
     {
         let mut text = Vec::new(alloc);

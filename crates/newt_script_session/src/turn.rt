@@ -81,8 +81,8 @@ fn refuse<H: Host, I: Interpreter, S: Sink>(
     Ok(Flow::Go)
 }
 
-/// Answers a line, and hands on all of the reply before it ends.
-pub fn turn<H: Host, I: Interpreter, S: Sink>(
+/// Answers a line, and hands on the whole reply before it ends.
+pub(crate) fn turn<H: Host, I: Interpreter, S: Sink>(
     alloc: Global,
     host: &mut H,
     interpreter: &mut I,

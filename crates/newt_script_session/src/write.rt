@@ -1,12 +1,12 @@
-//! Whole texts of output, by a host that may take a part of one at a time.
+//! Whole texts of output, over a host that may take a part of one at a time.
 ghost use Rattle.std.specs.Prelude.{◌≡◌, ◌<◌, ◌≤◌, length, take, IsTrue, IfOk};
 ghost use Rattle.newt_host.specs.Outside.{PrintsSome, printed};
 ghost use Rattle.newt_script_session.specs.Calls.{OutputFailed, WriteCall};
-ghost use Rattle.newt_script_session.specs.Stream.{Puts};
+ghost use Rattle.newt_script_session.specs.Stream.{PutsText};
 
 use newt_host::{Failed, Host};
 
-/// Writes a first part of the bytes, and says how many: none only of no bytes.
+/// Writes a first part of the bytes, and answers how many: none only where there are none.
 fn write_part<H: Host>(host: &mut H, bytes: &[u8]) -> Result<usize, Failed>
     ensures within { IfOk result (λ n. n ≤ length bytes.now) }
     ensures moves { IfOk result (λ n. 0 < length bytes.now → 0 < n) }
@@ -24,7 +24,7 @@ fn write_part<H: Host>(host: &mut H, bytes: &[u8]) -> Result<usize, Failed>
 /// Writes all the bytes.
 pub fn write_all<H: Host>(host: &mut H, bytes: &[u8]) -> Result<(), Failed>
     ensures puts { IsTrue H.told
-        → Puts result bytes.now (H.outside host.old).now (H.outside host.new).now }
+        → PutsText result bytes.now (H.outside host.old).now (H.outside host.new).now }
     ensures call { WriteCall H.told OutputFailed result
         (H.outside host.old) (H.outside host.new) }
 {

@@ -57,20 +57,20 @@ not_space c is = go (c == 9) refl
         no true e = cc
         no false e = cc
 
--- what the pieces are behind the first word
-abbrev behind : List ℕ → List (List ℕ)
-behind [] = []
-behind (c ∷ cs) = pieces cs
+-- what the pieces are after the first word
+abbrev next_pieces : List ℕ → List (List ℕ)
+next_pieces [] = []
+next_pieces (c ∷ cs) = pieces cs
 
 pieces_blank : (c : ℕ) (cs : List ℕ) → is_blank c ≡ true → pieces (c ∷ cs) ≡ [] ∷ pieces cs
 pieces_blank c cs is = rw (space_is_blank c ∙ is, split_at) refl
 
-pieces_are : (cs : List ℕ) → pieces cs ≡ take (len cs) cs ∷ behind (drop (len cs) cs)
+pieces_are : (cs : List ℕ) → pieces cs ≡ take (len cs) cs ∷ next_pieces (drop (len cs) cs)
 pieces_are [] = refl
 pieces_are (c ∷ cs) = go (pieces_are cs) (is_blank c) refl
   where
-    go : pieces cs ≡ take (len cs) cs ∷ behind (drop (len cs) cs) → (b : Bool) → is_blank c ≡ b
-        → pieces (c ∷ cs) ≡ take (len (c ∷ cs)) (c ∷ cs) ∷ behind (drop (len (c ∷ cs)) (c ∷ cs))
+    go : pieces cs ≡ take (len cs) cs ∷ next_pieces (drop (len cs) cs) → (b : Bool) → is_blank c ≡ b
+        → pieces (c ∷ cs) ≡ take (len (c ∷ cs)) (c ∷ cs) ∷ next_pieces (drop (len (c ∷ cs)) (c ∷ cs))
     go rest true is = rw is (pieces_blank c cs is)
     go rest false is = rw (is, add-one (len cs)) (rw (space_is_blank c ∙ is, split_at, rest, not_space c is) refl)
 
@@ -79,12 +79,12 @@ pieces_are (c ∷ cs) = go (pieces_are cs) (is_blank c) refl
 words_blank : (c : ℕ) (cs : List ℕ) → is_blank c ≡ true → words (c ∷ cs) ≡ words cs
 words_blank c cs is = ap (filter is_some) (pieces_blank c cs is)
 
-words_behind : (cs : List ℕ) → filter is_some (behind (drop (len cs) cs)) ≡ words (drop (len cs) cs)
-words_behind [] = refl
-words_behind (c ∷ cs) = go (words_behind cs) (is_blank c) refl
+words_after : (cs : List ℕ) → filter is_some (next_pieces (drop (len cs) cs)) ≡ words (drop (len cs) cs)
+words_after [] = refl
+words_after (c ∷ cs) = go (words_after cs) (is_blank c) refl
   where
-    go : filter is_some (behind (drop (len cs) cs)) ≡ words (drop (len cs) cs) → (b : Bool) → is_blank c ≡ b
-        → filter is_some (behind (drop (len (c ∷ cs)) (c ∷ cs))) ≡ words (drop (len (c ∷ cs)) (c ∷ cs))
+    go : filter is_some (next_pieces (drop (len cs) cs)) ≡ words (drop (len cs) cs) → (b : Bool) → is_blank c ≡ b
+        → filter is_some (next_pieces (drop (len (c ∷ cs)) (c ∷ cs))) ≡ words (drop (len (c ∷ cs)) (c ∷ cs))
     go rest true is = rw is (sym (words_blank c cs is))
     go rest false is = rw (is, add-one (len cs)) rest
 
@@ -99,7 +99,7 @@ some_word c w = ap not (ne_eqb (length (c ∷ w)) 0 (λ e. absurd (omega arith))
 
 words_other : (c : ℕ) (cs : List ℕ) → is_blank c ≡ false → words (c ∷ cs) ≡ (c ∷ take (len cs) cs) ∷ words (drop (len cs) cs)
 words_other c cs is =
-    ap (filter is_some) (pieces_are (c ∷ cs)) ∙ rw (is, add-one (len cs), some_word c (take (len cs) cs)) (ap (λ ws. (c ∷ take (len cs) cs) ∷ ws) (words_behind cs))
+    ap (filter is_some) (pieces_are (c ∷ cs)) ∙ rw (is, add-one (len cs), some_word c (take (len cs) cs)) (ap (λ ws. (c ∷ take (len cs) cs) ∷ ws) (words_after cs))
 
 -- no word is left
 pub no_words : (cs : List ℕ) → length (first_word cs).0 ≡ 0 → words cs ≡ []
@@ -201,7 +201,7 @@ one_read list new w rest after text some word_is after_is new_is so_far =
     ∙ (ap (λ l. l ++ words after) (map-append (λ v. v.now) list (w ∷ []))
     ∙ (append_assoc (texts list) (w.now ∷ []) (words after) ∙ (ap (λ ws. texts list ++ ws) (sym step) ∙ so_far)))
 
--- what is left is shorter behind a word
+-- what is left is shorter after a word
 pub shorter : (w rest after : List ℕ) → 1 ≤ length w → w ≡ (first_word rest).0 → after ≡ (first_word rest).1 → length after < length rest
 shorter w rest after some word_is after_is =
     let next = next_word rest (subst (λ (v : List ℕ). 1 ≤ length v) word_is some) in

@@ -10,7 +10,7 @@ use Rattle.newt_spec_script.specs.Words.{words, all_words, part, symbol}
 use Rattle.newt_script_words.specs.declared.fault.WordFault.{WordFault}
 use Rattle.newt_script_words.specs.declared.fault.WordFault.TheVariants.{Form}
 
--- the value of words, which have not the form where there is none
+-- the value of words; without a value they do not have the form
 abbrev pub of_form : {A : Type 0} → Option A → Result A WordFault
 of_form None = Err Form
 of_form (Some a) = Ok a
@@ -24,7 +24,7 @@ abbrev pub values : {A : Type 0} → ℕ → (List ℕ → Option A) → List (L
     → Result (List A) WordFault
 values most form ws = of_form (if in_number most ws then all_words form ws else None)
 
--- symbols of which no two are one
+-- symbols of which no two are alike
 abbrev pub apart : Result (List (List ℕ)) WordFault → Result (List (List ℕ)) WordFault
 apart (Err fault) = Err fault
 apart (Ok names) = if all_apart same_name names then Ok names else Err Form

@@ -5,7 +5,7 @@ ghost use Rattle.newt_spec_script.specs.Words as spec;
 ghost use Rattle.newt_spec_script.specs.Line.{first_word};
 
 /// Whether a byte is a space or a tab.
-pub fn is_blank(byte: u8) -> bool
+pub(crate) fn is_blank(byte: u8) -> bool
     ensures { result ≡ spec.is_blank byte }
 {
     byte == b' ' || byte == b'\t'
@@ -57,14 +57,14 @@ fn without_last_blanks(text: &[u8]) -> &[u8]
 }
 
 /// A text without the blanks at its ends.
-pub fn trimmed(text: &[u8]) -> &[u8]
+pub(crate) fn trimmed(text: &[u8]) -> &[u8]
     ensures { result.now ≡ spec.trimmed text.now }
 {
     without_last_blanks(skip_blanks(text))
 }
 
 /// The first word of a text, empty where there is none, and what follows it.
-pub fn split_word(text: &[u8]) -> (&[u8], &[u8])
+pub(crate) fn split_word(text: &[u8]) -> (&[u8], &[u8])
     ensures word { result.0.now ≡ (first_word text.now).0 }
     ensures rest { result.1.now ≡ (first_word text.now).1 }
 {

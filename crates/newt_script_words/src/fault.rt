@@ -7,7 +7,7 @@ use std::alloc::{AllocError, AllocFailed};
 /// Why words are not read.
 #[derive(Clone, Copy, PartialEq, Eq, Debug)]
 pub enum WordFault {
-    /// They have not the form.
+    /// They do not have the form.
     Form,
     /// Memory was refused.
     Memory,

@@ -1,9 +1,10 @@
 //! The words of a line: numbers, names, paths, parts of an index and symbols between blanks.
 //!
-//! Stands on the names and numbers of `newt_base`, the units of `newt_host`, the paths of
+//! It stands on the names and numbers of `newt_base`, the units of `newt_host`, the paths of
 //! `newt_path`, and the definitions of words and of their readers in `newt_spec_script`. It carries
-//! the promise that words are read exactly: each reader answers the value that its definition gives
-//! the words that come next, and leaves what follows them, or says that they have not the form.
+//! the promise that words are read exactly. Each reader answers the value that its definition gives
+//! the words that come next, and leaves what follows them; or it says that they do not have the
+//! form.
 #![tactic(auto)]
 
 mod blanks;

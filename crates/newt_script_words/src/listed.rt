@@ -50,7 +50,7 @@ fn words_in_number(alloc: Global, text: &[u8], most: usize) -> Result<Vec<&[u8]>
     }
 }
 
-/// Whether a number is at least one and at most so much.
+/// Whether a number is at least one and at most `most`.
 fn is_in_number(number: usize, most: usize) -> bool
     ensures { result ≡ nat_le 1 number && nat_le number most }
 {
@@ -98,7 +98,7 @@ fn all_symbols(alloc: Global, words: &[&[u8]]) -> Result<Syms, WordFault>
 
 /// PART..: 1 to 4 parts of an index.
 #[tactic(auto, unfolding(crate::specs::Listed::parts_in))]
-pub fn parts_in(alloc: Global, text: &[u8]) -> Result<Parts, WordFault>
+pub(crate) fn parts_in(alloc: Global, text: &[u8]) -> Result<Parts, WordFault>
     ensures { result ≢ Err WordFault.Memory → result ≡ listed.parts_in text.now }
 {
     let words = words_in_number(alloc, text, MOST_PARTS)?;
@@ -107,18 +107,17 @@ pub fn parts_in(alloc: Global, text: &[u8]) -> Result<Parts, WordFault>
 
 /// PATH..: 1 to 4 paths.
 #[tactic(auto, unfolding(crate::specs::Listed::paths_in))]
-pub fn paths_in(alloc: Global, text: &[u8]) -> Result<Paths, WordFault>
+pub(crate) fn paths_in(alloc: Global, text: &[u8]) -> Result<Paths, WordFault>
     ensures { result ≢ Err WordFault.Memory → result ≡ listed.paths_in text.now }
 {
     let words = words_in_number(alloc, text, MOST_PARTS)?;
     all_paths(alloc, &words)
 }
 
-/// SYM..: one or more symbols, no two of them one but for ASCII case. A line has fewer words than
-/// `LONGEST`, which is no limit of its own here; how many tags a soup may declare is the command's
-/// to say.
+/// SYM..: one or more symbols, no two of them alike but for ASCII case. `LONGEST` is no limit of
+/// its own here, since a line has fewer words. The command says how many tags a soup may declare.
 #[tactic(auto, unfolding(crate::specs::Listed::symbols_in))]
-pub fn symbols_in(alloc: Global, text: &[u8]) -> Result<Syms, WordFault>
+pub(crate) fn symbols_in(alloc: Global, text: &[u8]) -> Result<Syms, WordFault>
     ensures { result ≢ Err WordFault.Memory → result ≡ listed.symbols_in text.now }
 {
     let words = words_in_number(alloc, text, LONGEST)?;

@@ -34,7 +34,7 @@ fn are_bare(bytes: &[u8]) -> bool
 }
 
 /// The name that a word without quotes is.
-pub fn bare_name(alloc: Global, word: &[u8]) -> Result<Name, WordFault>
+pub(crate) fn bare_name(alloc: Global, word: &[u8]) -> Result<Name, WordFault>
     ensures { Spells (spec.bare_name word.now) result (λ name. name) }
 {
     if !are_bare(word) {
@@ -50,9 +50,9 @@ fn is_escaped(byte: u8) -> bool
     byte == b'"' || byte == b'\\'
 }
 
-/// The byte behind a backslash, and what follows it.
+/// The byte after a backslash, and what follows it.
 #[tactic(auto, using(crate::proofs::Quotes::escaped, crate::proofs::Quotes::unmarked))]
-fn behind_backslash(text: &[u8]) -> Option<(Option<u8>, &[u8])>
+fn after_backslash(text: &[u8]) -> Option<(Option<u8>, &[u8])>
     ensures step { MatchOption result (spec.quoted (92 ∷ text.now) ≡ None) (λ found.
         spec.quoted (92 ∷ text.now) ≡ goes_on found.0 found.1.now) }
     ensures shorter { IfSome result (λ found. length found.1.now < length text.now) }
@@ -63,8 +63,8 @@ fn behind_backslash(text: &[u8]) -> Option<(Option<u8>, &[u8])>
     }
 }
 
-/// What a quoted text begins with: a byte, which a backslash may stand before, or none at the
-/// closing quote; and what follows it.
+/// What a quoted text begins with, and what follows it: a byte, before which a backslash may stand,
+/// or none at the closing quote.
 #[tactic(auto, using(crate::proofs::Quotes::closed, crate::proofs::Quotes::one_more))]
 fn next_in_quotes(text: &[u8]) -> Option<(Option<u8>, &[u8])>
     ensures step { MatchOption result (spec.quoted text.now ≡ None) (λ found.
@@ -77,13 +77,13 @@ fn next_in_quotes(text: &[u8]) -> Option<(Option<u8>, &[u8])>
     if *byte == b'"' {
         Some((None, rest))
     } else if *byte == b'\\' {
-        behind_backslash(rest)
+        after_backslash(rest)
     } else {
         Some((Some(*byte), rest))
     }
 }
 
-/// The text up to the closing quote, without the backslashes before quotes and backslashes, and
+/// The text up to the closing quote, without the backslashes before quotes and backslashes; and
 /// what follows the quote.
 fn unquoted(alloc: Global, text: &[u8]) -> Result<(Vec<u8>, &[u8]), WordFault>
     ensures { Spells (spec.quoted text.now) result (λ found. (found.0.items, found.1.now)) }
@@ -104,9 +104,9 @@ fn unquoted(alloc: Global, text: &[u8]) -> Result<(Vec<u8>, &[u8]), WordFault>
     }
 }
 
-/// The name in a text behind its opening quote, and what follows the closing one, where the word
+/// The name in a text after its opening quote, and what follows the closing one, where the word
 /// ends.
-pub fn quoted_name(alloc: Global, text: &[u8]) -> Result<(Name, &[u8]), WordFault>
+pub(crate) fn quoted_name(alloc: Global, text: &[u8]) -> Result<(Name, &[u8]), WordFault>
     ensures { Reads (spec.if_name (spec.quoted text.now)) result (λ found. (found.0, found.1.now)) }
 {
     let (bytes, rest) = unquoted(alloc, text)?;
@@ -118,10 +118,10 @@ pub fn quoted_name(alloc: Global, text: &[u8]) -> Result<(Name, &[u8]), WordFaul
     }
 }
 
-/// The name in quotes or without them that a text begins with, which does not begin with a blank;
-/// and what follows it.
+/// The name, in quotes or without, that a text begins with, and what follows it. The text does not
+/// begin with a blank.
 #[tactic(auto, using(crate::proofs::Quotes::in_quotes, crate::proofs::Quotes::without_quotes))]
-pub fn name_from(alloc: Global, text: &[u8]) -> Result<(Name, &[u8]), WordFault>
+pub(crate) fn name_from(alloc: Global, text: &[u8]) -> Result<(Name, &[u8]), WordFault>
     ensures { Reads (spec.name_from text.now) result (λ found. (found.0, found.1.now)) }
 {
     let [byte, rest @ ..] = text else {

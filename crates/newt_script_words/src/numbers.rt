@@ -24,7 +24,7 @@ const LAST_WATCH: u32 = 7;
 const LAST_COPY: u32 = 15;
 
 /// The value of a word that is one digit from 0 to 7.
-pub fn unit_digit(word: &[u8]) -> Option<Unit>
+pub(crate) fn unit_digit(word: &[u8]) -> Option<Unit>
     ensures { result ≡ spec.unit_digit word.now }
 {
     match word {
@@ -34,7 +34,7 @@ pub fn unit_digit(word: &[u8]) -> Option<Unit>
 }
 
 /// The value of a decimal word up to the largest signature.
-pub fn signature(word: &[u8]) -> Option<Sig>
+pub(crate) fn signature(word: &[u8]) -> Option<Sig>
     ensures { result ≡ spec.decimal_to 536_870_911 word.now }
 {
     match decimal(word) {
@@ -44,7 +44,7 @@ pub fn signature(word: &[u8]) -> Option<Sig>
 }
 
 /// The value of a decimal word up to the most bytes that are read at once.
-pub fn read_length(word: &[u8]) -> Option<u32>
+pub(crate) fn read_length(word: &[u8]) -> Option<u32>
     ensures { result ≡ spec.decimal_to 60_000 word.now }
 {
     match decimal(word) {
@@ -54,7 +54,7 @@ pub fn read_length(word: &[u8]) -> Option<u32>
 }
 
 /// The value of a decimal word up to the last cursor.
-pub fn cursor_number(word: &[u8]) -> Option<u8>
+pub(crate) fn cursor_number(word: &[u8]) -> Option<u8>
     ensures { result ≡ spec.decimal_to 31 word.now }
 {
     match decimal(word) {
@@ -64,7 +64,7 @@ pub fn cursor_number(word: &[u8]) -> Option<u8>
 }
 
 /// The value of a decimal word from 1 up to the most notes that a watch keeps.
-pub fn most_notes(word: &[u8]) -> Option<u32>
+pub(crate) fn most_notes(word: &[u8]) -> Option<u32>
     ensures { result ≡ spec.one_to 64 word.now }
 {
     match decimal(word) {
@@ -74,7 +74,7 @@ pub fn most_notes(word: &[u8]) -> Option<u32>
 }
 
 /// The value of a decimal word up to the last watch.
-pub fn watch_number(word: &[u8]) -> Option<u8>
+pub(crate) fn watch_number(word: &[u8]) -> Option<u8>
     ensures { result ≡ spec.decimal_to 7 word.now }
 {
     match decimal(word) {
@@ -84,7 +84,7 @@ pub fn watch_number(word: &[u8]) -> Option<u8>
 }
 
 /// The value of a decimal word up to the last working copy.
-pub fn copy_number(word: &[u8]) -> Option<u8>
+pub(crate) fn copy_number(word: &[u8]) -> Option<u8>
     ensures { result ≡ spec.decimal_to 15 word.now }
 {
     match decimal(word) {

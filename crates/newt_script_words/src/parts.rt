@@ -11,7 +11,7 @@ use newt_spec_world::PartWord;
 use std::alloc::Global;
 
 /// PATH: the names of slots from the root down.
-pub fn path(alloc: Global, word: &[u8]) -> Result<Path, WordFault>
+pub(crate) fn path(alloc: Global, word: &[u8]) -> Result<Path, WordFault>
     ensures { result ≢ Err WordFault.Memory → result ≡ of_form (path_of word.now) }
 {
     match Path::read(alloc, word) {
@@ -23,7 +23,7 @@ pub fn path(alloc: Global, word: &[u8]) -> Result<Path, WordFault>
 
 /// PART: a path, a type and a direction with colons between them.
 #[tactic(auto, using(crate::proofs::Pieces::part_is))]
-pub fn part(alloc: Global, word: &[u8]) -> Result<PartWord, WordFault>
+pub(crate) fn part(alloc: Global, word: &[u8]) -> Result<PartWord, WordFault>
     ensures { result ≢ Err WordFault.Memory → result ≡ of_form (spec.part word.now) }
 {
     let Some((path_word, kind_word, order_word)) = three_pieces(word) else {
@@ -39,7 +39,7 @@ pub fn part(alloc: Global, word: &[u8]) -> Result<PartWord, WordFault>
     Ok(PartWord { path, kind, order })
 }
 
-/// The type that a word names, none for a real.
+/// The type that a word names; none for a real.
 fn kind(word: &[u8]) -> Option<Option<Kind>>
     ensures { result ≡ spec.kind_word word.now }
 {
@@ -85,7 +85,7 @@ fn three_pieces(text: &[u8]) -> Option<(&[u8], &[u8], &[u8])>
     }
 }
 
-/// What stands before and behind the first colon.
+/// What stands before and after the first colon.
 #[tactic(auto, using(crate::proofs::Pieces::cuts))]
 fn at_colon(text: &[u8]) -> Option<(&[u8], &[u8])>
     ensures { MatchOption result (spec.split_at 58 text.now ≡ text.now ∷ []) (λ found.

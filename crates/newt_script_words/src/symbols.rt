@@ -14,7 +14,7 @@ use std::alloc::{AllocError, Global};
 use std::collections::HashSet;
 
 /// SYM: an identifier.
-pub fn symbol(alloc: Global, word: &[u8]) -> Result<Bytes, WordFault>
+pub(crate) fn symbol(alloc: Global, word: &[u8]) -> Result<Bytes, WordFault>
     ensures { result ≢ Err WordFault.Memory → result ≡ of_form (spec.symbol word.now) }
 {
     if !is_identifier(word) {
@@ -23,15 +23,15 @@ pub fn symbol(alloc: Global, word: &[u8]) -> Result<Bytes, WordFault>
     Ok(Bytes::of(Vec::from_slice(alloc, word)?))
 }
 
-/// Whether no two symbols are one but for ASCII case.
+/// Whether no two symbols are alike but for ASCII case.
 #[tactic(auto, using(crate::proofs::Apart::folded_apart))]
-pub fn are_apart(alloc: Global, symbols: &[Bytes]) -> Result<bool, AllocError>
+pub(crate) fn are_apart(alloc: Global, symbols: &[Bytes]) -> Result<bool, AllocError>
     ensures { IfOk result (λ apart. apart ≡ all_apart same_name symbols.now) }
 {
     are_different(alloc, all_in_lower_case(alloc, symbols)?)
 }
 
-/// Whether no two texts are one.
+/// Whether no two texts are alike.
 fn are_different(alloc: Global, texts: Vec<Vec<u8>>) -> Result<bool, AllocError>
     ensures { IfOk result (λ different.
         different ≡ all_apart bytes_eq (map (λ text. text.items) texts.items)) }

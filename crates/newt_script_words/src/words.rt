@@ -83,7 +83,7 @@ impl<'a> Words<'a> {
         word
     }
 
-    /// U: the number of a unit.
+    /// U: the number of a unit, 0 to 7.
     pub fn unit(&mut self) -> Result<Unit, WordFault>
         ensures reads { Reads (unit_of self.old) result (λ unit. (unit, self.new)) }
         ensures no_memory { result ≢ Err WordFault.Memory }
@@ -115,7 +115,7 @@ impl<'a> Words<'a> {
         read_length(self.word()).ok_or(WordFault::Form)
     }
 
-    /// C: the number of a cursor.
+    /// C: the number of a cursor, 0 to 31.
     pub fn cursor(&mut self) -> Result<u8, WordFault>
         ensures reads { Reads (cursor_of self.old) result (λ cursor. (cursor, self.new)) }
         ensures no_memory { result ≢ Err WordFault.Memory }
@@ -131,7 +131,7 @@ impl<'a> Words<'a> {
         most_notes(self.word()).ok_or(WordFault::Form)
     }
 
-    /// W: the number of a watch.
+    /// W: the number of a watch, 0 to 7.
     pub fn watch(&mut self) -> Result<u8, WordFault>
         ensures reads { Reads (watch_of self.old) result (λ watch. (watch, self.new)) }
         ensures no_memory { result ≢ Err WordFault.Memory }
@@ -139,7 +139,7 @@ impl<'a> Words<'a> {
         watch_number(self.word()).ok_or(WordFault::Form)
     }
 
-    /// W: the number of a working copy.
+    /// W: the number of a working copy, 0 to 15.
     pub fn copy(&mut self) -> Result<u8, WordFault>
         ensures reads { Reads (copy_of self.old) result (λ copy. (copy, self.new)) }
         ensures no_memory { result ≢ Err WordFault.Memory }
@@ -147,8 +147,8 @@ impl<'a> Words<'a> {
         copy_number(self.word()).ok_or(WordFault::Form)
     }
 
-    /// K: how many steps a cursor is moved, down to the lowest and up to the highest number of 32
-    /// bits with a sign.
+    /// K: how many steps a cursor is moved, from the lowest to the highest number of 32 bits with a
+    /// sign.
     pub fn steps(&mut self) -> Result<i32, WordFault>
         ensures reads { Reads (steps_of self.old) result (λ steps. (steps, self.new)) }
         ensures no_memory { result ≢ Err WordFault.Memory }
@@ -156,7 +156,7 @@ impl<'a> Words<'a> {
         signed(self.word()).ok_or(WordFault::Form)
     }
 
-    /// Whether the next word is a star, which is passed.
+    /// Whether the next word is a star. A star is passed.
     #[tactic(auto, using(crate::proofs::Forms::stars))]
     pub fn star(&mut self) -> bool
         ensures { MatchBool result (star_of self.old ≡ Ok (0, self.new))
@@ -181,7 +181,7 @@ impl<'a> Words<'a> {
         Ok(name)
     }
 
-    /// U S
+    /// U S: the number of a unit and the name of a soup.
     #[tactic(auto, unfolding(crate::specs::Readers::soup_of))]
     pub fn soup(&mut self, alloc: Global) -> Result<(Unit, Name), WordFault>
         ensures { Reads (soup_of self.old) result (λ found. ((found.0, found.1), self.new)) }
@@ -191,7 +191,7 @@ impl<'a> Words<'a> {
         Ok((unit, name))
     }
 
-    /// U S UID
+    /// U S UID: the number of a unit, the name of a soup and the id of an entry.
     #[tactic(auto, unfolding(crate::specs::Readers::entry_of))]
     pub fn entry(&mut self, alloc: Global) -> Result<(Unit, Name, Uid), WordFault>
         ensures { Reads (entry_of self.old) result (λ found.
@@ -228,7 +228,7 @@ impl<'a> Words<'a> {
         paths_in(alloc, self.rest)
     }
 
-    /// SYM..: the symbols that are left, one or more, no two of them one but for ASCII case.
+    /// SYM..: the symbols that are left, one or more, no two of them alike but for ASCII case.
     pub fn symbols(&self, alloc: Global) -> Result<Syms, WordFault>
         ensures { result ≢ Err WordFault.Memory → result ≡ symbols_in self.now }
     {

@@ -1,4 +1,4 @@
-//! To find soups in a directory, and to change it.
+//! How soups are found in a directory, and how it is changed.
 ghost use Rattle.std.specs.Prelude.{◌≡◌, ◌+◌, ◌<◌, ◌≤◌, filter, length, map, not, ◌==◌, nat_le};
 ghost use Rattle.std.specs.Prelude.{option_map, option_and_then, OnErr, OnOk, IfOk, IfSome, IsTrue};
 ghost use Rattle.std.specs.List.{find, position_from};
@@ -49,15 +49,16 @@ impl Directory {
         None
     }
 
-    /// Whether no further soup may be made: 250 are there.
+    /// Whether no further soup may be made, since there are 250.
     pub fn is_full(&self) -> bool
         ensures { result ≡ nat_le 250 (length self.now.soups) }
     {
         MOST_SOUPS <= self.soups.list().len()
     }
 
-    /// A new soup at the end, without entries, indexes, tags and info frame, with the next
-    /// signature, which is the answer. That the name is new and `is_full` is false is the caller's to see.
+    /// Makes a new soup at the end, without entries, indexes, tags and info frame. It has the next
+    /// signature, which is the answer. The caller must see that the name is new and that `is_full`
+    /// is false.
     #[tactic(auto, using(crate::proofs::Lists::next_fits))]
     pub fn make_soup(&mut self, name: Name) -> Result<Sig, AllocError>
         requires { IsTrue (well_formed (bare_store self.old)) }
@@ -79,14 +80,14 @@ impl Directory {
         Ok(sig)
     }
 
-    /// The soup of this signature is gone. Its signature is not given again.
+    /// Drops the soup of this signature. The signature is not given again.
     pub fn drop_soup(&mut self, sig: Sig)
         ensures { bare_store self.new ≡ without_soup sig (bare_store self.old) }
     {
         drop_from(&mut self.soups.items, sig);
     }
 
-    /// The place, among the indexes of the soup of this signature, of the one that agrees with this
+    /// The place of the index, among those of the soup of this signature, that agrees with this
     /// declaration in its paths, but for ASCII case, and in its types and orders.
     pub fn index_of(&self, sig: Sig, spec: &IndexSpec) -> Option<usize>
         ensures { result ≡ option_and_then (λ p. position_from (λ other. same_spec other spec.now) 0
@@ -95,7 +96,7 @@ impl Directory {
         self.soup_of(sig)?.specs.place_of(spec)
     }
 
-    /// The place, among the indexes of the soup of this signature, of the one with these paths, in
+    /// The place of the index, among those of the soup of this signature, that has these paths, in
     /// this order and but for ASCII case.
     pub fn index_with_paths(&self, sig: Sig, paths: &[Path]) -> Option<usize>
         ensures { result ≡ option_and_then (λ p. position_from
@@ -105,7 +106,7 @@ impl Directory {
         self.soup_of(sig)?.specs.place_with_paths(paths)
     }
 
-    /// The soup of this signature has one index more, behind the others. Without such a soup
+    /// Gives the soup of this signature one index more, after the others. Without such a soup
     /// nothing changes.
     pub fn add_spec(&mut self, sig: Sig, spec: IndexSpec) -> Result<(), AllocError>
         ensures added { OnOk result (bare_store self.new ≡ change_soup_of sig (with_index spec)
@@ -115,8 +116,8 @@ impl Directory {
         add_spec_in(self.soups.items.as_mut_slice(), sig, spec)
     }
 
-    /// The soup of this signature has no longer the index with these paths, in this order and but
-    /// for ASCII case. Without such a soup nothing changes.
+    /// Takes from the soup of this signature the index with these paths, in this order and but for
+    /// ASCII case. Without such a soup nothing changes.
     pub fn drop_spec(&mut self, sig: Sig, paths: &[Path])
         ensures { bare_store self.new ≡ change_soup_of sig (without_index paths.now)
             (bare_store self.old) }
@@ -124,16 +125,16 @@ impl Directory {
         drop_spec_in(self.soups.items.as_mut_slice(), sig, paths);
     }
 
-    /// The tags declaration of the soup of this signature is this one, or none. Without such a soup
-    /// nothing changes.
+    /// Gives the soup of this signature this tags declaration, or none. Without such a soup nothing
+    /// changes.
     pub fn set_tags(&mut self, sig: Sig, tags: Option<TagTable>)
         ensures { bare_store self.new ≡ change_soup_of sig (with_tags tags) (bare_store self.old) }
     {
         set_tags_in(self.soups.items.as_mut_slice(), sig, tags);
     }
 
-    /// The info frame of the soup of this signature is this one, or none. Without such a soup
-    /// nothing changes.
+    /// Gives the soup of this signature this info frame, or none. Without such a soup nothing
+    /// changes.
     pub fn set_info(&mut self, sig: Sig, info: Option<Graph>)
         ensures { bare_store self.new ≡ change_soup_of sig (with_info info) (bare_store self.old) }
     {
@@ -162,7 +163,7 @@ impl Directory {
     }
 }
 
-/// The rows of this signature are gone.
+/// Drops the rows of this signature.
 fn drop_from(rows: &mut Vec<SoupRow>, sig: Sig)
     ensures { map bare_soup rows.new.items ≡ filter (λ p. not (p.sig == sig))
         (map bare_soup rows.old.items) }
@@ -211,7 +212,7 @@ fn take_uid_in(rows: &mut [SoupRow], sig: Sig) -> Option<Uid>
     Some(take_next(&mut rows[at]))
 }
 
-/// One index more in a row.
+/// Gives a row one index more.
 fn add_to(row: &mut SoupRow, spec: IndexSpec) -> Result<(), AllocError>
     ensures added { OnOk result (bare_soup row.new ≡ with_index spec (bare_soup row.old)) }
     ensures err { OnErr result (row.new ≡ row.old) }
@@ -219,7 +220,7 @@ fn add_to(row: &mut SoupRow, spec: IndexSpec) -> Result<(), AllocError>
     row.specs.add(spec)
 }
 
-/// One index more in the first row of this signature.
+/// Gives the first row of this signature one index more.
 fn add_spec_in(rows: &mut [SoupRow], sig: Sig, spec: IndexSpec) -> Result<(), AllocError>
     ensures added { OnOk result (map bare_soup rows.new ≡ change_first (λ p. p.sig == sig)
         (with_index spec) (map bare_soup rows.old)) }
@@ -231,14 +232,14 @@ fn add_spec_in(rows: &mut [SoupRow], sig: Sig, spec: IndexSpec) -> Result<(), Al
     }
 }
 
-/// The index with these paths is gone from a row.
+/// Takes the index with these paths from a row.
 fn drop_of(row: &mut SoupRow, paths: &[Path])
     ensures { bare_soup row.new ≡ without_index paths.now (bare_soup row.old) }
 {
     row.specs.remove(paths);
 }
 
-/// The index with these paths is gone from the first row of this signature.
+/// Takes the index with these paths from the first row of this signature.
 fn drop_spec_in(rows: &mut [SoupRow], sig: Sig, paths: &[Path])
     ensures { map bare_soup rows.new ≡ change_first (λ p. p.sig == sig) (without_index paths.now)
         (map bare_soup rows.old) }
@@ -248,14 +249,14 @@ fn drop_spec_in(rows: &mut [SoupRow], sig: Sig, paths: &[Path])
     }
 }
 
-/// The tags declaration of a row is this one, or none.
+/// Gives a row this tags declaration, or none.
 fn set_tags_of(row: &mut SoupRow, tags: Option<TagTable>)
     ensures { bare_soup row.new ≡ with_tags tags (bare_soup row.old) }
 {
     row.tags = tags;
 }
 
-/// The tags declaration of the first row of this signature is this one.
+/// Gives the first row of this signature this tags declaration, or none.
 fn set_tags_in(rows: &mut [SoupRow], sig: Sig, tags: Option<TagTable>)
     ensures { map bare_soup rows.new ≡ change_first (λ p. p.sig == sig) (with_tags tags)
         (map bare_soup rows.old) }
@@ -265,14 +266,14 @@ fn set_tags_in(rows: &mut [SoupRow], sig: Sig, tags: Option<TagTable>)
     }
 }
 
-/// The info frame of a row is this one, or none.
+/// Gives a row this info frame, or none.
 fn set_info_of(row: &mut SoupRow, info: Option<Graph>)
     ensures { bare_soup row.new ≡ with_info info (bare_soup row.old) }
 {
     row.info = info;
 }
 
-/// The info frame of the first row of this signature is this one.
+/// Gives the first row of this signature this info frame, or none.
 fn set_info_in(rows: &mut [SoupRow], sig: Sig, info: Option<Graph>)
     ensures { map bare_soup rows.new ≡ change_first (λ p. p.sig == sig) (with_info info)
         (map bare_soup rows.old) }

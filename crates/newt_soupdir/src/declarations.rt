@@ -1,5 +1,5 @@
 //! Declarations of indexes and tags, and info frames, read from the front of bytes. A count is a
-//! byte before what it counts; paths, symbols and counts are tested as they are met.
+//! byte before what it counts. Paths, symbols and counts are tested as they are met.
 ghost use Rattle.newt_spec_store.specs.Reading.{times};
 ghost use Rattle.newt_soupdir.specs.Reading.{Gives, symbol_at, path_at, kind_at, order_at, part_at};
 ghost use Rattle.newt_soupdir.specs.Reading.{spec_at, specs_at, tag_symbols_at, table_at, extra_at};
@@ -48,7 +48,7 @@ fn symbols(alloc: Global, count: u8, bytes: &[u8]) -> Result<(Vec<Bytes>, &[u8])
     Ok((symbols, rest))
 }
 
-/// A path: 1 to 8 symbols behind their count.
+/// A path: a count of 1 to 8, and as many symbols.
 #[tactic(auto, unfolding(crate::specs::Reading::path_at))]
 fn path(alloc: Global, bytes: &[u8]) -> Result<(Path, &[u8]), DirFault>
     ensures { Gives (λ x. (x.0, x.1.now)) result (path_at bytes.now) }
@@ -114,7 +114,7 @@ fn parts(alloc: Global, count: u8, bytes: &[u8]) -> Result<(Vec<IndexPart>, &[u8
     Ok((parts, rest))
 }
 
-/// An index: 1 to 4 parts behind their count.
+/// An index: a count of 1 to 4, and as many parts.
 #[tactic(auto, unfolding(crate::specs::Reading::spec_at))]
 fn spec(alloc: Global, bytes: &[u8]) -> Result<(IndexSpec, &[u8]), DirFault>
     ensures { Gives (λ x. (x.0, x.1.now)) result (spec_at bytes.now) }
@@ -141,8 +141,8 @@ fn some_specs(alloc: Global, count: u8, bytes: &[u8]) -> Result<(Vec<IndexSpec>,
     Ok((specs, rest))
 }
 
-/// The indexes of a soup, behind their count. That they are at most 16 with paths of their own is
-/// tested with the whole directory.
+/// The indexes of a soup, after their count. It is tested with the whole directory that they are at
+/// most 16, with paths of their own.
 #[tactic(auto, unfolding(crate::specs::Reading::specs_at))]
 pub(crate) fn specs(alloc: Global, bytes: &[u8]) -> Result<(Specs, &[u8]), DirFault>
     ensures { Gives (λ x. (x.0, x.1.now)) result (specs_at bytes.now) }
@@ -152,7 +152,7 @@ pub(crate) fn specs(alloc: Global, bytes: &[u8]) -> Result<(Specs, &[u8]), DirFa
     Ok((Specs::of(specs), rest))
 }
 
-/// The symbols of a tags declaration: at most 64 behind their count, no two of which are one but
+/// The symbols of a tags declaration, after their count: at most 64, no two of which are alike but
 /// for ASCII case.
 #[tactic(auto, unfolding(crate::specs::Reading::tag_symbols_at))]
 fn tag_symbols(alloc: Global, bytes: &[u8]) -> Result<(Vec<Bytes>, &[u8]), DirFault>
@@ -176,8 +176,8 @@ fn table(alloc: Global, bytes: &[u8]) -> Result<(TagTable, &[u8]), DirFault>
     Ok((TagTable::new(path, symbols), rest))
 }
 
-/// What a soup has of a tags declaration and an info frame: a byte that is odd where there is a
-/// declaration and 2 or 3 where there is an info frame, the one, and the other.
+/// A soup's tags declaration and info frame, where it has them. The byte before them is odd where
+/// there is a declaration, and 2 or 3 where there is an info frame.
 #[tactic(auto, unfolding(crate::specs::Reading::extra_at))]
 pub(crate) fn extra(alloc: Global, bytes: &[u8]) -> Result<(Extra, &[u8]), DirFault>
     ensures { Gives (λ x. (x.0, x.1.now)) result (extra_at bytes.now) }

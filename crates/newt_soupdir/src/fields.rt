@@ -1,5 +1,5 @@
-//! Numbers, texts and names, read from the front of bytes: each function gives the value and the
-//! bytes behind it, and is `Bad` where there are too few.
+//! Numbers, texts and names, read from the front of bytes. Each function gives the value and the
+//! bytes after it, and is `Bad` where there are too few bytes.
 ghost use Rattle.newt_spec_store.specs.Reading.{some_bytes};
 ghost use Rattle.newt_soupdir.specs.Reading.{Gives, byte_at, number16_at, number32_at, text_at};
 ghost use Rattle.newt_soupdir.specs.Reading.{name_at};
@@ -19,7 +19,7 @@ pub(crate) fn byte(bytes: &[u8]) -> Result<(u8, &[u8]), DirFault>
     Ok((bytes[0], &bytes[1..]))
 }
 
-/// A number of two bytes, the first the highest.
+/// A number of two bytes, the highest first.
 #[tactic(auto, using(crate::proofs::Numbers::number16_is, crate::proofs::Numbers::number16_none))]
 pub(crate) fn number16(bytes: &[u8]) -> Result<(u16, &[u8]), DirFault>
     ensures { Gives (λ x. (x.0, x.1.now)) result (number16_at bytes.now) }
@@ -30,7 +30,7 @@ pub(crate) fn number16(bytes: &[u8]) -> Result<(u16, &[u8]), DirFault>
     Ok((be16(bytes, 0), &bytes[2..]))
 }
 
-/// A number of four bytes, the first the highest.
+/// A number of four bytes, the highest first.
 #[tactic(auto, using(crate::proofs::Numbers::number32_is, crate::proofs::Numbers::number32_none))]
 pub(crate) fn number32(bytes: &[u8]) -> Result<(u32, &[u8]), DirFault>
     ensures { Gives (λ x. (x.0, x.1.now)) result (number32_at bytes.now) }

@@ -1,5 +1,5 @@
-//! Whether rows make a well formed store: the tests that are left to the whole directory. The forms
-//! of names, paths and symbols are kept by their types.
+//! Whether rows make a well formed store: the tests that are left to the whole directory. The types
+//! of names, paths and symbols keep their forms.
 ghost use Rattle.std.specs.Prelude.{◌≡◌, ◌&&◌, length, map, nat_le, is_none};
 ghost use Rattle.std.specs.List.{list_all, list_any};
 ghost use Rattle.newt_base.specs.Names.{equal_text, is_name};
@@ -36,8 +36,8 @@ pub(crate) const MOST_PARTS: usize = 4;
 pub(crate) const MOST_TAGS: usize = 64;
 
 impl Directory {
-    /// Whether the rows make a well formed store: names of their form and distinct, soup signatures
-    /// that rise below the next one, and all limits.
+    /// Whether the rows make a well formed store: names have their form and are distinct, soup
+    /// signatures rise and are below the next one, and all limits are kept.
     pub fn is_well_formed(&self) -> bool
         ensures { result ≡ well_formed (bare_store self.now) }
     {
@@ -54,8 +54,8 @@ impl Directory {
         are_valid(soups)
     }
 
-    /// Whether a directory of this version says no more: one of version 1 has at most 64 soups, none
-    /// of them with an info frame.
+    /// Whether the directory has no more than one of this version can say: in version 1 it has at
+    /// most 64 soups, none of them with an info frame.
     #[tactic(auto, using(crate::proofs::Spelled::length_rows))]
     pub(crate) fn keeps_version(&self, version: u16) -> bool
         ensures { result ≡ keeps_version version (bare_store self.now) }
@@ -64,7 +64,7 @@ impl Directory {
         version != 1 || (soups.len() <= MOST_OLD_SOUPS && have_no_infos(soups))
     }
 
-    /// The name and the limits of the store itself.
+    /// Whether the store itself has its name and keeps its limits.
     #[tactic(auto, using(crate::proofs::Spelled::length_rows))]
     fn is_within_limits(&self) -> bool
         ensures { result ≡ is_name self.now.name && nat_le self.now.sig 536_870_911
@@ -123,7 +123,7 @@ fn has_name(name: &[u8], soups: &[SoupRow]) -> bool
     false
 }
 
-/// Whether no two soups have one name.
+/// Whether no two soups have the same name.
 fn are_apart(soups: &[SoupRow]) -> bool
     ensures { result ≡ all_apart equal_text (map (λ p. p.name) (map bare_soup soups.now)) }
 {
@@ -148,7 +148,7 @@ fn is_valid(row: &SoupRow) -> bool
         && is_valid_info(&row.info)
 }
 
-/// At most 16 indexes, no two with the same paths.
+/// Whether there are at most 16 indexes, no two with the same paths.
 fn are_valid_specs(specs: &[IndexSpec]) -> bool
     ensures { result ≡ (nat_le (length specs.now) 16 && list_all valid_spec specs.now && all_apart
         same_paths (map paths_of specs.now)) }
@@ -163,7 +163,7 @@ fn have_few_parts(specs: &[IndexSpec]) -> bool
     specs.iter().all(has_few_parts)
 }
 
-/// Whether a declaration has at most 4 parts; the rest of its form is kept by its type.
+/// Whether a declaration has at most 4 parts; its type keeps the rest of its form.
 fn has_few_parts(spec: &IndexSpec) -> bool
     ensures { result ≡ valid_spec spec.now }
 {
@@ -198,7 +198,7 @@ fn has_paths_of(spec: &IndexSpec, specs: &[IndexSpec]) -> bool
     false
 }
 
-/// Whether a tags declaration has at most 64 symbols; the rest of its form is kept by its type.
+/// Whether a tags declaration has at most 64 symbols; its type keeps the rest of its form.
 fn is_valid_tags(tags: &Option<TagTable>) -> bool
     ensures { result ≡ valid_tags tags.now }
 {

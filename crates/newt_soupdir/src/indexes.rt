@@ -33,7 +33,7 @@ impl Specs {
         }
     }
 
-    /// These indexes.
+    /// The list of these indexes.
     pub fn of(items: Vec<IndexSpec>) -> Self
         ensures { result ≡ items.items }
     {
@@ -47,7 +47,7 @@ impl Specs {
         self.items.as_slice()
     }
 
-    /// All of them, given away.
+    /// All of them, by value.
     pub fn into_vec(self) -> Vec<IndexSpec>
         ensures { result.items ≡ self }
     {
@@ -65,8 +65,8 @@ impl Specs {
         Ok(Specs { items })
     }
 
-    /// One index more, behind the others. Whether one with the same paths is there, or 16 are, is
-    /// not looked at.
+    /// Adds an index, after the others. It does not look whether there is one with the same paths,
+    /// or whether there are 16.
     pub fn add(&mut self, spec: IndexSpec) -> Result<(), AllocError>
         ensures added { OnOk result (self.new ≡ self.old ++ spec ∷ []) }
         ensures err { OnErr result (self.new ≡ self.old) }
@@ -75,7 +75,7 @@ impl Specs {
         Ok(())
     }
 
-    /// The index with these paths, in this order and but for ASCII case, is gone.
+    /// Removes the index with these paths, in this order and but for ASCII case.
     pub fn remove(&mut self, paths: &[Path])
         ensures { self.new ≡ filter (λ spec. not (same_paths (paths_of spec) paths.now)) self.old }
     {

@@ -33,7 +33,7 @@ fn have_no_large(nodes: &[Node]) -> bool
     nodes.iter().all(is_no_large)
 }
 
-/// Whether a graph may be an info frame, but for its length: its root is a frame, and it has no
+/// Whether a graph may be an info frame, whatever its length: its root is a frame, and it has no
 /// large binaries.
 pub fn is_info(graph: &Graph) -> bool
     ensures info { result ≡ (words.is_frame (words.object graph.now.nodes graph.now.root)
@@ -74,8 +74,8 @@ fn graph_of(alloc: Global, text: &[u8]) -> Result<Graph, DirFault>
     }
 }
 
-/// An info frame: two bytes of the length of its flat text, and the text. That it is a frame, and
-/// not too long, is tested with the whole directory.
+/// An info frame: two bytes of the length of its flat text, and the text. It is tested with the
+/// whole directory that it is a frame and not too long.
 #[tactic(auto, unfolding(crate::specs::Reading::info_at))]
 pub(crate) fn info(alloc: Global, bytes: &[u8]) -> Result<(Graph, &[u8]), DirFault>
     ensures { Gives (λ x. (x.0, x.1.now)) result (info_at bytes.now) }

@@ -1,10 +1,10 @@
-//! The directory of a store, as bytes and as rows: the store's name and signature, and of each soup
-//! its name, signature, next entry id, indexes, tags declaration and info frame.
+//! The directory of a store, as bytes and as rows. It has the store's name and signature, and of
+//! each soup its name, signature, next entry id, indexes, tags declaration and info frame.
 //!
 //! It stands on `newt_base`, on `newt_keys` and `newt_tags` for the declarations, on
 //! `newt_nsof_flat` for info frames, and on the definitions of `newt_spec_store`. It carries this
 //! promise: a directory is read, in the form of its version, from exactly the bytes that have one
-//! by the store's reading, and is written as the store's definition says; each change of rows is
+//! by the store's reading. It is written as the store's definition says. Each change of rows is
 //! that change of the plain store.
 #![tactic(auto)]
 

@@ -1,6 +1,6 @@
 //! Reading a directory: its bytes from the front, field by field, in the layout of docs/FORMATS.md.
-//! What is left behind the last field, rows that are not ones of the version, and rows that make no
-//! well formed store, are refused at the end.
+//! At the end it is refused where bytes are left after the last field, where its rows are none of
+//! the version, or where they make no well formed store.
 ghost use Rattle.std.specs.Prelude.{◌≡◌, ◌⊎◌, Some, None, IfOk, IsErrOf};
 ghost use Rattle.newt_spec_store.specs.Reading.{times};
 ghost use Rattle.newt_spec_store.specs.Lies.{directory_read};
@@ -85,7 +85,7 @@ fn rows(alloc: Global, bytes: &[u8]) -> Result<(Directory, &[u8]), DirFault>
     ))
 }
 
-/// The rows that all of the bytes are, where they are ones of this version and make a well formed
+/// The rows that all of the bytes are, where they are rows of this version and make a well formed
 /// store.
 #[tactic(auto, unfolding(crate::specs::Reading::directory_at))]
 fn whole(alloc: Global, bytes: &[u8], version: u16) -> Result<Directory, DirFault>
@@ -99,7 +99,7 @@ fn whole(alloc: Global, bytes: &[u8], version: u16) -> Result<Directory, DirFaul
 }
 
 /// The directory that all of the bytes are read as, in the form of this version. `Bad` comes only
-/// where they are none: also where a name, a path or a limit has not its form.
+/// where they are none, which is so too where a name, a path or a limit does not have its form.
 pub fn read_directory(alloc: Global, bytes: &[u8], version: u16) -> Result<Directory, DirFault>
     requires { (version ≡ 1) ⊎ (version ≡ 2) }
     ensures found { IfOk result (λ d. directory_read stream_graph version bytes.now

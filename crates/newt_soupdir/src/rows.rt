@@ -8,9 +8,9 @@ use newt_tags::TagTable;
 use std::alloc::AllocError;
 use std::marker::Model;
 
-/// A soup without its entries: its name, its signature, below the store's next one; the id of its
-/// next entry, at most 536,870,911; its indexes; its tags declaration, or none; and its info frame,
-/// or none. A row by itself may pass these limits: `Directory::is_well_formed` tests them.
+/// A soup without its entries: its name, signature, next entry id, indexes, tags declaration if
+/// any, and info frame if any. The signature is below the store's next one, and the next id at most
+/// 536,870,911. A row by itself may pass these limits: `Directory::is_well_formed` tests them.
 #[derive(Drop)]
 pub struct SoupRow {
     pub name: Name,
@@ -57,7 +57,7 @@ fn copied_info(info: &Option<Graph>) -> Result<Option<Graph>, AllocError>
     }
 }
 
-/// The soups of a store, in order of making.
+/// The soups of a store, in the order in which they were made.
 #[derive(Drop)]
 pub struct Soups {
     pub(crate) items: Vec<SoupRow>,
@@ -73,21 +73,21 @@ impl Model for Soups {
 }
 
 impl Soups {
-    /// These soups.
+    /// The list of these soups.
     pub fn of(items: Vec<SoupRow>) -> Self
         ensures { result ≡ items.items }
     {
         Soups { items }
     }
 
-    /// All of them, in order of making.
+    /// All of them, in the order in which they were made.
     pub fn list(&self) -> &[SoupRow]
         ensures { result.now ≡ self.now }
     {
         self.items.as_slice()
     }
 
-    /// All of them, given away.
+    /// All of them, by value.
     pub fn into_vec(self) -> Vec<SoupRow>
         ensures { result.items ≡ self }
     {
@@ -107,8 +107,8 @@ impl Soups {
 }
 
 /// The directory of a store: its name; its signature, at most 536,870,911; the signature of the
-/// next soup, at most 65,535; and at most 250 soups. As long as it is built of its fields nothing of
-/// this is sure: `is_well_formed` tests it, and what `read_directory` gives has it.
+/// next soup, at most 65,535; and at most 250 soups. A directory that is built from its fields may
+/// pass these limits: `is_well_formed` tests them. What `read_directory` gives keeps them.
 #[derive(Drop)]
 pub struct Directory {
     pub name: Name,

@@ -1,4 +1,4 @@
-//! Writing a directory: what `read` reads, field by field, behind the bytes that are there.
+//! Writing a directory: what `read` reads, field by field, after the bytes that are there.
 ghost use Rattle.std.specs.Prelude.{◌≡◌, ◌<◌, ◌^◌, ◌++◌, length, map, All, OnOk, IfOk, IsTrue};
 ghost use Rattle.std.specs.Prelude.{IfSome};
 ghost use Rattle.newt_spec_nsof.specs.Flat.{flat};
@@ -18,7 +18,7 @@ use newt_path::Path;
 use newt_tags::TagTable;
 use std::alloc::{AllocError, Global};
 
-/// A text behind a byte that says its length.
+/// A text, after a byte that says its length.
 fn put_text(out: &mut Vec<u8>, text: &[u8]) -> Result<(), AllocError>
     requires { length text.now < 256 }
     ensures { OnOk result (out.new.items ≡ out.old.items ++ text_bytes text.now) }
@@ -28,7 +28,7 @@ fn put_text(out: &mut Vec<u8>, text: &[u8]) -> Result<(), AllocError>
     Ok(())
 }
 
-/// Texts behind their count.
+/// Texts, after their count.
 fn put_texts(out: &mut Vec<u8>, texts: &[Bytes]) -> Result<(), AllocError>
     requires few { length texts.now < 256 }
     requires short { All (λ text. length text < 256) texts.now }
@@ -41,7 +41,7 @@ fn put_texts(out: &mut Vec<u8>, texts: &[Bytes]) -> Result<(), AllocError>
     Ok(())
 }
 
-/// A path: its names behind their count.
+/// A path: its names, after their count.
 fn put_path(out: &mut Vec<u8>, path: &Path) -> Result<(), AllocError>
     ensures { OnOk result (out.new.items ≡ out.old.items ++ path_bytes path.now) }
 {
@@ -79,7 +79,7 @@ fn put_part(out: &mut Vec<u8>, part: &IndexPart) -> Result<(), AllocError>
     put_path(out, &part.path)
 }
 
-/// An index: its parts behind their count.
+/// An index: its parts, after their count.
 #[tactic(auto, using(crate::proofs::Spelled::parts_few))]
 fn put_spec(out: &mut Vec<u8>, spec: &IndexSpec) -> Result<(), AllocError>
     ensures { OnOk result (out.new.items ≡ out.old.items ++ counted part_bytes spec.now) }
@@ -92,7 +92,7 @@ fn put_spec(out: &mut Vec<u8>, spec: &IndexSpec) -> Result<(), AllocError>
     Ok(())
 }
 
-/// Indexes behind their count.
+/// Indexes, after their count.
 fn put_specs(out: &mut Vec<u8>, specs: &[IndexSpec]) -> Result<(), AllocError>
     requires { length specs.now < 256 }
     ensures { OnOk result (out.new.items ≡ out.old.items ++ counted (counted part_bytes)
@@ -124,7 +124,7 @@ fn put_info(out: &mut Vec<u8>, info: &Graph) -> Result<(), AllocError>
     Ok(())
 }
 
-/// What there is of a tags declaration and an info frame, behind a byte that says it.
+/// A tags declaration and an info frame, as far as there are any, after a byte that says which.
 fn put_extra(
     out: &mut Vec<u8>,
     tags: &Option<TagTable>,
@@ -168,7 +168,7 @@ fn put_soup(out: &mut Vec<u8>, row: &SoupRow) -> Result<(), AllocError>
     put_extra(out, &row.tags, &row.info)
 }
 
-/// Soups behind their count.
+/// Soups, after their count.
 fn put_soups(out: &mut Vec<u8>, soups: &[SoupRow]) -> Result<(), AllocError>
     requires few { length soups.now < 256 }
     requires fit { All fits soups.now }

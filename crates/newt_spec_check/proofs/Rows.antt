@@ -8,7 +8,7 @@ use Rattle.newt_spec_store.specs.Cost.{directory_bytes}
 use Rattle.newt_spec_store.specs.Store.{new_store}
 use Rattle.newt_spec_check.specs.declared.Layer.{Layer}
 use Rattle.newt_spec_check.specs.declared.Layer.TheVariants as layer
-use Rattle.newt_spec_check.specs.Damage.{Damage, damage, gates_behind, first_gate, leaves_bank}
+use Rattle.newt_spec_check.specs.Damage.{Damage, damage, bank_gates, first_gate, leaves_bank}
 use Rattle.newt_spec_check.specs.Damage.{is_unformed, least, no_directory, bad_entry, bad_large}
 use Rattle.newt_spec_check.specs.Damage.{too_costly}
 
@@ -20,7 +20,7 @@ reads_none text = None
 abbrev damaged : Layer → ℕ → Option Damage
 damaged layer place = Some (record { layer = layer; place = place })
 
--- an image of 13 blocks: three votes, the bytes of bank 0, and blank bytes behind
+-- an image of 13 blocks: three votes, the bytes of bank 0, and blank bytes after
 abbrev image_of : (a b c : ℕ) → List ℕ → List ℕ
 image_of a b c bytes =
     a ∷ (replicate 4095 255 ++ b ∷ (replicate 4095 255 ++ c ∷ (replicate 4095 255
@@ -72,11 +72,11 @@ two_puts = refl
 abbrev two_gates : List ℕ
 two_gates = 0 ∷ 0 ∷ 0 ∷ 0 ∷ 1 ∷ 9 ∷ 0 ∷ 0 ∷ 0 ∷ 0 ∷ 2 ∷ 8 ∷ []
 
-the_second_leaves : first_gate leaves_bank (gates_behind 12288 two_gates) ≡ Some 12310
+the_second_leaves : first_gate leaves_bank (bank_gates 12288 two_gates) ≡ Some 12310
 unfolding length_at
 the_second_leaves = refl
 
-the_first_is_unformed : first_gate is_unformed (gates_behind 12288 two_gates) ≡ Some 12304
+the_first_is_unformed : first_gate is_unformed (bank_gates 12288 two_gates) ≡ Some 12304
 unfolding length_at
 the_first_is_unformed = refl
 

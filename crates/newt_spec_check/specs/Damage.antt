@@ -1,6 +1,6 @@
--- The damage of an image: the first row that holds of nine, or none. Each row is said of the whole
--- image, and gives the place where it holds. The rows behind the fifth are rows of objects, and
--- hold of no image that has none. All of it is this project's own.
+-- The damage of an image: the first of nine rows that holds, or none. Each row is a test of the
+-- whole image, and gives the place where it holds. The rows after the fifth are tests of objects,
+-- and hold of no image that has none. All of it is this project's own.
 use Rattle.std.specs.Prelude.{ℕ, zero, suc, ◌+◌, ◌%◌, ◌==◌, nat_le, nat_lt, ◌&&◌, not, Bool, true, false, if◌then◌else◌, min, List, [], ◌∷◌, length, take, drop, map as list_map, filter, flat_map, find, fold, sum_by, Option, Some, None, option_map, option_and_then}
 use Rattle.std.specs.List.{list_any}
 use Rattle.std.specs.Option.{unwrap_or}
@@ -10,7 +10,7 @@ use Rattle.newt_spec_image.specs.Records.{bank_start, bank_bytes, chosen_bank, v
 use Rattle.newt_spec_image.specs.Pages.{Pages, pages, is_change, object_id, cap}
 use Rattle.newt_spec_image.specs.Objects.{pages_for}
 use Rattle.newt_spec_store.specs.ImageStore.{table_of, is_page_of, objects_of}
-use Rattle.newt_spec_store.specs.Image.{Objects}
+use Rattle.newt_spec_store.specs.Image.{ObjectList}
 use Rattle.newt_spec_store.specs.Lies.{directory_read}
 use Rattle.newt_spec_store.specs.OfImage.{blocks_of}
 use Rattle.newt_spec_store.specs.Store.{Entry, Store}
@@ -24,7 +24,7 @@ pub record Damage : Type 0 where
   pub layer : Layer
   pub place : ℕ
 
--- a place, where something is missing
+-- the place, where something is missing; else none
 abbrev pub if_missing : {X : Type 0} → ℕ → Option X → Option ℕ
 if_missing place None = Some place
 if_missing place (Some x) = None
@@ -39,46 +39,46 @@ no_bank image = if_missing 0 (chosen_bank image)
 abbrev pub start_of : List ℕ → ℕ → ℕ
 start_of image bank = bank_start (blocks_of image) bank
 
--- what a bank holds behind a header of version 1 or 2, with the version
-abbrev pub behind : List ℕ → ℕ → Option (ℕ × List ℕ)
-behind image bank = versioned (bank_bytes (blocks_of image) bank image)
+-- what a bank holds after a header of version 1 or 2, with the version
+abbrev pub versioned_in : List ℕ → ℕ → Option (ℕ × List ℕ)
+versioned_in image bank = versioned (bank_bytes (blocks_of image) bank image)
 
--- header: the first byte of the chosen bank, where its 16 bytes are no header
+-- header: the first byte of the chosen bank, where its first 16 bytes are not a header
 abbrev pub no_header : List ℕ → Option ℕ
 no_header image =
-    option_and_then (λ bank. if_missing (start_of image bank) (behind image bank)) (chosen_bank image)
+    option_and_then (λ bank. if_missing (start_of image bank) (versioned_in image bank)) (chosen_bank image)
 
 -- ---- records and payloads
 
--- a gate of 0: the byte of the image at which it stands, and the bytes of the bank behind it
+-- a gate of 0: the byte of the image at which it stands, and the bytes of the bank after it
 abbrev pub Gate : Type 0
 Gate = ℕ × List ℕ
 
--- After so many bytes, the gates of 0 of the bytes that stand at a place, up to a gate that is not
--- 0 or to the end.
+-- The gates of 0 in these bytes. The first byte stands at `at` in the image, and the first `skip`
+-- bytes are passed over. The list ends at a gate that is not 0, or with the bytes.
 abbrev pub gates_after : ℕ → ℕ → List ℕ → List Gate
 gates_after at skip [] = []
 gates_after at (suc skip) (byte ∷ rest) = gates_after (suc at) skip rest
 gates_after at zero (gate ∷ rest) =
     if gate == 0 then (at, rest) ∷ gates_after (suc at) (4 + length_at rest) rest else []
 
--- the gates of 0 of a bank that begins at a place, behind its header
-abbrev pub gates_behind : ℕ → List ℕ → List Gate
-gates_behind start = gates_after (start + 16) 0
+-- the gates of 0 in a bank that begins at a place, after its header
+abbrev pub bank_gates : ℕ → List ℕ → List Gate
+bank_gates start = gates_after (start + 16) 0
 
 -- the gates of 0 of the chosen bank, the first one first
 abbrev pub gates : List ℕ → List Gate
-gates image = unwrap_or (option_and_then (λ bank. option_map (gates_behind (start_of image bank)) (body image)) (chosen_bank image)) []
+gates image = unwrap_or (option_and_then (λ bank. option_map (bank_gates (start_of image bank)) (body image)) (chosen_bank image)) []
 
--- the byte of the first gate whose bytes behind it pass a test
+-- the place of the first gate after which the bytes pass a test
 abbrev pub first_gate : (List ℕ → Bool) → List Gate → Option ℕ
 first_gate test gs = option_map (λ g. g.0) (find (λ g. test g.1) gs)
 
--- the length or the payload behind a gate leaves the bank
+-- the length or the payload after a gate leaves the bank
 abbrev pub leaves_bank : List ℕ → Bool
 leaves_bank rest = not (nat_le (4 + length_at rest) (length rest))
 
--- the payload behind a gate has not the form of one
+-- the payload after a gate does not have the form of a change
 abbrev pub is_unformed : List ℕ → Bool
 is_unformed rest = not (is_change (take (length_at rest) (drop 4 rest)))
 
@@ -86,7 +86,7 @@ is_unformed rest = not (is_change (take (length_at rest) (drop 4 rest)))
 abbrev pub long_record : List ℕ → Option ℕ
 long_record image = first_gate leaves_bank (gates image)
 
--- payload: the gate of the first record whose payload has not the form of one
+-- payload: the gate of the first record whose payload does not have the form of a change
 abbrev pub bad_payload : List ℕ → Option ℕ
 bad_payload image = first_gate is_unformed (gates image)
 
@@ -97,8 +97,8 @@ abbrev pub least : List ℕ → Option ℕ
 least [] = None
 least (n ∷ ns) = Some (fold min n ns)
 
--- a page is not the one of its part of an object: the object lacks a part, or has this part twice,
--- or has no such part, or is not as long as this page says
+-- A page is not the one page of its part of its object. The object lacks a part, or has this part
+-- twice, or has no such part, or is not as long as this page says.
 abbrev pub is_astray : Pages → ℕ × List ℕ → Bool
 is_astray live e = not (is_page_of (table_of live (object_id e.1)) e)
 
@@ -111,12 +111,12 @@ abbrev pub broken_object : List ℕ → Option ℕ
 broken_object image = option_and_then (λ live. least (broken_ids live)) (pages image)
 
 -- a row of the objects, with their ids, where the image has objects
-abbrev pub of_objects : (Objects → Option ℕ) → List ℕ → Option ℕ
+abbrev pub of_objects : (ObjectList → Option ℕ) → List ℕ → Option ℕ
 of_objects row image =
     option_and_then (λ live. option_and_then (λ objects. row (map.entries objects)) (objects_of live)) (pages image)
 
 -- the least id of an object that passes a test: objects stand in the order of their ids
-abbrev pub first_object : (ℕ × List ℕ → Bool) → Objects → Option ℕ
+abbrev pub first_object : (ℕ × List ℕ → Bool) → ObjectList → Option ℕ
 first_object test objects = option_map (λ o. o.0) (find test objects)
 
 -- objects with odd ids are the records of entries
@@ -134,12 +134,12 @@ abbrev pub is_again : ℕ × Entry → Option (ℕ × Entry) → Bool
 is_again x None = false
 is_again x (Some y) = (x.0 == y.0) && (x.1.uid == y.1.uid)
 
-module _ (graph_of : List ℕ → Option RawGraph) (version : ℕ) (objects : Objects) where
+module _ (graph_of : List ℕ → Option RawGraph) (version : ℕ) (objects : ObjectList) where
   -- the directory that object 0 is read as
   abbrev pub directory_in : Option Store
   directory_in = option_and_then (directory_read graph_of version) (object_bytes objects 0)
 
-  -- directory: object 0 is missing or is no directory
+  -- directory: object 0 is missing or is not a directory
   abbrev pub no_directory : Option ℕ
   no_directory = if_missing 0 directory_in
 
@@ -160,8 +160,8 @@ module _ (graph_of : List ℕ → Option RawGraph) (version : ℕ) (objects : Ob
   abbrev pub is_bad_record : Store → ℕ × List ℕ → Bool
   is_bad_record d o = is_odd o && not (is_sound d o.0 (entry_of o))
 
-  -- entry: the least odd id whose record has no reading, is of no soup or id of the directory, or
-  -- names an entry that a record with a smaller id names
+  -- entry: the least odd id whose object fails one of these tests. Its record is read as an entry.
+  -- A soup of the directory has given the entry's id. No record with a smaller id names the entry.
   abbrev pub bad_entry : Option ℕ
   bad_entry = option_and_then (λ d. first_object (is_bad_record d) objects) directory_in
 
@@ -173,7 +173,7 @@ ids_in None = []
 ids_in (Some row) = list_map (λ l. l.1) row.larges
 
 -- the ids that all records name, one after the other
-abbrev pub all_named : Objects → List ℕ
+abbrev pub all_named : ObjectList → List ℕ
 all_named objects = flat_map (λ o. ids_in (entry_row o.1)) (filter is_odd objects)
 
 -- how often a number stands among others
@@ -181,15 +181,15 @@ abbrev pub count_of : ℕ → List ℕ → ℕ
 count_of n ns = length (filter (λ m. n == m) ns)
 
 -- an object with an even id above 0 is not named exactly once
-abbrev pub is_stray : Objects → ℕ × List ℕ → Bool
+abbrev pub is_stray : ObjectList → ℕ × List ℕ → Bool
 is_stray objects o = not (is_odd o) && nat_lt 0 o.0 && not (count_of o.0 (all_named objects) == 1)
 
 -- large: the least even id above 0 that is not named exactly once over all entries
-abbrev pub bad_large : Objects → Option ℕ
+abbrev pub bad_large : ObjectList → Option ℕ
 bad_large objects = first_object (is_stray objects) objects
 
 -- the pages that the objects take
-abbrev pub pages_taken : Objects → ℕ
+abbrev pub pages_taken : ObjectList → ℕ
 pages_taken objects = sum_by (λ o. pages_for (length o.1)) objects
 
 -- a number, where it is above another
@@ -197,7 +197,7 @@ abbrev pub if_above : ℕ → ℕ → Option ℕ
 if_above most n = if nat_le n most then None else Some n
 
 -- cost: the pages of all objects, where they are more than a unit of so many blocks takes
-abbrev pub too_costly : ℕ → Objects → Option ℕ
+abbrev pub too_costly : ℕ → ObjectList → Option ℕ
 too_costly blocks objects = if_above (cap blocks) (pages_taken objects)
 
 -- ---- the first row that holds

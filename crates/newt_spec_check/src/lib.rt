@@ -1,9 +1,10 @@
-//! Definitions of what is damaged in an image: the first row that holds of a table of nine layers, each with its place.
+//! Definitions of what is damaged in an image: the first row that holds of a table of nine layers,
+//! each with its place.
 //!
 //! It stands on the definitions of images and of stores. The names of the layers are its only code.
 #![tactic(auto)]
 
-/// What of an image is damaged, in the order in which it is looked at.
+/// The layer of an image that is damaged. The layers stand in the order in which they are tested.
 #[derive(Clone, Copy, PartialEq, Eq, Debug)]
 pub enum Layer {
     /// The votes choose no bank.
@@ -12,16 +13,16 @@ pub enum Layer {
     Header,
     /// A record leaves the bank.
     RecordPlace,
-    /// A payload has not its form.
+    /// A payload does not have its form.
     Payload,
     /// The parts of an object are not each there once.
     Object,
     /// There is no directory.
     Directory,
-    /// The record of an entry is none.
+    /// A record of an entry breaks a rule.
     Entry,
     /// A large binary is not named exactly once.
     Large,
-    /// The objects take more pages than the unit has.
+    /// The objects take more pages than the unit may have.
     Cost,
 }

@@ -5,8 +5,8 @@ use Rattle.newt_graph.specs.Draft.{is_small}
 use Rattle.newt_graph.specs.Graph.{RawGraph}
 use Rattle.newt_graph.specs.Meeting.{normal_form}
 
--- Each node is within the limits, and there is a normal form, whose nodes, open arrays and frames, and bytes together are within theirs.
--- (this project's own)
+-- Each node is within the limits, and there is a normal form. So its nodes, its open arrays and
+-- frames, and its bytes together are within theirs. (this project's own)
 abbrev pub within_limits : RawGraph → Bool
 within_limits g = is_some (normal_form g) && list_all is_small g.nodes
 

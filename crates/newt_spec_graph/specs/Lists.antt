@@ -7,7 +7,7 @@ abbrev pub Each : {X : Type 0} → (X → Type 0) → List X → Type 0
 Each P [] = ⊤
 Each P (x ∷ xs) = P x × Each P xs
 
--- the fact holds of each element and each one behind it (a word of these definitions)
+-- the fact holds of each element and each one after it (a word of these definitions)
 abbrev pub Pairs : {X : Type 0} → (X → X → Type 0) → List X → Type 0
 Pairs R [] = ⊤
 Pairs R (x ∷ xs) = Each (R x) xs × Pairs R xs
@@ -24,7 +24,8 @@ abbrev pub all_apart : {X : Type 0} → (X → X → Bool) → List X → Bool
 all_apart same [] = true
 all_apart same (x ∷ xs) = not (list_any (same x) xs) && all_apart same xs
 
--- each number is above the one before it, and all are from low up to high, high left out (a word of these definitions)
+-- each number is above the one before it, and all are at least `low` and below `high` (a word of
+-- these definitions)
 abbrev pub rises : ℕ → ℕ → List ℕ → Bool
 rises low high [] = true
 rises low high (n ∷ ns) = nat_le low n && nat_lt n high && rises (n + 1) high ns

@@ -57,9 +57,9 @@ two : payloads_after 0 (0 ∷ 0 ∷ 0 ∷ 0 ∷ 2 ∷ 7 ∷ 8 ∷ 0 ∷ 0 ∷ 0 
 unfolding length_at
 two = refl
 
-behind_them : tail_after 0 (0 ∷ 0 ∷ 0 ∷ 0 ∷ 2 ∷ 7 ∷ 8 ∷ 0 ∷ 0 ∷ 0 ∷ 0 ∷ 0 ∷ 255 ∷ 9 ∷ []) ≡ 255 ∷ 9 ∷ []
+after_them : tail_after 0 (0 ∷ 0 ∷ 0 ∷ 0 ∷ 2 ∷ 7 ∷ 8 ∷ 0 ∷ 0 ∷ 0 ∷ 0 ∷ 0 ∷ 255 ∷ 9 ∷ []) ≡ 255 ∷ 9 ∷ []
 unfolding length_at
-behind_them = refl
+after_them = refl
 
 -- A gate that is neither 0 nor FF ends them too.
 torn_gate : payloads_after 0 (3 ∷ 0 ∷ 0 ∷ 0 ∷ 1 ∷ 7 ∷ []) ≡ Some []

@@ -64,7 +64,7 @@ leaf_object (suc room) b text v after is = Object.leaf is
 
 -- ---- an object
 
--- a text writes down the object that the walk meets now, behind its label
+-- a text writes down the object that the walk meets now, after its label
 pub record ObjectWrote (room : ℕ) (graph : List Node) (labels : List (Option ℕ)) (met after_met : ℕ) (seen open_nodes : List ℕ) (b : Built) (text : List ℕ × ℕ) : Type 0 where
   pub after : Built
   pub extra : List ℕ

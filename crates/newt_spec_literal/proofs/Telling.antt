@@ -76,8 +76,8 @@ between graph from new symbols here = record {
 not_symbol : (graph : List Node) (k : ℕ) (node : Node) → slice_get graph k ≡ Some node → is_symbol node ≡ false → IsSymbol graph k → ⊥
 not_symbol graph k node here object named = let same : node ≡ nodes.Symbol named.0 = cc in let wrong : true ≡ false = sym (ap is_symbol same) ∙ object in absurd cc
 
-behind : (graph : List Node) (met i : ℕ) (x : Node) → slice_get graph (met + suc i) ≡ Some x → slice_get graph (suc met + i) ≡ Some x
-behind graph met i x h = let place : met + suc i ≡ suc met + i = omega arith in subst (λ (j : ℕ). slice_get graph j ≡ Some x) place h
+shifted : (graph : List Node) (met i : ℕ) (x : Node) → slice_get graph (met + suc i) ≡ Some x → slice_get graph (suc met + i) ≡ Some x
+shifted graph met i x h = let place : met + suc i ≡ suc met + i = omega arith in subst (λ (j : ℕ). slice_get graph j ≡ Some x) place h
 
 -- ---- parts of the walk
 
@@ -88,7 +88,7 @@ record Leaf (graph : List Node) (met : ℕ) (node : Node) (after : ℕ) : Type 0
 
 leaf : (graph : List Node) (total : ℕ → ℕ) (met : ℕ) (node : Node) (new : List Node) → AreSymbols new → Placed graph total met (refs.Node met ∷ []) (node ∷ new) → (after : ℕ) → after ≡ met + length (node ∷ new) → Leaf graph met node after
 leaf graph total met node new symbols p after e =
-    let b = between graph (suc met) new symbols (λ i x h. behind graph met i x (p.here (suc i) x h)) in
+    let b = between graph (suc met) new symbols (λ i x h. shifted graph met i x (p.here (suc i) x h)) in
     let one : suc met ≡ met + 1 = omega arith in
     let end : suc met + length new ≡ after = omega (arith, e) in
     record {
@@ -135,7 +135,7 @@ inside graph total met node labels values first others e symbols p =
     }
   where
     symbols_there : Between graph (suc met) (suc met + length first)
-    symbols_there = between graph (suc met) first symbols (λ i x h. behind graph met i x (p.here (suc i) x (get_append first others i x h)))
+    symbols_there = between graph (suc met) first symbols (λ i x h. shifted graph met i x (p.here (suc i) x (get_append first others i x h)))
 
     step : (k : ℕ) (x : Node) → slice_get graph k ≡ Some x → is_symbol x ≡ false → met ≤ k → k < suc met + length first → (b : Bool) → eqb met k ≡ b → 1 ≤ count k (refs.Node met ∷ [])
     step k x there object le lt true e = let same : met ≡ k = eqb-true met k e in rw same (omega (arith, count_same k))

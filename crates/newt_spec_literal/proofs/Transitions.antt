@@ -213,7 +213,7 @@ module _ (graph : List Node) (labels : List (Option ℕ)) (apart : (i j l : ℕ)
         | inr same ↦ (met, sym is ∙ ap (λ (n : ℕ). Some n) (sym same), omega arith)
       ]
 
-  -- the object that the walk meets now is opened, behind its label if it has one
+  -- the object that the walk meets now is opened, after its label if it has one
   pub opened : (met : ℕ) (x : Node) (seen open_nodes : List ℕ) (b : Built) → length graph ≤ 65535 → slice_get graph met ≡ Some x → is_symbol x ≡ false → Stands graph labels met seen open_nodes b
       → Opened graph labels met seen open_nodes b (label_of labels met)
   unfolding held with_held

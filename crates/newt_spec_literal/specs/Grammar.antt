@@ -58,8 +58,9 @@ pub data Name : List ℕ → List ℕ → Type 0 where
   barred : {text name : List ℕ} → Pieces InName text name → 0 < length name → length name < 255
       → Name (124 ∷ (text ++ 124 ∷ [])) name
 
--- The text of an immediate, and its word: four times an integer, 16 times a character's code and 6
--- more, or any word but those whose low two bits are 01, which lead to objects.
+-- The text of an immediate, and its word. The word of an integer is four times its number. That of
+-- a character is 16 times its code and 6 more. Any word can be written in eight digits, but those
+-- whose low two bits are 01, which lead to objects.
 pub data Immediate : List ℕ → ℤ → Type 0 where
   nil : Immediate (codes "nil") (pos 2)
   truth : Immediate (codes "true") (pos 26)
@@ -84,11 +85,12 @@ pub data Tag : List ℕ → List ℕ → Type 0 where
 
 -- ---- parts of containers
 
--- the text of a thing between what was written down before it and after it
+-- the rule for a thing: its text and its value, between what was written down before it and after
+-- it
 abbrev pub Kind : Type 0 → Type 1
 Kind A = Built → List ℕ → A → Built → Type 0
 
--- one or more things with commas between them, and the mark behind them
+-- one or more things with commas between them, and the mark after them
 pub data Items {A : Type 0} (item : Kind A) (close : ℕ) : Built → List ℕ → List A → Built
     → Type 0 where
   last : {before : Built} {text : List ℕ} {x : A} {after : Built} {mark : List ℕ}
@@ -112,15 +114,16 @@ pub data Class (before : Built) : List ℕ → Option ℕ → Built → Type 0 w
   some : {text name : List ℕ} {k : ℕ} {after : Built} → Tag text name
       → symbol_in before name ≡ Some (k, after) → Class before text (Some k) after
 
--- a tag, the symbol of its name, and the value behind it
+-- a tag, the symbol of its name, and the value after it
 pub data Field (value : Kind Ref) (before : Built) : List ℕ → ℕ × Ref → Built → Type 0 where
   field : {tag name : List ℕ} {k : ℕ} {then : Built} {text : List ℕ} {v : Ref} {after : Built}
       → Tag tag name → symbol_in before name ≡ Some (k, then)
       → value then text v after
       → Field value before (tag ++ text) (k, v) after
 
--- ---- containers, behind the first bracket
+-- ---- containers, after the first bracket
 
+-- an array: its class, if it has one, and its values
 pub data Array (value : Kind Ref) (before : Built) : List ℕ → Ref → Built → Type 0 where
   array : {n : ℕ} {opened : Built} {class : List ℕ} {k : Option ℕ} {then : Built} {text : List ℕ}
       {values : List Ref} {last after : Built} → held before ≡ Some (n, opened)
@@ -129,6 +132,7 @@ pub data Array (value : Kind Ref) (before : Built) : List ℕ → Ref → Built 
       → filled last n (nodes.Array k values) ≡ Some after
       → Array value before (class ++ text) (refs.Node n) after
 
+-- a frame: its fields, no two of which have one tag
 pub data Frame (value : Kind Ref) (before : Built) : List ℕ → Ref → Built → Type 0 where
   frame : {n : ℕ} {opened : Built} {text : List ℕ} {fields : List (ℕ × Ref)} {last after : Built}
       → held before ≡ Some (n, opened)

@@ -20,7 +20,7 @@ use Rattle.newt_spec_literal.specs.Words.{is_shown}
 
 -- ---- names
 
--- a character, behind a backslash where it is one of the marks
+-- a character, after a backslash where it is one of the marks
 abbrev pub escaped : List ℕ → ℕ → List ℕ
 escaped marks c = if list_any (λ mark. mark == c) marks then 92 ∷ c ∷ [] else c ∷ []
 
@@ -62,6 +62,7 @@ word_text word =
 abbrev pub unit_text : ℕ → List ℕ
 unit_text u = if is_printable u then escaped (codes "\"\\") u else codes "\\u" ++ hex16 u
 
+-- a string between two quotes
 abbrev pub string_text : List ℕ → List ℕ
 string_text units = codes "\"" ++ (flat_map unit_text units ++ codes "\"")
 
@@ -72,8 +73,8 @@ binary_text nodes before after class bytes =
 
 -- ---- lists
 
--- what follows a thing in a list: the other things, each behind a comma and a space, and the
--- closing mark
+-- what follows a thing in a list: the other things, each after a comma and a space, and the closing
+-- mark
 abbrev pub more_text : ℕ → List Spelling → Spelling
 more_text close [] = plain (close ∷ [])
 more_text close (s ∷ ss) = plain (codes ", ") then s then more_text close ss
@@ -109,18 +110,19 @@ object_text nodes value (Array class values) =
 object_text nodes value (Frame tags values) =
     plain (codes "{") then list_text 125 (map (field_text nodes value) (zip tags values))
 
--- '#', the label and the mark behind it, where there is a label
+-- '#', the label and the mark after it; nothing where there is no label
 abbrev pub label_text : Option ℕ → ℕ → List ℕ
 label_text None mark = []
 label_text (Some label) mark = 35 ∷ (decimal label ++ mark ∷ [])
 
--- object n by its label where it has been met, else in full behind its label
+-- object n by its label where it has been met; else in full, after its label
 abbrev pub met_or_new : Option ℕ → ℕ → Spelling → Spelling
 met_or_new label n text met = elim (nat_lt n met) [
   | true ↦ plain (label_text label 35) met
   | false ↦ (plain (label_text label 61) then text) (n + 1)
 ]
 
+-- the node is a symbol
 abbrev pub is_symbol : Node → Bool
 is_symbol (Symbol name) = true
 is_symbol _ = false
@@ -158,6 +160,7 @@ value_at nodes labels levels = ref_text (node_at nodes labels levels)
 abbrev pub references : RawGraph → List Ref
 references g = g.root ∷ flat_map (λ node. map refs.Node (labels_of node) ++ values_of node) g.nodes
 
+-- the value leads to node n
 abbrev pub leads_to : ℕ → Ref → Bool
 leads_to n (refs.Imm word) = false
 leads_to n (refs.Node k) = k == n
@@ -174,12 +177,13 @@ labels_from references next n (node ∷ nodes) = elim (is_shared references n no
   | false ↦ None ∷ labels_from references next (n + 1) nodes
 ]
 
+-- the label of each object of a graph, or none
 abbrev pub labels : RawGraph → List (Option ℕ)
 labels g = labels_from (references g) 0 0 g.nodes
 
 -- ---- the whole
 
--- The one printed text of a graph in normal form. Its containers are open within one another as far
--- as the limit, and then comes an object without values.
+-- The one printed text of a graph in normal form. Containers are open within one another up to the
+-- limit, and the last of them may hold an object without values.
 abbrev pub literal : RawGraph → List ℕ
 literal g = (value_at g.nodes (labels g) (most_open + 1) g.root 0).0

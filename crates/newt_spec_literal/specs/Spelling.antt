@@ -1,8 +1,8 @@
 -- Texts of a graph that spell an object where they meet it first, and name it afterwards.
 use Rattle.std.specs.Prelude.{ℕ, List, ◌++◌}
 
--- A text that depends on which objects have been met before it, and tells which have been met at
--- its end. In a graph in normal form the objects that have been met are those below a number.
+-- A text that depends on which objects have been met before it, and says which have been met at its
+-- end. In a graph in normal form these are the objects below a number.
 abbrev pub Spelling : Type 0
 Spelling = ℕ → List ℕ × ℕ
 
@@ -15,7 +15,7 @@ infixr 65 ◌then◌
 abbrev pub ◌then◌ : Spelling → Spelling → Spelling
 (s then t) met = let first = s met in let second = t first.1 in (first.0 ++ second.0, second.1)
 
--- a page: what stands there so far, and below which number all objects have been met
+-- a page: the text so far, and the number below which all objects have been met
 abbrev pub Page : Type 0
 Page = List ℕ × ℕ
 

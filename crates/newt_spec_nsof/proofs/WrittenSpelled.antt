@@ -113,7 +113,7 @@ node_text room nodes k numbered = refl
 in_full : (room : ℕ) (nodes : List Node) (met : ℕ) (numbered : List ℕ) (node : Node) → AreNumbered nodes met numbered → slice_get nodes met ≡ Some node → value_text (suc room) nodes (refs.Node met) numbered ≡ new_node (inner_text room nodes) nodes met (Some node) numbered
 in_full room nodes met numbered node are e = node_text room nodes met numbered ∙ rw (has_none_yet nodes met numbered are, e) refl
 
--- its number is behind those of the nodes before
+-- its number is after those of the nodes before
 numbered_at : (nodes new : List Node) (met : ℕ) (numbered : List ℕ) (at : At nodes new met) → numbered ++ met ∷ [] ≡ numbered ++ length at.before ∷ []
 numbered_at nodes new met numbered at = ap (λ (n : ℕ). numbered ++ n ∷ []) (sym at.met_is)
 
@@ -133,7 +133,7 @@ string_written nodes room met units numbered at sound are =
     (rw (numbered_at nodes (Str units ∷ []) met numbered at) (Object.string (count_spelled (2 * length units + 2) (omega (arith, is.few))) is))
     (subst (λ (n : ℕ). AreNumbered nodes n (numbered ++ met ∷ [])) (omega arith) (number_next nodes met numbered are))
 
--- a label behind a node
+-- a label after a node
 label_inside : (nodes : List Node) (node : Node) (met class : ℕ) (new : List Node) (at : At nodes (node ∷ new) met) (numbered : List ℕ) → IsSound nodes → IsSymbol nodes class → AreNumbered nodes met numbered → WalkLabel (suc met) class new
     → IsLabel nodes (suc met) (at.before ++ node ∷ []) (numbered ++ length at.before ∷ []) class new (label_text nodes class (numbered ++ met ∷ []))
 label_inside nodes node met class new at numbered sound is are label =
@@ -204,8 +204,8 @@ unfolding frame_text
 full_frame_written nodes room met tags values numbered tagged valued at sound are labels inside =
     let node = Frame tags values in
     let is : IsFrame nodes tags values = node_is nodes met node sound (at_here nodes node (tagged ++ valued) met at) in
-    let behind = at_first nodes tagged valued (suc met) (at_inside nodes node (tagged ++ valued) met at) in
-    let one = labels_written labels nodes behind sound is.symbols (numbered ++ met ∷ []) (number_next nodes met numbered are) in
+    let at_later = at_first nodes tagged valued (suc met) (at_inside nodes node (tagged ++ valued) met at) in
+    let one = labels_written labels nodes at_later sound is.symbols (numbered ++ met ∷ []) (number_next nodes met numbered are) in
     let tag_text = each_text (label_text nodes) tags (numbered ++ met ∷ []) in
     let all = inside tag_text.1 one.after in
     let text = each_text (inner_text (suc room) nodes) values tag_text.1 in
@@ -225,8 +225,8 @@ small_frame_written : (nodes : List Node) (room met : ℕ) (tags : List ℕ) (va
     → IsObject nodes (suc room) met at.before numbered (refs.Node met) (Frame tags values ∷ (tagged ++ valued)) (11 ∷ bytes, numbered ++ met ∷ [])
 small_frame_written nodes room met tags values bytes numbered tagged valued at sound are labels walks small =
     let node = Frame tags values in
-    let behind = at_first nodes tagged valued (suc met) (at_inside nodes node (tagged ++ valued) met at) in
-    let each = sides_interned labels nodes behind sound met (omega arith) sides small.tags_are in
+    let at_later = at_first nodes tagged valued (suc met) (at_inside nodes node (tagged ++ valued) met at) in
+    let each = sides_interned labels nodes at_later sound met (omega arith) sides small.tags_are in
     let none : valued ≡ [] = small_values small.top small.left small.bottom small.right small.values_are walks in
     let news : tagged ++ valued ≡ tagged = ap (λ (x : List Node). tagged ++ x) none ∙ append-nil tagged in
     let made : Object false (suc room) at.before numbered (11 ∷ small.top ∷ small.left ∷ small.bottom ∷ small.right ∷ []) (refs.Node (length at.before)) (Frame tags (corners small.top small.left small.bottom small.right) ∷ tagged) (numbered ++ length at.before ∷ [])
@@ -235,7 +235,7 @@ small_frame_written nodes room met tags values bytes numbered tagged valued at s
     object_at nodes (suc room) met numbered node (tagged ++ valued) at (11 ∷ bytes, numbered ++ met ∷ [])
     (rw (small.bytes_are, news, small.values_are, numbered_at nodes (node ∷ (tagged ++ valued)) met numbered at) made)
     (subst (λ (n : ℕ). AreNumbered nodes n (numbered ++ met ∷ [])) (omega (arith, ap length news))
-    (labels_none labels nodes behind (numbered ++ met ∷ []) (number_next nodes met numbered are)))
+    (labels_none labels nodes at_later (numbered ++ met ∷ []) (number_next nodes met numbered are)))
 
 frame_written : (nodes : List Node) (room met : ℕ) (tags : List ℕ) (values : List Ref) (numbered : List ℕ) (tagged valued : List Node) (at : At nodes (Frame tags values ∷ (tagged ++ valued)) met) → IsSound nodes → AreNumbered nodes met numbered
     → WalkLabels (suc met) tags tagged → Walks room (suc met + length tagged) values valued

@@ -1,7 +1,7 @@
--- The flat text of a graph, which records of entries keep and their cost counts, in the rows of
--- Newton Formats 1.1: every number in its shortest form, nil and characters by their own tags, a
--- node in full where the walk from the root meets it first and as a precedent afterwards. It has no
--- tag 11, so each node has a number.
+-- The flat text of a graph, in the rows of Newton Formats 1.1. Records of entries keep it, and
+-- their cost counts it. Each number has its shortest form. Nil and characters have their own tags.
+-- A node stands in full where the walk from the root meets it first, and as a precedent afterwards.
+-- There is no tag 11, so each node has a number.
 use Rattle.std.specs.Prelude.{ℕ, Bool, false, zero, suc, ◌+◌, ◌*◌, ◌/◌, ◌%◌, List, [], ◌∷◌, ◌++◌}
 use Rattle.std.specs.Prelude.{length, Option, Some, None, ℤ, pos, negsuc, slice_get, nat_lt, ◌==◌}
 use Rattle.std.specs.Prelude.{◌&&◌, if◌then◌else◌}
@@ -25,7 +25,7 @@ abbrev pub short_text : ℤ → List ℕ
 short_text (pos n) = n ∷ []
 short_text (negsuc n) = []
 
--- the shortest form of a number
+-- the shortest form of a number: one byte, or 255 and 32 bits
 unfoldable pub xlong_text : ℤ → List ℕ
 xlong_text z = if is_short z then short_text z else 255 ∷ to_be_bytes w32 (cast_unsigned w32 z)
 
@@ -45,7 +45,8 @@ word_text (pos n) =
     else 0 ∷ xlong_text (pos n)
 word_text (negsuc n) = 0 ∷ xlong_text (negsuc n)
 
--- a node that was met: as each object of a flat text adds a node, its number is that of the node
+-- A node that was met, by its number. Each object of a flat text adds one node, so the number of an
+-- object is that of its node.
 abbrev pub again_text : ℕ → List ℕ
 again_text k = 9 ∷ count_text k
 
@@ -57,7 +58,7 @@ symbol_text name = 7 ∷ (count_text (length name) ++ name)
 abbrev pub Text : Type 0
 Text = List ℕ × ℕ
 
--- texts of one thing after another, each with what is known after it
+-- the texts of things, one after another; what is known after one of them is known to the next
 unfoldable pub each_text : {A S : Type 0} → (A → S → List ℕ × S) → List A → S → List ℕ × S
 each_text one [] known = ([], known)
 each_text one (x ∷ xs) known =
@@ -98,19 +99,20 @@ plain_large_text nodes class bytes met =
     let label = label_text nodes class (met + 1) in
     (12 ∷ (label.0 ++ large_text 0 0 [] [] bytes), label.1)
 
--- an array in full, without and with a class
+-- an array without a class, in full
 unfoldable pub plain_array_text : (Ref → ℕ → Text) → List Ref → ℕ → Text
 plain_array_text inner values met =
     let valued = each_text inner values (met + 1) in
     (5 ∷ (count_text (length values) ++ valued.0), valued.1)
 
+-- an array with a class, in full
 unfoldable pub array_text : (Ref → ℕ → Text) → List Node → ℕ → List Ref → ℕ → Text
 array_text inner nodes class values met =
     let label = label_text nodes class (met + 1) in
     let valued = each_text inner values label.1 in
     (4 ∷ (count_text (length values) ++ (label.0 ++ valued.0)), valued.1)
 
--- an array in full
+-- an array in full, with a class or without
 abbrev pub any_array_text : (Ref → ℕ → Text) → List Node → Option ℕ → List Ref → ℕ → Text
 any_array_text inner nodes None values met = plain_array_text inner values met
 any_array_text inner nodes (Some class) values met = array_text inner nodes class values met

@@ -26,32 +26,32 @@ bare (Frame tags values) = Frame tags values
 abbrev pub skeleton : RawGraph → RawGraph
 skeleton g = record { nodes = map bare g.nodes; root = g.root }
 
--- the bytes of a large binary
+-- how many bytes a large binary has; another node has none
 abbrev pub large_len : Node → ℕ
 large_len (Large class bytes) = length bytes
 large_len _ = 0
 
 -- ---- lengths
 
--- a number that is not negative, in its shortest form
+-- the length of a number that is not negative, in its shortest form
 abbrev pub count_len : ℕ → ℕ
 count_len n = if nat_lt n 255 then 1 else 5
 
--- a node that was met before
+-- the length of a node that was met before
 abbrev pub again_len : ℕ → ℕ
 again_len k = 1 + count_len k
 
--- a value, where a node was met before
+-- the length of a value, where a node was met before
 abbrev pub ref_len : Ref → ℕ
 ref_len (refs.Imm w) = length (word_text w)
 ref_len (refs.Node k) = again_len k
 
--- an array's class
+-- the length of an array's class
 abbrev pub class_len : Option ℕ → ℕ
 class_len None = 0
 class_len (Some class) = again_len class
 
--- a node in full, where all that it refers to was met before
+-- the length of a node in full, where all that it refers to was met before
 abbrev pub node_len : Node → ℕ
 node_len (Symbol name) = 1 + count_len (length name) + length name
 node_len (Str units) = 1 + count_len (2 * length units + 2) + (2 * length units + 2)
@@ -62,7 +62,7 @@ node_len (Array class values) =
 node_len (Frame tags values) =
     1 + count_len (length tags) + sum_by again_len tags + sum_by ref_len values
 
--- each of the first n nodes, once more
+-- the length of the first n nodes, each of them as one that was met before
 unfoldable pub agains_len : ℕ → ℕ
 agains_len zero = 0
 agains_len (suc n) = agains_len n + again_len n

@@ -1,7 +1,7 @@
--- The one text that is written of a graph, in the rows of Newton Formats 1.1: as the flat text, but
--- that a frame of four small sides is written by tag 11, without its tags. So not every node of the
--- text has a number: the texts carry the list of those that have one. When a frame is small, and
--- that the list is so, is this project's own.
+-- The one text that is written of a graph, in the rows of Newton Formats 1.1. It is the flat text,
+-- but that a frame of four small sides is written by tag 11, without its tags. So not every node of
+-- the text has a number, and the texts carry the list of those that have one. When a frame is
+-- small, and that the list is so, is this project's own.
 use Rattle.std.specs.Prelude.{ℕ, Bool, true, false, zero, suc, ◌/◌, ◌%◌, List, [], ◌∷◌}
 use Rattle.std.specs.Prelude.{◌++◌, length, Option, Some, None, pos, slice_get, nat_lt, nat_eq}
 use Rattle.std.specs.Prelude.{◌==◌, ◌&&◌, bytes_eq, position}
@@ -97,6 +97,7 @@ abbrev pub small_or : Option (List ℕ) → ℕ → List ℕ → Text → Text
 small_or (Some bytes) k numbered full = (11 ∷ bytes, numbered ++ k ∷ [])
 small_or None k numbered full = full
 
+-- a frame: by tag 11 where it is small, else in full
 abbrev pub any_frame_text : (Ref → List ℕ → Text) → List Node → ℕ → List ℕ → List Ref → List ℕ
     → Text
 any_frame_text inner nodes k tags values numbered =
@@ -115,19 +116,20 @@ plain_large_text nodes k class bytes numbered =
     let label = label_text nodes class (numbered ++ k ∷ []) in
     (12 ∷ (label.0 ++ large_text 0 0 [] [] bytes), label.1)
 
--- an array in full, without and with a class
+-- an array without a class, in full
 unfoldable pub plain_array_text : (Ref → List ℕ → Text) → ℕ → List Ref → List ℕ → Text
 plain_array_text inner k values numbered =
     let valued = each_text inner values (numbered ++ k ∷ []) in
     (5 ∷ (count_text (length values) ++ valued.0), valued.1)
 
+-- an array with a class, in full
 unfoldable pub array_text : (Ref → List ℕ → Text) → List Node → ℕ → ℕ → List Ref → List ℕ → Text
 array_text inner nodes k class values numbered =
     let label = label_text nodes class (numbered ++ k ∷ []) in
     let valued = each_text inner values label.1 in
     (4 ∷ (count_text (length values) ++ (label.0 ++ valued.0)), valued.1)
 
--- an array in full
+-- an array in full, with a class or without
 abbrev pub any_array_text : (Ref → List ℕ → Text) → List Node → ℕ → Option ℕ → List Ref → List ℕ
     → Text
 any_array_text inner nodes k None values numbered = plain_array_text inner k values numbered
@@ -161,6 +163,6 @@ value_text zero nodes value numbered = ([], numbered)
 value_text (suc room) nodes value numbered =
     text_at (λ value numbered. value_text room nodes value numbered) nodes value numbered
 
--- the written text of a graph: the version, and the root, within which containers are open
+-- the written text of a graph: the version, and the root with what is in it
 unfoldable pub nsof : RawGraph → List ℕ
 nsof g = 2 ∷ (value_text (suc most_open) g.nodes g.root []).0

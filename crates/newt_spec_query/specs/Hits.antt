@@ -1,5 +1,7 @@
--- The hits of a query: a filter of all entries, put in order. That a query finds the entries of a soup or a union soup in the order of an index is Newton's
--- (Newton Programmer's Guide 2.0, queries and union soups); which soups take part, which entries have a key, and the order of ties are this project's own.
+-- The hits of a query: a filter of all entries, put in order. A query finds the entries of a soup
+-- or a union soup in the order of an index (Newton Programmer's Guide 2.0, queries and union
+-- soups). Which soups take part, which entries have a key, and the order of ties are this project's
+-- own.
 use Rattle.std.specs.Prelude.{ℕ, Bool, true, not, ◌&&◌, ◌==◌, List, [], filter, flat_map, filter_map, Option, Some, None, option_map, cond}
 use Rattle.std.specs.List.{list_all, list_any}
 use Rattle.std.specs.declared.cmp.Ordering.{Ordering}
@@ -15,14 +17,16 @@ use Rattle.newt_base.specs.Words.{has_text, has_word}
 use Rattle.newt_spec_query.specs.Tags.{tags_of, tags_pass}
 use Rattle.newt_spec_query.specs.Spec.{Spec, Bound, unbounded, including, excluding}
 
--- a query: one store by its signature or all mounted stores, the name of its soups, and what it says (Newton Programmer's Guide 2.0, queries and union soups)
+-- a query: one store by its signature or all mounted stores, the name of its soups, and what it
+-- says (Newton Programmer's Guide 2.0, queries and union soups)
 pub record Query : Type 0 where
   -- one store by its signature, or all mounted stores
   pub scope : Option ℕ
   pub name : List ℕ
   pub spec : Spec
 
--- a hit: its key and its identity, which is the signatures of its store and soup and its entry id (this project's own)
+-- a hit: its key and its identity, which is the signatures of its store and soup and its entry id
+-- (this project's own)
 pub record Hit : Type 0 where
   pub key : Key
   pub store : ℕ
@@ -41,7 +45,8 @@ below index unbounded k = true
 below index (including b) k = not (is_gt (key_cmp index k b))
 below index (excluding b) k = is_lt (key_cmp index k b)
 
--- every string of the graph, folded whole (Newton Programmer's Guide 2.0, query specs; the folding is this project's own)
+-- all strings of the graph, each of them folded as a whole (Newton Programmer's Guide 2.0, query
+-- specs; the folding is this project's own)
 abbrev pub strings : RawGraph → List (List ℕ)
 strings g = filter_map folded_string g.nodes
   where
@@ -49,7 +54,8 @@ strings g = filter_map folded_string g.nodes
     folded_string (Str units) = Some (folded units)
     folded_string _ = None
 
--- each word and each text stands in at least one string (Newton Programmer's Guide 2.0, query specs)
+-- each word and each text stands in at least one string (Newton Programmer's Guide 2.0, query
+-- specs)
 abbrev pub text_passes : Spec → RawGraph → Bool
 text_passes q g =
     list_all (λ word. list_any (λ text. has_word text word q.entire) (strings g)) q.words
@@ -61,17 +67,19 @@ passes q table g = tags_pass q.tags (tags_of table g) && text_passes q g
 
 -- ---- the hits of one entry, one soup, all members
 
--- the key of an entry, where it has one that is in the range and the entry passes (Newton Programmer's Guide 2.0, queries)
+-- the key of an entry, where it has one in the range and the entry passes the other tests (Newton
+-- Programmer's Guide 2.0, queries)
 abbrev pub kept : Spec → Soup → Entry → Option Key → Option Key
 kept q p e None = None
 kept q p e (Some k) = cond (above q.index q.lower k && below q.index q.upper k && passes q p.tags e.graph) (Some k) None
 
--- the hit that an entry is, if it is one (a word of these definitions)
+-- an entry as a hit; none where it is not a hit (a word of these definitions)
 abbrev pub hit_of : Spec → Store → Soup → Entry → Option Hit
 hit_of q s p e =
     option_map (λ k. record { key = k; store = s.sig; soup = p.sig; uid = e.uid }) (kept q p e (key e.graph q.index))
 
--- the soup has an index that agrees with this one; with no index every soup takes part (this project's own)
+-- the soup has an index that agrees with this one; with no index every soup takes part (this
+-- project's own)
 abbrev pub carries : IndexSpec → Soup → Bool
 carries [] p = true
 carries index p = list_any (same_spec index) p.specs
@@ -87,14 +95,15 @@ soup_hits q s p = cond (equal_text p.name q.name && carries q.spec.index p) (fil
 
 -- ---- order
 
--- the order of hits: by key, then by the signature of the store, that of the soup and the entry id, each rising, whatever the direction of the index
--- (this project's own)
+-- The order of hits: by key, then by the signature of the store, that of the soup and the entry id.
+-- These three rise, whatever the direction of the index. (this project's own)
 abbrev pub hit_cmp : IndexSpec → Hit → Hit → Ordering
 hit_cmp index a b =
     ordering_then (key_cmp index a.key b.key)
     (ordering_then (nat_cmp a.store b.store) (ordering_then (nat_cmp a.soup b.soup) (nat_cmp a.uid b.uid)))
 
--- the hits in the mounted stores (Newton Programmer's Guide 2.0, queries and union soups; the order of ties is this project's own)
+-- the hits in the mounted stores (Newton Programmer's Guide 2.0, queries and union soups; the order
+-- of ties is this project's own)
 abbrev pub hits : List Store → Query → List Hit
 hits stores q =
     sorted_by (hit_cmp q.spec.index) (flat_map (λ s. flat_map (soup_hits q s) s.soups) (filter (in_scope q.scope) stores))

@@ -1,5 +1,6 @@
--- The frame of a query, and what it says. The slots are those of Newton's query specs (Newton Programmer's Guide 2.0, query specs) but for its functions.
--- This project's own are which other slots are refused, the forms of key values, words and texts, and that nil counts as missing.
+-- The frame of a query, and what it says. The slots are those of Newton's query specs (Newton
+-- Programmer's Guide 2.0, query specs), without its functions. This project's own are which other
+-- slots are refused, the forms of key values, words and texts, and that nil counts as missing.
 use Rattle.std.specs.Prelude.{ℕ, ◌+◌, Bool, true, false, not, ◌&&◌, ◌||◌, ◌==◌, nat_le, List, [], ◌∷◌, map, length, zip, Option, Some, None, is_some, option_map, option_and_then, unwrap_or, pos, codes, if◌then◌else◌}
 use Rattle.std.specs.List.{list_all, list_any}
 use Rattle.newt_base.specs.Names.{same_name}
@@ -120,13 +121,14 @@ is_true _ = false
 abbrev pub has_slot : RawGraph → List ℕ → Bool
 has_slot g name = is_some (given g.nodes g.root name)
 
--- at most one of two slots is there, and only beside an index path (this project's own)
+-- at most one of the two slots is there, and only where there is an index path (this project's own)
 abbrev pub bound_is : RawGraph → List ℕ → List ℕ → Bool
 bound_is g one other =
     not (has_slot g one && has_slot g other)
     && (not (has_slot g one || has_slot g other) || has_slot g (codes "indexPath"))
 
--- the frame has the form of a query (Newton Programmer's Guide 2.0, query specs; which forms are refused is this project's own)
+-- the frame has the form of a query (Newton Programmer's Guide 2.0, query specs; which forms are
+-- refused is this project's own)
 abbrev pub is_query : RawGraph → Bool
 is_query g =
     has_only g.nodes query_slots g.root
@@ -138,13 +140,15 @@ is_query g =
     && slot_is g (codes "text") (is_text_list g)
     && slot_is g (codes "entireWords") is_true
 
--- the paths of the index that a query asks for; none where it asks for no index (Newton Programmer's Guide 2.0, query specs)
+-- the paths of the index that a query asks for; none where it asks for no index (Newton
+-- Programmer's Guide 2.0, query specs)
 abbrev pub query_paths : RawGraph → Option (List Path)
 query_paths g = option_and_then (index_paths g.nodes) (given g.nodes g.root (codes "indexPath"))
 
 -- ---- key values
 
--- The part that a given value is: missing where it is nil or not given, and none where it is not of the part's type. (this project's own)
+-- The part of a key that a value is. It is missing where the value is nil or not given. There is
+-- none where the value is not of the part's type. (this project's own)
 abbrev pub given_part : List Node → IndexPart × Option Ref → Option Part
 given_part nodes (p, v) = elim v [
   | None ↦ Some missing
@@ -157,13 +161,15 @@ first_is_there [] = false
 first_is_there (missing ∷ _) = false
 first_is_there _ = true
 
--- the parts with their values, and with none where no more are given (a word of these definitions)
+-- each part of an index with its value; with none where no more values are given (a word of these
+-- definitions)
 abbrev pub padded : IndexSpec → List Ref → List (IndexPart × Option Ref)
 padded [] values = []
 padded (p ∷ spec) [] = (p, None) ∷ padded spec []
 padded (p ∷ spec) (v ∷ values) = (p, Some v) ∷ padded spec values
 
--- the values of a key: one value for an index of one part, and an array without class of one to as many values for more (this project's own)
+-- the values of a key: one value for an index of one part; for more parts an array without class of
+-- one to as many values (this project's own)
 abbrev pub key_values : List Node → IndexSpec → Ref → Option (List Ref)
 key_values nodes [] r = None
 key_values nodes (p ∷ []) r = Some (r ∷ [])
@@ -177,14 +183,16 @@ key_value nodes spec r =
 
 -- ---- what the frame says, once its index is known
 
--- an end of a range of keys: open, with the key, or without it (Newton Programmer's Guide 2.0, query specs)
+-- an end of a range of keys: open, with the key, or without it (Newton Programmer's Guide 2.0,
+-- query specs)
 pub data Bound : Type 0 where
   unbounded : Bound
   including : Key → Bound
   excluding : Key → Bound
 
--- what a query says: its index, which is empty where it asks for none, the ends of its range, its tags, its words and texts, folded, and the mark for entire words
--- (Newton Programmer's Guide 2.0, query specs)
+-- What a query says: its index, empty where it asks for none; the ends of its range; its tags; its
+-- words and texts, folded; and whether its words must be entire words. (Newton Programmer's Guide
+-- 2.0, query specs)
 pub record Spec : Type 0 where
   pub index : IndexSpec
   pub lower : Bound
@@ -206,7 +214,8 @@ key_fits g spec name = slot_is g name (λ r. is_some (key_value g.nodes spec r))
 abbrev pub keys_fit : RawGraph → IndexSpec → Bool
 keys_fit g spec = list_all (key_fits g spec) (map codes ("beginKey" ∷ "beginExclKey" ∷ "endKey" ∷ "endExclKey" ∷ []))
 
--- the end that two slots give: the one with the key, or the one without it (Newton Programmer's Guide 2.0, query specs)
+-- the end of a range that two slots give: with the key of the first, or without that of the second;
+-- open where neither is there (Newton Programmer's Guide 2.0, query specs)
 abbrev pub bound : Option Key → Option Key → Bound
 bound (Some k) _ = including k
 bound None (Some k) = excluding k

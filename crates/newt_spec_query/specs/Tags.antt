@@ -1,5 +1,6 @@
--- An entry's tags, and what a query asks of them. Tags and the four tests are Newton's (Newton Programmer's Guide 2.0, tags); that the declaration names a
--- path, and that a symbol that it does not list is a tag of no entry, is this project's own.
+-- An entry's tags, and what a query asks of them. Tags and the four tests are Newton's (Newton
+-- Programmer's Guide 2.0, tags). That the declaration names a path, and that a symbol that it does
+-- not list is a tag of no entry, is this project's own.
 use Rattle.std.specs.Prelude.{ℕ, Bool, true, not, ◌&&◌, List, [], ◌∷◌, filter, filter_map, Option, Some, None}
 use Rattle.std.specs.List.{list_all, list_any}
 use Rattle.newt_base.specs.Names.{same_name}
@@ -11,7 +12,8 @@ use Rattle.newt_spec_graph.specs.Graph.{object}
 use Rattle.newt_spec_graph.specs.Slots.{value_at}
 use Rattle.newt_spec_store.specs.Store.{TagTable}
 
--- the name of the symbol that a reference leads to, if it leads to one (a word of these definitions)
+-- the name of the symbol that a reference leads to, if it leads to one (a word of these
+-- definitions)
 abbrev pub symbol_name : List Node → Ref → Option (List ℕ)
 symbol_name nodes r = elim (object nodes r) [ Some (Symbol name) ↦ Some name | _ ↦ None ]
 
@@ -23,7 +25,7 @@ symbols_in nodes r = elim (object nodes r) [
   | _ ↦ []
 ]
 
--- the same of a value that may not be there (a word of these definitions)
+-- the same of a value that may be missing (a word of these definitions)
 abbrev pub symbols_at : RawGraph → Option Ref → List (List ℕ)
 symbols_at g None = []
 symbols_at g (Some r) = symbols_in g.nodes r
@@ -38,7 +40,8 @@ abbrev pub tags_of : Option TagTable → RawGraph → List (List ℕ)
 tags_of None g = []
 tags_of (Some t) g = filter (is_among (symbols_at g (value_at g t.path))) t.symbols
 
--- the four lists that a query may give: exactly these tags, all of them, any of them, none of them (Newton Programmer's Guide 2.0, tags)
+-- the four lists that a query may give: exactly these tags, all of them, any of them, none of them
+-- (Newton Programmer's Guide 2.0, tags)
 pub record TagSpec : Type 0 where
   pub equal : Option (List (List ℕ))
   pub all : Option (List (List ℕ))

@@ -20,7 +20,7 @@ use Rattle.newt_spec_script.specs.Words.{part, symbol, several}
 
 -- ---- the forms of single words
 
--- a unit (this project's own)
+-- a unit, 0 to 7 (this project's own)
 abbrev pub unit : Reader ℕ
 unit = word unit_digit
 
@@ -28,7 +28,7 @@ unit = word unit_digit
 abbrev pub number : Reader ℕ
 number = word decimal_value
 
--- the signature of a store (this project's own)
+-- the signature of a store, at most 536,870,911 (this project's own)
 abbrev pub sig : Reader ℕ
 sig = word (decimal_to 536_870_911)
 
@@ -36,7 +36,7 @@ sig = word (decimal_to 536_870_911)
 abbrev pub len : Reader ℕ
 len = word (decimal_to 60_000)
 
--- a cursor (this project's own)
+-- a cursor, 0 to 31 (this project's own)
 abbrev pub cursor : Reader ℕ
 cursor = word (decimal_to 31)
 
@@ -44,11 +44,11 @@ cursor = word (decimal_to 31)
 abbrev pub most : Reader ℕ
 most = word (one_to 64)
 
--- a watch (this project's own)
+-- a watch, 0 to 7 (this project's own)
 abbrev pub watch : Reader ℕ
 watch = word (decimal_to 7)
 
--- a working copy (this project's own)
+-- a working copy, 0 to 15 (this project's own)
 abbrev pub copy : Reader ℕ
 copy = word (decimal_to 15)
 
@@ -88,7 +88,7 @@ abbrev pub with_bytes : Result ((List ℕ → Command) × List ℕ) Refusal → 
 with_bytes (Err r) = ready (Err r)
 with_bytes (Ok (f, rest)) = bytes (trimmed rest) f
 
--- a row whose words are all (this project's own)
+-- a row of words alone: nothing follows them (this project's own)
 abbrev pub whole : Reader Command → List ℕ → Parsed
 whole reader cs = ended (reader cs)
 
@@ -108,7 +108,7 @@ and_bytes reader cs = with_bytes (reader cs)
 abbrev pub alone : {A : Type 0} → A → Reader A
 alone a cs = Ok (a, cs)
 
--- symbols of which no two are one (this project's own)
+-- symbols, no two of which are one (this project's own)
 abbrev pub if_distinct : Result (List (List ℕ) × List ℕ) Refusal
     → Result (List (List ℕ) × List ℕ) Refusal
 if_distinct (Err r) = Err r
@@ -119,7 +119,7 @@ if_distinct (Ok (names, rest)) =
 abbrev pub distinct : Reader (List (List ℕ))
 distinct cs = if_distinct (several 140_000 symbol cs)
 
--- the first row where its words are all, else the second (this project's own)
+-- the first row where it reads a command, else the second (this project's own)
 abbrev pub or_row : Parsed → Parsed → Parsed
 or_row (ready (Ok c)) other = ready (Ok c)
 or_row _ other = other
@@ -142,7 +142,7 @@ info_row cs =
 abbrev pub star : List ℕ → Option ℕ
 star w = if bytes_eq w (codes "*") then Some 0 else None
 
--- a query of all mounted stores behind a star, else of the store on a unit (this project's own)
+-- a query of all mounted stores after a star, else of the store on a unit (this project's own)
 abbrev pub query_by : Result (ℕ × List ℕ) Refusal → List ℕ → Parsed
 query_by (Ok (_, rest)) cs = and_literal (of1 name (λ s g. command.QueryAll s g)) rest
 query_by (Err _) cs = and_literal (of2 unit name (λ u s g. command.Query u s g)) cs
@@ -151,7 +151,7 @@ query_by (Err _) cs = and_literal (of2 unit name (λ u s g. command.Query u s g)
 abbrev pub query_row : List ℕ → Parsed
 query_row cs = query_by (word star cs) cs
 
--- the first word of a command, and what is read behind it (this project's own)
+-- the first word of a command, and what is read after it (this project's own)
 abbrev pub Row : Type 0
 Row = List ℕ × (List ℕ → Parsed)
 
@@ -226,7 +226,7 @@ first_word cs =
 abbrev pub says_nothing : List ℕ → Bool
 says_nothing cs = elim (skip_blanks cs) [ [] ↦ true | c ∷ _ ↦ c == 37 ]
 
--- what a row reads; a word that has none is no command (this project's own)
+-- what a row reads; a word without a row is not a command (this project's own)
 abbrev pub read_row : Option Row → List ℕ → Parsed
 read_row None rest = ready (Err NoCommand)
 read_row (Some r) rest = r.1 rest
@@ -245,6 +245,6 @@ abbrev pub if_said : Bool → List ℕ → Option Parsed
 if_said true line = None
 if_said false line = Some (within_length (nat_lt 140_000 (length line)) line)
 
--- what a line says, none for a line that gives no command (this project's own)
+-- what a line says; none for a line that gives no command (this project's own)
 abbrev pub parsed : List ℕ → Option Parsed
 parsed line = if_said (says_nothing line) line

@@ -1,16 +1,16 @@
--- A run: the worlds that items lead through, and the replies to them. What a world is, is left open:
--- it may have more beside it. All of it is this project's own.
+-- A run: the worlds that items lead through, and the replies to them. The type of worlds is left
+-- open, so that a run may be over more than a world. All of it is this project's own.
 use Rattle.std.specs.Prelude.{◌≡◌, ℕ, Bool, false, ◌==◌, List, [], ◌∷◌, map, flat_map, filter}
 use Rattle.std.specs.Prelude.{length, take, Ok, Err}
 use Rattle.newt_spec_world.specs.Reply.{Reply, reply_text}
 use Rattle.newt_spec_world.specs.declared.command.Command.{Command}
 use Rattle.newt_spec_script.specs.Script.{Item}
 
--- how a command may turn one world into the next, and what is replied
+-- a step: how a command may turn one world into the next, and what is replied
 abbrev pub Stepping : Type 0 → Type 1
 Stepping W = W → Command → W → Reply → Type 0
 
--- the world behind an item, and the reply to it
+-- a row: the world after an item, and the reply to it
 abbrev pub Row : Type 0 → Type 0
 Row W = W × Reply
 
@@ -21,7 +21,7 @@ module _ {W : Type 0} (step : Stepping W) where
   Goes world (Ok command) row = step world command row.0 row.1
   Goes world (Err refusal) row = (row.0 ≡ world) × (row.1 ≡ Reply.refused refusal)
 
-  -- the rows are a run over the items: each row comes of the world before it
+  -- the rows are a run over the items: each row follows from the world of the row before it
   abbrev pub IsRun : W → List Item → List (Row W) → Type 0
   IsRun world [] [] = Unit {0}
   IsRun world (item ∷ items) (row ∷ rows) = Goes world item row × IsRun row.0 items rows
@@ -35,14 +35,14 @@ throws unit reply = false
 -- ---- what is read off a run
 
 module _ {W : Type 0} where
-  -- the world behind all rows
-  abbrev pub world_behind : W → List (Row W) → W
-  world_behind world [] = world
-  world_behind world (row ∷ rows) = world_behind row.0 rows
+  -- the world after all rows
+  abbrev pub last_world : W → List (Row W) → W
+  last_world world [] = world
+  last_world world (row ∷ rows) = last_world row.0 rows
 
-  -- the world behind the first rows, so many of them, and behind the last row that of the last
+  -- the world after the first m rows; where there are fewer rows, that after the last one
   abbrev pub world_at : W → List (Row W) → ℕ → W
-  world_at world rows m = world_behind world (take m rows)
+  world_at world rows m = last_world world (take m rows)
 
   -- the replies
   abbrev pub replies_of : List (Row W) → List Reply
@@ -52,7 +52,7 @@ module _ {W : Type 0} where
   abbrev pub reply_texts : List (Row W) → List (List ℕ)
   reply_texts rows = map (λ row. reply_text row.1) rows
 
-  -- and behind one another: the output
+  -- the output: the texts of the replies, one after another
   unfoldable pub output_of : List (Row W) → List ℕ
   output_of rows = flat_map (λ row. reply_text row.1) rows
 

@@ -14,6 +14,6 @@ module _ {W : Type 0} (answers : W → Command → W × Reply) where
   abbrev pub reply_texts : W → List Item → List (List ℕ)
   reply_texts world items = map reply_text (replies_to answers world items)
 
-  -- and behind one another (this project's own)
+  -- these texts, one after another (this project's own)
   unfoldable pub texts : W → List Item → List ℕ
   texts world items = flat_map reply_text (replies_to answers world items)

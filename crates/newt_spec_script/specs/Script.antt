@@ -29,7 +29,7 @@ without_return [] = []
 without_return (c ∷ []) = elim (c == 13) [ true ↦ [] | false ↦ c ∷ [] ]
 without_return (c ∷ d ∷ cs) = c ∷ without_return (d ∷ cs)
 
--- what a line gives: a command, or why it is none (a word of these definitions)
+-- an item: what a line gives, a command or a refusal (a word of these definitions)
 abbrev pub Item : Type 0
 Item = Result Command Refusal
 
@@ -49,8 +49,8 @@ module _ (Reads Spells SpellsWide : List ℕ → RawGraph → Type 0) where
   abbrev pub NoGraph : (RawGraph → Type 0) → Type 0
   NoGraph P = (g : RawGraph) → ¬ P g
 
-  -- a stream: the graph that is spelled, else that it is compressed or malformed
-  -- (this project's own)
+  -- What a stream gives. The command has the graph that the bytes spell. It is `Compressed` where
+  -- only the wide grammar spells a graph, and `Malformed` where neither does. (this project's own)
   abbrev pub ReadsStream : List ℕ → (RawGraph → Command) → Item → Type 0
   ReadsStream bs f item =
       ((g : RawGraph) × Spells bs g × (item ≡ Ok (f g)))
@@ -81,12 +81,12 @@ module _ (Reads Spells SpellsWide : List ℕ → RawGraph → Type 0) where
 
 -- ---- the run of the items
 
--- the command that ends a script (this project's own)
+-- a well-formed `quit`, which ends a script (this project's own)
 abbrev pub is_quit : Item → Bool
 is_quit (Ok command.Quit) = true
 is_quit _ = false
 
--- the items up to and with the first `quit` (this project's own)
+-- the items up to the first `quit`, and that one (this project's own)
 abbrev pub up_to_quit : List Item → List Item
 up_to_quit [] = []
 up_to_quit (x ∷ xs) = elim (is_quit x) [ true ↦ x ∷ [] | false ↦ x ∷ up_to_quit xs ]

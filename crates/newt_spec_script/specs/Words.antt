@@ -19,7 +19,7 @@ use Rattle.newt_spec_world.specs.declared.command.PartWord.{PartWord}
 abbrev pub is_blank : ℕ → Bool
 is_blank c = (c == 32) || (c == 9)
 
--- a text from its first byte on that is no blank (a word of these definitions)
+-- a text from its first byte on that is not a blank (a word of these definitions)
 abbrev pub skip_blanks : List ℕ → List ℕ
 skip_blanks cs = drop (prefix_len is_blank cs) cs
 
@@ -68,7 +68,7 @@ abbrev pub of6 : {A B C D E F R : Type 0} → Reader A → Reader B → Reader C
     → Reader F → (A → B → C → D → E → F → R) → Reader R
 of6 p q r s t u f cs = then_read (p cs) (λ a. of5 q r s t u (f a))
 
--- the value, or that the line has not the form (a word of these definitions)
+-- the value, or the refusal of a line that does not have the form (a word of these definitions)
 abbrev pub or_not_the_form : {A : Type 0} → Option A → List ℕ → Result (A × List ℕ) Refusal
 or_not_the_form None rest = Err NotTheForm
 or_not_the_form (Some a) rest = Ok (a, rest)
@@ -127,7 +127,7 @@ abbrev pub ends_word : List ℕ → Bool
 ends_word [] = true
 ends_word (c ∷ cs) = is_blank c
 
--- a quoted text that is a name, where the word ends behind it (this project's own)
+-- a quoted text that is a name, where the word ends after it (this project's own)
 abbrev pub if_name : Option (List ℕ × List ℕ) → Result (List ℕ × List ℕ) Refusal
 if_name None = Err NotTheForm
 if_name (Some q) = if is_name q.0 && ends_word q.1 then Ok q else Err NotTheForm
@@ -153,7 +153,7 @@ split_at mark (c ∷ cs) =
     onto x [] = (x ∷ []) ∷ []
     onto x (p ∷ ps) = (x ∷ p) ∷ ps
 
--- a type; `real` gives none (this project's own)
+-- a type; the word `real` is read, and gives none (this project's own)
 abbrev pub kind_word : List ℕ → Option (Option Kind)
 kind_word cs =
     if bytes_eq cs (codes "string") then Some (Some kind.Text)

@@ -52,39 +52,45 @@ table_bytes t = path_bytes t.path ++ counted text_bytes t.symbols
 abbrev pub info_bytes : RawGraph → List ℕ
 info_bytes g = be16 (length (flat g)) ++ flat g
 
--- what a soup has of a tags declaration and an info frame: a byte that is odd where there is a declaration and 2 or 3 where there is an info frame, the one, and
--- the other (this project's own)
+-- What a soup has of a tags declaration and an info frame. The first byte is 0 for neither, 1 for a
+-- declaration, 2 for an info frame and 3 for both. Then come the declaration and the info frame.
+-- (this project's own)
 abbrev pub extra_bytes : Option TagTable → Option RawGraph → List ℕ
 extra_bytes None None = 0 ∷ []
 extra_bytes (Some t) None = 1 ∷ table_bytes t
 extra_bytes None (Some g) = 2 ∷ info_bytes g
 extra_bytes (Some t) (Some g) = 3 ∷ table_bytes t ++ info_bytes g
 
--- a soup in the directory: name, signature in two bytes, next entry id in four, indexes, tags and info (this project's own)
+-- a soup in the directory: name, signature in two bytes, next entry id in four, indexes, tags and
+-- info (this project's own)
 abbrev pub soup_bytes : Soup → List ℕ
 soup_bytes p =
     text_bytes p.name ++ be16 p.sig ++ be32 p.next_uid ++ counted (counted part_bytes) p.specs ++ extra_bytes p.tags p.info
 
--- the directory: the name of the store, its signature in four bytes, the next soup signature in two, and the soups (this project's own)
+-- the directory: the name of the store, its signature in four bytes, the next soup signature in
+-- two, and the soups (this project's own)
 abbrev pub directory_bytes : Store → List ℕ
 directory_bytes s = text_bytes s.name ++ be32 s.sig ++ be16 s.next_soup ++ counted soup_bytes s.soups
 
--- ---- pages
+-- ---- numbers of pages
 
 -- the length of a large binary, none of another node (a word of these definitions)
 abbrev pub large_length : Node → List ℕ
 large_length (Large _ bytes) = length bytes ∷ []
 large_length _ = []
 
--- the lengths of the large binaries of a graph, in order of node number (a word of these definitions)
+-- the lengths of the large binaries of a graph, in order of node number (a word of these
+-- definitions)
 abbrev pub large_lengths : RawGraph → List ℕ
 large_lengths g = flat_map large_length g.nodes
 
--- the bytes of the flat text of a graph without the bytes of its large binaries (this project's own)
+-- how many bytes the flat text of a graph has without those of its large binaries (this project's
+-- own)
 abbrev pub skeleton_length : RawGraph → ℕ
 skeleton_length g = length (flat (skeleton g))
 
--- the pages of an entry's record, which is 12 bytes, the flat text of its skeleton and 12 bytes for each large binary (this project's own)
+-- The pages of an entry's record. The record is 12 bytes, the flat text of its skeleton, and 12
+-- bytes for each large binary. (this project's own)
 abbrev pub record_pages : Entry → ℕ
 record_pages e = pages_for (12 + skeleton_length e.graph + 12 * length (large_lengths e.graph))
 
@@ -100,19 +106,22 @@ soup_pages p = sum_by entry_pages p.entries
 abbrev pub directory_pages : Store → ℕ
 directory_pages s = pages_for (length (directory_bytes s))
 
--- the pages of the directory, and those of all entries (this project's own)
+-- the cost of a store: the pages of its directory, and those of all its entries (this project's
+-- own)
 abbrev pub cost : Store → ℕ
 cost s = directory_pages s + sum_by soup_pages s.soups
 
--- the bytes of a batch that puts so many pages and lets so many go: 516 for each that it puts, 4 for each that it lets go, and 9 beside them
--- (this project's own)
+-- The bytes of a batch that puts and deletes so many pages: 516 for each page that it puts, 4 for
+-- each that it deletes, and 9 more. (this project's own)
 abbrev pub pages_bytes : ℕ → ℕ → ℕ
 pages_bytes put gone = 9 + 516 * put + 4 * gone
 
--- the most pages that so many bytes of an object, one after another, lie in (this project's own)
+-- the most pages that so many bytes of an object, one after another, can lie in (this project's
+-- own)
 abbrev pub range_pages : ℕ → ℕ
 range_pages count = (count + 499) / 500 + 1
 
--- the bytes of the batch that puts so many bytes in a large binary: it puts the pages that they lie in (this project's own)
+-- the bytes of the batch that writes so many bytes into a large binary: it puts the pages that they
+-- lie in (this project's own)
 abbrev pub patch_bytes : ℕ → ℕ
 patch_bytes count = pages_bytes (range_pages count) 0

@@ -1,4 +1,5 @@
--- The store of an image, as a function that computes: its records give pages, its pages objects, and its objects the store. The format is this project's own.
+-- The store of an image, as a function that computes. Its records give pages, its pages objects,
+-- and its objects the store. The format is this project's own.
 use Rattle.std.specs.Prelude.{ℕ, ◌==◌, ◌&&◌, Bool, false, List, [], map, find, fold, slice_get, Option, Some, None, option_map, option_and_then, if◌then◌else◌}
 use Rattle.std.specs.List.{list_all, range_with_len}
 use Rattle.std.specs.Option.{unwrap_or}
@@ -20,11 +21,11 @@ page_of live id part = option_map (λ e. e.0) (find (λ e. (object_id e.1 == id)
 abbrev pub extent_by : Pages → ℕ → ℕ → Option Extent
 extent_by live id size = option_map (λ numbers. record { length = size; numbers = numbers }) (every (map (page_of live id) (range_with_len 0 (pages_for size))))
 
--- where each object lies; it is as long as its first page says
+-- the extent of each object; an object is as long as its first page says
 abbrev pub table_of : Pages → Table
 table_of live id = option_and_then (λ first. extent_by live id (object_length (unwrap_or (map.get live first) []))) (page_of live id 0)
 
--- this number and no other
+-- there is a number, and it is this one
 abbrev pub is_number : ℕ → Option ℕ → Bool
 is_number number None = false
 is_number number (Some n) = number == n
@@ -34,7 +35,7 @@ abbrev pub is_page_of : Option Extent → ℕ × List ℕ → Bool
 is_page_of None e = false
 is_page_of (Some x) e = (object_length e.1 == x.length) && is_number e.0 (slice_get x.numbers (part_number e.1))
 
--- objects and one more, where there is one
+-- the objects, and this one too where it has an extent
 abbrev pub with_extent : Pages → Objects → ℕ → Option Extent → Objects
 with_extent live objects id None = objects
 with_extent live objects id (Some x) = map.insert objects id (joined live x)
@@ -46,7 +47,8 @@ objects_of live =
     then Some (fold (λ objects e. with_extent live objects (object_id e.1) (table_of live (object_id e.1))) map.empty (map.entries live))
     else None
 
--- The store that an image is read as, where `graph_of` reads the texts of entries; none where it is no readable store.
+-- The store that an image is read as, where `graph_of` reads the texts of entries; none where it is
+-- no readable store.
 abbrev pub store_of_image : (List ℕ → Option RawGraph) → List ℕ → Option Store
 store_of_image graph_of image =
     option_and_then (λ live. option_and_then (λ objects. store_of graph_of (version image) (map.entries objects) (blocks_of image)) (objects_of live)) (pages image)

@@ -1,11 +1,12 @@
--- Objects that write down a store, with the records of its entries in any order. This project's own format.
+-- Objects that write down a store, with the records of its entries in any order. This project's own
+-- format.
 use Rattle.std.specs.Prelude.{◌≡◌, [], ℕ, ◌%◌, ◌<◌, true, ◌==◌, List, length, map, filter, zip, Option, Some}
 use Rattle.newt_graph.specs.Graph.{RawGraph}
 use Rattle.newt_spec_nsof.specs.Flat.{flat}
 use Rattle.newt_spec_nsof.specs.Lengths.{skeleton}
 use Rattle.newt_spec_store.specs.Store.{Entry, Soup, Store}
 use Rattle.newt_spec_store.specs.Cost.{directory_bytes}
-use Rattle.newt_spec_store.specs.Image.{Objects, larges, entry_bytes, all_entries}
+use Rattle.newt_spec_store.specs.Image.{ObjectList, larges, entry_bytes, all_entries}
 use Rattle.newt_spec_store.specs.StoreOf.{LargeRow, EntryRow, object_bytes, named_once}
 use Rattle.newt_spec_graph.specs.Lists.{Each, Pairs, Among}
 
@@ -29,8 +30,9 @@ row_of_large l = (l.0.0, l.1, length l.0.1)
 abbrev pub FitsRow : Named → Type 0
 FitsRow l = (l.0.0 < 4294967296) × (l.1 < 4294967296) × (length l.0.1 < 4294967296)
 
--- the object of a large binary is there (this project's own)
-abbrev pub IsThere : Objects → Named → Type 0
+-- the object of a large binary is there: it has an even id above 0, and these bytes (this project's
+-- own)
+abbrev pub IsThere : ObjectList → Named → Type 0
 IsThere objects l = (l.1 % 2 ≡ 0) × (0 < l.1) × (object_bytes objects l.1 ≡ Some l.0.1)
 
 -- the row that an entry's record gives (this project's own)
@@ -56,7 +58,8 @@ pub record AreEntries (s : Store) (entries : List (ℕ × Entry)) : Type 0 where
   pub complete : (x : ℕ × Entry) → Among (all_entries s) x → Among entries x
   pub once : Pairs ApartIds entries
 
--- an entry's record: the number of its object, its soup, the entry, and the objects of its large binaries (this project's own)
+-- An entry with its record: the id of the record's object, the soup, the entry, and the ids of the
+-- objects of its large binaries. (this project's own)
 pub record Laid : Type 0 where
   pub object : ℕ
   pub soup : ℕ
@@ -71,10 +74,11 @@ record_of x = (x.object, entry_bytes x.soup x.entry x.ids)
 abbrev pub AreInfosRead : (List ℕ → Option RawGraph) → Store → Type 0
 AreInfosRead graph_of s = (p : Soup) (g : RawGraph) → Among s.soups p → p.info ≡ Some g → graph_of (flat g) ≡ Some g
 
--- The objects write down this store: the directory is object 0, the objects with odd ids are the records of these entries, their numbers fit their fields, each
--- info frame and each skeleton is read back from its text, each large binary is there and named once, and the entries are exactly the store's.
--- (this project's own)
-pub record IsLaid (graph_of : List ℕ → Option RawGraph) (objects : Objects) (s : Store) (laid : List Laid) : Type 0 where
+-- The objects write down this store. The directory is object 0, and the objects with odd ids are
+-- the records of these entries. Their numbers fit their fields. Each info frame and each skeleton
+-- is read back from its text. Each large binary is there and named once. The entries are exactly
+-- the store's. (this project's own)
+pub record IsLaid (graph_of : List ℕ → Option RawGraph) (objects : ObjectList) (s : Store) (laid : List Laid) : Type 0 where
   pub written : object_bytes objects 0 ≡ Some (directory_bytes s)
   pub infos : AreInfosRead graph_of s
   pub records : filter (λ o. o.0 % 2 == 1) objects ≡ map record_of laid

@@ -15,18 +15,20 @@ use Rattle.newt_spec_store.specs.Store.{Entry, Soup, Store}
 use Rattle.newt_spec_store.specs.StoreOf.{LargeRow, EntryRow, only, entry_row, entry_of_row, fill, names_larges}
 use Rattle.newt_spec_store.specs.Valid.{valid_entry, well_formed, keeps_version}
 
--- the directory that bytes of an image of this version are read as: a store without entries that is well formed (this project's own)
+-- the directory that bytes of an image of this version are read as: a store without entries that is
+-- well formed (this project's own)
 abbrev pub directory_read : (List ℕ → Option RawGraph) → ℕ → List ℕ → Option Store
 directory_read graph_of version bytes = only well_formed (only (keeps_version version) (whole (directory graph_of) bytes))
 
 -- ---- one record
 
--- the entry, and the signature of its soup, that the bytes of a record are read as among objects, which have the bytes of its large binaries
--- (this project's own)
+-- What the bytes of a record are read as: the entry, and the signature of its soup. The objects
+-- have the bytes of its large binaries. (this project's own)
 abbrev pub entry_read : (List ℕ → Option RawGraph) → Objects → List ℕ → Option (ℕ × Entry)
 entry_read graph_of objects bytes = only (λ x. valid_entry x.1) (option_and_then (entry_of_row graph_of (map.entries objects)) (entry_row bytes))
 
--- a graph with as many zero bytes in its large binaries as the rows say (a word of these definitions)
+-- a graph with as many zero bytes in its large binaries as the rows say (a word of these
+-- definitions)
 abbrev pub stretched : List LargeRow → RawGraph → RawGraph
 stretched rows g = fold fill g (list_map (λ l. (l.0, replicate l.2 0)) rows)
 
@@ -34,8 +36,9 @@ stretched rows g = fold fill g (list_map (λ l. (l.0, replicate l.2 0)) rows)
 abbrev pub may_be_large : LargeRow → Bool
 may_be_large l = (l.1 % 2 == 0) && nat_lt 0 l.1
 
--- The rows name each large binary of the skeleton, in order, with an object that may be one; and the skeleton with as many bytes as they say may be an entry's.
--- (this project's own)
+-- The rows name each large binary of the skeleton, in order, with an object that may be one. The
+-- skeleton, with as many bytes in them as the rows say, may be the graph of an entry. (this
+-- project's own)
 abbrev pub is_record : EntryRow × RawGraph → Bool
 is_record (row, g) =
     names_larges row g && list_all may_be_large row.larges && valid_entry (record { uid = row.uid; time = row.time; graph = stretched row.larges g })
@@ -44,15 +47,16 @@ is_record (row, g) =
 abbrev pub record_read : (List ℕ → Option RawGraph) → List ℕ → Option (EntryRow × RawGraph)
 record_read graph_of bytes = only is_record (option_and_then (λ row. option_map (λ g. (row, g)) (written graph_of row.text)) (entry_row bytes))
 
--- Texts of graphs are read as the graphs that they are written of, and as no others. (a word of these definitions)
+-- The flat text of each graph is read as that graph, and whatever is read is a graph in normal
+-- form. (a word of these definitions)
 pub record ReadsGraphs (graph_of : List ℕ → Option RawGraph) : Type 0 where
   pub back : (g : RawGraph) → IsGraph g → graph_of (flat g) ≡ Some g
   pub graphs : (text : List ℕ) (g : RawGraph) → graph_of text ≡ Some g → IsGraph g
 
 -- ---- stores
 
--- the id of the object that has an entry's record, by the signature of the entry's soup and the entry's id; none where there is no such entry
--- (a word of these definitions)
+-- Where the record of each entry is: the id of its object, by the signature of the entry's soup and
+-- the entry's id. None where there is no such entry. (a word of these definitions)
 abbrev pub Places : Type 0
 Places = ℕ → ℕ → Option ℕ
 
@@ -63,19 +67,23 @@ pub record IsIn (s : Store) (sig : ℕ) (e : Entry) : Type 0 where
   pub of_sig : soup.sig ≡ sig
   pub is_entry : Among soup.entries e
 
--- A large binary's object has an even id above 0, which fits in four bytes, and has its bytes. (this project's own)
+-- A large binary's object has an even id above 0, which fits in four bytes, and has its bytes.
+-- (this project's own)
 abbrev pub HasLarge : Objects → Named → Type 0
 HasLarge objects l = (l.1 % 2 ≡ 0) × (0 < l.1) × (l.1 < 4294967296) × (map.get objects l.1 ≡ Some l.0.1)
 
--- These are the objects of the large binaries of a graph, in order: one for each, and no two are one. (this project's own)
+-- These are the objects of the large binaries of a graph, in order: one for each, and no two are
+-- one. (this project's own)
 pub record AreLarges (objects : Objects) (g : RawGraph) (ids : List ℕ) : Type 0 where
   pub each_named : length (larges g) ≡ length ids
   pub there : Each (HasLarge objects) (zip (larges g) ids)
   pub apart : Pairs (λ a b. a ≢ b) ids
 
--- How a store lies in objects: the directory is object 0; each entry's record is the object of its place, which has an odd id, and names the objects of the
--- entry's large binaries; no object is named by two records; and there are no other objects, no other places and no other names. Info frames and skeletons are in
--- normal form, and a minute fits in four bytes. `named` are the ids that the record of an object names. (this project's own)
+-- How a store lies in objects. The directory is object 0. The record of each entry is the object of
+-- its place, which has an odd id, and names the objects of the entry's large binaries. No object is
+-- named by two records. There are no other objects, no other places and no other names. Info frames
+-- and skeletons are in normal form, and the minute of each entry fits in four bytes. `named` gives
+-- the ids that the record of an object names. (this project's own)
 pub record LiesIn (objects : Objects) (place : Places) (s : Store) : Type 0 where
   pub named : ℕ → List ℕ
   pub directory : map.get objects 0 ≡ Some (directory_bytes s)

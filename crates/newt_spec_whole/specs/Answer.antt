@@ -24,7 +24,7 @@ abbrev pub world_after : World → Option Command → World
 world_after w None = w
 world_after w (Some c) = settle (changed w c)
 
--- something new at a number, where one is free (a word of these definitions)
+-- the list with something new at a number, if one is given (a word of these definitions)
 abbrev pub put_at : {X : Type 0} → Option ℕ → X → List (Option X) → List (Option X)
 put_at None x xs = xs
 put_at (Some n) x xs = slice_set xs n (Some x)
@@ -36,18 +36,19 @@ watches_after h (command.Notes n) = change_at n emptied h.watches
 watches_after h (command.Unwatch n) = slice_set h.watches n None
 watches_after h _ = h.watches
 
--- a copy that is opened of an entry in the soup of this name on a unit (this project's own)
+-- the copy that is opened of an entry in a soup of a store; none where one of them is missing (this
+-- project's own)
 abbrev pub opened_of : Option Store → Option Soup → Option Entry → Option Copy
 opened_of (Some t) (Some p) (Some e) = Some (opened t.sig p.sig e.uid e.time e.graph)
 opened_of _ _ _ = None
 
--- it is put at the least free number (a word of these definitions)
+-- the copies with this one, if there is one, at a number (a word of these definitions)
 abbrev pub put_copy : Option ℕ → Option Copy → List (Option Copy) → List (Option Copy)
 put_copy n None ks = ks
 put_copy n (Some k) ks = put_at n k ks
 
--- the copy of the entry as it is now, with no edits; as it was where the entry is not there
--- (this project's own)
+-- the copy begun anew from the entry as it is now; as it was where the entry is not there (this
+-- project's own)
 abbrev pub reverted : Whole → Copy → Copy
 reverted h k = elim (living h k) [ None ↦ k | Some s ↦ rebased s.entry.time s.entry.graph k ]
 
@@ -96,14 +97,15 @@ abbrev pub time_now : Whole → ℕ → Reply
 time_now h n =
     or_nil (λ (s : Spot). Reply.changed s.entry.time) (option_and_then (living h) (copy h n))
 
--- a refusal; that an entry has changed is told with its present time (this project's own)
+-- the reply to a refusal; where the entry has changed, its present time stands there too (this
+-- project's own)
 abbrev pub refusal_reply : Whole → Command → Refusal → Reply
 refusal_reply h (command.Save n) Changed = time_now h n
 refusal_reply h c r = Reply.refused r
 
 -- ---- one command, and a run of them
 
--- refused, the whole stays as it is (this project's own)
+-- a command that is refused leaves the whole as it is (this project's own)
 abbrev pub whole_answered : Whole → Command → Option Refusal → Whole × Reply
 whole_answered h c (Some refusal) = (h, refusal_reply h c refusal)
 whole_answered h c None = let v = whole_after h c in (v, whole_fields h v c)

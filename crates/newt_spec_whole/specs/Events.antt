@@ -1,5 +1,6 @@
--- The notes of each command. That a change of a soup is told with what was done is Newton's (Newton
--- Programmer's Guide 2.0, soup change notification); which commands tell what is this project's own.
+-- The notes of each command. That a note of a soup says what was done is Newton's (Newton
+-- Programmer's Guide 2.0, soup change notification). Which commands give which notes is this
+-- project's own.
 use Rattle.std.specs.Prelude.{ℕ, List, [], ◌∷◌, Option, Some, None, option_map, unwrap_or}
 use Rattle.newt_notify.specs.declared.note.Note.{Note}
 use Rattle.newt_notify.specs.declared.note.Kind.{Kind}
@@ -22,16 +23,17 @@ soup_sig w u name = unwrap_or (option_map (λ p. p.sig) (soup_in w u name)) 0
 abbrev pub next_sig : World → ℕ → ℕ
 next_sig w u = unwrap_or (option_map (λ s. s.next_soup) (mounted_store w u)) 0
 
--- a soup of this name is made, or dropped (this project's own)
+-- the note that a soup of this name is made, or dropped (this project's own)
 abbrev pub soup_event : Kind → ℕ → List ℕ → ℕ → Event
 soup_event kind u name sig = (name, record { kind = kind; unit = u; soup = sig; uid = 0 })
 
--- an entry of the soup of this name on a unit is changed, or removed (this project's own)
+-- the note that an entry of the soup of this name on a unit is changed, or removed (this project's
+-- own)
 abbrev pub entry_event : World → Kind → ℕ → List ℕ → ℕ → Event
 entry_event w kind u name uid =
     (name, record { kind = kind; unit = u; soup = soup_sig w u name; uid = uid })
 
--- an entry is added to it (this project's own)
+-- the note that an entry is added to that soup (this project's own)
 abbrev pub add_event : World → ℕ → List ℕ → Event
 add_event w u name = entry_event w Add u name (new_uid w u name)
 
@@ -55,7 +57,8 @@ abbrev pub events_of : World → Option Command → List Event
 events_of w None = []
 events_of w (Some c) = events w c
 
--- each watch of its soup's name takes a note, one after another (this project's own)
+-- the watches after these notes, one after another; a watch of the soup's name takes the note (this
+-- project's own)
 abbrev pub note_all : List Event → List (Option Watching) → List (Option Watching)
 note_all [] ws = ws
 note_all (e ∷ es) ws = note_all es (noted e.0 e.1 ws)

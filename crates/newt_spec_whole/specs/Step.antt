@@ -21,8 +21,8 @@ formats h c u = worlds.formats h.world c u
 abbrev pub whole_thrown : Whole → Command → ℕ → Whole
 whole_thrown h asked u = in_world h (world_thrown h.world asked u)
 
--- The whole where the device of the source of a move fails once the target has the entry: that it
--- was added is noted. (this project's own)
+-- The whole where the device of the source of a move fails after the target has the entry. The note
+-- that the entry was added is given, and no other. (this project's own)
 abbrev pub whole_halfway : Whole → Command → ℕ → Whole
 whole_halfway h c u = record h {
   world = world_halfway h.world c u;

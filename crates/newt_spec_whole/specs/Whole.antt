@@ -1,6 +1,6 @@
 -- The whole: a world of plain stores with its cursors, eight places for watches, and sixteen for
 -- working copies. Notifications of changes are Newton's (Newton Programmer's Guide 2.0, soup change
--- notification); that a watch is asked for its notes, and working copies, are this project's own.
+-- notification). That a watch is asked for its notes, and working copies, are this project's own.
 use Rattle.std.specs.Prelude.{ℕ, Bool, List, [], ◌∷◌, Option, Some, None, option_map}
 use Rattle.std.specs.Prelude.{option_and_then, unwrap_or, replicate, is_none}
 use Rattle.std.specs.Prelude.{if◌then◌else◌}
@@ -73,14 +73,14 @@ get_of s = command.Get s.unit s.soup.name s.entry.uid
 abbrev pub change_of : Copy → Spot → Command
 change_of k s = command.Change s.unit s.soup.name s.entry.uid k.draft
 
--- what is asked of the entry that a copy is of; nothing where there is no such copy, or its entry is
--- not there (a word of these definitions)
+-- what is asked of the entry that a copy is of; nothing where there is no such copy, or its entry
+-- is not there (a word of these definitions)
 abbrev pub of_living : Whole → ℕ → (Copy → Spot → Command) → Option Command
 of_living h n ask = option_and_then (λ k. option_map (ask k) (living h k)) (copy h n)
 
--- The command that a command asks of the world, where it is done: one of watches and copies alone
--- asks none; `open` and `revert` ask to read the entry, `save` to change it to the draft; all others
--- ask themselves. (this project's own)
+-- The command of the world that a command asks for, where it is done. Commands of watches and
+-- copies alone ask for none. `open` and `revert` ask to read the entry; `save` asks to change it to
+-- the draft. All others ask for themselves. (this project's own)
 unfoldable pub asks : Whole → Command → Option Command
 asks h (command.Watch _ _) = None
 asks h (command.Notes _) = None

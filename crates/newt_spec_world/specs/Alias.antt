@@ -1,5 +1,5 @@
--- Aliases of entries. That an alias names an entry and resolves to it or to nil is Newton's (Newton Programmer's Guide 2.0, entry aliases); its form as a literal
--- is this project's own.
+-- Aliases of entries. That an alias names an entry and resolves to it or to nil is Newton's (Newton
+-- Programmer's Guide 2.0, entry aliases). Its form as a literal is this project's own.
 use Rattle.std.specs.Prelude.{ℕ, ◌/◌, ◌%◌, ◌==◌, [], ◌∷◌, find, Option, Some, None, option_map, option_and_then, pos, codes, if◌then◌else◌}
 use Rattle.newt_base.specs.Names.{same_name}
 use Rattle.newt_graph.specs.declared.node.Ref.{Ref}
@@ -22,7 +22,8 @@ abbrev pub natural : Ref → Option ℕ
 natural (Imm (pos w)) = if w % 4 == 0 then Some (w / 4) else None
 natural _ = None
 
--- the alias that a literal writes down: an array with class `alias` and three such integers (this project's own)
+-- the alias that a literal writes down: an array with class `alias` and three such integers (this
+-- project's own)
 abbrev pub alias_of : RawGraph → Option Alias
 alias_of g = elim (object g.nodes g.root) [
   | Some (Array (Some class) (s ∷ p ∷ u ∷ [])) ↦
@@ -34,13 +35,14 @@ alias_of g = elim (object g.nodes g.root) [
 
 -- ---- the entry that an alias names
 
--- where an entry is: its unit, its soup, itself (a word of these definitions)
+-- a spot, where an entry is: its unit, its soup, and the entry (a word of these definitions)
 pub record Spot : Type 0 where
   pub unit : ℕ
   pub soup : Soup
   pub entry : Entry
 
--- the entry that has these in a mounted store, else none (Newton Programmer's Guide 2.0, entry aliases)
+-- the entry that has these signatures and this id in a mounted store, else none (Newton
+-- Programmer's Guide 2.0, entry aliases)
 abbrev pub resolved : World → Alias → Option Spot
 resolved w a =
     option_and_then (λ m. option_and_then (λ p. option_map (λ e. record { unit = m.0; soup = p; entry = e })

@@ -1,4 +1,5 @@
--- What the world answers: the first refusal that holds, or the fields of the reply. Replies are this project's own.
+-- What the world answers: the first refusal that holds, or the fields of the reply. Replies are
+-- this project's own.
 use Rattle.std.specs.Prelude.{ℕ, List, [], ◌∷◌, map, length, Option, Some, None, option_map, option_and_then, unwrap_or}
 use Rattle.newt_base.specs.Refusals.{first_of}
 use Rattle.newt_base.specs.declared.Refusal.{Refusal}
@@ -29,8 +30,9 @@ spot_of w h = resolved w (record { store = h.store; soup = h.soup; uid = h.uid }
 abbrev pub shown : Spot → Reply
 shown s = Reply.current s.unit s.entry.uid s.entry.time s.entry.graph
 
--- What a cursor shows: nil before and behind all hits, the entry where it is on a hit, and else that the entry is deleted.
--- (Newton Programmer's Guide 2.0, cursors; the forms of the replies are this project's own)
+-- What a cursor shows: nil before and after all hits; the entry where it is on a hit; and else that
+-- the entry is deleted. (Newton Programmer's Guide 2.0, cursors; the forms of the replies are this
+-- project's own)
 abbrev pub current : World → Cursor → Reply
 current w k = elim k.place [
   | start ↦ Reply.nil
@@ -38,7 +40,8 @@ current w k = elim k.place [
   | on _ ↦ elim (option_and_then (spot_of w) (hit_at (hits_of w k.query) k.place)) [ Some s ↦ shown s | None ↦ Reply.deleted ]
 ]
 
--- the side of the hits on which a cursor stands (this project's own)
+-- the side of the hits on which a cursor stands: `begin`, `end`, or nil on a hit (this project's
+-- own)
 abbrev pub side : Cursor → Reply
 side k = elim k.place [ start ↦ Reply.begin | finish ↦ Reply.«end» | on _ ↦ Reply.nil ]
 
@@ -48,7 +51,8 @@ new_uid w u name = unwrap_or (option_map (λ p. p.next_uid) (soup_in w u name)) 
 
 -- ---- the table: the fields of each command, from the world before it and the world after it
 
--- the table: the reply of each command that is not refused, from the world before it and the world after it (this project's own)
+-- the table: the reply of each command that is not refused, from the world before it and the world
+-- after it (this project's own)
 unfoldable pub fields : World → World → Command → Reply
 fields w v (command.Nsof g) = Reply.nsof_of g
 fields w v (command.Lit g) = Reply.literal_of g
@@ -86,7 +90,8 @@ fields w v _ = Reply.done
 
 -- ---- one command, and a run of them
 
--- Refused, the world stays as it is. Else it is the changed one, and its cursors are settled. (this project's own)
+-- A command that is refused leaves the world as it is. Else the world is the changed one, with its
+-- cursors settled. (this project's own)
 abbrev pub answered : World → Command → Option Refusal → World × Reply
 answered w c (Some refusal) = (w, Reply.refused refusal)
 answered w c None = let v = settle (changed w c) in (v, fields w v c)

@@ -18,11 +18,13 @@ module _ (store_of_image : List ℕ → Option Store) (held : List ℕ → Optio
   abbrev pub device_of : List ℕ → Device
   device_of image = record { blocks = blocks_of image; media = media_of (store_of_image image); mounted = false }
 
-  -- Unit u has the device of the u-th name, if there is such a name and a device of it. `held` gives the bytes of the device of
-  -- a name, and none where there is no such device. (this project's own)
+  -- Unit u has the device of the u-th name, if there is such a name and a device of it. `held`
+  -- gives the bytes of the device of a name, and none where there is no such device. (this
+  -- project's own)
   abbrev pub unit_of : List (List ℕ) → ℕ → Option Device
   unit_of names u = option_map device_of (option_and_then held (slice_get names u))
 
-  -- the first world of a run with these names: nothing is mounted, the minute is 0 and no cursor is open (this project's own)
+  -- the first world of a run with these names: nothing is mounted, the minute is 0 and no cursor is
+  -- open (this project's own)
   abbrev pub world_of : List (List ℕ) → World
   world_of names = first_world (map (unit_of names) unit_numbers)

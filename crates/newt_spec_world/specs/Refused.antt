@@ -1,5 +1,5 @@
--- What each command is refused for: a test for each refusal, and the table of the tests in the order in which they are tried. Numbers, words and order of the
--- refusals are this project's own.
+-- What each command is refused for: a test for each refusal, and the table of the tests in the
+-- order in which they are tried. Numbers, words and order of the refusals are this project's own.
 use Rattle.std.specs.Prelude.{ℕ, ◌+◌, Bool, true, false, not, ◌||◌, ◌&&◌, ◌==◌, nat_lt, nat_le, List, [], ◌∷◌, map, length, Option, Some, None, is_some, is_none}
 use Rattle.std.specs.List.{list_all, list_any}
 use Rattle.newt_base.specs.declared.Refusal.{Refusal}
@@ -77,7 +77,7 @@ soup_exists w u name = (Exists, is_some (soup_in w u name))
 abbrev pub no_entry : World → ℕ → List ℕ → ℕ → Check
 no_entry w u name uid = (NoEntry, is_none (entry_in w u name uid))
 
--- the test of what is there, or false (a word of these definitions)
+-- the test holds of what is there; false where nothing is (a word of these definitions)
 abbrev pub on_some : {X : Type 0} → Option X → (X → Bool) → Bool
 on_some None test = false
 on_some (Some x) test = test x
@@ -101,7 +101,7 @@ full w u c =
 
 -- ---- graphs
 
--- the root of the graph is no frame (this project's own)
+-- the root of the graph is not a frame (this project's own)
 abbrev pub not_frame : RawGraph → Check
 not_frame g = (Notframe, not (is_frame (object g.nodes g.root)))
 
@@ -137,7 +137,7 @@ set_too_large w u s uid path g = (Size, after_set w u s uid path g (λ h. nat_lt
 abbrev pub no_large : World → ℕ → List ℕ → ℕ → Path → Check
 no_large w u s uid path = (NoPath, on_some (entry_in w u s uid) (λ e. is_none (large_at e.graph path)))
 
--- the range ends behind the large binary (this project's own)
+-- the range ends after the end of the large binary (this project's own)
 abbrev pub out_of_range : World → ℕ → List ℕ → ℕ → Path → ℕ → Check
 out_of_range w u s uid path upto = (Range, on_some (entry_in w u s uid) (λ e. nat_lt (length (large_bytes e.graph path)) upto))
 
@@ -169,7 +169,7 @@ index_limit w u s = (Limit, on_some (soup_in w u s) (λ p. nat_le 16 (length p.s
 abbrev pub no_soup_anywhere : World → List ℕ → Check
 no_soup_anywhere w name = (NoSoup, not (list_any (λ m. is_some (soup_in w m.0 name)) (mounted w)))
 
--- the literal has not the form of a query (this project's own)
+-- the literal does not have the form of a query (this project's own)
 abbrev pub bad_query : RawGraph → Check
 bad_query g = (BadSpec, not (is_query g))
 

@@ -23,19 +23,28 @@ use Rattle.newt_spec_store.specs.Store.{TagTable}
 pub data Reply : Type 0 where
   done : Reply
   number : ℕ → Reply
+  -- a unit, and the id of the new entry there
   added : ℕ → ℕ → Reply
+  -- the signature and the name of a store
   store : ℕ → List ℕ → Reply
+  -- of each mounted store its unit, its signature and its name
   stores : List (ℕ × ℕ × List ℕ) → Reply
+  -- of each soup its name, its signature and the number of its entries
   soups : List (List ℕ × ℕ × ℕ) → Reply
   indexes : List IndexSpec → Reply
   tags : Option TagTable → Reply
   hex : List ℕ → Reply
   nsof_of : RawGraph → Reply
   literal_of : RawGraph → Reply
+  -- the minute of an entry, and its graph as a literal
   timed : ℕ → RawGraph → Reply
+  -- the same, with the graph in NSOF
   timed_nsof : ℕ → RawGraph → Reply
+  -- the signatures of a store and a soup, and an entry id
   alias : ℕ → ℕ → ℕ → Reply
+  -- a unit, the name of a soup, and an entry id
   where_is : ℕ → List ℕ → ℕ → Reply
+  -- a unit, an entry id, the minute of the entry, and its graph
   current : ℕ → ℕ → ℕ → RawGraph → Reply
   deleted : Reply
   nil : Reply
@@ -111,12 +120,12 @@ alias_text s p uid =
 
 -- ---- texts
 
--- an empty field is left out with its space (this project's own)
+-- a field after a space; an empty field is left out with its space (this project's own)
 abbrev pub field : List ℕ → List ℕ
 field [] = []
 field (c ∷ cs) = 32 ∷ c ∷ cs
 
--- a reply that is no refusal, with its fields (this project's own)
+-- a reply that is not a refusal, with its fields (this project's own)
 abbrev pub ok : List (List ℕ) → List ℕ
 ok fields = codes "ok" ++ flat_map field fields
 

@@ -1,5 +1,6 @@
--- How a world goes on from one command to the next where devices may fail. A device that fails is thrown out: its unit is mounted no more, and the command
--- is answered by an error that names it. All of it is this project's own.
+-- How a world goes on from one command to the next where devices may fail. A device that fails is
+-- thrown out: its unit is mounted no more, and the command is answered by an error that names it.
+-- All of it is this project's own.
 use Rattle.std.specs.Prelude.{◌≡◌, ◌≢◌, ◌⊎◌, ℕ, Bool, true, false, not, ◌==◌, ◌&&◌, ◌||◌, IsTrue, [], ◌∷◌, Option, Some, None, is_none, option_and_then, unwrap_or, if◌then◌else◌}
 use Rattle.newt_base.specs.Refusals.{Checks, first_of}
 use Rattle.newt_spec_store.specs.Store.{Store}
@@ -12,7 +13,7 @@ use Rattle.newt_spec_world.specs.Changed.{changed, default_without}
 use Rattle.newt_spec_world.specs.Refused.{checks, no_unit, bad_blocks, is_mounted}
 use Rattle.newt_spec_world.specs.Answer.{answer}
 
--- ---- what is found on a unit of which it is not known what it holds
+-- ---- what is found on a unit whose content is not known
 
 -- the unit that a command looks at before anything is known of it (this project's own)
 abbrev pub looks_at : Command → Option ℕ
@@ -32,7 +33,9 @@ unsure_look w u = if is_none (first_of (look_checks w u)) && unsure_on w u then 
 abbrev pub looks_anew : World → Command → Option ℕ
 looks_anew w c = option_and_then (unsure_look w) (looks_at c)
 
--- what may be found on a device of so many blocks of which only that is known: one of the two stores; or no store, or any valid one (this project's own)
+-- What may be found on a device of so many blocks whose content is not known. Where one of two
+-- stores is on it: either of them. Where nothing is known: no store, or any valid one. (this
+-- project's own)
 abbrev pub MayTurnOut : ℕ → Media → Media → Type 0
 MayTurnOut blocks (two a b) m = (m ≡ one a) ⊎ (m ≡ one b)
 MayTurnOut blocks lost m = (m ≡ blank) ⊎ ((s : Store) × IsTrue (valid blocks s) × (m ≡ one s))
@@ -42,7 +45,7 @@ MayTurnOut blocks media m = ⊥
 abbrev pub with_media : World → ℕ → Media → World
 with_media w u m = change_device w u (λ d. record d { media = m })
 
--- The world v is w, but that it is known what the unit holds. (this project's own)
+-- The world v is w, but it is known now what the unit holds. (this project's own)
 pub record Found (w : World) (u : ℕ) (v : World) : Type 0 where
   pub on : Device
   pub there : device w u ≡ Some on
@@ -52,7 +55,7 @@ pub record Found (w : World) (u : ℕ) (v : World) : Type 0 where
 
 -- ---- what is left of a unit whose device fails
 
--- the row of the command writes the store of the unit (this project's own)
+-- the command writes the store of the unit, by its row in the table (this project's own)
 abbrev pub writes : World → Command → ℕ → Bool
 writes w (command.Soup t s) u = t == u
 writes w (command.Drop t s) u = t == u
@@ -93,19 +96,21 @@ formats w c u = is_format_of c u && is_accepted w c
 abbrev pub may_tear : World → Command → ℕ → Bool
 may_tear w c u = is_accepted w c && writes w c u && not (moves_away c u)
 
--- the store that a unit has after the command, where it had this one before (a word of these definitions)
+-- the store that a unit has after the command, where it had this one before (a word of these
+-- definitions)
 abbrev pub store_after : World → Command → ℕ → Store → Store
 store_after w c u before = unwrap_or (store_on_unit (changed w c) u) before
 
--- What a unit may hold whose device failed in the command. One store that was to be written: that store or the one after the command. No store, or not known
--- what, where it was to be formatted: not known what. Else what it held. (this project's own)
+-- What a unit may hold after its device failed in the command. Where it held one store that was to
+-- be written: that store, or the one after the command. Where it held no store and was to be
+-- formatted: it is not known what. Else what it held. (this project's own)
 abbrev pub torn : World → Command → ℕ → Media → Media
 torn w c u (one s) = if may_tear w c u then two s (store_after w c u s) else one s
 torn w c u blank = if is_format_of c u then lost else blank
 torn w c u media = media
 
--- A unit is thrown out, with this change of what it holds: it is not mounted, and where it was the default, the mounted unit of the smallest number is.
--- (this project's own)
+-- A unit is thrown out, with this change of what it holds. It is mounted no more. Where it was the
+-- default, the mounted unit of the smallest number becomes the default. (this project's own)
 abbrev pub thrown_out : World → ℕ → (Media → Media) → World
 thrown_out w u change =
     let v = change_device w u (λ d. record d { media = change d.media; mounted = false }) in
@@ -115,13 +120,14 @@ thrown_out w u change =
 abbrev pub world_thrown : World → Command → ℕ → World
 world_thrown w c u = settle (thrown_out w u (torn w c u))
 
--- what a unit may hold that held one store and was to hold another: either of them (this project's own)
+-- what a unit may hold that held one store and was to hold another: either of them (this project's
+-- own)
 abbrev pub either_of : Option Store → Media → Media
 either_of (Some a) (one b) = two a b
 either_of before media = media
 
--- The world where the device of the source of a move fails once the target has the entry: the target has it, and the source may have it still.
--- (this project's own)
+-- The world where the device of the source of a move fails after the target has the entry. The
+-- target has it, and the source may have it still. (this project's own)
 abbrev pub world_halfway : World → Command → ℕ → World
 world_halfway w c u = settle (thrown_out (changed w c) u (either_of (store_on_unit w u)))
 

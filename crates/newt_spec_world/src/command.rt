@@ -7,7 +7,7 @@ use newt_host::Unit;
 use newt_path::{Path, Paths};
 use newt_spec_store::{Kind, Order};
 
-/// A part of an index declaration as it is written. Its kind is none for a real.
+/// A part of an index declaration as it is written. Its kind is none for the type `real`.
 #[derive(Drop)]
 pub struct PartWord {
     pub path: Path,

@@ -65,7 +65,7 @@ next-ids-more first last next ids so is below = record {
   no_less = omega (arith, so.no_less, is);
   even = each (λ n. n % 2 ≡ 0) so.even next-even;
   fit = each (λ n. n < 4294967296) so.fit below;
-  behind = each (λ n. first < n) so.behind (omega (arith, so.no_less, is));
+  above = each (λ n. first < n) so.above (omega (arith, so.no_less, is));
   most = each (λ n. n ≤ next) (λ n m. let low = so.most n m in omega (arith, low, is)) (omega arith);
   once = pairs-append (λ a b. a ≢ b) ids (next ∷ []) so.once (tt, tt) (each-from (λ a. Each (λ b. a ≢ b) (next ∷ [])) ids (λ a m. (λ same. let low = so.most a m in absurd (omega (arith, low, is, same)), tt)));
 }
@@ -106,7 +106,7 @@ new-first = record {
 one-apart : (es : List FullEntry) (e : FullEntry) (ns : List NewEntry) (n : NewEntry) (id last next : ℕ) → AreNew es id last ns → IsNumbered e id last next n → (a : NewEntry) → Among ns a → AreApart a n
 one-apart es e ns n id last next so is a m = record {
   records_apart = λ same. let low = so.below a m in let at = is.id_is in absurd (omega (arith, low, at, same));
-  larges_apart = λ o k l. let low = so.most a o m k in let high = is.behind o l in absurd (omega (arith, low, high));
+  larges_apart = λ o k l. let low = so.most a o m k in let high = is.above o l in absurd (omega (arith, low, high));
 }
 
 pub new-more : (es : List FullEntry) (e : FullEntry) (ns : List NewEntry) (n : NewEntry) (id last next : ℕ) → AreNew es id last ns → IsNumbered e id last next n
@@ -152,7 +152,7 @@ none-held objects none (id ∷ ids) = sum_by-cons (pages_held objects) id ids �
 pub none-over : (objects : Held) (n : NewEntry) → ((o : ℕ) → held objects o ≡ None) → over_pages objects (Some n) ≡ 0
 none-over objects n none = λ i. length (numbers_of (none n.id i)) + none-held objects none (large_ids n) i
 
--- the ids behind those of the entry stay free
+-- the ids after those of the entry stay free
 pub new-free : (e : FullEntry) (id last next : ℕ) (n : NewEntry) (old new : Held) → IsNumbered e id last next n → AreFreeFrom id last old
     → LeavesUnplanned (λ other. (x : NewEntry) → Some n ≡ Some x → (other ≢ x.id) × (Among (large_ids x) other → ⊥)) old new → AreFreeFrom (id + 2) next new
 new-free e id last next n old new is free leaves = (
@@ -166,7 +166,7 @@ new-free e id last next n old new is free leaves = (
   )) (free.1 o even (let more = is.no_less in omega (arith, more, high))),
 )
 
--- what is left behind the first
+-- what is left after the first
 pub opened : {X : Type 0} (x : X) (left : List X) → 1 ≤ length left → x ≡ get_or left 0 x → left ≡ x ∷ take (length left - 1) (drop 1 left)
 opened x [] some is = absurd (omega (arith, some))
 opened x (y ∷ ys) some is = ap (λ z. z ∷ ys) (sym is) ∙ ap (λ l. x ∷ l) (sym (take_all (suc (length ys) - 1) ys (less (length ys))))
@@ -219,7 +219,7 @@ plans-more es e id last next start mid now first batch after so one = record {
 
 -- ---- lists of new entries
 
--- two elements are one, or one of them stands behind the other
+-- two elements are one, or one of them stands after the other
 pairs-two : {X : Type 0} (R : X → X → Type 0) (xs : List X) (a b : X) → Pairs R xs → Among xs a → Among xs b → (a ≡ b) ⊎ (R a b ⊎ R b a)
 pairs-two R [] a b h m n = absurd m
 pairs-two R (x ∷ xs) a b h (inl e) (inl f) = inl (sym e ∙ f)

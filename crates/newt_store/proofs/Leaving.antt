@@ -73,7 +73,7 @@ module _ (told : Bool) (catalog : Catalog) (next : Next) (records gone : List �
     ids = is.ids;
     apart = subst (λ (l : List ℕ). IsApart next.entry l) (sym ids-are) (gone-apart catalog next records sound.places sound.names is are);
     there = λ id m. gone-there catalog next records sound.places sound.names is are id (subst (λ (l : List ℕ). Among l id) ids-are m);
-    behind = λ id m. gone-above catalog next records sound.places sound.names is are id (subst (λ (l : List ℕ). Among l id) ids-are m);
+    above = λ id m. gone-above catalog next records sound.places sound.names is are id (subst (λ (l : List ℕ). Among l id) ids-are m);
     once = subst (λ (l : List ℕ). AreOnce l) (sym ids-are) (gone-once catalog next records sound.places sound.names is are once);
   }
 

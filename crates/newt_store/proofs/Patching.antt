@@ -59,7 +59,7 @@ use Rattle.newt_store_change.specs.declared.fault.StoreFault.TheVariants.{Refuse
 use Rattle.newt_objects_commit.proofs.Committing.{blocks-are}
 use Rattle.newt_store_catalog.specs.declared.catalog.Catalog.{Catalog}
 use Rattle.newt_store_change.specs.declared.change.Change.TheVariants.{Patch}
-use Rattle.newt_store_change.specs.Change.{changed_by, changed_soup, bytes_in, large_of, large_in_entry, patched_entry, ends_behind, first_checks, refusal_of, pages_of_entry, most_bytes}
+use Rattle.newt_store_change.specs.Change.{changed_by, changed_soup, bytes_in, large_of, large_in_entry, patched_entry, ends_past, first_checks, refusal_of, pages_of_entry, most_bytes}
 use Rattle.newt_store.specs.Patch.{IsLargeOf, record_pages}
 use Rattle.newt_store_catalog.specs.Stands.{Describes, StandsFor}
 use Rattle.newt_store_change.specs.Faults.{GoesOn, RefusesWith}
@@ -267,7 +267,7 @@ module _ (catalog : Catalog) (s : Store) (now : List ℕ) (stands : StandsFor ca
 
 module _ (catalog : Catalog) (s : Store) (now : List ℕ) (stands : StandsFor catalog s now) (sig uid node at : ℕ) (bytes : List ℕ) where
   abbrev of-range : Checks
-  of-range = (Range, ends_behind at (length bytes) (large_in_entry node (entry_at sig uid s))) ∷ []
+  of-range = (Range, ends_past at (length bytes) (large_in_entry node (entry_at sig uid s))) ∷ []
 
   abbrev of-path : Checks
   of-path = (NoPath, is_none (large_in_entry node (entry_at sig uid s))) ∷ of-range
@@ -313,9 +313,9 @@ some-pages (x ∷ ls) zero l h =
       part-of a b all c more same = omega (arith, more, same)
 some-pages (x ∷ ls) (suc k) l h =
     let more = sum_by-cons (λ (m : ℕ). m) (pages_for (length x.1)) (map_list pages_for (map_list (λ (l : ℕ × List ℕ). length l.1) ls)) in
-    behind (pages_for (length x.1)) _ _ (pages_for (length l.1)) more (some-pages ls k l h) where
-      behind : (a b all c : ℕ) → all ≡ a + b → c ≤ b → c ≤ all
-      behind a b all c more low = omega (arith, more, low)
+    after (pages_for (length x.1)) _ _ (pages_for (length l.1)) more (some-pages ls k l h) where
+      after : (a b all c : ℕ) → all ≡ a + b → c ≤ b → c ≤ all
+      after a b all c more low = omega (arith, more, low)
 
 parts-few : (at n len : ℕ) → at + n ≤ len → parts_met at n ≤ pages_for len
 parts-few at zero len low = omega arith
@@ -351,14 +351,14 @@ module _ (catalog : Catalog) (s : Store) (now : List ℕ) (stands : StandsFor ca
       (get-among (zip (larges l.entry.graph) ids) l.at ((node, l.bytes), o) (zip-at (larges l.entry.graph) ids l.at (node, l.bytes) o l.is_large l.is_named))).3
 
   module _ (at : ℕ) (bytes : List ℕ) where
-    first-few : first_of (first_checks (Patch sig uid node at bytes) s) ≡ first_of ((Range, ends_behind at (length bytes) (large_in_entry node (entry_at sig uid s))) ∷ [])
+    first-few : first_of (first_checks (Patch sig uid node at bytes) s) ≡ first_of ((Range, ends_past at (length bytes) (large_in_entry node (entry_at sig uid s))) ∷ [])
     first-few =
         first-not NoSoup (is_none (soup_of sig s)) (of-entry catalog s now stands sig uid node at bytes) (ap is_none l.is_soup)
         ∙ first-not NoEntry (is_none (entry_at sig uid s)) (of-path catalog s now stands sig uid node at bytes) (ap is_none in-entry)
         ∙ first-not NoPath (is_none (large_in_entry node (entry_at sig uid s))) (of-range catalog s now stands sig uid node at bytes) (ap is_none in-large)
 
     pub past-due : (blocks minute : ℕ) → length l.bytes < at + length bytes → refusal_of (Patch sig uid node at bytes) blocks minute s ≡ Some Range
-    past-due blocks minute more = first-few ∙ first-holds Range (ends_behind at (length bytes) (large_in_entry node (entry_at sig uid s))) [] (ap (ends_behind at (length bytes)) in-large ∙ more-than (length l.bytes) (at + length bytes) more)
+    past-due blocks minute more = first-few ∙ first-holds Range (ends_past at (length bytes) (large_in_entry node (entry_at sig uid s))) [] (ap (ends_past at (length bytes)) in-large ∙ more-than (length l.bytes) (at + length bytes) more)
 
     abbrev new-bytes : List ℕ
     new-bytes = overwritten l.bytes at bytes
@@ -368,7 +368,7 @@ module _ (catalog : Catalog) (s : Store) (now : List ℕ) (stands : StandsFor ca
 
     module _ (low : at + length bytes ≤ length l.bytes) where
       pub none-due : (blocks minute : ℕ) → refusal_of (Patch sig uid node at bytes) blocks minute s ≡ None
-      none-due blocks minute = first-few ∙ first-not Range (ends_behind at (length bytes) (large_in_entry node (entry_at sig uid s))) [] (ap (ends_behind at (length bytes)) in-large ∙ not-more (length l.bytes) (at + length bytes) low)
+      none-due blocks minute = first-few ∙ first-not Range (ends_past at (length bytes) (large_in_entry node (entry_at sig uid s))) [] (ap (ends_past at (length bytes)) in-large ∙ not-more (length l.bytes) (at + length bytes) low)
 
       as-many : length new-bytes ≡ length l.bytes
       as-many = length-overwritten l.bytes at bytes low
@@ -522,7 +522,7 @@ patch-spends catalog s now stands sig uid node o l at bytes blocks minute unit o
     (second (subst (λ (n : ℕ). IsOpenFor n now) (bytes-due catalog s now stands sig uid node o l at bytes low blocks minute) room)))
     (cases_lt (length l.bytes) (at + length bytes))
 
--- where a refusal is due, what holds where the range ends behind the binary
+-- where a refusal is due, what holds where the range ends after the binary
 pub patch-idle : (catalog : Catalog) (s : Store) (now : List ℕ) (stands : StandsFor catalog s now) (sig uid node o : ℕ) (l : IsLargeOf catalog s sig uid node o) (at : ℕ) (bytes : List ℕ) (blocks minute : ℕ) {A : Type 0}
     → (length l.bytes < at + length bytes → A) → IsSome (refusal_of (Patch sig uid node at bytes) blocks minute s) → A
 patch-idle catalog s now stands sig uid node o l at bytes blocks minute nothing due = ⊎_elim

@@ -33,13 +33,13 @@ pub record AreStore (blocks : ℕ) (s : Store) (d : Directory) (es : List FullEn
 
 -- ---- ids, given in rising order
 
--- Even ids behind a first one, up to a last one, which fit in four bytes; no two are one.
+-- Even ids after a first one, up to a last one, which fit in four bytes; no two are one.
 pub record AreNextIds (first last : ℕ) (ids : List ℕ) : Type 0 where
   pub last_even : last % 2 ≡ 0
   pub no_less : first ≤ last
   pub even : (id : ℕ) → Among ids id → id % 2 ≡ 0
   pub fit : (id : ℕ) → Among ids id → id < 4294967296
-  pub behind : (id : ℕ) → Among ids id → first < id
+  pub above : (id : ℕ) → Among ids id → first < id
   pub most : (id : ℕ) → Among ids id → id ≤ last
   pub once : AreOnce ids
 
@@ -55,11 +55,11 @@ abbrev pub IsNewOf : FullEntry → NewEntry → Type 0
 IsNewOf e n = IsEntryOf e.soup e.uid e.time e.graph n
 
 -- What is written for an entry: its record's object has this id, and those of its large binaries
--- are behind the last one so far, up to another.
+-- are after the last one so far, up to another.
 pub record IsNumbered (e : FullEntry) (id last next : ℕ) (n : NewEntry) : Type 0 where
   pub of_entry : IsNewOf e n
   pub id_is : n.id ≡ id
-  pub behind : (o : ℕ) → Among (large_ids n) o → last < o
+  pub above : (o : ℕ) → Among (large_ids n) o → last < o
   pub most : (o : ℕ) → Among (large_ids n) o → o ≤ next
   pub next_even : next % 2 ≡ 0
   pub no_less : last ≤ next
@@ -77,12 +77,12 @@ pub record AreNew (es : List FullEntry) (id last : ℕ) (ns : List NewEntry) : T
 
 -- ---- plans
 
--- no odd id from one on has a plan, and no even one behind another
+-- no odd id from one on has a plan, and no even one after another
 abbrev pub AreFreeFrom : (id last : ℕ) → Held → Type 0
 AreFreeFrom id last objects = ((o : ℕ) → o % 2 ≡ 1 → id ≤ o → IsUnplanned objects o) × ((o : ℕ) → o % 2 ≡ 0 → last < o → IsUnplanned objects o)
 
 -- One more entry can be planned: its record gets an odd id, the last large binary has an even one,
--- no object is held, no plan has one of the ids behind, and what is planned is on the way.
+-- no object is held, no plan has one of the ids after, and what is planned is on the way.
 pub record HasRoomFrom (id last : ℕ) (objects : Held) (batch : Change) : Type 0 where
   pub odd : id % 2 ≡ 1
   pub even : last % 2 ≡ 0
@@ -90,7 +90,7 @@ pub record HasRoomFrom (id last : ℕ) (objects : Held) (batch : Change) : Type 
   pub free : AreFreeFrom id last objects
   pub way : IsOnTheWay objects batch
 
--- One more entry is planned: nothing that is held goes, and the ids behind its own stay free.
+-- One more entry is planned: nothing that is held goes, and the ids after its own stay free.
 pub record PlansOneEntry (e : FullEntry) (id last next : ℕ) (old : Held) (before : Change) (new : Held) (after : Change) : Type 0 where
   pub one : NewEntry
   pub is : IsNumbered e id last next one

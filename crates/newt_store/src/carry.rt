@@ -263,7 +263,7 @@ fn follow_directory(directory: &mut Directory, written: Option<Directory>)
 // The memory follows what was written: the entries that go have no places, and their records name
 // nothing; the new entry's record names its large binaries; the directory is the new one, if there
 // is one. Answers the change's answer.
-fn follow(
+fn follow_written(
     names: &mut NameTable,
     places: &mut PlaceTable,
     directory: &mut Directory,
@@ -368,7 +368,7 @@ pub(crate) fn carry_out<P: PageBook, H: Host>(
     ) {
         Ok(()) => {
             catalog.hint = hint_after(&next.entry, was_placed, catalog.hint);
-            let answer = follow(
+            let answer = follow_written(
                 &mut catalog.names,
                 &mut catalog.places,
                 &mut catalog.directory,

@@ -43,7 +43,7 @@ fn is_full(specs: &[IndexSpec]) -> bool
     MOST_INDEXES <= specs.len()
 }
 
-/// A soup gets an index behind its others. Soup where there is none, Index where one has its paths,
+/// A soup gets an index after its others. Soup where there is none, Index where one has its paths,
 /// Limit where it has as many as a soup takes.
 pub(crate) fn plan_add_index(
     catalog: &Catalog,

@@ -28,7 +28,7 @@ fn next_id(id: u32) -> Result<u32, AllocError>
     }
 }
 
-// Large binaries, each with the next even id behind the last one, and the last one then.
+// Large binaries, each with the next even id after the last one, and the last one then.
 fn with_next_ids(
     alloc: Global,
     from: u32,

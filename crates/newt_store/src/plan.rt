@@ -206,7 +206,7 @@ fn entry_of(
     })
 }
 
-// A new soup, behind the others. Exists where one has its name, Limit where there are as many as a
+// A new soup, after the others. Exists where one has its name, Limit where there are as many as a
 // store has, Ids where no signature is left.
 fn plan_make(alloc: Global, catalog: &Catalog, name: &Name) -> Result<Next, StoreFault>
     requires { IsTrue (well_formed (bare_store catalog.now.directory)) }

@@ -27,7 +27,7 @@ fn soup_sigs(alloc: Global, rows: &[SoupRow]) -> Result<Vec<Sig>, AllocError>
     Ok(sigs)
 }
 
-/// Puts an entry of a soup behind others, if it is there.
+/// Puts an entry of a soup after others, if it is there.
 fn put_entry<P: PageBook, H: Host>(
     store: &mut Store<P>,
     host: &mut H,
@@ -56,7 +56,7 @@ fn put_entry<P: PageBook, H: Host>(
     }
 }
 
-/// Puts the entries of a soup that have these ids behind others.
+/// Puts the entries of a soup that have these ids after others.
 fn put_listed<P: PageBook, H: Host>(
     store: &mut Store<P>,
     host: &mut H,
@@ -81,7 +81,7 @@ fn put_listed<P: PageBook, H: Host>(
     Ok(())
 }
 
-/// Puts all entries of a soup behind others.
+/// Puts all entries of a soup after others.
 fn put_soup<P: PageBook, H: Host>(
     store: &mut Store<P>,
     host: &mut H,
@@ -101,7 +101,7 @@ fn put_soup<P: PageBook, H: Host>(
     put_listed(store, host, entries, soup, &uids)
 }
 
-/// Puts all entries of these soups behind others.
+/// Puts all entries of these soups after others.
 fn put_soups<P: PageBook, H: Host>(
     store: &mut Store<P>,
     host: &mut H,

@@ -35,7 +35,7 @@ step table from [] i low all = absurd (omega (arith, low))
 step table from (x ∷ ids) zero low all = all
 step table from (x ∷ ids) (suc i) low all = step table from ids i (omega (arith, low)) all
 
--- the next of a list, and those behind it
+-- the next of a list, and those after it
 pub listed-next : (table : Table) (from : ℕ) (ids : List ℕ) (i : ℕ) → i < length ids → AreNexts table from (drop i ids) → IsNextIn table from (Some (get_or ids i 0)) × AreNexts table (get_or ids i 0 + 1) (drop (i + 1) ids)
 listed-next table from ids i low all =
     let r = step table from ids i low all in

@@ -105,10 +105,10 @@ is_large_info (Some g) = nat_lt 4_000 (length (flat g))
 abbrev pub large_in_entry : ℕ → Option Entry → Option (List ℕ)
 large_in_entry node e = option_and_then (λ e. large_of node e.graph) e
 
--- so many bytes from a place on end behind a large binary
-abbrev pub ends_behind : ℕ → ℕ → Option (List ℕ) → Bool
-ends_behind at count None = false
-ends_behind at count (Some bytes) = nat_lt (length bytes) (at + count)
+-- so many bytes from a place on end after a large binary
+abbrev pub ends_past : ℕ → ℕ → Option (List ℕ) → Bool
+ends_past at count None = false
+ends_past at count (Some bytes) = nat_lt (length bytes) (at + count)
 
 -- the indexes of a soup, none where there is no soup
 abbrev pub specs_of : Option Soup → List IndexSpec
@@ -128,7 +128,7 @@ first_checks (Replace sig uid graph) s =
     (NoSoup, is_none (soup_of sig s)) ∷ (NoEntry, is_none (entry_at sig uid s)) ∷ (Notframe, not (is_frame (object graph.nodes graph.root))) ∷ (Size, is_too_large graph) ∷ []
 first_checks (Patch sig uid node at bytes) s =
     (NoSoup, is_none (soup_of sig s)) ∷ (NoEntry, is_none (entry_at sig uid s)) ∷ (NoPath, is_none (large_in_entry node (entry_at sig uid s)))
-    ∷ (Range, ends_behind at (length bytes) (large_in_entry node (entry_at sig uid s))) ∷ []
+    ∷ (Range, ends_past at (length bytes) (large_in_entry node (entry_at sig uid s))) ∷ []
 first_checks (AddIndex sig spec) s =
     (NoSoup, is_none (soup_of sig s)) ∷ (BadIndex, has_paths (paths_of spec) (specs_of (soup_of sig s))) ∷ (Limit, nat_le 16 (length (specs_of (soup_of sig s)))) ∷ []
 first_checks (DropIndex sig paths) s = (NoSoup, is_none (soup_of sig s)) ∷ []

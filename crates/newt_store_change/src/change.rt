@@ -23,7 +23,7 @@ pub enum Change {
     /// These bytes stand in a large binary of the entry, the node of this number, in place of those
     /// from a place on. The entry's minute stays.
     Patch(Sig, Uid, u32, u32, Bytes),
-    /// The soup gets an index, behind its others.
+    /// The soup gets an index, after its others.
     AddIndex(Sig, IndexSpec),
     /// The soup's index with these paths goes, if there is one.
     DropIndex(Sig, Paths),

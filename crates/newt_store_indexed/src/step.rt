@@ -50,7 +50,7 @@ fn take_move(
     }
 }
 
-// A soup gets a range behind its others.
+// A soup gets a range after its others.
 fn take_range(ranges: &mut Ranges, soup: Sig, step: Step) -> Result<(), AllocError>
     ensures { OnOk result (ranges.new ≡ rows_declared soup step ranges.old) }
 {
@@ -113,7 +113,7 @@ fn take_step(
 }
 
 /// Makes of the ranges what a change is to them that answered this number, and answers it.
-pub(crate) fn follow(
+pub(crate) fn follow_change(
     ranges: &mut Ranges,
     change: &Change,
     step: Step,

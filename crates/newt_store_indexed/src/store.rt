@@ -14,7 +14,7 @@ ghost use Rattle.newt_store_indexed.specs.Steps.{IsStepOf};
 
 use crate::listing::Listing;
 use crate::plan::step_of;
-use crate::step::{Step, follow};
+use crate::step::{Step, follow_change};
 use newt_base::{Name, Sig, Uid};
 use newt_engine_card::Card;
 use newt_graph::{Bytes, Graph};
@@ -214,7 +214,7 @@ fn change_with<P: PageBook, H: Host>(
         (512 * pages_of_entry (entry_fetched change.now s)) (H.outside host.old) (H.outside host.new) }
 {
     match store.apply(host, change, now) {
-        Ok(answer) => follow(ranges, change, step, answer),
+        Ok(answer) => follow_change(ranges, change, step, answer),
         Err(fault) => Err(fault),
     }
 }

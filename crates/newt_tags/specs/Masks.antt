@@ -7,7 +7,8 @@ use Rattle.newt_spec_graph.specs.Slots.{value_at}
 use Rattle.newt_spec_store.specs.Store.{TagTable}
 use Rattle.newt_spec_query.specs.Tags.{symbol_name, symbols_at, is_among}
 
--- the symbols of a value that leads to this node, or to none: those of `symbols_in` (a word of these definitions)
+-- the symbols of a value that leads to this node, or to none: those of `symbols_in` (a word of
+-- these definitions)
 abbrev pub symbols_of : List Node → Option Node → List (List ℕ)
 symbols_of nodes o = elim o [
   | Some (Symbol name) ↦ name ∷ []
@@ -20,7 +21,8 @@ abbrev pub number : List Bool → ℕ
 number [] = 0
 number (bit ∷ bits) = (if bit then 1 else 0) + 2 * number bits
 
--- the bit of each symbol of the declaration: whether the entry has it at the declaration's path (this project's own)
+-- the bit of each symbol of the declaration: whether the entry has it at the declaration's path
+-- (this project's own)
 abbrev pub bits_of : TagTable → RawGraph → List Bool
 bits_of t g = map (is_among (symbols_at g (value_at g t.path))) t.symbols
 

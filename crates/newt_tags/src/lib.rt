@@ -1,8 +1,8 @@
 //! An entry's tags as a mask, and what a query asks of them.
 //!
 //! It stands on `newt_graph` and `newt_path`, and on the definitions of tags in `newt_spec_query`.
-//! The promise that it carries: a mask is that of the entry's tags by the declaration, and passes a
-//! tag spec exactly where the tags do.
+//! It carries this promise: a mask is that of the entry's tags by the declaration, and passes a tag
+//! spec exactly where the tags do.
 #![tactic(auto)]
 
 mod laws;

@@ -56,7 +56,7 @@ impl Names {
     }
 }
 
-/// Whether no two names are one but for ASCII case. It takes no memory.
+/// Whether no two names are alike but for ASCII case. It takes no memory.
 pub fn are_names_apart(names: &[Bytes]) -> bool
     ensures { result ≡ all_apart same_name names.now }
 {

@@ -34,7 +34,7 @@ impl From<AllocError> for TagFault {
 }
 
 impl TagSpec {
-    /// Reads a value of a graph. A slot whose value is nil counts as missing.
+    /// Reads a tag spec from a value of a graph. A slot whose value is nil counts as missing.
     pub fn read(alloc: Global, graph: &Graph, at: Ref) -> Result<TagSpec, TagFault>
         ensures ok { IfOk result (λ spec. spec ≡ tag_spec graph.now.nodes (Some at)) }
         ensures form { IsErrOf result TagFault.Form ↔ (is_tag_spec graph.now.nodes at ≡ false) }

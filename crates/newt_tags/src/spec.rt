@@ -10,8 +10,8 @@ use crate::table::TagTable;
 use newt_graph::Bytes;
 use std::marker::Model;
 
-/// Four lists of symbols that a query may give: exactly these tags, all of them, any of them, none
-/// of them.
+/// A tag spec: four lists of symbols that a query may give. They ask for exactly these tags, for
+/// all of them, for any of them, and for none of them.
 #[derive(Drop)]
 pub struct TagSpec {
     equal: Option<Names>,
@@ -29,13 +29,14 @@ impl Model for TagSpec {
 }
 
 impl TagSpec {
-    /// It asks nothing, and all tags pass.
+    /// The tag spec that asks nothing: all tags pass.
     pub fn empty() -> TagSpec
         ensures { result ≡ record { equal = None; all = None; any = None; none_of = None } }
     {
         TagSpec::of(None, None, None, None)
     }
 
+    /// The tag spec of these four lists.
     pub(crate) fn of(
         equal: Option<Names>,
         all: Option<Names>,
@@ -52,7 +53,8 @@ impl TagSpec {
         }
     }
 
-    /// Whether tags with this mask pass. Without a declaration there are none. It takes no memory.
+    /// Whether tags with this mask pass. Without a declaration there are no tags. It takes no
+    /// memory.
     pub fn passes(&self, table: Option<&TagTable>, mask: u64) -> bool
         ensures { result ≡ tags_pass self.now (tags_by (option_map (λ t. t.now) table.entry) mask) }
     {
@@ -126,7 +128,7 @@ fn has_any(symbols: &[Bytes], mask: u64, names: &[Bytes]) -> bool
     names.iter().any(|name| has(symbols, mask, name.list()))
 }
 
-/// Whether the name is that of a symbol whose bit is set.
+/// Whether a symbol whose bit is set has this name.
 fn has(symbols: &[Bytes], mask: u64, name: &[u8]) -> bool
     ensures { result ≡ is_among (selected mask symbols.now) name.now }
 {

@@ -12,7 +12,7 @@ use newt_graph::{Bytes, Node, Ref};
 use newt_path::has_name;
 use std::alloc::{AllocError, Global};
 
-/// Whether a value is a symbol, or an array that has one, of this name but for ASCII case.
+/// Whether a value is a symbol of this name but for ASCII case, or an array that has one.
 pub(crate) fn has_symbol(nodes: &[Node], value: Ref, name: &[u8]) -> bool
     ensures { result ≡ is_among (symbols_in nodes.now value) name.now }
 {
@@ -119,7 +119,7 @@ fn symbol(nodes: &[Node], value: Ref) -> Result<Option<Bytes>, AllocError>
     }
 }
 
-/// The names of values that all are symbols. None exactly where one is not.
+/// The names of values that all are symbols. None exactly where one is no symbol.
 pub fn every_symbol(
     alloc: Global,
     nodes: &[Node],

@@ -11,8 +11,8 @@ use newt_path::{Path, value_at};
 use std::alloc::AllocError;
 use std::marker::Model;
 
-/// Which symbols at which path of an entry are its tags: at most 64, distinct but for ASCII case.
-/// They and the path's names are identifiers of at most 254 bytes.
+/// A tags declaration: which symbols at which path of an entry are its tags. They are at most 64,
+/// distinct but for ASCII case. They and the path's names are identifiers of at most 254 bytes.
 #[derive(Drop)]
 pub struct TagTable {
     path: Path,
@@ -32,7 +32,7 @@ impl Model for TagTable {
 }
 
 impl TagTable {
-    /// It takes no memory.
+    /// The declaration of this path and these symbols. It takes no memory.
     pub fn new(path: Path, symbols: Vec<Bytes>) -> TagTable
         requires { IsTrue (valid_tags (Some (record { path = path; symbols = symbols.items }))) }
         ensures { result ≡ record { path = path; symbols = symbols.items } }
@@ -43,7 +43,7 @@ impl TagTable {
         }
     }
 
-    /// Where an entry has its tags.
+    /// The path at which an entry has its tags.
     pub fn path(&self) -> &Path
         ensures { result.now ≡ self.now.path }
     {
@@ -58,7 +58,8 @@ impl TagTable {
         self.symbols.list()
     }
 
-    /// Which of the symbols an entry has: bit n is that of the n-th symbol. It takes no memory.
+    /// Which of the symbols an entry has, as a mask: bit n is that of symbol n, counted from 0. It
+    /// takes no memory.
     pub fn mask_of(&self, graph: &Graph) -> u64
         ensures value { result ≡ mask_of self.now graph.now }
         ensures small { result < 2 ^ length self.now.symbols }
@@ -80,7 +81,7 @@ impl TagTable {
     }
 }
 
-/// Which of the symbols a value has.
+/// Which of the symbols a value has, as a mask.
 fn mask(nodes: &[Node], value: Ref, symbols: &[Bytes]) -> u64
     requires few { length symbols.now ≤ 64 }
     ensures value { result ≡ number (map (is_among (symbols_in nodes.now value)) symbols.now) }

@@ -12,12 +12,12 @@ use std::test::Fail;
 
 const CARD: Unit = Unit(0);
 
-// What is wanted holds.
+/// Asserts that what is wanted holds.
 fn check(rt: &impl Abort, holds: bool, what: &str) {
     assert!(rt; holds, "{what}");
 }
 
-// The file becomes unit 0.
+/// The file becomes unit 0.
 fn attach_card<H: Host>(rt: &impl Abort, host: &mut H)
     requires { (unit : ℕ) → (H.outside host.old).card unit ≡ None }
     ensures { IsSome ((H.outside host.new).card 0) }
@@ -25,7 +25,7 @@ fn attach_card<H: Host>(rt: &impl Abort, host: &mut H)
     assert!(rt; host.attach(CARD, "card"));
 }
 
-// The last of thirteen blocks is erased.
+/// The last of thirteen blocks is erased.
 fn erase_last<H: Host>(rt: &impl Abort, host: &mut H)
     requires { IsSome ((H.outside host.old).card 0) }
     ensures { IsSome ((H.outside host.new).card 0) }
@@ -34,7 +34,7 @@ fn erase_last<H: Host>(rt: &impl Abort, host: &mut H)
     check(rt, host.erase(CARD, 12).is_ok(), "the erase");
 }
 
-// Three bytes are programmed in it.
+/// Three bytes are programmed in it.
 fn program_three<H: Host>(rt: &impl Abort, host: &mut H)
     requires untold { IsFalse H.told }
     requires attached { IsSome ((H.outside host.old).card 0) }
@@ -45,7 +45,7 @@ fn program_three<H: Host>(rt: &impl Abort, host: &mut H)
     check(rt, is_programmed, "the program");
 }
 
-// All is made sure of.
+/// The unit is synced.
 fn sync_card<H: Host>(rt: &impl Abort, host: &mut H)
     requires { IsSome ((H.outside host.old).card 0) }
     ensures { IsSome ((H.outside host.new).card 0) }
@@ -53,7 +53,7 @@ fn sync_card<H: Host>(rt: &impl Abort, host: &mut H)
     check(rt, host.sync(CARD).is_ok(), "the sync");
 }
 
-// These three bytes and one on each side of them are read.
+/// These three bytes and one on each side of them are read.
 fn assert_read<H: Host>(rt: &impl Abort, host: &mut H)
     requires { IsSome ((H.outside host.old).card 0) }
 {
@@ -64,7 +64,7 @@ fn assert_read<H: Host>(rt: &impl Abort, host: &mut H)
     check(rt, buf == [255, b'a', b'b', b'c', 255], "the bytes");
 }
 
-// A host changes the last block.
+/// A host changes the last block.
 fn change<H: Host>(rt: &impl Abort, host: &mut H)
     requires untold { IsFalse H.told }
     requires free { (unit : ℕ) → (H.outside host.old).card unit ≡ None }
@@ -76,7 +76,7 @@ fn change<H: Host>(rt: &impl Abort, host: &mut H)
     assert_read(rt, host);
 }
 
-// Another one reads the same.
+/// Another one reads the same.
 fn read_again<H: Host>(rt: &impl Abort, host: &mut H)
     requires { (unit : ℕ) → (H.outside host.old).card unit ≡ None }
 {
@@ -84,7 +84,7 @@ fn read_again<H: Host>(rt: &impl Abort, host: &mut H)
     assert_read(rt, host);
 }
 
-// What the byte at a place is afterwards.
+/// What the byte at a place is afterwards.
 fn wanted(place: usize) -> u8 {
     match place {
         49_252 => b'a',
@@ -95,12 +95,12 @@ fn wanted(place: usize) -> u8 {
     }
 }
 
-// It is this byte.
+/// It is this byte.
 fn assert_byte(rt: &impl Abort, place: usize, byte: u8) {
     assert!(rt; byte == wanted(place), "at {place}");
 }
 
-// The bytes are as they are wanted.
+/// The bytes are as they are wanted.
 fn assert_bytes(rt: &impl Abort, bytes: &[u8]) {
     check(rt, bytes.len() == 53_253, "the length");
     let mut place: usize = 0;
@@ -110,7 +110,7 @@ fn assert_bytes(rt: &impl Abort, bytes: &[u8]) {
     }
 }
 
-// One host changes the card, no other attaches it meanwhile, and then another one reads it.
+/// One host changes the card, no other attaches it meanwhile, and then another one reads it.
 fn change_and_read(abort: &impl Abort, rt: &HostRuntime) -> Result<(), AllocError> {
     let mut host = FileHost::new(rt.alloc(), rt, rt.stdin(), rt.stdout())?;
     change(abort, &mut host);
@@ -123,7 +123,7 @@ fn change_and_read(abort: &impl Abort, rt: &HostRuntime) -> Result<(), AllocErro
 
 #[test]
 fn keeps_what_was_written_and_leaves_the_rest(rt: HostRuntime) -> Result<(), Fail> {
-    // Five bytes more than thirteen blocks, which are no part of any.
+    // Five bytes more than thirteen blocks, which belong to none of them.
     write_filled(&rt, "card", 53_253, 7)?;
     change_and_read(&rt, &rt)?;
     let after = fs::read(&rt, "card")?;
@@ -132,7 +132,7 @@ fn keeps_what_was_written_and_leaves_the_rest(rt: HostRuntime) -> Result<(), Fai
     Ok(())
 }
 
-// How many blocks unit 0 has of the file of a name, and none where the host does not attach it.
+/// How many blocks unit 0 has of the file of a name; none where the host does not attach it.
 fn tried<H: Host>(host: &mut H, name: &str) -> Option<u32>
     requires { (unit : ℕ) → (H.outside host.old).card unit ≡ None }
 {
@@ -143,7 +143,7 @@ fn tried<H: Host>(host: &mut H, name: &str) -> Option<u32>
     }
 }
 
-// The same of a new host.
+/// The same for a new host.
 fn attached(rt: &HostRuntime, name: &str) -> Result<Option<u32>, AllocError> {
     let mut host = FileHost::new(rt.alloc(), rt, rt.stdin(), rt.stdout())?;
     Ok(tried(&mut host, name))
@@ -172,7 +172,7 @@ fn attaches_a_file_shorter_than_a_block_with_no_blocks(rt: HostRuntime) -> Resul
 fn attaches_only_what_can_be_written(rt: HostRuntime) -> Result<(), Fail> {
     fs::write(&rt, "locked", b"read only".as_slice())?;
     fs::set_permissions(&rt, "locked", fs::Permissions::from_mode(0o444))?;
-    // Who may write everything may write this too.
+    // Who may write everything may write this file too.
     let refused = fs::OpenOptions::new()
         .write(true)
         .open(&rt, "locked")

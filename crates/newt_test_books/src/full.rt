@@ -15,7 +15,7 @@ mount 0 => ok 9 Card
 soup 0 S => ok 0
 ";
 
-/// What is asked of a card once nothing more fits: the first entry goes, so that another one fits,
+/// What is asked of a card once nothing more fits. The first entry goes, so that another one fits,
 /// under an id of its own.
 const FULL: &str = "
 add 0 S {} => error 33 full
@@ -23,7 +23,7 @@ get 0 S 0 => ok 0 {}
 remove 0 S 0 => ok
 ";
 
-/// And then.
+/// What is asked then.
 const FULL_AGAIN: &str = "
 get 0 S 0 => error 32 entry
 add 0 S {} => error 33 full
@@ -41,7 +41,7 @@ mount 0 => ok 9 Card
 query 0 S {} => ok 0
 ";
 
-/// What it asks behind the last entry.
+/// What it asks after the last entry.
 const ENDED: &str = "
 next 0 => ok nil
 which 0 => ok end
@@ -86,14 +86,14 @@ fn fills<I: Interpreter>(alloc: Global, size: u32, count: u32) -> Result<(), Fai
     Ok(())
 }
 
-// The least unit takes 38 pages: the directory and 37 entries.
+/// The least unit takes 38 pages: the directory and 37 entries.
 #[test]
 fn fills_the_least_unit(rt: HostRuntime) -> Result<(), Fail> {
     fills::<InMemory>(rt.alloc(), 13, 37)?;
     fills::<OnDevice>(rt.alloc(), 13, 37)
 }
 
-// The greatest unit takes 15,978 pages.
+/// The greatest unit takes 15,978 pages.
 #[test]
 fn fills_the_greatest_unit(rt: HostRuntime) -> Result<(), Fail> {
     fills::<OnDevice>(rt.alloc(), 4099, 15_977)

@@ -1,12 +1,14 @@
-//! Runs over both books of pages, and over real files: tests alone. Of the first each plays one
-//! table over pages in memory and over pages on the device. Of the others each works in the folder
+//! Runs over both books of pages, and over real files: tests alone. Each test of books plays one
+//! table over pages in memory and over pages on the device. Each test of files works in the folder
 //! that the tests run in, and removes its files.
 //!
-//! Stands on the loop over a script, on the engine over a store on whichever book, on
-//! `newt_host_files` and on the top call. What it holds has no clause: that a unit fills to its
-//! last page and is used then, that what a crash leaves of an add among many entries is found
-//! again, that pages which were read are not read again while they are cached, that 200 entries
-//! come back from their backup, and that what was written to files is read back.
+//! It stands on the loop over a script, on the engine over a store on either book, on
+//! `newt_host_files` and on the top call. What it holds has no clause:
+//! - a unit fills to its last page, and is used then;
+//! - what a crash leaves of an add among many entries is found again;
+//! - pages which were read are not read again while they are cached;
+//! - 200 entries come back from their backup;
+//! - what was written to files is read back.
 #![tactic(auto)]
 
 #[cfg(test)]

@@ -15,7 +15,7 @@ pub(crate) fn script(alloc: Global) -> Result<Vec<u8>, Fail> {
     Ok(script)
 }
 
-/// What the card holds then, which has 64 blocks.
+/// What the card holds after that script. It has 64 blocks.
 pub(crate) fn card(alloc: Global) -> Result<Vec<u8>, Fail> {
     let host: MemHost = run_over::<OnDevice>(alloc, &script(alloc)?, &blocks(alloc, 64)?)?;
     image(alloc, &host, Unit(0))

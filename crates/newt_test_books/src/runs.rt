@@ -15,25 +15,25 @@ fn words(alloc: Global, texts: &[&str]) -> Result<Vec<String>, AllocError> {
     Ok(words)
 }
 
-// How a run of the script over the files `internal` and `card` ends.
-fn run_script(rt: &HostRuntime) -> Result<Status, Fail> {
+/// How a run of the script over the files `internal` and `card` ends.
+fn run_over_files(rt: &HostRuntime) -> Result<Status, Fail> {
     let words = words(rt.alloc(), &["run", "internal", "card"])?;
     let (input, output) = (File::open(rt, "script")?, File::create(rt, "replies")?);
     let mut host = FileHost::new(rt.alloc(), rt, input, output)?;
     Ok(run(rt.alloc(), &words, &mut host))
 }
 
-// The bytes of a file, which goes.
+/// The bytes of a file, which is then removed.
 fn taken(rt: &HostRuntime, name: &str) -> Result<Vec<u8>, Fail> {
     let bytes = fs::read(rt, name)?;
     fs::remove_file(rt, name)?;
     Ok(bytes)
 }
 
-// How a run of a script ended, and what it wrote.
+/// How a run of a script ended, and what it wrote.
 fn session(rt: &HostRuntime, script: &[u8]) -> Result<(Status, Vec<u8>), Fail> {
     fs::write(rt, "script", script)?;
-    let status = run_script(rt)?;
+    let status = run_over_files(rt)?;
     fs::remove_file(rt, "script")?;
     Ok((status, taken(rt, "replies")?))
 }
@@ -84,16 +84,16 @@ ok 2
 ok
 ";
 
-// A run ended well, and wrote these replies and no others.
+/// A run ended well, and wrote these replies and no others.
 fn expect_replies(run: &(Status, Vec<u8>), wanted: &[u8]) -> Result<(), Fail> {
     let (status, written) = run;
     if *status != Status::Ok || written.as_slice() != wanted {
-        return Err(Fail::new(format_args!("{status:?} behind {written:?}")));
+        return Err(Fail::new(format_args!("{status:?} after {written:?}")));
     }
     Ok(())
 }
 
-// The devices of a first run, of thirteen blocks each.
+/// The devices of a first run, of thirteen blocks each.
 fn write_cards(rt: &HostRuntime) -> Result<(), Fail> {
     write_filled(rt, "internal", 53_248, 0)?;
     write_filled(rt, "card", 53_248, 0)

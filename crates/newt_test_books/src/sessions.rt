@@ -1,4 +1,4 @@
-//! Runs and single commands over whichever engine.
+//! Runs and single commands over either engine.
 ghost use Rattle.std.specs.Prelude.{true, IfOk, OnOk, IsTrue};
 ghost use Rattle.newt_laws_world.specs.Worlds.{has_form};
 ghost use Rattle.newt_memhost.specs.Outside.{outside_of};
@@ -66,7 +66,7 @@ pub(crate) fn expect_over<I: Interpreter>(
     Ok(host)
 }
 
-/// An engine over the device `a` of a host, if it has one, of which nothing is mounted.
+/// An engine over the device `a` of a host, if it has one. Nothing is mounted.
 pub(crate) fn started<I: Interpreter>(alloc: Global, host: &mut MemHost) -> Result<I, Fail>
     requires { IsFree (outside_of host.old) }
     ensures { IfOk result (λ it. I.stands true it (outside_of host.new)) }

@@ -37,22 +37,22 @@ fn found<I: Interpreter>(alloc: Global, bytes: &[u8]) -> Result<u32, Fail> {
     }
 }
 
-/// A run that adds an entry to the card, the first of its calls behind the reply to its mount, and
-/// what the card holds before the add and behind it.
+/// A run that adds an entry to the card, the first of its calls after the reply to its mount, and
+/// what the card holds before the add and after it.
 #[derive(Drop)]
 struct AddRun {
     host: MemHost,
     first: u64,
     before: Vec<u8>,
-    behind: Vec<u8>,
+    after: Vec<u8>,
 }
 
 fn add_run<I: Interpreter>(alloc: Global) -> Result<AddRun, Fail> {
     let before = card(alloc)?;
     let mounted = run_over::<I>(alloc, MOUNT, &before)?;
     let host = run_over::<I>(alloc, ADD, &before)?;
-    let behind = image(alloc, &host, Unit(0))?;
-    if found::<I>(alloc, &before)? != 200 || found::<I>(alloc, &behind)? != 201 {
+    let after = image(alloc, &host, Unit(0))?;
+    if found::<I>(alloc, &before)? != 200 || found::<I>(alloc, &after)? != 201 {
         return Err(Fail::new("the add does not add one name"));
     }
     // the last call of the first run looks for more input
@@ -61,13 +61,13 @@ fn add_run<I: Interpreter>(alloc: Global) -> Result<AddRun, Fail> {
         host,
         first,
         before,
-        behind,
+        after,
     })
 }
 
-/// A stop within each call of the add leaves the card with all entries or all but the added one,
-/// and with that one where its reply had begun. Says how many of the images were mounted, which is
-/// each that is not that before the add or behind it, or the same as the last one.
+/// A stop within each call of the add leaves the card with all entries or with all but the added
+/// one. Where the reply to the add had begun, the added one is there. Answers how many of the
+/// images were mounted: each that is neither that after the add nor the same as the one before.
 fn stop_at_each<I: Interpreter>(alloc: Global, added: &AddRun, pick: Pick) -> Result<u32, Fail> {
     let host = &added.host;
     if host.blocks(Unit(0)) == 0 {
@@ -78,7 +78,7 @@ fn stop_at_each<I: Interpreter>(alloc: Global, added: &AddRun, pick: Pick) -> Re
     let mut names = 200;
     for call in added.first..host.calls() {
         let Crash { image, out } = host.images(Unit(0), call, pick)?;
-        if image == added.behind {
+        if image == added.after {
             names = 201;
         } else if image != left {
             names = found::<I>(alloc, &image)?;
@@ -125,7 +125,7 @@ fn a_check_counts_the_names(rt: HostRuntime) -> Result<(), Fail> {
     let alloc = rt.alloc();
     let added = add_run::<OnDevice>(alloc)?;
     expect_said(alloc, &added.before, b"ok clean 1 200 201\n")?;
-    expect_said(alloc, &added.behind, b"ok clean 1 201 202\n")
+    expect_said(alloc, &added.after, b"ok clean 1 201 202\n")
 }
 
 #[test]

@@ -4,7 +4,7 @@
 use newt_test_scripts::expect;
 use std::test::Fail;
 
-/// What is written in place leaves the time of the entry, and every other change sets it.
+/// What is written in place leaves the time of the entry; every other change sets it.
 const CHANGED: &str = "
 format 0 A 7 => ok
 mount 0 => ok 7 A

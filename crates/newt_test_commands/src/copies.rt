@@ -4,8 +4,8 @@
 use newt_test_scripts::expect;
 use std::test::Fail;
 
-/// Two copies of one entry: the second save is refused, with the minute of the entry, until its
-/// copy is begun anew.
+/// Two copies of one entry. The second save is refused, with the minute of the entry, until its
+/// copy begins again from the entry as it is.
 const SAVED: &str = "
 format 0 A 7 => ok
 mount 0 => ok 7 A
@@ -68,7 +68,7 @@ fn compares_the_minute_and_the_graph(rt: HostRuntime) -> Result<(), Fail> {
     expect(rt.alloc(), "run a", SAME)
 }
 
-/// A copy names its entry by its alias: it outlives the card that is away, and not an entry that is
+/// A copy names its entry by its alias. It outlives the card that is away, and not an entry that is
 /// removed or moved.
 const AWAY: &str = "
 format 0 A 7 => ok

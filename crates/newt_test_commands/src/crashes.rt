@@ -2,10 +2,10 @@
 
 use newt_host::Unit;
 use newt_memhost::Pick;
-use newt_test_scripts::{card_behind, expect_all_safe, expect_halts, expect_thrown};
+use newt_test_scripts::{card_after, expect_all_safe, expect_halts, expect_thrown};
 use std::test::Fail;
 
-/// What a next run is asked, and told to go on with.
+/// What a next run is asked, and how it is told to go on.
 const LOOK: &[u8] = b"mount 0
 soups 0
 get 0 S 0
@@ -58,7 +58,7 @@ fn leaves_a_store_before_or_after_each_change(rt: HostRuntime) -> Result<(), Fai
     expect_all_safe(rt.alloc(), LINES, LOOK, &[Unit(0)], PICKS)
 }
 
-/// Each save of a working copy, while a watch is told of it.
+/// Each save of a working copy, while a watch notes it.
 const SAVES: &str = "
 format 0 A 7 => ok
 mount 0 => ok 7 A
@@ -84,7 +84,7 @@ fn leaves_a_store_before_or_after_each_save(rt: HostRuntime) -> Result<(), Fail>
 }
 
 #[test]
-fn goes_on_behind_each_call_of_a_save_that_fails(rt: HostRuntime) -> Result<(), Fail> {
+fn goes_on_after_each_call_of_a_save_that_fails(rt: HostRuntime) -> Result<(), Fail> {
     if expect_thrown(rt.alloc(), SAVES, READ)? == 0 {
         return Err(Fail::new("no call of a device"));
     }
@@ -120,7 +120,7 @@ vwrite 0 S 0 v 499 1212 => ok
 #[test]
 fn leaves_a_store_before_or_after_a_patch_while_banks_change(rt: HostRuntime) -> Result<(), Fail> {
     let alloc = rt.alloc();
-    let card = card_behind(alloc, "run a b", PATCHES)?;
+    let card = card_after(alloc, "run a b", PATCHES)?;
     if card.first() != Some(&1) {
         return Err(Fail::new("no vote for the second bank"));
     }

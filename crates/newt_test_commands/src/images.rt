@@ -1,6 +1,6 @@
 //! Images whose entries name large binaries that are not theirs.
 
-use newt_test_scripts::{blocks, card_behind, run_table_on};
+use newt_test_scripts::{blocks, card_after, run_table_on};
 use std::alloc::Global;
 use std::test::Fail;
 
@@ -34,8 +34,8 @@ vread 0 S 0 v 0 2 => ok BBCC
 soups 0 => ok S 0 1
 ";
 
-/// Behind a record's text, which ends with the class of the large binary, its flag and four
-/// numbers, comes its number of node.
+/// The end of a record's text, which is the class of the large binary, its flag and four numbers;
+/// and then its number of node.
 const NAMED: &[u8] =
     b"wave\x00\x00\x00\x00\x00\x00\x00\x00\x00\x00\x00\x00\x00\x00\x00\x00\x00\x00\x00\x00\x02";
 
@@ -75,7 +75,7 @@ fn with_number(
     Ok(bytes)
 }
 
-/// A card is not taken with this number at a place.
+/// A card with this number at a place is not mounted.
 fn expect_refused(alloc: Global, card: &[u8], place: usize, number: [u8; 4]) -> Result<(), Fail> {
     let bad = with_number(alloc, card, place, number)?;
     run_table_on(alloc, "run a b", REFUSED, &bad, &blocks(alloc, 13)?)?;
@@ -128,7 +128,7 @@ fn expect_changed(
 #[test]
 fn takes_no_image_whose_large_binaries_are_not_named_once(rt: HostRuntime) -> Result<(), Fail> {
     let alloc = rt.alloc();
-    let card = card_behind(alloc, "run a b", TWO)?;
+    let card = card_after(alloc, "run a b", TWO)?;
     let (first, second) = places(alloc, &card)?;
     let one = (first, number_at(&card, first)?);
     let other = (second, number_at(&card, second)?);

@@ -37,7 +37,8 @@ fn reads_and_overwrites_across_pages(rt: HostRuntime) -> Result<(), Fail> {
     expect(rt.alloc(), "run a b", PATCHED)
 }
 
-/// One large binary in two slots is one object: what is written by one slot shows by the other.
+/// One large binary in two slots is one object: what is written through one slot shows through the
+/// other.
 const SHARED: &str = "
 format 0 A 7 => ok
 mount 0 => ok 7 A

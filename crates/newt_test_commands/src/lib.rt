@@ -1,7 +1,7 @@
 //! Walks of cursors, entries with large binaries, units and cards that fail, watches and working
 //! copies, by the top call over a host in memory. It stands on the trials of whole runs, and
-//! carries no promise of its own: what it holds is tests, whose replies come from the rules of the
-//! language and of the image and not from the program.
+//! carries no promise of its own: it holds tests, whose replies come from the rules of the language
+//! and of the image, and not from the program.
 #![tactic(auto)]
 
 #[cfg(test)]

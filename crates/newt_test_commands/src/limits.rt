@@ -54,7 +54,7 @@ fn holds_a_large_binary_of_the_greatest_length(rt: HostRuntime) -> Result<(), Fa
     Ok(())
 }
 
-/// A large binary is no part of the text that may have 64,000 bytes, and a binary is.
+/// A large binary does not count in the text that may have 64,000 bytes, and a binary does.
 const LONG: &str = "
 format 0 A 7 => ok
 mount 0 => ok 7 A

@@ -189,7 +189,7 @@ fn calls_of(alloc: Global, table: &str) -> Result<u64, Fail> {
     Ok(host.calls())
 }
 
-/// How many calls a row takes behind a table and the same row.
+/// How many calls a row takes after a table and the same row.
 fn calls_again(alloc: Global, table: &str, row: &str) -> Result<u64, Fail> {
     let once = format!(in alloc; "{table}{row}")?;
     let twice = format!(in alloc; "{table}{row}{row}")?;

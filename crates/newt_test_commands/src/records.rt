@@ -1,6 +1,6 @@
 //! What an overwritten large binary writes on the device.
 
-use newt_test_scripts::card_behind;
+use newt_test_scripts::card_after;
 use std::process::Abort;
 use std::test::Fail;
 
@@ -21,7 +21,7 @@ add 0 S {v: <<wave:*1200>>} => ok 0
 vwrite 0 S 0 v 499 4142 => ok
 ";
 
-/// The gate, the length and the counts of a record that puts two pages and removes none, and its
+/// The gate, the length and the counts of a record that puts two pages and removes none; and its
 /// length.
 const HEAD: &[u8] = b"\x00\x00\x00\x04\x0C\x00\x02\x00\x00";
 
@@ -55,8 +55,8 @@ fn has_two_pages_more(before: &[u8], after: &[u8]) -> bool {
 #[test]
 fn writes_two_pages_where_two_are_met(rt: HostRuntime) -> Result<(), Fail> {
     let alloc = rt.alloc();
-    let before = card_behind(alloc, "run a b", ADDED)?;
-    let after = card_behind(alloc, "run a b", WRITTEN)?;
+    let before = card_after(alloc, "run a b", ADDED)?;
+    let after = card_after(alloc, "run a b", WRITTEN)?;
     assert!(rt; has_two_pages_more(&before, &after));
     Ok(())
 }

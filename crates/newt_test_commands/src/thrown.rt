@@ -4,7 +4,7 @@ use newt_host::Unit;
 use newt_memhost::MemHost;
 use newt_script_generator::gen_script;
 use newt_test_scripts::{
-    blocks, calls_behind, expect_end, image, lines_of, over, run_failing, run_over,
+    blocks, calls_after, expect_end, image, lines_of, over, run_failing, run_over,
 };
 use newt_top::Status;
 use std::alloc::Global;
@@ -28,9 +28,10 @@ impl Place {
         calls.get(place).copied()
     }
 
-    /// The call of this place among those on a unit that the line behind so many replies makes.
+    /// The call of this place among those on a unit that one line makes: the line after so many
+    /// replies.
     fn call(self, alloc: Global, script: &[u8], unit: Unit, replies: usize) -> Result<u64, Fail> {
-        let calls = calls_behind(alloc, FIVE, script, &[], unit, replies)?;
+        let calls = calls_after(alloc, FIVE, script, &[], unit, replies)?;
         Ok(self.of(&calls).ok_or("no such call")?)
     }
 }
@@ -38,8 +39,8 @@ impl Place {
 /// The words of a run over five devices.
 const FIVE: &str = "run a b c d e";
 
-/// Runs a table over five devices of 13 blocks of zero bytes, where this call of the line behind so
-/// many replies fails, which is on this unit, and looks for its replies.
+/// Runs a table over five devices of 13 blocks of zero bytes, and looks for its replies. One call
+/// on this unit fails, made by the line after so many replies.
 pub(crate) fn expect_failing(
     alloc: Global,
     table: &str,
@@ -65,7 +66,7 @@ pub(crate) fn expect_each_failing(
     count: usize,
 ) -> Result<(), Fail> {
     let (script, _) = lines_of(alloc, table)?;
-    let calls = calls_behind(alloc, FIVE, &script, &[], unit, replies)?.len();
+    let calls = calls_after(alloc, FIVE, &script, &[], unit, replies)?.len();
     if calls != count.saturating_add(1) {
         return Err(Fail::new(format_args!("{calls} calls")));
     }
@@ -100,13 +101,13 @@ soups 0 => ok S 0 1
 #[test]
 fn tells_which_store_a_card_holds(rt: HostRuntime) -> Result<(), Fail> {
     let alloc = rt.alloc();
-    // All but the last sync: what is read, the record behind its gate, a sync, and the gate.
+    // All but the last sync: what is read, the record after its gate, a sync, and the gate.
     expect_each_failing(alloc, NOT_ADDED, Unit(0), 3, 7)?;
     expect_failing(alloc, ADDED, Unit(0), 3, Place::FromLast(0))
 }
 
 #[test]
-fn goes_on_behind_a_device_that_failed(rt: HostRuntime) -> Result<(), Fail> {
+fn goes_on_after_a_device_that_failed(rt: HostRuntime) -> Result<(), Fail> {
     let alloc = rt.alloc();
     let script: &[u8] = b"nsof 020A\nmount 0\nnsof 020A\n";
     let mut host = over(alloc, script, &blocks(alloc, 13)?, &[])?;
@@ -125,7 +126,7 @@ fn names(alloc: Global) -> Result<Vec<u8>, Fail> {
     image(alloc, &host, Unit(0))
 }
 
-/// Gets all entries but the first, which is at hand no more then, and the first one.
+/// Gets all entries but the first, which is then no longer cached, and the first one after them.
 fn gets(alloc: Global) -> Result<Vec<u8>, Fail> {
     let mut script = Vec::from_slice(alloc, b"mount 0\nquery 0 Names {}\n")?;
     for id in 1u32..200 {
@@ -259,7 +260,7 @@ format 0 A 7 => ok
 mount 0 => ok 7 A
 ";
 
-/// And one that has a store.
+/// A card that has a store fails while it is formatted.
 const FORMATTED: &str = "
 format 0 A 7 => ok
 format 0 B 9 => error 50 device 0
@@ -273,7 +274,7 @@ fn a_format_fails(rt: HostRuntime) -> Result<(), Fail> {
     expect_failing(alloc, FORMATTED, Unit(0), 1, Place::First)
 }
 
-/// The default store is the next one then, and stays it.
+/// The default store is then the next one, and stays it.
 const DEFAULTS: &str = "
 format 0 A 7 => ok
 format 1 B 9 => ok
@@ -314,11 +315,11 @@ get 1 S 0 => ok 0 {}
 quit => ok
 ";
 
-/// The first call on the card that each of its lines makes, where all those before it failed.
+/// The first call on the card by each line, where all those before it failed.
 fn failing_calls(alloc: Global, script: &[u8]) -> Result<Vec<u64>, Fail> {
     let mut failing: Vec<u64> = Vec::new(alloc);
     for replies in 6usize..14 {
-        let calls = calls_behind(alloc, "run a b", script, &failing, Unit(0), replies)?;
+        let calls = calls_after(alloc, "run a b", script, &failing, Unit(0), replies)?;
         if let Some(call) = calls.first() {
             failing.push(*call)?;
         }

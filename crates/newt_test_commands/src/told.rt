@@ -1,10 +1,10 @@
-//! Watches and working copies where a card fails: what was not done is not told, and a copy stays.
+//! Watches and working copies where a card fails: what was not done is not noted, and a copy stays.
 
 use crate::thrown::{Place, expect_each_failing, expect_failing};
 use newt_host::Unit;
 use std::test::Fail;
 
-/// The bytes of an entry do not come onto the card, and nothing is told.
+/// The bytes of an entry do not come onto the card, and nothing is noted.
 const NOT_ADDED: &str = "
 format 0 A 7 => ok
 mount 0 => ok 7 A
@@ -17,7 +17,7 @@ add 0 S {} => ok 0
 notes 0 => ok 0 add 0 0 0
 ";
 
-/// An entry is on its new card, and could not be taken from the other: the add alone is told.
+/// An entry is on its new card, and could not be taken from the other. Only the add is noted.
 const MOVED: &str = "
 format 0 A 7 => ok
 format 1 B 9 => ok
@@ -39,7 +39,7 @@ fn tells_what_was_done_before_a_card_failed(rt: HostRuntime) -> Result<(), Fail>
     expect_failing(alloc, MOVED, Unit(0), 8, Place::FromLast(1))
 }
 
-/// A save does not come onto the card. The draft stays, and is saved where the card is back.
+/// A save does not come onto the card. The draft stays, and is saved once the card is back.
 const NOT_SAVED: &str = "
 format 0 A 7 => ok
 mount 0 => ok 7 A
@@ -58,7 +58,7 @@ save 0 => ok
 notes 0 => ok 0 change 0 0 0
 ";
 
-/// It does, and the last sync fails: the entry is not as the copy's base then.
+/// A save comes onto the card, and the last sync fails: then the entry is not as the copy's base.
 const SAVED: &str = "
 format 0 A 7 => ok
 mount 0 => ok 7 A

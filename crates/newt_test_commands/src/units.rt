@@ -1,6 +1,6 @@
 //! Commands on units, with replies that were written by hand.
 
-use newt_test_scripts::{blocks, card_behind, expect, run_table_on};
+use newt_test_scripts::{blocks, card_after, expect, run_table_on};
 use newt_top::Status;
 use std::process::Abort;
 use std::test::Fail;
@@ -52,7 +52,7 @@ fn is_fresh(image: &[u8]) -> bool {
 #[test]
 fn writes_a_store_where_the_formats_say(rt: HostRuntime) -> Result<(), Fail> {
     let alloc = rt.alloc();
-    let card = card_behind(alloc, "run a", "format 0 Internal 7 => ok")?;
+    let card = card_after(alloc, "run a", "format 0 Internal 7 => ok")?;
     assert!(rt; is_fresh(&card));
     Ok(())
 }

@@ -23,7 +23,7 @@ which 0 => ok begin
 ";
 
 #[test]
-fn goes_on_behind_an_entry_that_was_removed(rt: HostRuntime) -> Result<(), Fail> {
+fn goes_on_after_an_entry_that_was_removed(rt: HostRuntime) -> Result<(), Fail> {
     expect(rt.alloc(), "run a b c d", REMOVED)
 }
 

@@ -1,9 +1,9 @@
-//! Watches: what they are told, and what they keep of it. The replies are those of the rules.
+//! Watches: what they note, and what they keep of it. The replies are those of the rules.
 
 use newt_test_scripts::expect;
 use std::test::Fail;
 
-/// Each change of a soup of the name is told, in order, on both cards, and no other one.
+/// Each change of a soup of the name is noted, in order, on both cards, and no other change.
 const TOLD: &str = "
 format 0 A 7 => ok
 format 1 B 9 => ok
@@ -66,7 +66,8 @@ fn tells_nothing_of_what_is_no_change(rt: HostRuntime) -> Result<(), Fail> {
     expect(rt.alloc(), "run a", UNTOLD)
 }
 
-/// The last notes are kept, and the others counted, again from nothing once they are told.
+/// The last notes are kept, and the others counted. Once they are taken, the count begins again
+/// from nothing.
 const LOST: &str = "
 format 0 A 7 => ok
 mount 0 => ok 7 A

@@ -112,9 +112,9 @@ sixteen_bytes : header 2 ≡ codes "NSTORE" ++ 0 ∷ 2 ∷ 0 ∷ 0 ∷ 0 ∷ 0 �
 unfolding header
 sixteen_bytes = refl
 
-behind_the_header : versioned (codes "NSTORE" ++ 0 ∷ 2 ∷ 0 ∷ 0 ∷ 0 ∷ 0 ∷ 0 ∷ 0 ∷ 0 ∷ 0 ∷ 255 ∷ 9 ∷ []) ≡ Some (2, 255 ∷ 9 ∷ [])
+after_the_header : versioned (codes "NSTORE" ++ 0 ∷ 2 ∷ 0 ∷ 0 ∷ 0 ∷ 0 ∷ 0 ∷ 0 ∷ 0 ∷ 0 ∷ 255 ∷ 9 ∷ []) ≡ Some (2, 255 ∷ 9 ∷ [])
 unfolding header
-behind_the_header = refl
+after_the_header = refl
 
 version_1 : versioned (codes "NSTORE" ++ 0 ∷ 1 ∷ 0 ∷ 0 ∷ 0 ∷ 0 ∷ 0 ∷ 0 ∷ 0 ∷ 0 ∷ 255 ∷ 9 ∷ []) ≡ Some (1, 255 ∷ 9 ∷ [])
 unfolding header
@@ -299,7 +299,7 @@ no_changes = refl
 byte_too_few : change_in (0 ∷ 0 ∷ 0 ∷ 1 ∷ 0 ∷ 0 ∷ 0 ∷ []) ≡ None
 byte_too_few = refl
 
--- the number of deletes stands behind that of puts
+-- the number of deletes stands after that of puts
 one_delete : change_in (0 ∷ 0 ∷ 0 ∷ 1 ∷ 0 ∷ 0 ∷ 255 ∷ 255 ∷ []) ≡ Some (record { puts = []; deletes = 65535 ∷ [] })
 one_delete = refl
 

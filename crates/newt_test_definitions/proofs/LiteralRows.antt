@@ -36,7 +36,7 @@ blanks_within_tokens = refl
 
 -- ---- integers
 
--- 1 to 10 digits, behind one minus sign or none
+-- 1 to 10 digits, after one minus sign or none
 integers : map printed (map codes ("0" ∷ "1" ∷ "007" ∷ "-0" ∷ "-1" ∷ "536870911" ∷ "0536870911" ∷ "-536870912" ∷ "-0536870912" ∷ "0000000001" ∷ []))
     ≡ map codes ("0" ∷ "1" ∷ "7" ∷ "0" ∷ "-1" ∷ "536870911" ∷ "536870911" ∷ "-536870912" ∷ "-536870912" ∷ "1" ∷ [])
 unfolding open_tables
@@ -126,7 +126,7 @@ one_symbol = refl
 
 -- ---- strings
 
--- characters from 32 on; a quote and a backslash behind a backslash; a unit by four digits
+-- characters from 32 on; a quote and a backslash after a backslash; a unit by four digits
 strings : map printed (map codes ("\"\"" ∷ "\"A\"" ∷ "\" ~\"" ∷ "\"\\\"\\\\\"" ∷ "\"\\u0041\\u00e9\"" ∷ "\"é\"" ∷ "\"\\u0000\"" ∷ "\"\\uD83D\"" ∷ "\"😀\"" ∷ "\"'|[{,\"" ∷ []))
     ≡ map codes ("\"\"" ∷ "\"A\"" ∷ "\" ~\"" ∷ "\"\\\"\\\\\"" ∷ "\"A\\u00E9\"" ∷ "\"\\u00E9\"" ∷ "\"\\u0000\"" ∷ "\"\\uD83D\"" ∷ "\"\\uD83D\\uDE00\"" ∷ "\"'|[{,\"" ∷ [])
 unfolding open_tables

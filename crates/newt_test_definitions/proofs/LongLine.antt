@@ -1,4 +1,4 @@
--- A line of more bytes than a line may have is refused, and the script goes on behind it.
+-- A line of more bytes than a line may have is refused, and the script goes on after it.
 use Rattle.std.proofs.Common.{◌≡◌, refl, ap, ◌∙◌, ℕ, zero, suc, List, ◌∷◌, ◌++◌, true, Some, Err, replicate, length, nat_lt, filter_map, map, codes}
 use Rattle.std.specs.List.{cons_option}
 use Rattle.std.proofs.lemmas.List.{length-replicate}

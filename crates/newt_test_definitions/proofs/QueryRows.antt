@@ -256,7 +256,7 @@ tags_together = refl
 
 -- ---- words and texts
 
--- A word begins at a word character that has none before it; as an entire word it has none behind
+-- A word begins at a word character that has none before it; as an entire word it has none after
 -- it either.
 beginnings : map (λ word. has_word (codes "ab cd-ef_gh 12x éz") (codes word) false) ("a" ∷ "ab" ∷ "ab c" ∷ "cd" ∷ "ef" ∷ "gh" ∷ "12" ∷ "é" ∷ "éz" ∷ [])
     ≡ replicate 9 true

@@ -62,7 +62,7 @@ lost_add : lines with_soup (failed_add (one empty_soup)) ≡ map codes ("error 5
 unfolding open_tables
 lost_add = refl
 
--- behind it
+-- after it
 kept_add : lines with_soup (failed_add (one one_entry)) ≡ map codes ("error 50 device 0" ∷ "error 25 notmounted" ∷ "ok 7 Internal" ∷ "ok S 0 1" ∷ [])
 unfolding open_tables
 kept_add = refl

@@ -118,7 +118,7 @@ numbers_within : map shown (map codes ("02050303000701620804007800000903" ∷ "0
 unfolding open_tables
 numbers_within = refl
 
--- the numbers behind the last one that was given out
+-- the numbers after the last one that was given out
 numbers_not_given : streams_among (map codes ("02050303000701620804007800000904" ∷ "0205030B010203040804007800000903" ∷ "0205050A000401410804007800000902" ∷ [])) ≡ []
 unfolding open_tables
 numbers_not_given = refl
@@ -155,7 +155,7 @@ no_frames = refl
 
 -- ---- arrays
 
--- the number of slots in both forms, the class behind it
+-- the number of slots in both forms, the class after it
 arrays : map shown (map codes ("020500" ∷ "0205FF00000000" ∷ "0205FF000000010A" ∷ "02050200040008" ∷ "020400070163" ∷ "0204FF000000010701630A" ∷ "02040207016300040008" ∷ []))
     ≡ map codes ("[]" ∷ "[]" ∷ "[nil]" ∷ "[1, 2]" ∷ "[c:]" ∷ "[c: nil]" ∷ "[c: 1, 2]" ∷ [])
 unfolding open_tables
@@ -265,7 +265,7 @@ string_within : is_malformed (decoded (within 200 (5 ∷ 1 ∷ []) (8 ∷ 2 ∷ 
 unfolding open_tables
 string_within = refl
 
--- the bytes that a number or a name takes, and any others behind them
+-- the bytes that a number or a name takes, and any others after them
 four_follow : (rest : ℕ) → nat_lt (suc (suc (suc (suc rest)))) 4 ≡ false
 four_follow rest = grind arith
 

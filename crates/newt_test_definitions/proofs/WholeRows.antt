@@ -84,8 +84,8 @@ not_told_is_run = (thrown {u = 0} (command.Move 0 N 0 1 N) (inl refl) refl refl,
 abbrev before_save : Store
 before_save = change_soup S (add_entry 5 (with_a 1)) (make_soup S (new_store (codes "Internal") 7))
 
-abbrev behind_save : Store
-behind_save = change_soup S (change_entry 0 (with_graph 6 (with_a 2))) before_save
+abbrev after_save : Store
+after_save = change_soup S (change_entry 0 (with_graph 6 (with_a 2))) before_save
 
 -- a copy of the entry is edited, at the minute 6
 abbrev edited_once : Whole
@@ -103,12 +103,12 @@ saved_again : lines_of (change_failed before_save) ≡ map codes ("error 50 devi
 unfolding open_tables
 saved_again = refl
 
-saved_before : lines_of (change_failed behind_save) ≡ map codes ("error 50 device 0" ∷ "ok {a: 2}" ∷ "error 32 entry" ∷ "ok 7 Internal" ∷ "error 45 changed 6" ∷ [])
+saved_before : lines_of (change_failed after_save) ≡ map codes ("error 50 device 0" ∷ "ok {a: 2}" ∷ "error 32 entry" ∷ "ok 7 Internal" ∷ "error 45 changed 6" ∷ [])
 unfolding open_tables
 saved_before = refl
 
-two_stores : map (λ (row : Row Whole). stores_on row.0 0) (change_failed behind_save)
-    ≡ (before_save ∷ behind_save ∷ []) ∷ (before_save ∷ behind_save ∷ []) ∷ (before_save ∷ behind_save ∷ []) ∷ (behind_save ∷ []) ∷ (behind_save ∷ []) ∷ []
+two_stores : map (λ (row : Row Whole). stores_on row.0 0) (change_failed after_save)
+    ≡ (before_save ∷ after_save ∷ []) ∷ (before_save ∷ after_save ∷ []) ∷ (before_save ∷ after_save ∷ []) ∷ (after_save ∷ []) ∷ (after_save ∷ []) ∷ []
 unfolding open_tables
 two_stores = refl
 
@@ -121,7 +121,7 @@ saved_again_is_run = (
     (
       plain refl refl,
       (
-        found {u = 0} refl (record { on = record { blocks = 13; media = two before_save behind_save; mounted = false }; there = refl; holds = one before_save; may = inl refl; is = refl }) refl,
+        found {u = 0} refl (record { on = record { blocks = 13; media = two before_save after_save; mounted = false }; there = refl; holds = one before_save; may = inl refl; is = refl }) refl,
         (plain refl refl, tt),
       ),
     ),

@@ -21,6 +21,7 @@ told (Err Memory) = codes "memory"
 abbrev pub shown : List ℕ → List ℕ
 shown digits = elim (hex_bytes digits) [ Some bytes ↦ told (decoded bytes) | None ↦ codes "odd" ]
 
+-- the stream is malformed
 abbrev pub is_malformed : Result RawGraph NsofFault → Bool
 is_malformed (Err Malformed) = true
 is_malformed _ = false
@@ -50,6 +51,7 @@ rewritten text digits =
 abbrev pub printed : List ℕ → List ℕ
 printed text = elim (literal_read text) [ Ok g ↦ literal g | Err fault ↦ codes "no literal" ]
 
+-- the text is a literal
 abbrev pub is_literal : List ℕ → Bool
 is_literal text = elim (literal_read text) [ Ok g ↦ true | Err fault ↦ false ]
 

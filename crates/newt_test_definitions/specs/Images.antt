@@ -6,7 +6,7 @@ use Rattle.newt_spec_nsof.specs.Flat.{flat}
 use Rattle.newt_spec_nsof.specs.Lengths.{skeleton}
 use Rattle.newt_spec_store.specs.Store.{Entry, Store, make_soup, add_entry, change_soup, new_store, with_info}
 use Rattle.newt_spec_store.specs.Cost.{directory_bytes}
-use Rattle.newt_spec_store.specs.Image.{Objects, entry_bytes}
+use Rattle.newt_spec_store.specs.Image.{ObjectList, entry_bytes}
 use Rattle.newt_test_definitions.specs.Graphs.{one_slot}
 use Rattle.newt_test_definitions.specs.Worlds.{wave, S}
 
@@ -27,7 +27,7 @@ abbrev pub wave_entry : Entry
 wave_entry = record { uid = 0; time = 5; graph = wave 3 }
 
 -- the objects that write the store down
-abbrev pub objects_with_wave : Objects
+abbrev pub objects_with_wave : ObjectList
 objects_with_wave =
     (2, replicate 3 0) ∷ (0, directory_bytes with_wave) ∷ (1, entry_bytes 0 wave_entry (2 ∷ []))
     ∷ []

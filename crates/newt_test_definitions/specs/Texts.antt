@@ -31,6 +31,7 @@ changed (text, path, value) =
     text_of (option_and_then (λ g. option_and_then (λ v. put g path v) (graph_of value))
     (graph_of text))
 
+-- the text is a literal that has the form of a query
 abbrev pub has_query_form : List ℕ → Bool
 has_query_form text = elim (graph_of text) [ Some g ↦ is_query g | None ↦ false ]
 
@@ -38,7 +39,7 @@ has_query_form text = elim (graph_of text) [ Some g ↦ is_query g | None ↦ fa
 abbrev pub queries_among : List (List ℕ) → List (List ℕ)
 queries_among = filter has_query_form
 
--- and those that have not
+-- those of these texts that do not have it
 abbrev pub others_among : List (List ℕ) → List (List ℕ)
 others_among = filter (λ text. not (has_query_form text))
 

@@ -1,13 +1,13 @@
-//! Backups of which bytes are missing or changed.
+//! Backups with bytes that are missing or changed.
 
 use crate::cards::patch;
 use newt_host::Unit;
-use newt_test_scripts::{backed_up, card_behind, expect_unrestored, image, run_over};
+use newt_test_scripts::{backed_up, card_after, expect_unrestored, image, run_over};
 use std::alloc::Global;
 use std::test::Fail;
 
-/// A store of two soups, one with an index, tags and an info frame, and of entries whose graphs
-/// have each kind of node.
+/// A store of two soups, one with an index, tags and an info frame. Its entries have graphs with
+/// each kind of node.
 pub(crate) const STORE: &str = "
 format 0 Internal 7 => ok
 mount 0 => ok 7 Internal
@@ -33,9 +33,9 @@ soup 0 S => ok 0
 add 0 S {a: 1} => ok 0
 ";
 
-/// The backup of the store behind a table.
-pub(crate) fn backup_behind(alloc: Global, table: &str) -> Result<Vec<u8>, Fail> {
-    backed_up(alloc, &card_behind(alloc, "run a", table)?)
+/// The backup of the store after a table.
+pub(crate) fn backup_after(alloc: Global, table: &str) -> Result<Vec<u8>, Fail> {
+    backed_up(alloc, &card_after(alloc, "run a", table)?)
 }
 
 /// A device of 13 blocks of this byte.
@@ -49,14 +49,14 @@ pub(crate) fn filled(alloc: Global, byte: u8) -> Result<Vec<u8>, Fail> {
 fn a_backup_that_is_cut_is_refused(rt: HostRuntime) -> Result<(), Fail> {
     let alloc = rt.alloc();
     let device = filled(alloc, 0x55)?;
-    let input = backup_behind(alloc, STORE)?;
+    let input = backup_after(alloc, STORE)?;
     for end in 0..input.len() {
         expect_unrestored(alloc, &input[..end], &device, b"error 1 malformed\n")?;
     }
     Ok(())
 }
 
-/// What an input that is no store's backup is answered.
+/// What is answered to an input that is no store's backup.
 const REFUSALS: [&[u8]; 3] = [
     b"error 1 malformed\n",
     b"error 2 compressed\n",
@@ -72,8 +72,8 @@ fn is_refusal(line: &[u8]) -> bool {
     false
 }
 
-/// An input is refused, and the device stays; or it is the backup of the store that is restored.
-/// Says whether it is restored.
+/// Either an input is refused and the device stays, or it is the backup of the store that is
+/// restored. Answers whether it is restored.
 fn is_restored(alloc: Global, input: &[u8], device: &[u8]) -> Result<bool, Fail> {
     let host = run_over(alloc, "restore a", input, device, &[])?;
     let left = image(alloc, &host, Unit(0))?;
@@ -99,7 +99,8 @@ fn is_bent(alloc: Global, input: &[u8], at: usize, byte: u8, device: &[u8]) -> R
     is_restored(alloc, &bent, device)
 }
 
-/// How often a backup whose bytes are changed to each of these, one at a time, is another one.
+/// How often a backup is another backup, where its bytes are changed to each of these, one at a
+/// time.
 fn count_bent(alloc: Global, input: &[u8], bytes: &[u8]) -> Result<u32, Fail> {
     let device = filled(alloc, 0x55)?;
     let mut count = 0u32;
@@ -113,9 +114,9 @@ fn count_bent(alloc: Global, input: &[u8], bytes: &[u8]) -> Result<u32, Fail> {
     Ok(count)
 }
 
-/// The same of the backup of the store behind a table, with as many that are one.
+/// The same for the backup of the store after a table, with the number that is wanted.
 fn expect_bent(alloc: Global, table: &str, bytes: &[u8], wanted: u32) -> Result<(), Fail> {
-    let count = count_bent(alloc, &backup_behind(alloc, table)?, bytes)?;
+    let count = count_bent(alloc, &backup_after(alloc, table)?, bytes)?;
     if count != wanted {
         return Err(Fail::new(format_args!("{count} are backups")));
     }

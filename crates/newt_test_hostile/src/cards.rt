@@ -1,19 +1,19 @@
 //! A card with a fresh store, some bytes of which are changed.
 
 use newt_host::Unit;
-use newt_test_scripts::{card_behind, image, is_clean, run_table_on};
+use newt_test_scripts::{card_after, image, is_clean, run_table_on};
 use newt_test_tables::bytes_of;
 use std::alloc::Global;
 use std::test::Fail;
 
 /// The image of a unit of 13 blocks that was formatted once.
 fn base(alloc: Global) -> Result<Vec<u8>, Fail> {
-    card_behind(alloc, "run a", "format 0 Internal 7 => ok")
+    card_after(alloc, "run a", "format 0 Internal 7 => ok")
 }
 
-/// What a card opens as. A row is a table of lines and replies behind ` : `, which a run over the
-/// card gives, with ` / ` between its lines; before it stand the changes of the image, with `, `
-/// between them: each is where its bytes begin and what they are. Rows behind a `#` say what they
+/// What a card opens as. A row begins with the changes of the image, with `, ` between them: each
+/// is where its bytes begin, and what they are. After ` : ` comes a table of lines and replies,
+/// with ` / ` between its lines, which a run over the card gives. Rows after a `#` say what they
 /// are.
 const CARDS: &str = "
 # The votes: three that differ, one for a bank that was never written, none of block 0.
@@ -36,7 +36,7 @@ const CARDS: &str = "
 /// Writes bytes over those from a place on.
 pub(crate) fn patch(bytes: &mut Vec<u8>, at: usize, new: &[u8]) -> Result<(), Fail> {
     if at > bytes.len() || new.len() > bytes.len() - at {
-        return Err(Fail::new("a change behind the image"));
+        return Err(Fail::new("a change after the image"));
     }
     bytes[at..at + new.len()].copy_from_slice(new);
     Ok(())
@@ -53,7 +53,7 @@ fn changed(alloc: Global, image: &[u8], changes: &str) -> Result<Vec<u8>, Fail> 
 }
 
 /// A run over a card of these bytes gives the replies of a table, whose lines have ` / ` between
-/// them. It is mounted exactly where the mode `check` finds nothing damaged.
+/// them. The card is mounted exactly where the mode `check` finds nothing damaged.
 pub(crate) fn expect_opened(alloc: Global, card: &[u8], lines: &str) -> Result<(), Fail> {
     let mut table = String::new(alloc);
     for line in lines.split(" / ") {
@@ -87,7 +87,7 @@ fn a_changed_card_opens_as_the_format_says(rt: HostRuntime) -> Result<(), Fail> 
     expect_rows(alloc, &base(alloc)?, CARDS)
 }
 
-/// Where the blocks that vote begin.
+/// Where the blocks begin that vote.
 const VOTES: &[usize] = &[0, 4096, 8192];
 
 /// Whether all blocks that vote do so for a bank.
@@ -100,8 +100,8 @@ fn all_vote(image: &[u8], bank: u8) -> bool {
     true
 }
 
-/// Behind a record that is not begun a change goes to the other bank, for which all three vote
-/// then.
+/// After a record that is not begun, a change goes to the other bank, and then all three votes are
+/// for that bank.
 #[test]
 fn a_closed_bank_is_switched(rt: HostRuntime) -> Result<(), Fail> {
     let alloc = rt.alloc();
@@ -119,7 +119,7 @@ fn a_closed_bank_is_switched(rt: HostRuntime) -> Result<(), Fail> {
     Ok(())
 }
 
-/// A card with a block less than the least has no records.
+/// A card with one block less than the least has no records.
 #[test]
 fn a_card_has_its_blocks(rt: HostRuntime) -> Result<(), Fail> {
     let alloc = rt.alloc();

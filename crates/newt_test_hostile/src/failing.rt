@@ -4,7 +4,7 @@ use crate::script::{LISTING, SCRIPT};
 use newt_test_scripts::{expect_statuses, expect_thrown};
 use std::test::Fail;
 
-/// There were so many calls that failed.
+/// As many calls failed as are wanted.
 fn expect_count(count: u32, wanted: u32) -> Result<(), Fail> {
     if count != wanted {
         return Err(Fail::new(format_args!("{count} calls")));
@@ -18,6 +18,6 @@ fn ends_at_each_call_of_a_stream_that_fails(rt: HostRuntime) -> Result<(), Fail>
 }
 
 #[test]
-fn goes_on_behind_each_call_of_a_device_that_fails(rt: HostRuntime) -> Result<(), Fail> {
+fn goes_on_after_each_call_of_a_device_that_fails(rt: HostRuntime) -> Result<(), Fail> {
     expect_count(expect_thrown(rt.alloc(), SCRIPT, LISTING)?, 422)
 }

@@ -4,9 +4,9 @@ use newt_test_scripts::{expect_end, host, lines_of};
 use newt_top::Status;
 use std::test::Fail;
 
-/// Streams that end too early, have a tag that there is none of, a pointer, a count below 0, a
-/// string of an odd length or without its end, equal tags; an array that holds itself; and 200 and
-/// 201 arrays within one another.
+/// Streams that end too early; that have an unknown tag, a pointer, a count below 0, a string of an
+/// odd length or without its end, or equal tags; an array that holds itself; and 200 and 201 arrays
+/// within one another.
 const LINES: &str = "
 nsof 02 => error 1 malformed
 nsof 010A => error 1 malformed

@@ -9,7 +9,7 @@ use newt_top::Status;
 use std::alloc::Global;
 use std::test::Fail;
 
-/// Commands of which each writes a reply, and two of which write to a unit.
+/// Commands that each write a reply, two of which write to a unit.
 const TABLE: &str = "
 mount 0 => error 22 nostore
 format 0 Internal 7 => ok
@@ -20,7 +20,7 @@ quit now => error 11 line
 quit => ok
 ";
 
-/// How much of the output a call of a run found and left, where it wrote to it.
+/// How much of the output a call of a run found and left, where it wrote to the output.
 fn written(host: &MemHost, call: u64) -> Option<usize> {
     let next = call.saturating_add(1);
     if call >= host.calls() || host.unit_of(call).is_some() {
@@ -34,7 +34,7 @@ fn written(host: &MemHost, call: u64) -> Option<usize> {
     (before < after).then_some(before as usize)
 }
 
-/// A run of which a call fails ends with a fault of the output, and has written so many of these
+/// A run with a call that fails ends with a fault of the output, and has written so many of these
 /// bytes.
 fn expect_cut(alloc: Global, host: &mut MemHost, call: u64, output: &[u8]) -> Result<(), Fail>
     requires { IsFree (outside_of host.old) }
@@ -43,7 +43,7 @@ fn expect_cut(alloc: Global, host: &mut MemHost, call: u64, output: &[u8]) -> Re
     expect_end(alloc, "run a", host, Status::Sink, output)
 }
 
-/// The same where each call in turn fails that wrote to the output.
+/// The same, where each call in turn fails that wrote to the output.
 fn expect_all_cut(
     alloc: Global,
     script: &[u8],

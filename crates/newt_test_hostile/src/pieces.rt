@@ -37,7 +37,7 @@ which 0 => ok begin
 ",
 ];
 
-/// A table run over a unit, with calls that move at most so many bytes.
+/// A table is run over a unit, with calls that move at most `piece` bytes.
 fn expect_in_pieces(alloc: Global, table: &str, piece: u32) -> Result<(), Fail> {
     let (script, output) = lines_of(alloc, table)?;
     let mut host = over_blank(alloc, &script)?;

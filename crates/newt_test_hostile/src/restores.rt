@@ -1,6 +1,6 @@
 //! A stop at each call of a restoring.
 
-use crate::backups::{STORE, backup_behind, filled};
+use crate::backups::{STORE, backup_after, filled};
 use newt_host::{Host, Unit};
 use newt_memhost::{Crash, MemHost, Pick};
 use newt_test_scripts::{backed_up, expect_status, over, restored};
@@ -35,7 +35,7 @@ impl Found {
 }
 
 /// Whether a device of these bytes reads as the store of a backup. Where it does not, no store is
-/// read, and the backup is restored to it; where it does, it is not.
+/// read, and the backup is restored to it. Where it does, the backup is not restored.
 fn is_store(alloc: Global, bytes: &[u8], input: &[u8]) -> Result<bool, Fail> {
     let found = backed_up(alloc, bytes)?;
     if found.as_slice() == input {
@@ -47,13 +47,13 @@ fn is_store(alloc: Global, bytes: &[u8], input: &[u8]) -> Result<bool, Fail> {
     }
     let again = restored(alloc, input, bytes, b"ok 7 Internal\n")?;
     if backed_up(alloc, &again)?.as_slice() != input {
-        return Err(Fail::new("another store is restored behind a stop"));
+        return Err(Fail::new("another store is restored after a stop"));
     }
     Ok(false)
 }
 
-/// A stop within each call of a restoring of this input leaves no store, or the store; and the
-/// store once a byte of the reply is out. Before the input was read the device is not attached.
+/// A stop within each call of a restoring of this input leaves no store, or the store; once a byte
+/// of the reply is out, it leaves the store. Before the input was read the device is not attached.
 fn stop_at_each(
     alloc: Global,
     host: &MemHost,
@@ -80,7 +80,7 @@ fn stop_at_each(
 
 /// The same for a restoring to a device of these bytes, whose reply is written a byte at a time.
 fn stop_restoring(alloc: Global, device: &[u8]) -> Result<Found, Fail> {
-    let input = backup_behind(alloc, STORE)?;
+    let input = backup_after(alloc, STORE)?;
     let mut host = over(alloc, &input, device, &[])?;
     host.piece(1);
     expect_status(alloc, "restore a", &mut host, Status::Ok)?;

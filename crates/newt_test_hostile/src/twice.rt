@@ -4,7 +4,7 @@ use crate::script::{LAST, LISTING, SCRIPT, SECOND};
 use newt_host::{Host, Unit};
 use newt_memhost::{Crash, MemHost, Pick};
 use newt_test_scripts::{
-    Counts, Looks, begun, expect_safe, lines_of, look, looks_behind, looks_behind_blank, run_over,
+    Counts, Looks, begun, expect_safe, lines_of, look, looks_by_line, looks_from_blank, run_over,
     run_table,
 };
 use std::alloc::Global;
@@ -13,10 +13,10 @@ use std::test::Fail;
 /// The unit that is stopped twice.
 const UNIT: Unit = Unit(0);
 
-/// A second run over what a stop left, and a stop at each of its calls: what is left is a store of
+/// A second run over what a stop left, and a stop at each of its calls. What is left is a store of
 /// the second run over what the unit holds where nothing is stopped.
 fn stop_second(alloc: Global, left: &[u8], plain: &[u8]) -> Result<Counts, Fail> {
-    let looks = looks_behind(alloc, SECOND, [plain, &[]], LISTING, UNIT)?;
+    let looks = looks_by_line(alloc, SECOND, [plain, &[]], LISTING, UNIT)?;
     let host = run_over(alloc, "run a", SECOND, left, &[])?;
     expect_safe(alloc, &host, UNIT, Pick::Fill(1), LISTING, &looks)
 }
@@ -37,8 +37,8 @@ fn stop_after(alloc: Global, left: &[u8], replies: usize, looks: &Looks) -> Resu
     }
 }
 
-/// A stop at each call on the unit behind so many replies, and the second run over each image that
-/// is left. Says how many images there were.
+/// A stop at each call on the unit after so many replies, and the second run over each image that
+/// is left. Answers how many images there were.
 fn stop_twice(
     alloc: Global,
     host: &MemHost,
@@ -67,7 +67,7 @@ fn stop_twice(
     Ok((stops, counts))
 }
 
-/// How often the unit goes on in its other bank behind the lines from this one on.
+/// How often the unit goes on in its other bank, in the lines from this one on.
 fn switches(looks: &Looks, first: usize) -> u32 {
     let mut count = 0u32;
     let mut vote = None;
@@ -87,7 +87,7 @@ fn a_stop_within_recovery_leaves_a_store(rt: HostRuntime) -> Result<(), Fail> {
     let host = run_table(alloc, "run a b", SCRIPT)?;
     let (script, output) = lines_of(alloc, SCRIPT)?;
     let first = begun(&output).saturating_sub(LAST);
-    let looks = looks_behind_blank(alloc, &script, LISTING, UNIT)?;
+    let looks = looks_from_blank(alloc, &script, LISTING, UNIT)?;
     if switches(&looks, first) != 1 {
         return Err(Fail::new("the last commands do not change the bank once"));
     }

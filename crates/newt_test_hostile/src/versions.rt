@@ -6,7 +6,7 @@ use newt_test_tables::bytes_of;
 use std::alloc::{AllocError, Global};
 use std::test::Fail;
 
-/// Where the first bank begins, and what it begins with: a version stands behind this name.
+/// Where the first bank begins. A version stands after the name with which it begins.
 const BANK: usize = 12_288;
 
 const NAME: &[u8] = b"NSTORE";
@@ -35,7 +35,7 @@ fn push_pages(record: &mut Vec<u8>, directory: &[u8]) -> Result<(), Fail> {
     Ok(())
 }
 
-/// Makes an empty list of bytes a bank of this version in which one record puts so many pages.
+/// Makes an empty list of bytes a bank of this version, in which one record puts so many pages.
 fn push_bank(
     bank: &mut Vec<u8>,
     version: &[u8],
@@ -79,8 +79,8 @@ fn card_of(alloc: Global, count: u32, version: &[u8], directory: &[u8]) -> Resul
 const SOUP: &str = "08496E7465726E616C 00000007 0001 01 0153 0000 00000000 00";
 
 /// What a card opens as. A row is the version of its bank and, of the directory, the soup's flags
-/// and what follows them; behind ` : ` stand lines and replies, with ` / ` between them. Rows
-/// behind a `#` say what they are.
+/// and what follows them. After ` : ` come lines and replies, with ` / ` between them. Rows after a
+/// `#` say what they are.
 const CARDS: &str = "
 # No such version.
 0000 00 : mount 0 => error 22 nostore
@@ -127,7 +127,7 @@ const CARDS: &str = "
 0002 02 0FA1 02060107016203FF00000F92070178 00*3986 : mount 0 => error 22 nostore
 ";
 
-/// A run over a card that is made of such a row gives its replies.
+/// A run over a card that is made from such a row gives its replies.
 fn expect_row(alloc: Global, row: &str) -> Result<(), Fail> {
     let (made, lines) = row.split_once(" : ").ok_or("a row without lines")?;
     let (version, rest) = made.split_once(' ').unwrap_or((made, ""));
@@ -213,7 +213,7 @@ fn a_directory_costs_what_its_unit_takes(rt: HostRuntime) -> Result<(), Fail> {
     expect_said(alloc, &more, b"ok damaged cost 39\n")
 }
 
-/// Appends a line that tells all soups, or all indexes of the last, with its reply.
+/// Appends a line that lists all soups, or all indexes of the last one, with its reply.
 fn push_listing(alloc: Global, lines: &mut String) -> Result<(), Fail> {
     lines.push_str("soups 0 => ok")?;
     for soup in 0..250u32 {
@@ -229,7 +229,7 @@ fn push_listing(alloc: Global, lines: &mut String) -> Result<(), Fail> {
     Ok(())
 }
 
-/// Appends the lines that list such a store before its first change and behind it.
+/// Appends the lines that list such a store before its first change and after it.
 fn push_lines(alloc: Global, lines: &mut String) -> Result<(), Fail> {
     lines.push_str("mount 0 => ok 7 Internal / ")?;
     push_listing(alloc, lines)?;
@@ -241,8 +241,8 @@ fn push_lines(alloc: Global, lines: &mut String) -> Result<(), Fail> {
     Ok(())
 }
 
-/// A store of 250 soups with 16 indexes each is opened, goes to the other bank with its first
-/// change that the first has no room for, and is listed there as before.
+/// A store of 250 soups with 16 indexes each is opened. It goes to the other bank with the first
+/// change for which the first bank has no room, and is listed there as before.
 #[test]
 fn a_full_directory_is_opened_copied_and_listed(rt: HostRuntime) -> Result<(), Fail> {
     let alloc = rt.alloc();

@@ -64,7 +64,7 @@ fn directory_of(alloc: Global, length: usize) -> Result<Vec<u8>, Fail> {
 }
 
 /// What is asked of it: the last soup has its info frame and its next id, and there is no room for
-/// another one.
+/// another soup.
 fn asked(alloc: Global, length: usize) -> Result<String, Fail> {
     Ok(format!(in alloc;
         "mount 0 => ok 7 Internal
@@ -95,7 +95,8 @@ fn restores_250_soups_with_info_frames(rt: HostRuntime) -> Result<(), Fail> {
     expect_soups(alloc, 3981, 600)
 }
 
-/// The backup of a store with an entry whose large binary has so many bytes, and which has 40 more.
+/// The backup of a store with an entry whose large binary has so many bytes, and with 40 more
+/// entries.
 fn backup_of_large(alloc: Global, length: u32) -> Result<Vec<u8>, Fail> {
     let table = format!(in alloc;
         "format 0 Internal 7 => ok
@@ -109,7 +110,7 @@ add 0 S {{v: <<wave:*{length}>>}} => ok 0"
     backed_up(alloc, &card)
 }
 
-/// Of 500,000 bytes there is one piece, and of a byte more there are two.
+/// 500,000 bytes are one piece, and a byte more makes two.
 #[test]
 fn cuts_an_entry_where_a_piece_ends(rt: HostRuntime) -> Result<(), Fail> {
     let alloc = rt.alloc();

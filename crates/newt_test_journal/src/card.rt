@@ -1,4 +1,4 @@
-// One card in memory, attached as unit 0.
+//! One card in memory, attached as unit 0.
 ghost use Rattle.std.specs.Prelude.{◌≡◌, true, IfOk, IfSome, IsSome, IsTrue};
 ghost use Rattle.newt_host.specs.Moments.{IsDurable};
 ghost use Rattle.newt_memhost.specs.Outside.{outside_of};
@@ -40,7 +40,7 @@ pub(crate) struct Wear {
     pub(crate) synced: u64,
 }
 
-/// The same by now.
+/// The same counts by now.
 pub(crate) fn wear_of(host: &MemHost) -> Wear {
     if !has_card(host) {
         return Wear::default();
@@ -51,7 +51,7 @@ pub(crate) fn wear_of(host: &MemHost) -> Wear {
     }
 }
 
-/// The journal of the card, or none where it holds no records.
+/// The journal of the card; none where it holds no records.
 pub(crate) fn opened(host: &mut MemHost) -> Result<Option<Journal>, Halt>
     requires { IsDurable 0 (outside_of host.old).now }
     ensures { IfOk result (λ found. IfSome found (λ journal. Stands true journal
@@ -67,7 +67,7 @@ pub(crate) fn opened(host: &mut MemHost) -> Result<Option<Journal>, Halt>
     }
 }
 
-// What stands on a card, or none where it holds no journal.
+/// What stands on a card; none where it holds no journal.
 fn held_in(alloc: Global, host: &mut MemHost) -> Result<Option<Held>, Halt>
     requires { IsDurable 0 (outside_of host.old).now }
 {
@@ -77,7 +77,7 @@ fn held_in(alloc: Global, host: &mut MemHost) -> Result<Option<Held>, Halt>
     }
 }
 
-/// The same of these bytes.
+/// The same for these bytes.
 pub(crate) fn held_on(rt: &impl Abort, alloc: Global, bytes: &[u8]) -> Result<Option<Held>, Halt> {
     let mut host = host_of(rt, alloc, bytes);
     held_in(alloc, &mut host)

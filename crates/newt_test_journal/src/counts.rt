@@ -9,7 +9,7 @@ use std::alloc::{AllocError, Global};
 use std::process::Abort;
 use std::test::Fail;
 
-// Pieces of three bytes of an input of four; the calls 1 and 4 are to fail.
+/// Takes the input of four bytes in pieces of three; the calls 1 and 4 are to fail.
 fn prepare(host: &mut MemHost) -> Result<(), AllocError>
     requires { IsSome ((outside_of host.old).card 0) }
     ensures { IsSome ((outside_of host.new).card 0) }
@@ -20,7 +20,7 @@ fn prepare(host: &mut MemHost) -> Result<(), AllocError>
     host.fail(4)
 }
 
-// A card of one block, prepared.
+/// A card of one block, prepared.
 fn prepared(rt: &impl Abort, alloc: Global) -> Result<MemHost, Fail>
     ensures { IfOk result (λ host. IsSome ((outside_of host).card 0)) }
 {
@@ -29,7 +29,7 @@ fn prepared(rt: &impl Abort, alloc: Global) -> Result<MemHost, Fail>
     Ok(host)
 }
 
-// Whether one `read_in` gives these bytes.
+/// Whether one `read_in` gives these bytes.
 fn takes(host: &mut MemHost, wanted: &[u8]) -> bool
     requires { IsSome ((outside_of host.old).card 0) }
     ensures { IsSome ((outside_of host.new).card 0) }
@@ -41,7 +41,7 @@ fn takes(host: &mut MemHost, wanted: &[u8]) -> bool
     }
 }
 
-// All of the input, with a call that fails and a piece of output between.
+/// All of the input, with a call that fails and a piece of output between.
 fn take_all(rt: &impl Abort, host: &mut MemHost)
     requires { IsSome ((outside_of host.old).card 0) }
     ensures { IsSome ((outside_of host.new).card 0) }
@@ -54,7 +54,7 @@ fn take_all(rt: &impl Abort, host: &mut MemHost)
     check(rt, takes(host, b""), "the end");
 }
 
-// How much of the input was taken when each call began.
+/// How much of the input was taken when each call began.
 fn assert_taken(rt: &impl Abort, host: &MemHost, before: [u64; 6]) {
     for call in 0..6u64 {
         let taken = before[call as usize];
@@ -72,7 +72,7 @@ fn reads_of_the_input_are_events_in_order(rt: HostRuntime) -> Result<(), Fail> {
     Ok(())
 }
 
-// The counts of the card: of its erases, of its syncs, and of the bytes that were read.
+/// The counts of the card: of its erases, of its syncs, and of the bytes that were read.
 fn counts(host: &MemHost) -> [u64; 3]
     requires { IsSome ((outside_of host.now).card 0) }
 {
@@ -85,7 +85,7 @@ fn assert_counts(rt: &impl Abort, host: &MemHost, wanted: [u64; 3])
     assert!(rt; counts(host) == wanted, "{wanted:?}");
 }
 
-// Two erases and three syncs, of which one each fails.
+/// Two erases and three syncs, one of each of which fails.
 fn erase_and_sync(rt: &impl Abort, host: &mut MemHost)
     requires { IsSome ((outside_of host.old).card 0) }
     ensures { IsSome ((outside_of host.new).card 0) }

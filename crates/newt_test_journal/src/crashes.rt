@@ -1,4 +1,4 @@
-// What a crash leaves within the calls of a host.
+//! What a crash leaves within the calls of a host.
 use crate::card::{CARD, has_card, held_on};
 use crate::halt::Halt;
 use crate::records::Held;
@@ -6,7 +6,7 @@ use newt_memhost::{MemHost, Pick};
 use std::alloc::Global;
 use std::process::Abort;
 
-// What is tried of each call.
+/// What is tried of each call.
 const PICKS: [Pick; 5] = [
     Pick::Old,
     Pick::New,
@@ -15,7 +15,7 @@ const PICKS: [Pick; 5] = [
     Pick::Fill(255),
 ];
 
-// And of each call that mends what a crash left.
+/// And of each call that mends what a crash left.
 const FEW_PICKS: [Pick; 2] = [Pick::Half, Pick::Fill(0)];
 
 /// An image that a crash might have left within the call of a number.
@@ -25,7 +25,7 @@ pub(crate) struct Left {
     pub(crate) image: Vec<u8>,
 }
 
-/// The images that a crash might have left since a call: all that are tried, or but a few of each
+/// The images that a crash might have left since a call: all that are tried, or only a few of each
 /// call.
 pub(crate) fn images(
     alloc: Global,

@@ -1,12 +1,12 @@
-// Why a table is not played to its end.
+//! Why a table is not played to its end.
 use newt_host::Failed;
 use newt_journal::JournalFault;
 use std::alloc::{AllocError, AllocFailed};
 use std::num::ParseIntError;
 
-/// Why a row is not played: out of memory, a fault of the device, a text that is no row or does
-/// not fit the card, another thing than is wanted, or, of what a crash leaves within the call of a
-/// number, other records.
+/// Why a row is not played: memory was refused, the device failed, a text is no row or does not fit
+/// the card, or something else was found than is wanted. Or a crash within the call of a number
+/// left other records.
 #[derive(Clone, Copy, Debug)]
 pub(crate) enum Halt {
     Memory,

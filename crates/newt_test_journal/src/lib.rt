@@ -1,10 +1,12 @@
-//! The host in memory and the journal over it: tests alone. What a crash may leave of a small run
-//! over the host, and what the host counts, stands in a table that was written by hand. Of the
-//! journal they show what no clause of `newt_journal` can: that its calls succeed with ample
-//! memory, that the definitions mean what they should (the table of votes, the least and the
-//! greatest unit), and that what a crash leaves within each device call opens again as before or as
-//! after, and can be mended, with the mending cut as well. Each of these tests is a table of rows,
-//! and `rows` plays it.
+//! The host in memory and the journal over it: tests alone. A table that was written by hand has
+//! what a crash may leave of a small run over the host, and what the host counts. Of the journal
+//! the tests show what no clause of `newt_journal` can:
+//! - its calls succeed with ample memory;
+//! - the definitions mean what they should: the table of votes, the least and the greatest unit;
+//! - what a crash leaves within each device call opens again as before or as after, and can be
+//!   mended, even where the mending is cut as well.
+//!
+//! Each of these tests is a table of rows, which `rows` plays.
 #![tactic(auto)]
 
 #[cfg(test)]

@@ -10,14 +10,14 @@ use std::alloc::{AllocError, Global};
 use std::process::Abort;
 use std::test::Fail;
 
-// The bytes of two blocks.
+/// The bytes of two blocks.
 fn two_blocks(alloc: Global) -> Result<Vec<u8>, AllocError> {
     let mut bytes = Vec::new(alloc);
     bytes.resize(8192, 7)?;
     Ok(bytes)
 }
 
-// An input of two bytes; the calls 3 and 7 are to fail.
+/// An input of two bytes; the calls 3 and 7 are to fail.
 fn prepare(host: &mut MemHost) -> Result<(), AllocError>
     requires { IsSome ((outside_of host.old).card 0) }
     ensures { IsSome ((outside_of host.new).card 0) }
@@ -27,7 +27,7 @@ fn prepare(host: &mut MemHost) -> Result<(), AllocError>
     host.fail(7)
 }
 
-// A card of two blocks, prepared.
+/// A card of two blocks, prepared.
 fn prepared(rt: &impl Abort, alloc: Global) -> Result<MemHost, Fail>
     ensures { IfOk result (λ host. IsSome ((outside_of host).card 0)) }
 {
@@ -37,7 +37,7 @@ fn prepared(rt: &impl Abort, alloc: Global) -> Result<MemHost, Fail>
     Ok(host)
 }
 
-// The first block is erased and made sure of, the second is to be erased.
+/// The first block is erased and synced, and the second is to be erased.
 fn first_calls(rt: &impl Abort, host: &mut MemHost)
     requires { IsSome ((outside_of host.old).card 0) }
     ensures { IsSome ((outside_of host.new).card 0) }
@@ -49,7 +49,7 @@ fn first_calls(rt: &impl Abort, host: &mut MemHost)
     check(rt, sync(host).is_ok(), "the call 4");
 }
 
-// The second block is erased, and is to be made sure of.
+/// The second block is erased, and is to be synced.
 fn later_calls(rt: &impl Abort, host: &mut MemHost)
     requires { IsSome ((outside_of host.old).card 0) }
     ensures { IsSome ((outside_of host.new).card 0) }
@@ -60,14 +60,14 @@ fn later_calls(rt: &impl Abort, host: &mut MemHost)
     check(rt, print(host, b"yz") == Ok(2), "the call 8");
 }
 
-// The byte that stands at both of these places.
+/// The byte that stands at both of these places.
 fn byte_at(rt: &impl Abort, image: &[u8], first: usize, last: usize) -> u8 {
     assert!(rt; first < image.len() && last < image.len());
     check(rt, image[first] == image[last], "one byte at both ends");
     image[first]
 }
 
-// The byte of each half of both blocks, which is the same at both of its ends.
+/// The byte of each half of both blocks, which is the same at both of its ends.
 fn shown(rt: &impl Abort, image: &[u8]) -> [u8; 4] {
     assert!(rt; image.len() == 8192);
     [
@@ -78,8 +78,8 @@ fn shown(rt: &impl Abort, image: &[u8]) -> [u8; 4] {
     ]
 }
 
-// What a crash within a call leaves by one pick: the length of the output, and the bytes of the
-// image.
+/// What a crash within a call leaves by one pick: the length of the output, and the bytes of the
+/// image.
 fn left(rt: &impl Abort, host: &MemHost, call: u64, pick: Pick) -> Result<(u64, [u8; 4]), Fail>
     requires { IsSome ((outside_of host.now).card 0) }
 {
@@ -88,7 +88,7 @@ fn left(rt: &impl Abort, host: &MemHost, call: u64, pick: Pick) -> Result<(u64, 
     Ok((crash.out, shown(rt, &crash.image)))
 }
 
-// The same by each pick.
+/// The same by each pick.
 fn all_left(rt: &impl Abort, host: &MemHost, call: u64) -> Result<[(u64, [u8; 4]); 4], Fail>
     requires { IsSome ((outside_of host.now).card 0) }
 {
@@ -100,8 +100,8 @@ fn all_left(rt: &impl Abort, host: &MemHost, call: u64) -> Result<[(u64, [u8; 4]
     ])
 }
 
-// What is told of one call: its unit, the length of the output at its begin, and what each pick
-// leaves.
+/// What the host tells of one call: its unit, the length of the output at its beginning, and what
+/// each pick leaves.
 fn told(rt: &impl Abort, alloc: Global, host: &MemHost, call: u64) -> Result<String, Fail>
     requires { IsSome ((outside_of host.now).card 0) }
 {
@@ -112,8 +112,8 @@ fn told(rt: &impl Abort, alloc: Global, host: &MemHost, call: u64) -> Result<Str
     Ok(format!(in alloc; "{unit:?} {before} {left:?}")?)
 }
 
-// What is told of each call, and what each pick leaves: the old bytes, the new ones, half of what
-// is new, and bytes of 9 in its place.
+/// What the host tells of each call, and what each pick leaves: the old bytes, the new ones, half
+/// of what is new, and bytes of 9 in its place.
 const CALLS: &str =
     "None 0 [(0, [7, 7, 7, 7]), (0, [7, 7, 7, 7]), (0, [7, 7, 7, 7]), (0, [7, 7, 7, 7])]
 Some(Unit(0)) 0 [(0, [7, 7, 7, 7]), (0, [255, 255, 7, 7]), (0, [255, 7, 7, 7]), (0, [9, 9, 7, 7])]

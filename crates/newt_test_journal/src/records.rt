@@ -1,4 +1,4 @@
-// What a journal holds, read and changed by its calls.
+//! What a journal holds, read and changed by its calls.
 ghost use Rattle.std.specs.Prelude.{◌≡◌, ◌+◌, ◌<◌, ◌≤◌, length, true, IfOk};
 ghost use Rattle.newt_host.specs.Outside.{Touches};
 ghost use Rattle.newt_journal.specs.Journal.{Stands, room};
@@ -34,7 +34,7 @@ pub(crate) fn held_by<H: Host>(alloc: Global, journal: &Journal, host: &mut H) -
     })
 }
 
-// The payloads of a journal, in order.
+/// The payloads of a journal, in order.
 fn payloads<H: Host>(alloc: Global, journal: &Journal, host: &mut H) -> Result<Records, Halt>
     requires { Stands H.told journal.now (H.outside host.old) }
     ensures stands { Stands H.told journal.now (H.outside host.new) }
@@ -53,7 +53,7 @@ fn payloads<H: Host>(alloc: Global, journal: &Journal, host: &mut H) -> Result<R
     Ok(all)
 }
 
-// Appends one record, its payload in two pieces.
+/// Appends one record, its payload in two pieces.
 fn append(journal: Journal, host: &mut MemHost, payload: &[u8]) -> Result<Journal, Failed>
     requires some { 0 < length payload.now }
     requires fits { length payload.now ≤ room journal }
@@ -68,7 +68,7 @@ fn append(journal: Journal, host: &mut MemHost, payload: &[u8]) -> Result<Journa
     draft.finish(host)
 }
 
-// Mends the votes.
+/// Mends the votes.
 fn repair(journal: Journal, host: &mut MemHost) -> Result<Journal, Failed>
     requires { Stands true journal (outside_of host.old) }
     ensures { IfOk result (λ after. Stands true after (outside_of host.new) ×
@@ -79,7 +79,7 @@ fn repair(journal: Journal, host: &mut MemHost) -> Result<Journal, Failed>
     Ok(journal)
 }
 
-// Mends the votes, and writes one record alone into the other bank.
+/// Mends the votes, and writes one record alone into the other bank.
 fn replace(journal: Journal, host: &mut MemHost, payload: &[u8]) -> Result<Journal, Failed>
     requires short { length payload.now ≤ 4096 }
     requires stands { Stands true journal (outside_of host.old) }

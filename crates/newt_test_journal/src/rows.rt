@@ -1,13 +1,13 @@
 //! Tables of rows, each played on the journal of one card. A row is one of these:
 //!
-//! - `append PAYLOAD`, `replace PAYLOAD`, `repair`: a change, behind which the journal holds what
-//!   it should.
+//! - `append PAYLOAD`, `replace PAYLOAD`, `repair`: a change, after which the journal holds what it
+//!   should.
 //! - `cut`, `cut few`: what a crash leaves within each device call of the last change reads as
-//!   before it or as after it.
+//!   before that change or as after it.
 //! - `version => NUMBER`: the version of the bank.
 //! - `room => BYTES`: the longest payload that may be appended.
 //! - `erases => COUNT`, `syncs => COUNT`: how many blocks the last change erased, and how often it
-//!   synced. Before the first change that is the format.
+//!   synced. Before the first change these are the counts of the format.
 //! - `all FROM TO => BYTE`: each byte of the card between two places.
 //! - `reads PLACE=BYTE .. => PAYLOAD ..`: what is read where the card's bytes stand with these
 //!   others: records, `no record` or `no journal`.
@@ -29,8 +29,8 @@ use std::mem;
 use std::process::Abort;
 use std::test::Fail;
 
-// The last change: the number of its first call, what the card had gone through before it, what
-// the journal held before it and after it, and the room behind it.
+/// The last change: the number of its first call, what the card had gone through before it, what
+/// the journal held before it and after it, and the room after it.
 #[derive(Drop)]
 struct Last {
     from: u64,
@@ -41,7 +41,7 @@ struct Last {
 }
 
 impl Last {
-    // No change yet.
+    /// No change yet.
     fn new(alloc: Global, held: Held, room: u32) -> Last {
         Last {
             from: 0,
@@ -56,7 +56,7 @@ impl Last {
     }
 }
 
-// What a change makes of what the journal holds. A bank is written with version 2.
+/// What a change makes of what the journal holds. A bank is written with version 2.
 fn after(alloc: Global, held: &Held, word: &str, payload: &[u8]) -> Result<Held, Halt> {
     let mut version = held.version;
     let mut records = Vec::new(alloc);
@@ -72,7 +72,7 @@ fn after(alloc: Global, held: &Held, word: &str, payload: &[u8]) -> Result<Held,
     Ok(Held { version, records })
 }
 
-// Carries a change out, behind which the journal holds what it should.
+/// Carries a change out, after which the journal holds what it should.
 fn change(
     alloc: Global,
     journal: Journal,
@@ -96,7 +96,7 @@ fn change(
     Ok(journal)
 }
 
-// The version behind the last change.
+/// The version after the last change.
 fn expect_version(last: &Last, want: &str) -> Result<(), Halt> {
     let version: u16 = want.parse()?;
     if last.held.version != version {
@@ -105,7 +105,7 @@ fn expect_version(last: &Last, want: &str) -> Result<(), Halt> {
     Ok(())
 }
 
-// The room behind the last change.
+/// The room after the last change.
 fn expect_room(last: &Last, want: &str) -> Result<(), Halt> {
     let room: u32 = want.parse()?;
     if last.room != room {
@@ -114,7 +114,7 @@ fn expect_room(last: &Last, want: &str) -> Result<(), Halt> {
     Ok(())
 }
 
-// What the last change took of the card: erases or syncs.
+/// What the last change took of the card: erases or syncs.
 fn expect_wear(host: &MemHost, last: &Last, word: &str, want: &str) -> Result<(), Halt> {
     let now = wear_of(host);
     let took = if word == "erases" {
@@ -137,7 +137,7 @@ fn expect_byte(part: &[u8], byte: u8) -> Result<(), Halt> {
     Ok(())
 }
 
-// Each byte between two places.
+/// Each byte between two places.
 fn expect_all(host: &MemHost, places: &str, want: &str) -> Result<(), Halt> {
     if !has_card(host) {
         return Err(Halt::Row);
@@ -151,7 +151,7 @@ fn expect_all(host: &MemHost, places: &str, want: &str) -> Result<(), Halt> {
     }
 }
 
-// What is read where the card's bytes stand with some others.
+/// What is read where the card's bytes stand with some others.
 fn expect_read(
     rt: &impl Abort,
     alloc: Global,
@@ -173,7 +173,7 @@ fn expect_read(
     Ok(())
 }
 
-// Looks for what a row says, and changes nothing.
+/// Looks for what a row says, and changes nothing.
 fn look(
     rt: &impl Abort,
     alloc: Global,
@@ -196,7 +196,7 @@ fn look(
     }
 }
 
-// Plays one row.
+/// Plays one row.
 fn play_row(
     rt: &impl Abort,
     alloc: Global,
@@ -222,7 +222,7 @@ fn play_row(
     }
 }
 
-// Plays the rows of a table, one after another.
+/// Plays the rows of a table, one after another.
 fn play_rows(
     rt: &impl Abort,
     alloc: Global,
@@ -243,8 +243,8 @@ fn play_rows(
     Ok(())
 }
 
-// Plays a table on a card that is formatted with one record, `first`. The answer is the number of
-// the first call of its last change.
+/// Plays a table on a card that is formatted with one record, `first`. Answers the number of the
+/// first call of its last change.
 fn play_formatted(
     rt: &impl Abort,
     alloc: Global,
@@ -266,8 +266,8 @@ fn play_formatted(
     Ok(last.from)
 }
 
-// Opens the journal of a card, and plays a table on it. The answer is the number of the first call
-// of its last change.
+/// Opens the journal of a card, and plays a table on it. Answers the number of the first call of
+/// its last change.
 fn play_opened(rt: &impl Abort, alloc: Global, host: &mut MemHost, table: &str) -> Result<u64, Fail>
     requires { IsDurable 0 (outside_of host.old).now }
 {
@@ -280,21 +280,21 @@ fn play_opened(rt: &impl Abort, alloc: Global, host: &mut MemHost, table: &str) 
     Ok(last.from)
 }
 
-// Plays a table on the journal that stands on these bytes.
+/// Plays a table on the journal that stands on these bytes.
 fn play_on(rt: &impl Abort, alloc: Global, bytes: &[u8], table: &str) -> Result<(), Fail> {
     let mut host = host_of(rt, alloc, bytes);
     play_opened(rt, alloc, &mut host, table)?;
     Ok(())
 }
 
-// A host with a card of so many blocks, all of one byte.
+/// A host with a card of so many blocks, all of one byte.
 fn blank(rt: &impl Abort, alloc: Global, blocks: u32, byte: u8) -> Result<MemHost, AllocError> {
     let bytes = filled(alloc, byte, blocks as usize * 4096)?;
     Ok(host_of(rt, alloc, &bytes))
 }
 
-/// Plays a table on a card of so many blocks that is formatted with one record, `first`. Before
-/// that each byte of it was this one.
+/// Plays a table on a card of so many blocks that is formatted with one record, `first`. Before the
+/// format each byte of the card was this one.
 pub(crate) fn play(
     rt: &impl Abort,
     alloc: Global,
@@ -323,7 +323,7 @@ pub(crate) fn play_and_mend(
     Ok(())
 }
 
-// The bytes of a card of 13 blocks whose first bank has one record, `first`, and version 1.
+/// The bytes of a card of 13 blocks whose first bank has one record, `first`, and version 1.
 fn old_card(rt: &impl Abort, alloc: Global) -> Result<Vec<u8>, Fail> {
     let mut host = blank(rt, alloc, 13, 0x5A)?;
     play_formatted(rt, alloc, &mut host, "version => 2")?;
@@ -331,9 +331,9 @@ fn old_card(rt: &impl Abort, alloc: Global) -> Result<Vec<u8>, Fail> {
     Ok(poked(alloc, host.bytes(CARD), "12295=1")?)
 }
 
-/// Plays a table on a card of 13 blocks that has one record, `first`, in a bank of version 1, and
-/// another on each card that a crash might have left within its last change. Before that the card
-/// is opened, which leaves each byte of it.
+/// Plays a table on a card of 13 blocks that has one record, `first`, in a bank of version 1. Plays
+/// another on each card that a crash might have left within its last change. At first the card is
+/// opened, which leaves each byte of it.
 pub(crate) fn play_old(
     rt: &impl Abort,
     alloc: Global,

@@ -1,4 +1,4 @@
-// One card in memory, attached as unit 0, and one call on it at a time.
+//! One card in memory, attached as unit 0, and one call on it at a time.
 ghost use Rattle.std.specs.Prelude.{IfOk, IsSome};
 ghost use Rattle.newt_memhost.specs.Outside.{outside_of};
 
@@ -11,12 +11,12 @@ use std::test::Fail;
 /// The unit of the card.
 pub(crate) const CARD: Unit = Unit(0);
 
-/// What is wanted holds, of this call or count.
+/// Asserts that what is wanted of this call or count holds.
 pub(crate) fn check(rt: &impl Abort, holds: bool, what: &str) {
     assert!(rt; holds, "{what}");
 }
 
-/// The same of the call of a number.
+/// The same for the call of a number.
 pub(crate) fn check_at(rt: &impl Abort, holds: bool, call: u64) {
     assert!(rt; holds, "at {call}");
 }

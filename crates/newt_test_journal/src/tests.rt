@@ -19,8 +19,8 @@ reads 0=255 4096=1 8192=0 => no journal",
     )
 }
 
-// The second bank begins at block 8, which is at byte 32768; its one record has its gate at byte
-// 16. The card ends at byte 53248.
+/// The second bank begins at block 8, which is at byte 32768; its one record has its gate at byte
+/// 16. The card ends at byte 53248.
 #[test]
 fn records_end_at_a_gate_that_is_not_open(rt: HostRuntime) -> Result<(), Fail> {
     play(
@@ -38,7 +38,7 @@ reads 53247=0 => second",
     )
 }
 
-// The last record that is appended ends with the bank.
+/// The last record that is appended ends with the bank.
 #[test]
 fn a_crash_leaves_the_records_before_or_after(rt: HostRuntime) -> Result<(), Fail> {
     play_and_mend(
@@ -108,7 +108,7 @@ syncs => 2",
     )
 }
 
-// The least unit has three votes and two banks of five blocks.
+/// The least unit has three votes and two banks of five blocks.
 #[test]
 fn a_switch_and_a_format_erase_their_bank_and_the_votes_once(rt: HostRuntime) -> Result<(), Fail> {
     play(
@@ -127,7 +127,7 @@ erases => 8",
     )
 }
 
-// The second bank is from byte 32768 to the end of the card at byte 53248.
+/// The second bank is from byte 32768 to the end of the card at byte 53248.
 #[test]
 fn a_format_leaves_the_other_bank(rt: HostRuntime) -> Result<(), Fail> {
     play(
@@ -143,7 +143,7 @@ reads => third",
     )
 }
 
-// The first bank begins at byte 12288, with the version in its bytes 6 and 7.
+/// The first bank begins at byte 12288, with the version in its bytes 6 and 7.
 #[test]
 fn a_bank_has_version_1_or_2(rt: HostRuntime) -> Result<(), Fail> {
     play(
@@ -165,7 +165,7 @@ reads 32775=0 => no journal",
     )
 }
 
-// An old bank takes no record, blank as what stands behind it is.
+/// An old bank takes no record, although what stands after it is blank.
 #[test]
 fn the_first_commit_on_an_old_bank_is_a_switch(rt: HostRuntime) -> Result<(), Fail> {
     play_old(

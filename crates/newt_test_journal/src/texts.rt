@@ -1,4 +1,4 @@
-// What the words of a row say.
+//! What the words of a row say.
 use crate::halt::Halt;
 use crate::records::Records;
 use std::alloc::{AllocError, Global};
@@ -10,12 +10,12 @@ pub(crate) fn filled(alloc: Global, byte: u8, count: usize) -> Result<Vec<u8>, A
     Ok(bytes)
 }
 
-/// The words before and behind a mark. Where there is none, nothing is behind it.
+/// The words before and after a mark. Where there is no mark, nothing is after it.
 pub(crate) fn around<'a>(row: &'a str, mark: &str) -> (&'a str, &'a str) {
     row.split_once(mark).unwrap_or((row, ""))
 }
 
-/// A payload: a byte and how often it stands there, as in `1*4096`, or the text itself.
+/// A payload: the text itself, or a byte and how often it stands there, as in `1*4096`.
 pub(crate) fn payload_of(alloc: Global, word: &str) -> Result<Vec<u8>, Halt> {
     match word.split_once('*') {
         Some((byte, count)) => Ok(filled(alloc, byte.parse()?, count.parse()?)?),
@@ -23,8 +23,8 @@ pub(crate) fn payload_of(alloc: Global, word: &str) -> Result<Vec<u8>, Halt> {
     }
 }
 
-/// The records of a text, one for each word; `no record` has none of them, and `no journal` is no
-/// such text.
+/// The records of a text, one for each word: an empty list for `no record`, and none for
+/// `no journal`.
 pub(crate) fn records_of(alloc: Global, text: &str) -> Result<Option<Records>, Halt> {
     let mut records = Vec::new(alloc);
     match text {
@@ -38,7 +38,7 @@ pub(crate) fn records_of(alloc: Global, text: &str) -> Result<Option<Records>, H
     Ok(Some(records))
 }
 
-/// The same bytes but for some: each word is a place and the byte there, as in `4096=1`.
+/// The same bytes with some others: each word is a place and the byte there, as in `4096=1`.
 pub(crate) fn poked(alloc: Global, bytes: &[u8], pokes: &str) -> Result<Vec<u8>, Halt> {
     let mut poked = bytes.to_vec(alloc)?;
     for poke in pokes.split_whitespace() {

@@ -1,4 +1,4 @@
-//! What calls answer of a text, as texts.
+//! What calls answer for a text, as texts.
 use crate::folded::{found, unit_text};
 use crate::keys::{Declared, key, written};
 use crate::missing::rising;
@@ -34,7 +34,7 @@ pub(crate) enum Call {
     Rising(Order),
     /// The ids of entries, from the first of the index of their keys to its last, and back.
     Walked,
-    /// The ids behind and before a pair, which the index need not have.
+    /// The ids after and before a pair, which the index need not have.
     Near,
 }
 

@@ -38,7 +38,7 @@ fn query(alloc: Global, name: &str) -> Result<Query, Fail> {
     })
 }
 
-/// On an entry of this store, with this number as its key.
+/// A place on an entry of this store, with this number as its key.
 fn on(alloc: Global, number: i32, store: u32, uid: u32) -> Result<Place, Fail> {
     Ok(Place::On(Spot {
         key: key(alloc, number)?,
@@ -139,8 +139,8 @@ fn close_and_open(rt: &impl Abort, alloc: Global, desk: &mut Desk) -> Result<(),
     let dates = opened(alloc, desk, "Dates", Place::Finish)?;
     check(rt, dates == 7, "the least number that is free");
     check(rt, cloned(desk, 7)? == 20, "and the next one");
-    let is_behind = matches!(desk.place(20), Some(Place::Finish));
-    check(rt, is_behind, "the place of the clone");
+    let is_after = matches!(desk.place(20), Some(Place::Finish));
+    check(rt, is_after, "the place of the clone");
     check(rt, is_over(desk, 20, b"Dates"), "the query of the clone");
     Ok(())
 }

@@ -28,7 +28,7 @@ pub(crate) fn number_paths(alloc: Global) -> Result<Vec<Path>, Fail> {
     Ok(vec![in alloc; path]?)
 }
 
-/// A graph, its place by number and its place by name; none where it has no key.
+/// A graph, its place by number and its place by name; none where the graph has no key.
 #[derive(Clone, Copy)]
 pub(crate) struct KnownGraph {
     pub(crate) text: &'static str,

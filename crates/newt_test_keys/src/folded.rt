@@ -23,7 +23,7 @@ pub(crate) fn found(alloc: Global, part: &str) -> Result<String, Fail> {
     Ok(format!(in alloc; "{} {begins} {is}", has_text(text, part))?)
 }
 
-/// Folded forms, which may be longer.
+/// Folded forms, which may be longer than the texts.
 const FOLDED: &str = "
 Straße => strasse
 \u{130} => i\u{307}

@@ -44,6 +44,7 @@ fn spec_of(alloc: Global, declared: &Declared) -> Result<IndexSpec, Fail> {
     }
 }
 
+/// The graph of a literal.
 pub(crate) fn literal(alloc: Global, text: &str) -> Result<Graph, Fail> {
     match read_literal(alloc, text) {
         Ok(graph) => Ok(graph),
@@ -51,12 +52,12 @@ pub(crate) fn literal(alloc: Global, text: &str) -> Result<Graph, Fail> {
     }
 }
 
-/// A text behind a sign.
+/// A text after a sign.
 fn told_text(alloc: Global, sign: char, text: &[u8]) -> Result<String, Fail> {
     Ok(format!(in alloc; "{sign}{}", str::from_utf8(text)?)?)
 }
 
-/// A part: `-` where it is missing, and else a number, or a text behind what says its type.
+/// A part: `-` where it is missing; otherwise a number, or a text after what says its type.
 fn told_part(alloc: Global, part: &Part) -> Result<String, Fail> {
     match part {
         Part::Missing => Ok(String::from_str(alloc, "-")?),
@@ -101,7 +102,7 @@ pub(crate) fn written(alloc: Global, declared: &Declared, text: &str) -> Result<
     told(alloc, &key_from(alloc, &graph, graph.root(), &spec)?)
 }
 
-/// Strings are cut at 39 units, a pair too, and then folded, and a folded text may be longer.
+/// Strings are cut at 39 units, even within a pair, and then folded. A folded text may be longer.
 const TEXTS: &str = "
 {a: \"Stra\\u00DFe\"} => \"strasse
 {a: \"\\u0130\"} => \"i\u{307}

@@ -1,11 +1,11 @@
-//! Keys, indexes and cursors: paths and folded texts alone, and graphs that are read from literals:
-//! what strings fold to, which entries have a key, which values of a query are keys, in what order
-//! keys stand, and in what order an index is walked; ranges of 200 entries, added, changed and
-//! removed, against the list sorted afresh; the masks of their tags; and a desk of cursors, its 32
-//! places, and cursors that stand on one entry.
+//! Keys, indexes and cursors, with paths and folded texts alone, and with graphs that are read from
+//! literals. Tests show what strings fold to, which entries have a key, which values of a query are
+//! keys, in what order keys stand, and in what order an index is walked. Ranges of 200 entries,
+//! added, changed and removed, are compared with the list sorted afresh, and so are the masks of
+//! their tags. A desk of cursors has its 32 places, and cursors that stand on one entry.
 //!
-//! It stands on the crates from `newt_path` to `newt_index_ranges` and `newt_cursor` and the reader
-//! of literals, and has tests alone, many of them tables of `newt_test_tables`.
+//! It stands on the crates from `newt_path` to `newt_index_ranges` and `newt_cursor` and on the
+//! reader of literals. It has tests alone, many of them tables of `newt_test_tables`.
 #![tactic(auto)]
 
 #[cfg(test)]

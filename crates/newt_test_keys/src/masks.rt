@@ -33,7 +33,7 @@ const BEFORE: &str = "[Some(1), Some(2), Some(1), Some(0), Some(0), Some(2), Som
 /// The same once the entries 0 and 1 were changed, and 2 removed.
 const AFTER: &str = "[Some(0), Some(1), None, Some(0), Some(0), Some(2), Some(0), Some(0)]";
 
-/// The same without a declaration.
+/// The same masks without a declaration.
 const UNDECLARED: &str = "[Some(0), Some(0), Some(0), Some(0), Some(0), Some(0), Some(0), Some(0)]";
 
 /// Fails where the masks of the first eight entries are others.

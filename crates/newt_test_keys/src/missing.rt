@@ -20,8 +20,8 @@ fn keys(alloc: Global, spec: &IndexSpec, text: &str) -> Result<Vec<Key>, Fail> {
     Ok(keys)
 }
 
-/// Whether a key stands at this place: behind those before it, and before those behind it, and
-/// ties with itself.
+/// Whether a key stands at this place: after those before it, before those after it, and tied with
+/// itself.
 fn stands_at(place: usize, key: &Key, keys: &[Key], spec: &IndexSpec) -> bool {
     let mut other: usize = 0;
     for at_other in keys {
@@ -33,7 +33,7 @@ fn stands_at(place: usize, key: &Key, keys: &[Key], spec: &IndexSpec) -> bool {
     true
 }
 
-/// Whether each key stands before those behind it, and ties with itself.
+/// Whether each key stands before those after it, and ties with itself.
 fn rise(keys: &[Key], spec: &IndexSpec) -> bool {
     let mut place: usize = 0;
     for key in keys {

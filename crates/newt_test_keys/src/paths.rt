@@ -12,7 +12,7 @@ fn copied(alloc: Global, path: &Path) -> Result<String, Fail> {
     Ok(format!(in alloc; "{} {}", copy.list().len(), copy.same(path))?)
 }
 
-/// How many names a path has, and whether its copy is the same path, or the fault.
+/// How many names a path has and whether its copy is the same path, or the fault.
 pub(crate) fn named(alloc: Global, text: &str) -> Result<String, Fail> {
     match Path::read(alloc, text.as_bytes()) {
         Ok(path) => copied(alloc, &path),

@@ -33,7 +33,7 @@ fn probe(
     }
 }
 
-/// Whether the entry behind another in a range is the next of the list.
+/// Whether the entry after another in a range is the next of the list.
 fn steps(
     alloc: Global,
     range: &Index,

@@ -140,7 +140,7 @@ fn first_of(list: &[(i32, u32)], number: i32) -> Option<(i32, u32)> {
     None
 }
 
-/// The last one.
+/// The last pair of a number.
 fn last_of(list: &[(i32, u32)], number: i32) -> Option<(i32, u32)> {
     let mut last = None;
     for pair in list {
@@ -151,15 +151,15 @@ fn last_of(list: &[(i32, u32)], number: i32) -> Option<(i32, u32)> {
     last
 }
 
-/// What the searches from a pair of the list are to find: the pairs behind it and before it, and
-/// the first and the last of its number.
+/// What the searches from a pair of the list are to find: the pairs after it and before it, and the
+/// first and the last of its number.
 fn wanted(list: &[(i32, u32)], i: usize, number: i32) -> [Option<(i32, u32)>; 4] {
     let after = list.get(i.wrapping_add(1)).copied();
     let before = list.get(i.wrapping_sub(1)).copied();
     [after, before, first_of(list, number), last_of(list, number)]
 }
 
-/// What they find.
+/// What the searches find.
 fn found(index: &Index, order: Order, at: &mut Probe, uid: Uid) -> [Option<(i32, u32)>; 4] {
     [
         shown(order, &index.after(at, uid)),
@@ -185,7 +185,7 @@ fn finds(
     Ok(same && key_of(index, order, uid) == Some((number, uid)))
 }
 
-/// Whether the index has as many pairs as the list, and the same first and last one.
+/// Whether the index has as many pairs as the list, and the same first and last ones.
 fn has_ends(index: &Index, order: Order, list: &[(i32, u32)]) -> bool {
     index.len() == list.len()
         && shown(order, &index.first()) == list.first().copied()
@@ -243,7 +243,7 @@ fn two_hundred_entries_are_the_sorted_list(rt: HostRuntime) {
     assert!(rt; matches!(is_sorted(rt.alloc(), Order::Descend), Ok(true)));
 }
 
-/// The ids behind 6 and 7, and the first one.
+/// The ids after 6 and 7, and the first one.
 fn around_seven(index: &Index, at: &mut Probe) -> [Option<u32>; 3] {
     [
         id(&index.after(at, Uid(6))),
@@ -272,7 +272,7 @@ enum Step {
     Forget,
 }
 
-/// Steps, and behind each the key by which the id is found, and how many pairs there are.
+/// Steps, each with the key by which the id is found after it, and how many pairs there are.
 const STEPS: [(Step, Option<(i32, u32)>, usize); 5] = [
     (Step::Add(2), Some((2, 7)), 1),
     (Step::Add(1), Some((1, 7)), 2),
@@ -309,7 +309,7 @@ fn takes_steps(alloc: Global, index: &mut Index) -> Result<bool, AllocError>
     Ok(true)
 }
 
-/// The same of an index that is empty at first.
+/// The same for an index that is empty at first.
 fn takes_steps_from_none(alloc: Global) -> Result<bool, AllocError> {
     let mut index = empty(alloc, Order::Ascend)?;
     takes_steps(alloc, &mut index)

@@ -70,7 +70,7 @@ fn entry(entries: &[Graph], uid: u32) -> Result<&Graph, Fail> {
     Ok(entries.get(uid as usize).ok_or("an entry")?)
 }
 
-/// The id of the pair behind that of an entry, or before it.
+/// The id of the pair after that of an entry, or before it.
 fn next(
     alloc: Global,
     index: &Index,
@@ -176,7 +176,7 @@ fn declared(alloc: Global, words: &str) -> Result<IndexSpec, Fail> {
     declaration(alloc, kind_of(kind), order_of(order))
 }
 
-/// The index of the entries that a row has behind what is declared, and these entries.
+/// The index of the entries that follow the declaration in a row, and these entries.
 fn indexed(alloc: Global, row: &str) -> Result<(Index, Vec<Graph>), Fail> {
     let (words, text) = row.split_once(' ').ok_or("entries")?;
     let entries = entries_of(alloc, text)?;
@@ -184,7 +184,7 @@ fn indexed(alloc: Global, row: &str) -> Result<(Index, Vec<Graph>), Fail> {
 }
 
 /// The ids of entries, from the first of the index of their keys to its last, and back. They rise
-/// by the order of keys. Before them stands what is declared.
+/// by the order of keys. The declaration stands before the entries.
 pub(crate) fn walked(alloc: Global, row: &str) -> Result<String, Fail> {
     let (index, entries) = indexed(alloc, row)?;
     walked_in(alloc, &index, &entries)
@@ -196,8 +196,8 @@ fn probe_of_d(alloc: Global, index: &Index) -> Result<Probe, Fail> {
     probe(alloc, spec, &literal(alloc, "{k: \"d\"}")?)
 }
 
-/// The ids behind and before a pair of the string `d` and the id 1. Before the entries stands what
-/// is declared.
+/// The ids after and before a pair of the string `d` and the id 1. The declaration stands before
+/// the entries.
 pub(crate) fn near(alloc: Global, row: &str) -> Result<String, Fail> {
     let (index, _entries) = indexed(alloc, row)?;
     let mut d = probe_of_d(alloc, &index)?;
@@ -215,7 +215,7 @@ string:ascend {k: 5} => [] [] of 0
 string:descend {k: \"x\"} | {k: \"y\"} | {k: \"x\"} => [1, 0, 2] [2, 0, 1] of 3
 ";
 
-/// Keys that begin one another, each before those on its left: so none is told from another by its
+/// Keys that begin one another, each before those on its left. So none is told from another by its
 /// id.
 const BEGINNINGS: &str = "
 string:ascend {k: \"ab\"} | {k: \"a \"} | {k: \"a\\u0000b\"} | {k: \"a\\u0000\"} | {k: \"a\", l: \"b\"} | {k: \"a\", l: \"\"} | {k: \"a\", m: \"\"} | {k: \"a\"} | {k: \"\\u0000\"} | {k: \"\"} => [9, 8, 7, 6, 5, 4, 3, 2, 1, 0] [0, 1, 2, 3, 4, 5, 6, 7, 8, 9] of 10
@@ -228,7 +228,7 @@ char:ascend {k: $\\0100} | {k: $b} | {k: $a, l: $b} | {k: $a, l: $a} | {k: $a, m
 char:descend {k: $a, l: $a} | {k: $a, l: $b} | {k: $a, m: $a} | {k: $a} | {k: $b} | {k: $\\0100} => [5, 4, 3, 2, 1, 0] [0, 1, 2, 3, 4, 5] of 6
 ";
 
-/// The ids behind and before a pair that is there, and one that is not.
+/// The ids after and before a pair that is there, and one that is not.
 const NEAR: &str = "
 string:ascend {k: \"a\"} | {k: \"d\"} | {k: \"c\"} | {k: \"e\"} => Some(3) Some(2) of 4
 string:ascend {k: \"a\"} | {k: 5} | {k: \"c\"} | {k: \"e\"} => Some(3) Some(2) of 3

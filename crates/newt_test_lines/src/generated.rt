@@ -1,4 +1,4 @@
-//! Scripts that are generated.
+//! Generated scripts.
 use newt_script_generator::gen_script;
 use std::alloc::Global;
 use std::test::Fail;
@@ -37,7 +37,7 @@ fn lines_of(script: &[u8]) -> usize {
     lines
 }
 
-/// Looks for two lines a name beside the ten others.
+/// Looks for two lines for each name, beside the ten others.
 fn expect_lines(alloc: Global, count: u32) -> Result<(), Fail> {
     let script = gen_script(alloc, 7, count)?;
     let lines = lines_of(&script);

@@ -13,7 +13,7 @@ fn expect_told(alloc: Global, line: &str, wanted: &str) -> Result<(), Fail> {
     Ok(())
 }
 
-/// Looks for what each line of a table gives. A row is a line and, behind ` => `, its command in
+/// Looks for what each line of a table gives. A row is a line and, after ` => `, its command in
 /// words, its refusal, or that it gives none.
 fn expect_each(alloc: Global, table: &str) -> Result<(), Fail> {
     for row in table.lines() {
@@ -119,7 +119,7 @@ fn reads_each_row(rt: HostRuntime) -> Result<(), Fail> {
     expect_each(rt.alloc(), ROWS)
 }
 
-/// Words that have not the form of their row.
+/// Words that do not have the form of their row.
 const OTHERS: &str = "
 # Too few words, too many, and others.
 mount => 11 line
@@ -246,7 +246,7 @@ fn wants_the_form_of_each_row(rt: HostRuntime) -> Result<(), Fail> {
     expect_each(rt.alloc(), OTHERS)
 }
 
-/// Names, numbers and blanks, and of several faults the first.
+/// Names, numbers and blanks; and of several faults the first.
 const WORDS: &str = "
 # Names, bare and in quotes.
 soup 0 \"To Do List\" => soup 0 <To Do List>

@@ -17,7 +17,7 @@ use newt_tags::TagTable;
 use std::alloc::{AllocError, Global};
 use std::test::Fail;
 
-/// The number that a text begins with, and what is behind it.
+/// The number that a text begins with, and what follows it.
 fn number(text: &str) -> (u32, &str) {
     let (word, rest) = text.split_once(' ').unwrap_or((text, ""));
     (word.parse().unwrap_or(0), rest)
@@ -42,7 +42,7 @@ fn store_line(alloc: Global, item: &str) -> Result<StoreLine, Fail> {
     })
 }
 
-/// The stores of items with commas between them.
+/// The stores of a list with commas between its items.
 fn stores(alloc: Global, text: &str) -> Result<StoreRows, Fail> {
     let mut lines = Vec::new(alloc);
     for item in text.split_terminator(", ") {
@@ -64,7 +64,7 @@ fn soup_line(alloc: Global, item: &str) -> Result<SoupLine, Fail> {
     })
 }
 
-/// The soups of items with commas between them.
+/// The soups of a list with commas between its items.
 fn soups(alloc: Global, text: &str) -> Result<SoupRows, Fail> {
     let mut lines = Vec::new(alloc);
     for item in text.split_terminator(", ") {
@@ -162,15 +162,15 @@ fn notes(alloc: Global, text: &str) -> Result<NoteList, AllocError> {
 
 /// A reply with a graph and with up to three numbers before it.
 fn reply_of_graph(alloc: Global, word: &str, rest: &str) -> Result<Reply, Fail> {
-    let (first, behind) = number(rest);
+    let (first, after) = number(rest);
     match word {
         "literal" => Ok(Reply::Literal(read_literal(alloc, rest)?)),
         "nsof" => Ok(Reply::Nsof(read_literal(alloc, rest)?)),
-        "timed" => Ok(Reply::Timed(first, read_literal(alloc, behind)?)),
-        "timednsof" => Ok(Reply::TimedNsof(first, read_literal(alloc, behind)?)),
+        "timed" => Ok(Reply::Timed(first, read_literal(alloc, after)?)),
+        "timednsof" => Ok(Reply::TimedNsof(first, read_literal(alloc, after)?)),
         "current" => {
-            let (uid, behind) = number(behind);
-            let (minute, text) = number(behind);
+            let (uid, after) = number(after);
+            let (minute, text) = number(after);
             let graph = read_literal(alloc, text)?;
             Ok(Reply::Current(unit(first), Uid(uid), minute, graph))
         }
@@ -180,12 +180,12 @@ fn reply_of_graph(alloc: Global, word: &str, rest: &str) -> Result<Reply, Fail> 
 
 /// A reply with names, bytes, declarations or notes.
 fn reply_of_names(alloc: Global, word: &str, rest: &str) -> Result<Reply, Fail> {
-    let (first, behind) = number(rest);
+    let (first, after) = number(rest);
     match word {
         "hex" => Ok(Reply::Hex(Bytes::of(hex_read(alloc, rest.as_bytes())?))),
-        "store" => Ok(Reply::Store(Sig(first), name(alloc, behind)?)),
+        "store" => Ok(Reply::Store(Sig(first), name(alloc, after)?)),
         "where" => {
-            let (uid, text) = number(behind);
+            let (uid, text) = number(after);
             let soup = name(alloc, text)?;
             Ok(Reply::Where(unit(first), soup, Uid(uid)))
         }
@@ -195,7 +195,7 @@ fn reply_of_names(alloc: Global, word: &str, rest: &str) -> Result<Reply, Fail> 
         "tags" => Ok(Reply::Tags(tags(alloc, rest)?)),
         "notes" => Ok(Reply::Notes(Notes {
             lost: first,
-            list: notes(alloc, behind)?,
+            list: notes(alloc, after)?,
         })),
         _ => reply_of_graph(alloc, word, rest),
     }
@@ -215,7 +215,7 @@ fn alias(text: &str) -> Alias {
 /// The reply of a row: its name, its numbers and its text.
 fn reply(alloc: Global, text: &str) -> Result<Reply, Fail> {
     let (word, rest) = text.split_once(' ').unwrap_or((text, ""));
-    let (first, behind) = number(rest);
+    let (first, after) = number(rest);
     match word {
         "done" => Ok(Reply::Done),
         "nil" => Ok(Reply::Nil),
@@ -226,7 +226,7 @@ fn reply(alloc: Global, text: &str) -> Result<Reply, Fail> {
         "changed" => Ok(Reply::Changed(first)),
         "thrown" => Ok(Reply::Thrown(unit(first))),
         "number" => Ok(Reply::Number(first)),
-        "added" => Ok(Reply::Added(unit(first), Uid(number(behind).0))),
+        "added" => Ok(Reply::Added(unit(first), Uid(number(after).0))),
         "alias" => Ok(Reply::Alias(alias(rest))),
         _ => reply_of_names(alloc, word, rest),
     }
@@ -241,7 +241,7 @@ fn expect_line(alloc: Global, text: &str, wanted: &str) -> Result<(), Fail> {
     Ok(())
 }
 
-/// Looks for the line of each reply. A row is a reply and, behind ` => `, its line.
+/// Looks for the line of each reply. A row is a reply and, after ` => `, its line.
 fn expect_each(alloc: Global, table: &str) -> Result<(), Fail> {
     for row in table.lines() {
         if let Some((text, wanted)) = sides(row)? {

@@ -2,7 +2,7 @@
 
 use std::test::Fail;
 
-/// What stands before and behind ` => ` in a row; none for a blank row, and for a comment, which
+/// What stands before and after ` => ` in a row; none for a blank row, and for a comment, which
 /// begins with `#`.
 pub(crate) fn sides(row: &str) -> Result<Option<(&str, &str)>, Fail> {
     if row.is_empty() || row.starts_with('#') {

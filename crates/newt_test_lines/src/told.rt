@@ -1,5 +1,5 @@
-//! What a line gives, told in words. What memory is refused for is missing in the words, which are
-//! then others.
+//! What a line gives, in words. Where memory is refused for some of it, that is missing, and the
+//! words are others than are wanted.
 
 use newt_base::{Name, Refusal, Uid};
 use newt_graph::Graph;
@@ -312,7 +312,7 @@ fn push_refusal(alloc: Global, to: &mut Vec<u8>, refusal: Refusal) {
 }
 
 /// The command of a line, or its refusal, or that it gives none.
-pub fn told(alloc: Global, bytes: &[u8]) -> Vec<u8> {
+pub(crate) fn told(alloc: Global, bytes: &[u8]) -> Vec<u8> {
     let mut text = Vec::new(alloc);
     match line(alloc, bytes) {
         Ok(None) => push(&mut text, b"none"),

@@ -1,10 +1,10 @@
 //! Tables of rows, each played on a book on one card of 13 blocks. A row is one of these:
 //!
-//! - `commit FROM GONE COUNT BYTE`: so many puts of a byte, behind so many deletes from a number on.
+//! - `commit FROM GONE COUNT BYTE`: so many puts of a byte, after so many deletes from a number on.
 //!   What a crash leaves within each call of it holds the pages before or those after.
-//! - `write FROM GONE COUNT`: the same of the byte 1, without a crash.
-//! - `refuse FROM GONE COUNT BYTE`: such a batch is refused, since too many pages would be live, and
-//!   the book is as it was.
+//! - `write FROM GONE COUNT`: the same with the byte 1, and without a crash.
+//! - `refuse FROM GONE COUNT BYTE`: such a batch is refused, since too many pages would be live,
+//!   and the book is as it was.
 //! - `live PAGES`: so many pages are live.
 //! - `vote BANK`: the bank that the card votes for.
 //! - `calls COUNT`: so many calls it takes to look at all pages, and none to look at them again.
@@ -33,7 +33,7 @@ pub(crate) fn vote_of(rt: &impl Abort, host: &MemHost) -> u8 {
     bytes[0]
 }
 
-// Commits a batch, for which room is made first, and checks what a crash leaves within each call.
+/// Commits a batch, for which room is made first, and checks what a crash leaves within each call.
 fn commit<P: PageBook>(
     rt: &impl Abort,
     alloc: Global,
@@ -50,7 +50,7 @@ fn commit<P: PageBook>(
     commit_between(rt, alloc, host, book, batch, &before, &after)
 }
 
-// The same of a book that has the pages before it, and then those after it.
+/// The same for a book that has the pages before it, and then those after it.
 fn commit_between<P: PageBook>(
     rt: &impl Abort,
     alloc: Global,
@@ -71,7 +71,7 @@ fn commit_between<P: PageBook>(
     assert_pages(rt, alloc, host, book, after)
 }
 
-// A batch after which too many pages would be live is refused, and the book is as it was.
+/// A batch after which too many pages would be live is refused, and the book is as it was.
 fn refuse<P: PageBook>(
     rt: &impl Abort,
     alloc: Global,
@@ -87,7 +87,7 @@ fn refuse<P: PageBook>(
     refuse_in(rt, alloc, host, book, batch, &before)
 }
 
-// The same in a book that has these pages.
+/// The same for a book that has these pages.
 fn refuse_in<P: PageBook>(
     rt: &impl Abort,
     alloc: Global,
@@ -110,7 +110,7 @@ fn refuse_in<P: PageBook>(
     assert_pages(rt, alloc, host, book, before)
 }
 
-// Commits `count` puts behind `gone` deletes, from a number on.
+/// Commits `count` puts after `gone` deletes, from a number on.
 fn commit_pages<P: PageBook>(
     rt: &impl Abort,
     alloc: Global,
@@ -130,7 +130,7 @@ fn commit_pages<P: PageBook>(
     commit(rt, alloc, host, book, &batch)
 }
 
-// So many puts behind `gone` deletes are refused.
+/// So many puts after `gone` deletes are refused.
 fn refuse_pages<P: PageBook>(
     rt: &impl Abort,
     alloc: Global,
@@ -150,7 +150,7 @@ fn refuse_pages<P: PageBook>(
     refuse(rt, alloc, host, book, &batch)
 }
 
-// Commits `count` puts behind `gone` deletes, from a number on, and looks at no crash.
+/// Commits `count` puts after `gone` deletes, from a number on, and looks at no crash.
 fn write_pages<P: PageBook>(
     alloc: Global,
     host: &mut MemHost,
@@ -167,7 +167,7 @@ fn write_pages<P: PageBook>(
     committed(host, book, &batch)
 }
 
-// How many calls it takes to look at all pages.
+/// How many calls it takes to look at all pages.
 fn calls_to_read<P: PageBook>(alloc: Global, host: &mut MemHost, book: &mut P) -> Result<u64, Fail>
     requires book { P.stands true book.old (outside_of host.old) × (P.place book.old ≡ 0) }
     ensures book { P.stands true book.new (outside_of host.new) × (P.place book.new ≡ 0) }
@@ -177,7 +177,7 @@ fn calls_to_read<P: PageBook>(alloc: Global, host: &mut MemHost, book: &mut P) -
     Ok(host.calls().saturating_sub(before))
 }
 
-// The same twice, one after the other.
+/// The same twice, one time after the other.
 fn calls_to_read_twice<P: PageBook>(
     alloc: Global,
     host: &mut MemHost,
@@ -191,7 +191,7 @@ fn calls_to_read_twice<P: PageBook>(
     Ok([first, second])
 }
 
-// Looks for what a row says of pages, votes or calls.
+/// Looks for what a row says of pages, votes or calls.
 fn look<P: PageBook>(
     rt: &impl Abort,
     alloc: Global,
@@ -215,7 +215,7 @@ fn look<P: PageBook>(
     }
 }
 
-// Plays one row.
+/// Plays one row.
 fn play_row<P: PageBook>(
     rt: &impl Abort,
     alloc: Global,
@@ -239,7 +239,7 @@ fn play_row<P: PageBook>(
     }
 }
 
-// Plays the rows of a table, one after another.
+/// Plays the rows of a table, one after another.
 fn play_rows<P: PageBook>(
     rt: &impl Abort,
     alloc: Global,
@@ -255,15 +255,15 @@ fn play_rows<P: PageBook>(
     Ok(())
 }
 
-// Plays a table.
+/// Plays a table.
 fn play<P: PageBook>(rt: &impl Abort, alloc: Global, table: &str) -> Result<(), Fail> {
     let mut host = fresh::<P>(rt, alloc, 13)?;
     let mut book: P = opened(rt, alloc, &mut host)?;
     play_rows(rt, alloc, &mut host, &mut book, table)
 }
 
-// A bank takes three records of ten puts and two deletes, and behind a record of all pages one
-// more.
+/// A bank takes three records of ten puts and two deletes, and one more after a record of all
+/// pages.
 const SWITCHES: &str = "commit 0 2 10 0
 vote 0
 commit 7 2 10 1
@@ -291,7 +291,7 @@ fn a_crash_leaves_the_pages_before_or_after(rt: HostRuntime) -> Result<(), Fail>
     play::<DiskBook>(&rt, rt.alloc(), SWITCHES)
 }
 
-// Thirteen blocks take 38 pages, and not one more.
+/// Thirteen blocks take 38 pages, and not one more.
 const FULL: &str = "refuse 0 0 39 1
 commit 0 0 38 2
 live 38
@@ -305,9 +305,9 @@ fn a_batch_fills_the_unit_exactly(rt: HostRuntime) -> Result<(), Fail> {
     play::<DiskBook>(&rt, rt.alloc(), FULL)
 }
 
-// Each record of ten puts takes a quarter of a bank. The second one is appended, with two of the
-// pages and eight others: what was put is read, and what stays is cached. With the last one the
-// other bank is taken, and all pages stand elsewhere.
+/// Each record of ten puts takes a quarter of a bank. The second one is appended, with two of the
+/// pages and eight others: what was put is read, and what stays is cached. The last one goes to the
+/// other bank, where all pages stand elsewhere.
 const READS: &str = "write 0 0 10
 live 10
 calls 10

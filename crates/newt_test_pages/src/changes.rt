@@ -1,4 +1,4 @@
-// Objects that are put, deleted and read.
+//! Objects that are put, deleted and read.
 ghost use Rattle.std.specs.Prelude.{◌≡◌, ◌<◌, ◌^◌, ℕ, [], true, length, IsSome, Some, OnOk, IfOk};
 ghost use Rattle.newt_test_pages.specs.Changes.{AreAtRest, IsPlanned};
 ghost use Rattle.newt_host.specs.Moments.{IsDurable};
@@ -144,7 +144,7 @@ pub(crate) fn bytes_of<P: PageBook>(
     Ok(objects.read(host, book, id)?)
 }
 
-// These are the bytes that `put` gives an object.
+/// These are the bytes that `put` gives an object.
 fn assert_text(
     rt: &impl Abort,
     alloc: Global,
@@ -186,7 +186,7 @@ pub(crate) fn assert_held<P: PageBook>(
     Ok(())
 }
 
-// The same of the objects that are found on the card.
+/// The same for the objects that are found on the card.
 fn assert_on_card<P: PageBook>(
     rt: &impl Abort,
     alloc: Global,
@@ -200,7 +200,7 @@ fn assert_on_card<P: PageBook>(
     assert_held(rt, alloc, host, &mut book, &objects, want)
 }
 
-// The same of the objects that are found on these bytes.
+/// The same for the objects that are found on these bytes.
 fn assert_found<P: PageBook>(
     rt: &impl Abort,
     alloc: Global,
@@ -211,7 +211,7 @@ fn assert_found<P: PageBook>(
     assert_on_card::<P>(rt, alloc, &mut host, want)
 }
 
-/// These objects are there, and are found again when the card is opened anew.
+/// These objects are there, and are found again when the card is opened again.
 pub(crate) fn assert_kept<P: PageBook>(
     rt: &impl Abort,
     alloc: Global,

@@ -10,7 +10,7 @@ use std::alloc::Global;
 use std::process::Abort;
 use std::test::Fail;
 
-// The bytes of a card with so many parts of an object of this size.
+/// The bytes of a card with so many parts of an object of this size.
 fn written_parts<P: PageBook>(
     rt: &impl Abort,
     alloc: Global,
@@ -24,8 +24,8 @@ fn written_parts<P: PageBook>(
     written::<P>(rt, alloc, blocks, &batch)
 }
 
-// An object is read from its parts: its bytes are from 0 on. A row is its size, how many parts it
-// has, and how many blocks the card has.
+/// An object is read from its parts: its bytes are from 0 on. A row is its size, how many parts it
+/// has, and how many blocks the card has.
 fn expect_read<P: PageBook>(rt: &impl Abort, alloc: Global, row: &str) -> Result<(), Fail> {
     let (size, parts, blocks, _) = numbers(row);
     let bytes = written_parts::<P>(rt, alloc, size, parts % 65_536, blocks)?;
@@ -33,15 +33,15 @@ fn expect_read<P: PageBook>(rt: &impl Abort, alloc: Global, row: &str) -> Result
     expect(object_on::<P>(rt, alloc, &bytes, 7)? == want, row)
 }
 
-// Whether parts are an object. A row is its size, how many parts there are, and 1 where they are
-// one.
+/// Whether parts are an object. A row is its size, how many parts there are, and 1 where they are
+/// one.
 fn expect_object<P: PageBook>(rt: &impl Abort, alloc: Global, row: &str) -> Result<(), Fail> {
     let (size, parts, wanted, _) = numbers(row);
     let bytes = written_parts::<P>(rt, alloc, size, parts % 65_536, 13)?;
     expect(are_objects::<P>(rt, alloc, &bytes)? == (wanted == 1), row)
 }
 
-// Objects of 500 bytes to a page, and one page where there are no bytes.
+/// Objects of 500 bytes to a page, and one page where there are no bytes.
 const OBJECTS: &str = "0 1 13
 1 1 13
 500 1 13
@@ -58,7 +58,7 @@ fn objects_are_joined_parts(rt: HostRuntime) -> Result<(), Fail> {
     Ok(())
 }
 
-// One part too few, and one too many.
+/// One part too few, and one too many.
 const PARTS: &str = "501 1 0
 501 2 1
 501 3 0

@@ -1,12 +1,12 @@
-//! Objects by plans: what is put is read back, also when the card is opened anew. A table is played
-//! on both books. A row is one of these:
+//! Objects by plans: what is put is read back, also when the card is opened again. A table is
+//! played on both books. A row is one of these:
 //!
 //! - `put ID SIZE`, `delete ID`: an object comes, in the place of another of its id, or goes.
-//! - `forget`: to put the object 7 anew, to put the object 9, and to delete the object 8 is planned,
-//!   and each plan is forgotten.
+//! - `forget`: three plans are made and each is forgotten: to put the object 7 again, to put the
+//!   object 9, and to delete the object 8.
 //! - `live PAGES`: so many pages are live.
 //! - `next FROM PAGE`: the first page from a number on.
-//! - `held ID:SIZE ..`: these objects are there, and no others, also when the card is opened anew.
+//! - `held ID:SIZE ..`: these objects are there, and no others, also when the card is opened again.
 ghost use Rattle.std.specs.Prelude.{◌≡◌, ◌<◌, ◌^◌, ℕ, [], true, length, OnOk, IfOk};
 ghost use Rattle.newt_test_pages.specs.Changes.{AreAtRest, AreStill};
 ghost use Rattle.newt_host.specs.Outside.{Outside};
@@ -25,7 +25,7 @@ use std::alloc::{AllocError, Global};
 use std::process::Abort;
 use std::test::Fail;
 
-// Plans to put an object, and forgets the plan.
+/// Plans to put an object, and forgets the plan.
 fn put_and_forget(
     alloc: Global,
     objects: &mut Objects,
@@ -41,7 +41,7 @@ fn put_and_forget(
     Ok(())
 }
 
-// Plans to delete an object that is there, and forgets the plan.
+/// Plans to delete an object that is there, and forgets the plan.
 fn delete_and_forget(
     rt: &impl Abort,
     alloc: Global,
@@ -57,7 +57,7 @@ fn delete_and_forget(
     Ok(())
 }
 
-// Plans to put an object anew, to put another, and to delete one, and forgets each plan.
+/// Plans to put an object again, to put another, and to delete one, and forgets each plan.
 fn plan_and_forget(rt: &impl Abort, alloc: Global, objects: &mut Objects) -> Result<(), Fail>
     requires { objects.old.plans ≡ [] }
     ensures { OnOk result ((numbers : Numbers) (unit : ℕ) (outside : Outside) → AreAtRest
@@ -70,7 +70,7 @@ fn plan_and_forget(rt: &impl Abort, alloc: Global, objects: &mut Objects) -> Res
     Ok(())
 }
 
-// The objects of a row, each with its size.
+/// The objects of a row, each with its size.
 fn objects_of(alloc: Global, words: &str) -> Result<Vec<(u8, u32)>, AllocError> {
     let mut all = Vec::new(alloc);
     for word in words.split_whitespace() {
@@ -82,7 +82,7 @@ fn objects_of(alloc: Global, words: &str) -> Result<Vec<(u8, u32)>, AllocError> 
     Ok(all)
 }
 
-// Looks for what a row says of pages or objects, and changes nothing.
+/// Looks for what a row says of pages or objects, and changes nothing.
 fn look<P: PageBook>(
     rt: &impl Abort,
     alloc: Global,
@@ -108,7 +108,7 @@ fn look<P: PageBook>(
     }
 }
 
-// Plays one row.
+/// Plays one row.
 fn play_row<P: PageBook>(
     rt: &impl Abort,
     alloc: Global,
@@ -137,7 +137,7 @@ fn play_row<P: PageBook>(
     }
 }
 
-// Plays the rows of a table, one after another.
+/// Plays the rows of a table, one after another.
 fn play_rows<P: PageBook>(
     rt: &impl Abort,
     alloc: Global,
@@ -155,7 +155,7 @@ fn play_rows<P: PageBook>(
     Ok(())
 }
 
-// Plays a table on a card of so many blocks.
+/// Plays a table on a card of so many blocks.
 fn play<P: PageBook>(rt: &impl Abort, alloc: Global, blocks: u32, table: &str) -> Result<(), Fail> {
     let mut host = fresh::<P>(rt, alloc, blocks)?;
     let mut book: P = opened(rt, alloc, &mut host)?;
@@ -163,13 +163,13 @@ fn play<P: PageBook>(rt: &impl Abort, alloc: Global, blocks: u32, table: &str) -
     play_rows(rt, alloc, &mut host, &mut book, &mut objects, table)
 }
 
-// The same with each book.
+/// The same with each book.
 fn play_both(rt: &impl Abort, alloc: Global, blocks: u32, table: &str) -> Result<(), Fail> {
     play::<PlainBook>(rt, alloc, blocks, table)?;
     play::<DiskBook>(rt, alloc, blocks, table)
 }
 
-// Each object is put into a batch of its own, and is there beside the others.
+/// Each object is put into a batch of its own, and is there beside the others.
 const PUTS: &str = "put 3 0
 put 5 1
 put 6 500
@@ -178,7 +178,7 @@ put 9 1000000
 live 2005
 held 3:0 5:1 6:500 8:501 9:1000000";
 
-// What is put again is there instead: of the longer object no part is left.
+/// What is put again is there instead: no part of the longer object is left.
 const SHORTER: &str = "put 7 1200
 put 8 501
 live 5
@@ -186,7 +186,7 @@ put 7 400
 live 3
 held 7:400 8:501";
 
-// A deleted object's pages are gone, and their numbers are given again.
+/// A deleted object's pages are gone, and their numbers are given again.
 const DELETES: &str = "put 7 1200
 put 8 501
 delete 7
@@ -196,7 +196,7 @@ put 9 501
 next 2 3
 held 8:501 9:501";
 
-// What is forgotten was never there, and may be planned again.
+/// What is forgotten was never there, and may be planned again.
 const FORGOTTEN: &str = "put 7 1200
 put 8 501
 forget
@@ -224,7 +224,7 @@ fn a_forgotten_plan_changes_nothing(rt: HostRuntime) -> Result<(), Fail> {
     play_both(&rt, rt.alloc(), 13, FORGOTTEN)
 }
 
-// The batch with one put and one delete.
+/// The batch with one put and one delete.
 fn begun(alloc: Global) -> Result<Batch, AllocError>
     ensures { IfOk result (λ batch. length batch.puts < 2 ^ 32) }
 {
@@ -234,8 +234,8 @@ fn begun(alloc: Global) -> Result<Batch, AllocError>
     Ok(batch)
 }
 
-// The numbers of the pages that are put for an object of so many bytes, behind those of the batch;
-// none where page numbers are wanting.
+/// The numbers of the pages that are put for an object of so many bytes, after those of the batch;
+/// none where there are too few page numbers.
 fn numbers_for(alloc: Global, size: u32) -> Result<Option<Vec<u32>>, AllocError> {
     let bytes = text(alloc, size)?;
     let mut objects = Objects::empty(alloc);
@@ -254,7 +254,7 @@ fn put_numbers(alloc: Global, batch: &Batch) -> Result<Vec<u32>, AllocError> {
     Ok(numbers)
 }
 
-// The same, where they are not wanting.
+/// The same, where there are enough page numbers.
 fn numbers_given(alloc: Global, size: u32) -> Result<Vec<u32>, Fail> {
     Ok(numbers_for(alloc, size)?.ok_or("the object is not planned")?)
 }

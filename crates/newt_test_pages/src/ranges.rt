@@ -1,4 +1,4 @@
-//! Ranges of a large object: they are patched and read, also when the card is opened anew.
+//! Ranges of a large object: they are patched and read, also when the card is opened again.
 ghost use Rattle.std.specs.Prelude.{◌≡◌, ◌<◌, ◌^◌, true, length, IsSome, OnOk};
 ghost use Rattle.newt_test_pages.specs.Changes.{AreAtRest};
 ghost use Rattle.newt_host.specs.Moments.{IsDurable};
@@ -18,7 +18,7 @@ use std::alloc::Global;
 use std::process::Abort;
 use std::test::Fail;
 
-// Patches of 1,000,000 bytes: from where on, how many bytes, and how many pages are put.
+/// Patches of 1,000,000 bytes: from where on, how many bytes, and how many pages are put.
 const PATCHES: [(u32, u32, usize); 9] = [
     (0, 1, 1),
     (499, 2, 2),
@@ -31,7 +31,7 @@ const PATCHES: [(u32, u32, usize); 9] = [
     (1_000_000, 0, 0),
 ];
 
-// Ranges that are there.
+/// Ranges that are there.
 const RANGES: [(u32, u32); 8] = [
     (0, 0),
     (0, 1_000_000),
@@ -43,7 +43,7 @@ const RANGES: [(u32, u32); 8] = [
     (1_000_000, 0),
 ];
 
-// Ranges that end past the end.
+/// Ranges that end past the end.
 const PAST: [(u32, u32); 4] = [
     (1_000_000, 1),
     (999_999, 2),
@@ -51,8 +51,8 @@ const PAST: [(u32, u32); 4] = [
     (u32::MAX, u32::MAX),
 ];
 
-// Puts bytes in place of others of an object, in a batch of its own. The answer is how many pages
-// were put.
+/// Puts bytes in place of others of an object, in a batch of its own. Answers how many pages were
+/// put.
 fn patch<P: PageBook>(
     alloc: Global,
     host: &mut MemHost,
@@ -78,8 +78,8 @@ fn patch<P: PageBook>(
     Ok(puts)
 }
 
-// Carries the patches out, each with bytes of its own, on the card and on the bytes that are
-// wanted.
+/// Carries the patches out, each with bytes of its own, on the card and on the bytes that are
+/// wanted.
 fn patch_all<P: PageBook>(
     rt: &impl Abort,
     alloc: Global,
@@ -104,7 +104,7 @@ fn patch_all<P: PageBook>(
     Ok(())
 }
 
-// So many bytes of an object, from a place on.
+/// So many bytes of an object, from a place on.
 fn range<P: PageBook>(
     alloc: Global,
     host: &mut MemHost,
@@ -122,7 +122,7 @@ fn range<P: PageBook>(
     read_range(alloc, host, book, objects, 7, at, len)
 }
 
-// The ranges that are there have the bytes that are wanted.
+/// The ranges that are there have the bytes that are wanted.
 fn assert_read<P: PageBook>(
     rt: &impl Abort,
     alloc: Global,
@@ -152,7 +152,7 @@ fn assert_read<P: PageBook>(
     Ok(())
 }
 
-// The ranges that end past the end are refused.
+/// The ranges that end past the end are refused.
 fn assert_refused<P: PageBook>(
     rt: &impl Abort,
     alloc: Global,
@@ -173,7 +173,7 @@ fn assert_refused<P: PageBook>(
     Ok(())
 }
 
-// The same of an object that is there.
+/// The same for an object that is there.
 fn assert_both<P: PageBook>(
     rt: &impl Abort,
     alloc: Global,
@@ -190,7 +190,7 @@ fn assert_both<P: PageBook>(
     assert_refused(rt, alloc, host, book, objects)
 }
 
-// The same on a card.
+/// The same on a card.
 fn assert_on_card<P: PageBook>(
     rt: &impl Abort,
     alloc: Global,
@@ -204,7 +204,7 @@ fn assert_on_card<P: PageBook>(
     assert_both(rt, alloc, host, &mut book, &objects, want)
 }
 
-// The same on the bytes of a card.
+/// The same on the bytes of a card.
 fn assert_ranges<P: PageBook>(
     rt: &impl Abort,
     alloc: Global,
@@ -215,7 +215,7 @@ fn assert_ranges<P: PageBook>(
     assert_on_card::<P>(rt, alloc, &mut host, want)
 }
 
-// An object on these bytes has this text.
+/// An object on these bytes has this text.
 fn assert_object<P: PageBook>(
     rt: &impl Abort,
     alloc: Global,
@@ -228,7 +228,7 @@ fn assert_object<P: PageBook>(
     Ok(())
 }
 
-// Puts two objects.
+/// Puts two objects.
 fn put_both<P: PageBook>(
     alloc: Global,
     host: &mut MemHost,
@@ -246,7 +246,7 @@ fn put_both<P: PageBook>(
     put(alloc, host, book, objects, 8, 1_200)
 }
 
-// What is patched is found on the bytes of the card.
+/// What is patched is found on the bytes of the card.
 fn patch_and_read<P: PageBook>(
     rt: &impl Abort,
     alloc: Global,
@@ -281,8 +281,8 @@ fn put_and_patch<P: PageBook>(
     patch_and_read(rt, alloc, host, book, objects, &mut want)
 }
 
-// A large object is patched across its pages, and read by ranges when the card is opened anew.
-// Another object stays as it is.
+/// A large object is patched across its pages, and read by ranges when the card is opened again.
+/// Another object stays as it is.
 fn patches<P: PageBook>(rt: &impl Abort, alloc: Global) -> Result<(), Fail> {
     let mut host = fresh::<P>(rt, alloc, 520)?;
     let mut book: P = opened(rt, alloc, &mut host)?;

@@ -14,7 +14,7 @@ use std::alloc::Global;
 use std::process::Abort;
 use std::test::Fail;
 
-// Brings the first page of a book to hand.
+/// Brings the first page of a book to hand.
 fn first_page<P: PageBook>(rt: &impl Abort, host: &mut MemHost, book: &mut P) -> Result<Page, Fail>
     requires book { P.stands true book.old (outside_of host.old) × (P.place book.old ≡ 0) }
     ensures book { P.stands true book.new (outside_of host.new) × (P.place book.new ≡ 0) }
@@ -28,8 +28,8 @@ fn first_page<P: PageBook>(rt: &impl Abort, host: &mut MemHost, book: &mut P) ->
     Ok(*book.page())
 }
 
-// Asks for room for as many puts as there are numbers of 32 bits, which is more than memory is ever
-// asked for: it is refused, and the book is as it was. What room it had, it has.
+/// Asks for room for as many puts as there are numbers of 32 bits, which is more than memory is
+/// ever asked for. It is refused, and the book is as it was, with the room that it had.
 fn refuse_room<P: PageBook>(
     rt: &impl Abort,
     alloc: Global,
@@ -44,7 +44,7 @@ fn refuse_room<P: PageBook>(
     refuse_room_of(rt, alloc, host, book, &before)
 }
 
-// The same of a book that has these pages.
+/// The same for a book that has these pages.
 fn refuse_room_of<P: PageBook>(
     rt: &impl Abort,
     alloc: Global,
@@ -64,8 +64,8 @@ fn refuse_room_of<P: PageBook>(
     assert_pages(rt, alloc, host, book, before)
 }
 
-// Makes room for so many puts. Where that is refused the book is as it was, and it is asked for
-// once more. The answer is whether it was refused.
+/// Makes room for so many puts. Where that is refused, the book is as it was, and room is asked for
+/// once more. Answers whether it was refused.
 fn make_room<P: PageBook>(
     rt: &impl Abort,
     alloc: Global,
@@ -81,7 +81,7 @@ fn make_room<P: PageBook>(
     make_room_in(rt, alloc, host, book, puts, &before)
 }
 
-// The same in a book that has these pages.
+/// The same for a book that has these pages.
 fn make_room_in<P: PageBook>(
     rt: &impl Abort,
     alloc: Global,
@@ -104,7 +104,7 @@ fn make_room_in<P: PageBook>(
     }
 }
 
-// The pages that a batch makes of those of a book.
+/// The pages that a batch makes of those of a book.
 fn pages_after<P: PageBook>(
     alloc: Global,
     host: &mut MemHost,
@@ -119,7 +119,7 @@ fn pages_after<P: PageBook>(
     changed(alloc, &before, batch)
 }
 
-// Commits a batch for whose puts there is room.
+/// Commits a batch for whose puts there is room.
 fn commit<P: PageBook>(
     rt: &impl Abort,
     alloc: Global,
@@ -135,7 +135,7 @@ fn commit<P: PageBook>(
     commit_to(rt, alloc, host, book, batch, &after)
 }
 
-// The same, which makes these pages.
+/// The same, which makes these pages.
 fn commit_to<P: PageBook>(
     rt: &impl Abort,
     alloc: Global,
@@ -152,8 +152,8 @@ fn commit_to<P: PageBook>(
     assert_pages(rt, alloc, host, book, after)
 }
 
-// Commits a batch. More room is refused before and behind it. The answer is whether room was
-// refused that could be had.
+/// Commits a batch. More room is refused before and after it. Answers whether room was refused that
+/// could be had.
 fn goes_on_with<P: PageBook>(
     rt: &impl Abort,
     alloc: Global,
@@ -174,7 +174,7 @@ fn goes_on_with<P: PageBook>(
     Ok(refused)
 }
 
-// The batch of a turn: ten puts behind two deletes.
+/// The batch of a turn: ten puts after two deletes.
 fn turn<P: PageBook>(
     rt: &impl Abort,
     alloc: Global,
@@ -190,7 +190,7 @@ fn turn<P: PageBook>(
     goes_on_with(rt, alloc, host, book, &batch)
 }
 
-// The last pages are found when the card is opened anew.
+/// The last pages are found when the card is opened again.
 fn assert_found<P: PageBook>(
     rt: &impl Abort,
     alloc: Global,
@@ -203,7 +203,7 @@ fn assert_found<P: PageBook>(
     Ok(())
 }
 
-// Commits three batches. The answer is how often room was refused that could be had.
+/// Commits three batches. Answers how often room was refused that could be had.
 fn goes_on_in<P: PageBook>(
     rt: &impl Abort,
     alloc: Global,
@@ -223,9 +223,8 @@ fn goes_on_in<P: PageBook>(
     Ok(refused)
 }
 
-// Commits three batches. More room is refused before each and behind it, and the last pages are
-// found again when the card is opened anew. The answer is how often room was refused that could be
-// had.
+/// Commits three batches. More room is refused before and after each, and the last pages are found
+/// when the card is opened again. Answers how often room was refused that could be had.
 fn goes_on<P: PageBook>(rt: &impl Abort, alloc: Global) -> Result<u32, Fail> {
     let mut host = fresh::<P>(rt, alloc, 13)?;
     let mut book: P = opened(rt, alloc, &mut host)?;

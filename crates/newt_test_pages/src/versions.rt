@@ -15,16 +15,16 @@ use std::alloc::Global;
 use std::process::Abort;
 use std::test::Fail;
 
-// The lower byte of the version of the first bank, which begins at block 3.
+/// The lower byte of the version of the first bank, which begins at block 3.
 const VERSION: usize = 12_295;
 
-// The bytes of the card.
+/// The bytes of the card.
 fn bytes_of(rt: &impl Abort, alloc: Global, host: &MemHost) -> Result<Vec<u8>, Fail> {
     assert!(rt; has_card(host));
     Ok(host.bytes(CARD).to_vec(alloc)?)
 }
 
-// Puts three pages.
+/// Puts three pages.
 fn put_three<P: PageBook>(alloc: Global, host: &mut MemHost, book: &mut P) -> Result<(), Fail>
     requires book { P.stands true book.old (outside_of host.old) × (P.place book.old ≡ 0) }
 {
@@ -32,7 +32,7 @@ fn put_three<P: PageBook>(alloc: Global, host: &mut MemHost, book: &mut P) -> Re
     committed(host, book, &batch)
 }
 
-// The bytes of a card of 13 blocks with three pages, in a bank of version 1.
+/// The bytes of a card of 13 blocks with three pages, in a bank of version 1.
 fn old_card<P: PageBook>(rt: &impl Abort, alloc: Global) -> Result<Vec<u8>, Fail> {
     let mut host = fresh::<P>(rt, alloc, 13)?;
     let mut book: P = opened(rt, alloc, &mut host)?;
@@ -44,8 +44,8 @@ fn old_card<P: PageBook>(rt: &impl Abort, alloc: Global) -> Result<Vec<u8>, Fail
     Ok(bytes)
 }
 
-// The first commit on it goes to the other bank, in version 2. What a crash leaves within each call
-// holds the pages before, in version 1, or those after, in version 2.
+/// The first commit on it goes to the other bank, in version 2. What a crash leaves within each
+/// call holds the pages before, in version 1, or those after, in version 2.
 fn commit_first<P: PageBook>(
     rt: &impl Abort,
     alloc: Global,
@@ -66,7 +66,7 @@ fn commit_first<P: PageBook>(
     assert_pages(rt, alloc, host, book, &after)
 }
 
-// Opens it, which leaves each byte, and commits twice: the second record stands behind the first.
+/// Opens it, which leaves each byte, and commits twice: the second record stands after the first.
 fn turns_new<P: PageBook>(rt: &impl Abort, alloc: Global) -> Result<(), Fail> {
     let bytes = old_card::<P>(rt, alloc)?;
     let mut host = host_of(rt, alloc, &bytes)?;

@@ -1,13 +1,13 @@
 //! The backup of the store on a device, with texts that were written by hand.
 
 use crate::trial::expect_reading_halts;
-use newt_test_scripts::{blocks, card_behind, run_writing};
+use newt_test_scripts::{blocks, card_after, run_writing};
 use std::alloc::Global;
 use std::test::Fail;
 
-/// Runs a table over the device `a` of 13 blocks of zero bytes, and looks for its backup then.
+/// Runs a table over the device `a` of 13 blocks of zero bytes, and then looks for its backup.
 fn expect_backup(alloc: Global, table: &str, output: &[u8]) -> Result<(), Fail> {
-    let bytes = card_behind(alloc, "run a", table)?;
+    let bytes = card_after(alloc, "run a", table)?;
     run_writing(alloc, "backup a", b"", &bytes, &[], output)?;
     Ok(())
 }
@@ -62,5 +62,5 @@ fn says_why_there_is_none(rt: HostRuntime) -> Result<(), Fail> {
 #[test]
 fn halts_at_each_call_that_fails(rt: HostRuntime) -> Result<(), Fail> {
     let alloc = rt.alloc();
-    expect_reading_halts(alloc, "backup a", &card_behind(alloc, "run a", ONE_ENTRY)?)
+    expect_reading_halts(alloc, "backup a", &card_after(alloc, "run a", ONE_ENTRY)?)
 }

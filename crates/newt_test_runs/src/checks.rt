@@ -1,17 +1,18 @@
-//! What is said of the image of a device, with the places of damage that were written by hand.
+//! What the mode `check` writes of the image of a device. The places of damage were written by
+//! hand.
 ghost use Rattle.std.specs.Prelude.{IsSome, IsTrue};
 ghost use Rattle.newt_memhost.specs.Outside.{outside_of};
 
 use crate::trial::expect_reading_halts;
 use newt_host::{Host, Unit};
 use newt_memhost::{Crash, MemHost, Pick};
-use newt_test_scripts::{blocks, card_behind, expect_said, run_over, run_table_on, run_writing};
+use newt_test_scripts::{blocks, card_after, expect_said, run_over, run_table_on, run_writing};
 use std::alloc::Global;
 use std::test::Fail;
 
-/// The bytes that the device `a` of 13 blocks of zero bytes has behind a table.
+/// The bytes that the device `a` of 13 blocks of zero bytes has after a table.
 fn card_of(alloc: Global, table: &str) -> Result<Vec<u8>, Fail> {
-    card_behind(alloc, "run a", table)
+    card_after(alloc, "run a", table)
 }
 
 const FORMAT: &str = "format 0 Internal 7 => ok";
@@ -37,13 +38,13 @@ fn counts_what_is_clean(rt: HostRuntime) -> Result<(), Fail> {
 /// Writes bytes over those from a place on.
 fn patch(bytes: &mut Vec<u8>, at: usize, new: &[u8]) -> Result<(), Fail> {
     if at > bytes.len() || new.len() > bytes.len() - at {
-        return Err(Fail::new("a change behind the image"));
+        return Err(Fail::new("a change after the image"));
     }
     bytes[at..at + new.len()].copy_from_slice(new);
     Ok(())
 }
 
-/// Where the bytes of a new store are changed, with the bytes, and what is said then.
+/// Where the bytes of a new store are changed, to what, and what is written then.
 const DAMAGES: &[(usize, &[u8], &[u8])] = &[
     (12295, b"\x09", b"ok damaged header 12288\n"),
     (12305, b"\0\0\xFF\xFF", b"ok damaged record 12304\n"),
@@ -52,7 +53,7 @@ const DAMAGES: &[(usize, &[u8], &[u8])] = &[
     (12317, b"\0\0\0\x01", b"ok damaged directory 0\n"),
 ];
 
-/// A card with these changes is said to be that.
+/// The line for a card with these changes is this.
 fn expect_damage(
     alloc: Global,
     card: &[u8],
@@ -66,7 +67,7 @@ fn expect_damage(
     expect_said(alloc, &bytes, output)
 }
 
-/// Each of these changes, alone, is said to be that damage.
+/// The line for each of these changes, alone, is that of its damage.
 fn expect_damages(
     alloc: Global,
     card: &[u8],
@@ -93,9 +94,9 @@ fn names_the_first_damage(rt: HostRuntime) -> Result<(), Fail> {
     Ok(())
 }
 
-/// A soup with two entries, of which the first has two large binaries. Its records begin at the
-/// bytes 12,304, 12,829, 13,358 and 15,435; the pages that are live at 15,444 (the directory),
-/// 13,883 and 15,960 (the entries), 14,399 and 14,915 (the large binaries).
+/// A soup with two entries, the first with two large binaries. Its records begin at the bytes
+/// 12,304, 12,829, 13,358 and 15,435. The live pages stand at 15,444 (the directory), 13,883 and
+/// 15,960 (the entries), and 14,399 and 14,915 (the large binaries).
 const LARGES: &str = "
 format 0 Internal 7 => ok
 mount 0 => ok 7 Internal
@@ -104,13 +105,16 @@ add 0 S {v: <<w:0102>>, u: <<w:0304>>} => ok 0
 add 0 S {b: 2} => ok 1
 ";
 
-/// Where its bytes are changed: another name and another number in the header; a gate whose record
-/// leaves the bank by a byte, one that nothing stands behind; payloads that do not end where they
-/// say; a part that is too high, one that is missing, one that stands twice; a directory that is
-/// missing, cut short, without a name; a record of another soup, of an id that is not given, of one
-/// that is named before, of another version, with a large binary of another length; one of 65,535
-/// large binaries, so that those of it are not named either; a large binary that is not named, and
-/// one that is named twice.
+/// Where its bytes are changed, to what, and what is written then. The rows are, in order:
+/// - another name and two other numbers in the header;
+/// - two gates whose records leave the bank by a byte, and a gate after which nothing stands;
+/// - three payloads that do not end where they say;
+/// - an object with a part that is too high, one without a part, and one with a part twice;
+/// - a directory that is missing, one that is cut short, and one without a name;
+/// - an entry of another soup, of an id that was not given, of one that was named before, of
+///   another version, and with a large binary of another length;
+/// - an entry of 65,535 large binaries, so that those of it are not named either;
+/// - a large binary that is not named, and one that is named twice.
 const LARGE_DAMAGES: &[(usize, &[u8], &[u8])] = &[
     (12288, b"M", b"ok damaged header 12288\n"),
     (12294, b"\x01", b"ok damaged header 12288\n"),
@@ -146,7 +150,7 @@ fn names_the_first_damage_among_entries(rt: HostRuntime) -> Result<(), Fail> {
     expect_damages(alloc, &card, LARGE_DAMAGES)
 }
 
-/// A new store whose record puts 39 pages in place of one, and 13 blocks take 38: those behind the
+/// A new store whose record puts 39 pages in place of one, where 13 blocks take 38. Those after the
 /// directory are large binaries without bytes, which no entry names.
 fn crowded(alloc: Global) -> Result<Vec<u8>, Fail> {
     let mut bytes = card_of(alloc, FORMAT)?;

@@ -54,7 +54,7 @@ stores => ok 0 7 Internal
 quit => ok
 ";
 
-/// What a next run is asked over one of the devices, and told to go on with.
+/// What a next run is asked over one of the devices, and how it is told to go on.
 const LOOK: &[u8] = b"mount 0
 soups 0
 get 0 Notes 0
@@ -136,7 +136,7 @@ fn halts_at_each_call_of_a_stream_that_fails(rt: HostRuntime) -> Result<(), Fail
 }
 
 #[test]
-fn goes_on_behind_each_call_of_a_device_that_fails(rt: HostRuntime) -> Result<(), Fail> {
+fn goes_on_after_each_call_of_a_device_that_fails(rt: HostRuntime) -> Result<(), Fail> {
     expect_thrown(rt.alloc(), SHORT, LOOK)?;
     Ok(())
 }

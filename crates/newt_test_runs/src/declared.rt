@@ -155,7 +155,7 @@ fn push_soups(alloc: Global, table: &mut String, count: u32) -> Result<(), Fail>
     Ok(())
 }
 
-/// A store has 250 soups. One more is refused, also behind a mount, and comes where one has gone,
+/// A store has 250 soups. One more is refused, also after a mount, and comes where one has gone,
 /// with a number of its own.
 #[test]
 fn takes_250_soups(rt: HostRuntime) -> Result<(), Fail> {

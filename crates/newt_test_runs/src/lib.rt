@@ -1,6 +1,6 @@
 //! Whole runs of the top call over a host in memory: of every kind of command and of every mode. It
-//! stands on the trials of whole runs, and carries no promise of its own: what it holds is tests,
-//! whose replies come from the rules of the language and of the image and not from the program.
+//! stands on the trials of whole runs, and carries no promise of its own: it holds tests, whose
+//! replies come from the rules of the language and of the image, and not from the program.
 #![tactic(auto)]
 
 #[cfg(test)]

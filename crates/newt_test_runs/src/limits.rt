@@ -65,7 +65,7 @@ fn reads_inputs_up_to_their_limit(rt: HostRuntime) -> Result<(), Fail> {
     expect_each(rt.alloc(), "run", &cases)
 }
 
-/// The same, as a whole.
+/// The same, for inputs that are taken as a whole.
 #[test]
 fn converts_inputs_up_to_their_limit(rt: HostRuntime) -> Result<(), Fail> {
     let cases = [

@@ -26,8 +26,8 @@ add 0 S {v: <<wave:0011>>} => ok 0
 info 0 T {x: <wave:~00*1200~>} => ok
 ";
 
-/// Commands that go on with such a store, with their replies, and how many bytes each programs: for
-/// a directory of one page, and for one of three.
+/// Commands that go on with such a store, with their replies. Each has how many bytes it programs
+/// with a directory of one page, and with one of three.
 const PROGRAMS: &str = "
 soup 0 U => ok 2 | 529 1569
 add 0 S {a: 1} => ok 1 | 1045 2085
@@ -46,12 +46,12 @@ get 0 S 0 => ok 0 {v: <<wave:00FF>>} | 0 0
 set 0 S 1 a 2 => error 32 entry | 0 0
 ";
 
-// The first byte of the first bank, and the first behind it, on a card of 33 blocks.
+/// The first byte of the first bank, and the first after it, on a card of 33 blocks.
 const BANK: usize = 3 * 4096;
 
 const BANK_END: usize = 18 * 4096;
 
-// How many bytes come before the last blank ones.
+/// How many bytes come before the last blank ones.
 fn used(bytes: &[u8]) -> usize {
     let mut used: usize = 0;
     let mut count: usize = 0;
@@ -64,7 +64,7 @@ fn used(bytes: &[u8]) -> usize {
     used
 }
 
-/// How many bytes of the first bank are programmed behind a run of a table.
+/// How many bytes of the first bank are programmed after a run of a table.
 fn programmed(alloc: Global, table: &str) -> Result<usize, Fail> {
     let (script, output) = lines_of(alloc, table)?;
     let mut host = over_blocks(alloc, &script, 33)?;
@@ -73,7 +73,7 @@ fn programmed(alloc: Global, table: &str) -> Result<usize, Fail> {
     Ok(used(card.get(BANK..BANK_END).ok_or("the card is too small")?))
 }
 
-/// Behind these lines each command programs as many bytes as the column says.
+/// After these lines each command programs as many bytes as the column says.
 fn expect_programs(alloc: Global, before: &str, is_large: bool) -> Result<(), Fail> {
     let mut table = String::new(alloc);
     table.push_str(before)?;

@@ -1,5 +1,5 @@
-//! Small rectangles: what is answered has them, and what is kept and what is counted is the flat
-//! text, which has none.
+//! Small rectangles. What is answered has them; what is kept and what is counted is the flat text,
+//! which has none.
 
 use crate::trial::{expect_lines, expect_outputs};
 use newt_host::Unit;
@@ -125,7 +125,7 @@ fn counts_the_flat_text(rt: HostRuntime) -> Result<(), Fail> {
 }
 
 /// The flat text of the second entry takes 55 pages, of which a unit of 13 blocks has 37; the
-/// written one would take 16.
+/// written text would take 16.
 const PAGES: &str = "
 format 0 Internal 7 => ok
 mount 0 => ok 7 Internal
@@ -141,7 +141,7 @@ fn takes_pages_for_the_flat_text(rt: HostRuntime) -> Result<(), Fail> {
 }
 
 /// An image from before streams were written with small rectangles, record by record: a store, a
-/// soup, and three entries, of which the third has a large binary. Each page goes on with zeros.
+/// soup, and three entries, the third with a large binary. Each page goes on with zeros.
 const BEFORE: &str = "
 00 FF*4095
 00 FF*4095

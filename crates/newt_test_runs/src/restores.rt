@@ -1,4 +1,5 @@
-//! Stores that are restored from their backups, and what is refused, with texts by hand.
+//! Stores that are restored from their backups, and what is refused. The texts were written by
+//! hand.
 
 use crate::backups::{ENTRY, FRESH};
 use crate::crashes::EVERY;
@@ -6,7 +7,7 @@ use crate::versions::{BEFORE, FRESH as OLD_FRESH, GOES_ON};
 use newt_host::{Host, Unit};
 use newt_memhost::MemHost;
 use newt_test_scripts::{
-    backed_up, blocks, card_behind, copied, expect_end, expect_goes_on, expect_unrestored, image,
+    backed_up, blocks, card_after, copied, expect_end, expect_goes_on, expect_unrestored, image,
     over, restored, run_on, run_table, run_table_on, run_writing,
 };
 use newt_test_tables::bytes_of;
@@ -19,7 +20,7 @@ use std::test::Fail;
 fn restores_a_fresh_store_as_it_is_formatted(rt: HostRuntime) -> Result<(), Fail> {
     let alloc = rt.alloc();
     let card = restored(alloc, FRESH, &blocks(alloc, 13)?, b"ok 7 Internal\n")?;
-    assert!(rt; card == card_behind(alloc, "run a", "format 0 Internal 7 => ok")?);
+    assert!(rt; card == card_after(alloc, "run a", "format 0 Internal 7 => ok")?);
     expect_unrestored(alloc, FRESH, &card, b"error 26 store\n")
 }
 
@@ -49,7 +50,7 @@ fn restores_an_entry_whose_backup_comes_in_pieces(rt: HostRuntime) -> Result<(),
 }
 
 /// Inputs that are refused whatever the device is, with their lines: they end too early, have a
-/// large binary that is compressed, are no backup.
+/// large binary that is compressed, or are no backup.
 const REFUSED: [(&[u8], &[u8]); 4] = [
     (b"", b"error 1 malformed\n"),
     (b"\x02", b"error 1 malformed\n"),
@@ -60,8 +61,8 @@ const REFUSED: [(&[u8], &[u8]); 4] = [
     (b"\x02\x0A", b"error 51 backup\n"),
 ];
 
-/// The backup of what 15 blocks hold behind a table.
-fn backup_behind(alloc: Global, table: &str) -> Result<Vec<u8>, Fail> {
+/// The backup of what 15 blocks hold after a table.
+fn backup_after(alloc: Global, table: &str) -> Result<Vec<u8>, Fail> {
     let host = run_table_on(alloc, "run a", table, &blocks(alloc, 15)?, &[])?;
     backed_up(alloc, &image(alloc, &host, Unit(0))?)
 }
@@ -75,10 +76,10 @@ fn backup_of_entries(alloc: Global, count: u32) -> Result<Vec<u8>, Fail> {
     for id in 0..count {
         table.push_str(&format!(in alloc; "add 0 S {{}} => ok {id}\n")?)?;
     }
-    backup_behind(alloc, &table)
+    backup_after(alloc, &table)
 }
 
-/// A device of these bytes gives these lines for a fresh store and for one of 39 pages, behind the
+/// A device of these bytes gives these lines for a fresh store and for one of 39 pages, after the
 /// refusals that come first.
 fn expect_refusals(
     alloc: Global,
@@ -116,7 +117,7 @@ fn refuses_in_order(rt: HostRuntime) -> Result<(), Fail> {
     expect_all_refused(alloc, &large, &blank, &card)
 }
 
-/// Where there is no device nothing but the line is written.
+/// Where there is no device, only the line is written.
 fn expect_alone(alloc: Global, input: &[u8], line: &[u8]) -> Result<(), Fail> {
     let blank = blocks(alloc, 13)?;
     run_writing(alloc, "restore c", input, &blank, &blank, line)?;
@@ -174,14 +175,14 @@ mount 0 => ok 7 Internal
 soup 0 S => ok 0
 {row}"
         )?;
-        let input = backup_behind(alloc, &table)?;
+        let input = backup_after(alloc, &table)?;
         restored(alloc, &input, &blocks(alloc, 13)?, reply)?;
     }
     Ok(())
 }
 
-/// Entries of several soups that were added and removed in turn, among them all of a soup that
-/// goes.
+/// Entries of several soups that were added and removed in turn, among them all those of a soup
+/// that is dropped.
 const SEVERAL: &str = "
 format 0 Internal 7 => ok
 mount 0 => ok 7 Internal
@@ -259,7 +260,7 @@ soup 0 Next => ok 1
 #[test]
 fn goes_on_where_the_store_was(rt: HostRuntime) -> Result<(), Fail> {
     let alloc = rt.alloc();
-    expect_goes_on(alloc, &card_behind(alloc, "run a", SEVERAL)?, GO_ON)?;
+    expect_goes_on(alloc, &card_after(alloc, "run a", SEVERAL)?, GO_ON)?;
     let every = run_table(alloc, "run a b", EVERY)?;
     expect_goes_on(alloc, &image(alloc, &every, Unit(0))?, EVERY_0)?;
     expect_goes_on(alloc, &image(alloc, &every, Unit(1))?, EVERY_1)
@@ -298,8 +299,8 @@ fn restores_the_last_numbers(rt: HostRuntime) -> Result<(), Fail> {
     expect_goes_on(alloc, &card, NO_MORE)
 }
 
-/// Restores the store with an entry to 13 blank blocks, where the input and the output move at most
-/// three bytes at once, and this call fails, if there is one.
+/// Restores the store with an entry to 13 blank blocks. The input and the output move at most three
+/// bytes at once, and this call fails, if there is one.
 fn restoring(alloc: Global, failing: Option<u64>) -> Result<(Status, MemHost), Fail> {
     let mut host = over(alloc, ENTRY, &blocks(alloc, 13)?, &[])?;
     host.piece(3);
@@ -310,8 +311,8 @@ fn restoring(alloc: Global, failing: Option<u64>) -> Result<(Status, MemHost), F
     Ok((status, host))
 }
 
-/// What is written then is what was written before the call. Before the input was read to its end
-/// the device is not even attached; behind the last call of the device the store is there.
+/// What is written is then what was written before the call. Before the input was read to its end,
+/// the device is not even attached; after the last call on the device, the store is there.
 fn expect_halted(alloc: Global, sound: &MemHost, call: u64, wanted: Status) -> Result<(), Fail> {
     let (status, host) = restoring(alloc, Some(call))?;
     if sound.calls() <= call {
@@ -325,8 +326,8 @@ fn expect_halted(alloc: Global, sound: &MemHost, call: u64, wanted: Status) -> R
     expect_left(alloc, &host, wanted)
 }
 
-/// What a restoring that is halted leaves: with a fault of the input a device that is not attached,
-/// with one of the output the store.
+/// What a restoring leaves that is halted: with a fault of the input a device that is not attached,
+/// and with one of the output the store.
 fn expect_left(alloc: Global, host: &MemHost, status: Status) -> Result<(), Fail> {
     let is_left = match status {
         Status::Source => host.blocks(Unit(0)) == 0,

@@ -9,7 +9,7 @@ use std::process::Abort;
 use std::test::Fail;
 
 /// Runs an input in pieces of several sizes, and looks each time for its output and the status Ok.
-pub fn expect_in_pieces(
+pub(crate) fn expect_in_pieces(
     alloc: Global,
     text: &str,
     input: &[u8],
@@ -23,13 +23,13 @@ pub fn expect_in_pieces(
 }
 
 /// The same for a table.
-pub fn expect_lines(alloc: Global, table: &str) -> Result<(), Fail> {
+pub(crate) fn expect_lines(alloc: Global, table: &str) -> Result<(), Fail> {
     let (script, output) = lines_of(alloc, table)?;
     expect_in_pieces(alloc, "run", &script, &output)
 }
 
 /// The same for each of some inputs.
-pub fn expect_outputs(
+pub(crate) fn expect_outputs(
     alloc: Global,
     text: &str,
     cases: &[(&'static [u8], &'static [u8])],
@@ -56,8 +56,8 @@ fn assert_exit(rt: &impl Abort, status: Status, number: u8) {
 }
 
 /// Where the call of a number fails, words that read the device `a` of these bytes end there: with
-/// Device where it is on the device, else with Sink. What was written is what the sound run had
-/// written before, and the device stays.
+/// `Device` where the call is on the device, and otherwise with `Sink`. They have written what the
+/// sound run had written before, and the device stays.
 fn expect_reading_halted(
     alloc: Global,
     text: &str,
@@ -84,8 +84,8 @@ fn expect_reading_halted(
     Ok(())
 }
 
-/// The same of each call of a run of these words.
-pub fn expect_reading_halts(alloc: Global, text: &str, bytes: &[u8]) -> Result<(), Fail> {
+/// The same for each call of a run of these words.
+pub(crate) fn expect_reading_halts(alloc: Global, text: &str, bytes: &[u8]) -> Result<(), Fail> {
     let mut sound = over(alloc, b"", bytes, &[])?;
     sound.piece(40);
     expect_status(alloc, text, &mut sound, Status::Ok)?;

@@ -4,7 +4,7 @@
 use newt_host::Unit;
 use newt_memhost::Pick;
 use newt_test_scripts::{
-    Counts, Looks, blocks, expect, expect_safe, image, looks_behind, run_over, run_table_on,
+    Counts, Looks, blocks, expect, expect_safe, image, looks_by_line, run_over, run_table_on,
 };
 use newt_test_tables::bytes_of;
 use std::alloc::Global;
@@ -219,7 +219,7 @@ tags 0 S => ok labels work home
 indexes 0 S => ok k:string:ascend, n.x:int:descend l:symbol:ascend c:char:ascend
 ";
 
-/// What the first of two devices of 13 blocks holds behind a table, where it held these bytes and
+/// What the first of two devices of 13 blocks holds after a table, where it held these bytes and
 /// the other one is blank.
 fn left_by(alloc: Global, table: &str, bytes: &[u8]) -> Result<Vec<u8>, Fail> {
     let blank = blocks(alloc, 13)?;
@@ -280,7 +280,7 @@ const PICKS: [Pick; 6] = [
     Pick::Fill(255),
 ];
 
-/// A first change of an old image, and what is asked behind a stop.
+/// A first change of an old image, and what is asked after a stop.
 const FIRST: &[u8] = b"mount 0\ninfo 0 S {ver: 2}\n";
 
 const ASK: &[u8] = b"mount 0
@@ -297,8 +297,8 @@ add 0 \"To Do\" {}
 add 0 Next {}
 ";
 
-/// The version of the bank behind so many lines.
-fn version_behind(looks: &Looks, lines: usize) -> u8 {
+/// The version of the bank after so many lines.
+fn version_after(looks: &Looks, lines: usize) -> u8 {
     match looks.told.get(lines) {
         Some(told) => told.version,
         None => 0,
@@ -306,13 +306,13 @@ fn version_behind(looks: &Looks, lines: usize) -> u8 {
 }
 
 /// A stop at each device call of the first change leaves the store before it, in version 1, or the
-/// store behind it, in version 2.
+/// store after it, in version 2.
 #[test]
 fn a_stop_within_the_first_change_loses_nothing(rt: HostRuntime) -> Result<(), Fail> {
     let alloc = rt.alloc();
     let (before, blank) = (bytes_of(alloc, BEFORE)?, blocks(alloc, 13)?);
-    let looks = looks_behind(alloc, FIRST, [&before, &blank], ASK, Unit(0))?;
-    assert!(rt; [version_behind(&looks, 1), version_behind(&looks, 2)] == [1, 2]);
+    let looks = looks_by_line(alloc, FIRST, [&before, &blank], ASK, Unit(0))?;
+    assert!(rt; [version_after(&looks, 1), version_after(&looks, 2)] == [1, 2]);
     let host = run_over(alloc, "run a b", FIRST, &before, &blank)?;
     let mut counts = Counts::none();
     for pick in PICKS {

@@ -42,7 +42,7 @@ impl Told {
     }
 }
 
-/// What a unit holds behind each number of first lines of a run that is not stopped, and what a
+/// What a unit holds after each number of first lines of a run that is not stopped, and what a
 /// next run tells of it.
 #[derive(Drop)]
 pub struct Looks {
@@ -110,7 +110,7 @@ fn is_second(bytes: &[u8]) -> bool {
     }
 }
 
-/// The version of the bank of a store. The second bank begins behind half of the blocks that are
+/// The version of the bank of a store. The second bank begins after half of the blocks that are
 /// no votes.
 fn version_of(bytes: &[u8]) -> u8 {
     let half = (bytes.len() / 4096).saturating_sub(3) / 2;
@@ -134,7 +134,7 @@ pub fn look(alloc: Global, ask: &[u8], bytes: &[u8]) -> Result<Told, Fail> {
     })
 }
 
-/// Whether a call is the last one before more is read behind a line: it reads on, or ends the run.
+/// Whether a call is the last one before more is read after a line: it reads on, or ends the run.
 fn ends_line(host: &MemHost, script: &[u8], call: u64) -> bool
     requires { call < calls_of host.now }
 {
@@ -157,7 +157,7 @@ fn ends_with(images: &[Vec<u8>], image: &[u8]) -> bool {
     }
 }
 
-/// What a unit holds where a run of a script reads on behind a line, and what a next run tells of
+/// What a unit holds where a run of a script reads on after a line, and what a next run tells of
 /// it.
 fn looks_of(
     alloc: Global,
@@ -186,8 +186,8 @@ fn looks_of(
 }
 
 /// The same of a script over the devices `a` and `b` of these bytes. The script is read a byte at a
-/// time, so that a unit is looked at behind all that a line has done.
-pub fn looks_behind(
+/// time, so that a unit is looked at after all that a line has done.
+pub fn looks_by_line(
     alloc: Global,
     script: &[u8],
     devices: [&[u8]; 2],
@@ -202,14 +202,14 @@ pub fn looks_behind(
 }
 
 /// The same where both devices have 13 blocks of zero bytes.
-pub fn looks_behind_blank(
+pub fn looks_from_blank(
     alloc: Global,
     script: &[u8],
     ask: &[u8],
     unit: Unit,
 ) -> Result<Looks, Fail> {
     let blank = blocks(alloc, 13)?;
-    looks_behind(alloc, script, [&blank, &blank], ask, unit)
+    looks_by_line(alloc, script, [&blank, &blank], ask, unit)
 }
 
 /// How many replies have begun in an output.
@@ -227,7 +227,7 @@ pub fn begun(output: &[u8]) -> usize {
 }
 
 impl Looks {
-    /// Whether a next run tells this of the unit behind so many lines.
+    /// Whether a next run tells this of the unit after so many lines.
     fn tells(&self, found: &Told, lines: usize) -> bool {
         match self.told.get(lines) {
             Some(told) => *told == *found,
@@ -235,7 +235,7 @@ impl Looks {
         }
     }
 
-    /// Behind how many lines a next run tells what was found: those whose replies have begun, or
+    /// After how many lines a next run tells what was found: those whose replies have begun, or
     /// one more.
     pub fn lines_before(&self, found: &Told, replies: usize) -> Option<usize> {
         let next = replies.saturating_add(1);
@@ -248,7 +248,7 @@ impl Looks {
         None
     }
 
-    /// Whether the unit holds just this behind so many lines.
+    /// Whether the unit holds just this after so many lines.
     fn holds(&self, image: &[u8], lines: usize) -> bool {
         match self.images.get(lines) {
             Some(held) => image == held.as_slice(),
@@ -256,7 +256,7 @@ impl Looks {
         }
     }
 
-    /// Whether the unit holds just this behind the lines whose replies have begun, or one more.
+    /// Whether the unit holds just this after the lines whose replies have begun, or one more.
     fn has_image(&self, image: &[u8], replies: usize) -> bool {
         self.holds(image, replies) || self.holds(image, replies.saturating_add(1))
     }
@@ -354,7 +354,7 @@ pub fn expect_unit_safe(
 ) -> Result<Counts, Fail> {
     let host = run_table(alloc, "run a b", table)?;
     let (script, _) = lines_of(alloc, table)?;
-    let looks = looks_behind_blank(alloc, &script, ask, unit)?;
+    let looks = looks_from_blank(alloc, &script, ask, unit)?;
     expect_each_safe(alloc, &host, unit, picks, ask, &looks)
 }
 

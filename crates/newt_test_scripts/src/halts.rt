@@ -5,7 +5,7 @@ ghost use Rattle.newt_memhost.specs.Outside.{outside_of};
 ghost use Rattle.newt_memhost.specs.Words.{calls_of};
 ghost use Rattle.newt_test_scripts.specs.Free.{IsFree};
 
-use crate::crashes::{Looks, begun, expect_found, look, looks_behind_blank};
+use crate::crashes::{Looks, begun, expect_found, look, looks_from_blank};
 use crate::hosts::{blocks, over_blank};
 use crate::runs::{has_device, run_on, run_table};
 use crate::tables::lines_of;
@@ -15,8 +15,8 @@ use newt_top::Status;
 use std::alloc::Global;
 use std::test::Fail;
 
-/// The length of the output when the call behind one began.
-fn out_behind(host: &MemHost, call: u64) -> u64 {
+/// The length of the output when the call after this one began.
+fn out_after(host: &MemHost, call: u64) -> u64 {
     let next = call.saturating_add(1);
     if next < host.calls() {
         host.out_before(next)
@@ -25,19 +25,20 @@ fn out_behind(host: &MemHost, call: u64) -> u64 {
     }
 }
 
-/// How a run ends where this call of a stream of a sound run fails: by the output, if it was
-/// written by it, or the input.
+/// How a run ends where this call of a stream of a sound run fails: by the output, if the call
+/// wrote to it, and otherwise by the input.
 fn wanted(sound: &MemHost, call: u64) -> Status
     requires { call < calls_of sound.now }
 {
-    if sound.out_before(call) < out_behind(sound, call) {
+    if sound.out_before(call) < out_after(sound, call) {
         Status::Sink
     } else {
         Status::Source
     }
 }
 
-/// Whether a run has ended at a call, and has written what a sound run had written when that began.
+/// Whether a run has ended at a call, and has written what a sound run had written when that call
+/// began.
 fn has_halted(host: &MemHost, sound: &MemHost, call: u64) -> bool
     requires { call < calls_of sound.now }
 {
@@ -81,7 +82,8 @@ fn expect_left(
     )
 }
 
-/// And what it leaves, with a crash and without one, is the store before or after the next command.
+/// What it leaves, with a crash and without one, is the store before or after the next command,
+/// too.
 fn expect_halted_on(
     alloc: Global,
     ask: &[u8],
@@ -102,7 +104,7 @@ fn expect_halted_on(
     expect_left(alloc, host, ask, &image, looks)
 }
 
-/// The same of a run of this script.
+/// The same for a run of this script.
 fn expect_halted(
     alloc: Global,
     script: &[u8],
@@ -124,7 +126,7 @@ fn expect_all_halted(
     ask: &[u8],
     sound: &MemHost,
 ) -> Result<(), Fail> {
-    let looks = looks_behind_blank(alloc, script, ask, Unit(0))?;
+    let looks = looks_from_blank(alloc, script, ask, Unit(0))?;
     for call in 0..sound.calls() {
         if sound.unit_of(call).is_none() {
             expect_halted(alloc, script, ask, sound, call, &looks)?;
@@ -133,10 +135,10 @@ fn expect_all_halted(
     Ok(())
 }
 
-/// Runs a table over the devices `a` and `b` of 13 blocks of zero bytes, once for each of its
-/// calls of a stream, which fails. The run ends there with the status of the call, behind what it
-/// had written so far, and a next run that is asked these lines finds the store of the first unit
-/// before or after the command whose reply is the next to begin.
+/// Runs a table over the devices `a` and `b` of 13 blocks of zero bytes, once for each of its calls
+/// of a stream, which fails. The run ends there with the status of the call, after what it had
+/// written so far. A next run that is asked these lines finds the store of the first unit before or
+/// after the command whose reply is the next to begin.
 pub fn expect_halts(alloc: Global, table: &str, ask: &[u8]) -> Result<(), Fail> {
     let sound = run_table(alloc, "run a b", table)?;
     let (script, _) = lines_of(alloc, table)?;
@@ -151,7 +153,7 @@ fn expect_ended(alloc: Global, script: &[u8], sound: &MemHost, call: u64) -> Res
     expect_status(alloc, sound, call, &mut host)
 }
 
-/// The same where each call of a stream fails. Says how many there are.
+/// The same where each call of a stream fails. Answers how many there are.
 fn expect_all_ended(alloc: Global, script: &[u8], sound: &MemHost) -> Result<u32, Fail> {
     let mut count: u32 = 0;
     for call in 0..sound.calls() {
@@ -163,8 +165,8 @@ fn expect_all_ended(alloc: Global, script: &[u8], sound: &MemHost) -> Result<u32
     Ok(count)
 }
 
-/// The same without a next run: the run ends there with the status of the call, behind what it had
-/// written so far. Says how many such calls there are.
+/// The same without a next run: the run ends there with the status of the call, after what it had
+/// written so far. Answers how many such calls there are.
 pub fn expect_statuses(alloc: Global, table: &str) -> Result<u32, Fail> {
     let sound = run_table(alloc, "run a b", table)?;
     let (script, _) = lines_of(alloc, table)?;

@@ -33,7 +33,7 @@ pub fn expect_unrestored(
     Ok(())
 }
 
-/// What so many blank blocks hold once the store of a card was restored to them: it is backed up
+/// What so many blank blocks hold once the store of a card was restored to them. They are backed up
 /// with the same bytes, and mounted as the card is.
 pub fn copied(alloc: Global, card: &[u8], count: u32) -> Result<Vec<u8>, Fail> {
     let input = backed_up(alloc, card)?;
@@ -63,15 +63,14 @@ pub(crate) fn expect_all_restored(alloc: Global, host: &MemHost) -> Result<(), F
     Ok(())
 }
 
-/// The backup of what a device of these bytes holds behind a table, with whose replies it is
-/// played.
+/// The backup of what a device of these bytes holds after a table, which gives its replies.
 fn played(alloc: Global, table: &str, bytes: &[u8]) -> Result<Vec<u8>, Fail> {
     let host = run_table_on(alloc, "run a", table, bytes, &[])?;
     backed_up(alloc, &image(alloc, &host, Unit(0))?)
 }
 
 /// The store of a card is restored, and goes on there as it does on the card: a table gives its
-/// replies over both, and both are backed up with the same bytes then.
+/// replies over both, and both are then backed up with the same bytes.
 pub fn expect_goes_on(alloc: Global, card: &[u8], table: &str) -> Result<(), Fail> {
     let copy = copied_alike(alloc, card)?;
     if played(alloc, table, card)? != played(alloc, table, &copy)? {

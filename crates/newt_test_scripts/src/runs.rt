@@ -78,7 +78,7 @@ pub fn expect_end(
     expect_status(alloc, text, host, status)?;
     if host.output() != output {
         let lines = equal_lines(host.output(), output);
-        return Err(Fail::new(format_args!("{text} writes other bytes behind {lines} lines")));
+        return Err(Fail::new(format_args!("{text} writes other bytes after {lines} lines")));
     }
     Ok(())
 }
@@ -132,13 +132,13 @@ pub fn run_table(alloc: Global, text: &str, table: &str) -> Result<MemHost, Fail
     Ok(host)
 }
 
-/// The bytes of the first unit behind such a run.
-pub fn card_behind(alloc: Global, text: &str, table: &str) -> Result<Vec<u8>, Fail> {
+/// The bytes of the first unit after such a run.
+pub fn card_after(alloc: Global, text: &str, table: &str) -> Result<Vec<u8>, Fail> {
     let host = run_table(alloc, text, table)?;
     image(alloc, &host, Unit(0))
 }
 
-/// Runs a table in the same way, and each store that is left is restored from its backup.
+/// Runs a table in the same way. Each store that is left is restored from its backup.
 pub fn expect(alloc: Global, text: &str, table: &str) -> Result<(), Fail> {
     expect_all_restored(alloc, &run_table(alloc, text, table)?)
 }
@@ -158,7 +158,7 @@ pub fn is_clean(alloc: Global, bytes: &[u8]) -> Result<bool, Fail> {
     Ok(host.output().starts_with(b"ok clean "))
 }
 
-/// Looks for what is said of a device of these bytes, which stay.
+/// Looks for what `check` writes of a device of these bytes, which stay.
 pub fn expect_said(alloc: Global, bytes: &[u8], output: &[u8]) -> Result<(), Fail> {
     let host = run_writing(alloc, "check a", b"", bytes, &[], output)?;
     if image(alloc, &host, Unit(0))?.as_slice() != bytes {

@@ -41,7 +41,7 @@ pub fn expanded(alloc: Global, text: &str) -> Result<Vec<u8>, Fail> {
     Ok(bytes)
 }
 
-/// The script of a table and its output. A row is a line and, behind ` => `, its reply; a line
+/// The script of a table and its output. A row is a line and, after ` => `, its reply; a line
 /// without one has none. Blank rows are no lines.
 pub fn lines_of(alloc: Global, table: &str) -> Result<(Vec<u8>, Vec<u8>), Fail> {
     let mut script = Vec::new(alloc);

@@ -5,7 +5,7 @@ ghost use Rattle.newt_memhost.specs.Outside.{outside_of};
 ghost use Rattle.newt_memhost.specs.Words.{calls_of};
 ghost use Rattle.newt_test_scripts.specs.Free.{IsFree};
 
-use crate::crashes::{Looks, Told, begun, look, looks_behind_blank};
+use crate::crashes::{Looks, Told, begun, look, looks_from_blank};
 use crate::hosts::over_blank;
 use crate::restores::backed_up;
 use crate::runs::{expect_status, image, run_table};
@@ -61,7 +61,7 @@ fn push_rows(
     Ok(())
 }
 
-/// The row of a table behind so many.
+/// The row of a table after so many.
 fn row_of(table: &str, before: usize) -> Option<&str> {
     let mut left = before;
     for row in table.lines() {
@@ -86,8 +86,8 @@ fn is_watched(table: &str) -> bool {
     false
 }
 
-/// What an output has behind so many lines.
-fn behind(output: &[u8], lines: usize) -> &[u8] {
+/// What an output has after so many lines.
+fn after(output: &[u8], lines: usize) -> &[u8] {
     let mut left = lines;
     for place in 0..output.len() {
         if left == 0 {
@@ -141,7 +141,7 @@ struct Failing<'a> {
 }
 
 impl Failing<'_> {
-    /// The output behind the call: what was written before it, so often that the unit is thrown
+    /// The output after the call: what was written before it, so often that the unit is thrown
     /// out, and some answers.
     fn output(&self, alloc: Global, times: usize, answers: &[u8]) -> Result<Vec<u8>, AllocError> {
         let mut output = Vec::from_slice(alloc, self.written)?;
@@ -157,7 +157,7 @@ impl Failing<'_> {
         begun(self.written)
     }
 
-    /// The lines of a table through the one that fails, and these behind it, of its unit.
+    /// The lines of a table through the one that fails, and these after it, of its unit.
     fn script(&self, alloc: Global, table: &str, asks: &[&[u8]]) -> Result<Vec<u8>, Fail> {
         let mut script = Vec::new(alloc);
         push_rows(
@@ -204,7 +204,7 @@ impl Failing<'_> {
     ) -> Result<(), Fail> {
         let output = self.output(alloc, times, answers)?;
         if host.output() != output.as_slice() {
-            return Err(Fail::new(format_args!("other answers behind call {}", self.call)));
+            return Err(Fail::new(format_args!("other answers after call {}", self.call)));
         }
         Ok(())
     }
@@ -214,12 +214,12 @@ impl Failing<'_> {
     fn expect_thrown_at_once(&self, alloc: Global, host: &MemHost) -> Result<(), Fail> {
         let next = self.call.saturating_add(1);
         if next < host.calls() && host.unit_of(next).is_some() {
-            return Err(Fail::new(format_args!("a call of a device behind call {}", self.call)));
+            return Err(Fail::new(format_args!("a call of a device after call {}", self.call)));
         }
         self.expect_output(alloc, host, 1, &[])
     }
 
-    /// What a next run tells of a unit behind the line that fails, which is what it tells of its
+    /// What a next run tells of a unit after the line that fails, which is what it tells of its
     /// store before or after that line, and whether it is the later one.
     fn found_on(
         &self,
@@ -234,14 +234,14 @@ impl Failing<'_> {
                 told: found,
                 is_later: lines > self.replies(),
             }),
-            None => Err(Fail::new(format_args!("another store behind call {}", self.call))),
+            None => Err(Fail::new(format_args!("another store after call {}", self.call))),
         }
     }
 
     /// The card has the store that was found, gone on as it goes on elsewhere.
     fn expect_left(&self, alloc: Global, host: &MemHost, found: &Told) -> Result<(), Fail> {
         if backed_up(alloc, &image(alloc, host, self.unit)?)? != found.left {
-            return Err(Fail::new(format_args!("goes on otherwise behind call {}", self.call)));
+            return Err(Fail::new(format_args!("goes on otherwise after call {}", self.call)));
         }
         Ok(())
     }
@@ -261,7 +261,7 @@ impl Failing<'_> {
         Ok(next_of(&host, self.unit, self.call.saturating_add(1)).ok_or("no call of a mount")?)
     }
 
-    /// The same where the first call of that mount fails as well, and another one comes behind it.
+    /// The same where the first call of that mount fails as well, and another one comes after it.
     fn expect_comes_back_later(
         &self,
         alloc: Global,
@@ -275,9 +275,9 @@ impl Failing<'_> {
         self.expect_left(alloc, &host, found)
     }
 
-    /// The whole script goes on behind the call, with these lines of the unit behind its line, and
+    /// The whole script goes on after the call, with these lines of the unit after its line, and
     /// answers what a run answers in which no call fails: it has a line, or none, in place of the
-    /// one that fails, and the unit is unmounted behind that.
+    /// one that fails, and the unit is unmounted after that.
     fn expect_goes_on(
         &self,
         alloc: Global,
@@ -292,7 +292,7 @@ impl Failing<'_> {
         let sound = run_failing(alloc, "run a b", &script, &[])?;
         let played: usize = if line.is_empty() { 1 } else { 2 };
         let skipped = self.replies().saturating_add(played);
-        self.expect_output(alloc, &host, 1, behind(sound.output(), skipped))
+        self.expect_output(alloc, &host, 1, after(sound.output(), skipped))
     }
 
     /// The line in place of the one that fails, by what was found on its unit and on the other one:
@@ -347,7 +347,7 @@ impl Failing<'_> {
     }
 }
 
-/// What a next run tells of a unit behind the line that failed, and whether that is of the store
+/// What a next run tells of a unit after the line that failed, and whether that is of the store
 /// after the line, and not of that before it.
 #[derive(Drop)]
 struct Found {
@@ -355,9 +355,9 @@ struct Found {
     is_later: bool,
 }
 
-/// The calls on a unit that a run of a script makes behind so many replies and before the next one,
+/// The calls on a unit that a run of a script makes after so many replies and before the next one,
 /// where these calls fail.
-pub fn calls_behind(
+pub fn calls_after(
     alloc: Global,
     text: &str,
     script: &[u8],
@@ -385,7 +385,7 @@ fn next_of(host: &MemHost, unit: Unit, from: u64) -> Option<u64> {
     None
 }
 
-/// A table, what a next run is asked, and what it tells of both units behind each line.
+/// A table, what a next run is asked, and what it tells of both units after each line.
 #[derive(Clone, Copy)]
 struct Trial<'a> {
     table: &'a str,
@@ -425,14 +425,14 @@ fn expect_each_thrown(alloc: Global, sound: &MemHost, trial: &Trial) -> Result<u
 /// Runs a table over the devices `a` and `b` of 13 blocks of zero bytes, once for each call on a
 /// device, which fails. Its reply is then that the card was thrown out, with no other call of a
 /// device before it, and each unit has its store before or after the line. Where a mount and these
-/// questions stand behind it, or two mounts, whose first one fails, the card comes back with that
+/// questions stand after it, or two mounts, whose first one fails, the card comes back with that
 /// store; and the run goes on, without the card and with it, as one in which no call fails does
 /// from there. Says how many such calls there are.
 pub fn expect_thrown(alloc: Global, table: &str, ask: &[u8]) -> Result<u32, Fail> {
     let sound = run_table(alloc, "run a b", table)?;
     let (script, _) = lines_of(alloc, table)?;
-    let first = looks_behind_blank(alloc, &script, ask, Unit(0))?;
-    let second = looks_behind_blank(alloc, &script, ask, Unit(1))?;
+    let first = looks_from_blank(alloc, &script, ask, Unit(0))?;
+    let second = looks_from_blank(alloc, &script, ask, Unit(1))?;
     let trial = Trial {
         table,
         ask,

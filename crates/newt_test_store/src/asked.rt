@@ -1,4 +1,4 @@
-// What a table asks of the soups of a store.
+//! What a table asks of the soups of a store.
 
 use newt_base::{Sig, Uid};
 use newt_pagebook::PageBook;
@@ -7,7 +7,7 @@ use newt_store::Store;
 use std::alloc::{AllocError, Global};
 use std::test::Fail;
 
-// How many indexes a soup has, and how many tags.
+/// How many indexes a soup has, and how many tags.
 fn declared(directory: &Directory, soup: Sig) -> (usize, usize) {
     match directory.soup_of(soup) {
         Some(row) => match &row.tags {
@@ -18,7 +18,7 @@ fn declared(directory: &Directory, soup: Sig) -> (usize, usize) {
     }
 }
 
-// The reply to each question.
+/// The reply to each question.
 fn has<P: PageBook>(
     alloc: Global,
     store: &Store<P>,

@@ -1,4 +1,4 @@
-// One card in memory, attached as unit 0, and the store on it.
+//! One card in memory, attached as unit 0, and the store on it.
 ghost use Rattle.std.specs.Prelude.{true, IfOk, IfSome, IsSome, IsTrue, OnOk};
 ghost use Rattle.newt_host.specs.Moments.{IsDurable};
 ghost use Rattle.newt_memhost.specs.Outside.{outside_of};
@@ -45,7 +45,7 @@ pub(crate) fn card_bytes(alloc: Global, host: &MemHost) -> Result<Vec<u8>, Fail>
     Ok(host.bytes(CARD).to_vec(alloc)?)
 }
 
-// The card is formatted as the store `Internal` of signature 7.
+/// The card is formatted as the store `Internal` of signature 7.
 fn format_card<P: PageBook>(alloc: Global, host: &mut MemHost) -> Result<(), Fail>
     ensures { OnOk result (IsDurable 0 (outside_of host.new).now) }
 {
@@ -57,7 +57,7 @@ fn format_card<P: PageBook>(alloc: Global, host: &mut MemHost) -> Result<(), Fai
     Ok(())
 }
 
-// A host with a card of so many blocks of zeros.
+/// A host with a card of so many blocks of zeros.
 fn zeroed(alloc: Global, blocks: u32) -> Result<MemHost, Fail> {
     let bytes = vec![in alloc; 0; blocks as usize * 4096]?;
     host_of(alloc, &bytes)

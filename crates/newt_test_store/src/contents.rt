@@ -1,4 +1,4 @@
-// What a store has, as one text.
+//! What a store has, as one text.
 ghost use Rattle.std.specs.Prelude.{true};
 ghost use Rattle.newt_host.specs.Moments.{IsDurable};
 ghost use Rattle.newt_memhost.specs.Outside.{outside_of};
@@ -15,7 +15,8 @@ use newt_store::{Entry, Store};
 use std::alloc::{AllocError, Global};
 use std::test::Fail;
 
-// Appends the row of a store or a soup: its name, its signature, and the next number that it gives.
+/// Appends the row of a store or a soup: its name, its signature, and the next number that it
+/// gives.
 fn push_named(
     alloc: Global,
     text: &mut Vec<u8>,
@@ -28,7 +29,7 @@ fn push_named(
     text.extend_from_slice(numbers.as_bytes())
 }
 
-// Appends the info frame of a soup, if it has one.
+/// Appends the info frame of a soup, if it has one.
 fn push_info(alloc: Global, text: &mut Vec<u8>, soup: &SoupRow) -> Result<(), AllocError> {
     let Some(graph) = &soup.info else {
         return Ok(());
@@ -37,7 +38,7 @@ fn push_info(alloc: Global, text: &mut Vec<u8>, soup: &SoupRow) -> Result<(), Al
     push_digits(alloc, text, &encode_flat(alloc, graph)?)
 }
 
-// The rows of a directory.
+/// The rows of a directory.
 fn directory_text(alloc: Global, directory: &Directory) -> Result<Vec<u8>, AllocError> {
     let mut text = Vec::new(alloc);
     let name = directory.name.list();
@@ -56,7 +57,7 @@ fn directory_text(alloc: Global, directory: &Directory) -> Result<Vec<u8>, Alloc
     Ok(text)
 }
 
-// The signatures of the soups of a directory, with their next ids.
+/// The signatures of the soups of a directory, with their next ids.
 fn soups_of(alloc: Global, directory: &Directory) -> Result<Vec<(Sig, u32)>, AllocError> {
     let mut soups = Vec::new(alloc);
     for soup in directory.soups.list() {
@@ -65,7 +66,7 @@ fn soups_of(alloc: Global, directory: &Directory) -> Result<Vec<(Sig, u32)>, All
     Ok(soups)
 }
 
-// Appends bytes in digits, with the number of the last zeros where these are many.
+/// Appends bytes in digits; where many zeros stand at the end, with their number.
 fn push_digits(alloc: Global, text: &mut Vec<u8>, bytes: &[u8]) -> Result<(), AllocError> {
     let used = used(bytes, 0);
     let zeros = bytes.len().saturating_sub(used);
@@ -77,7 +78,7 @@ fn push_digits(alloc: Global, text: &mut Vec<u8>, bytes: &[u8]) -> Result<(), Al
     text.extend_from_slice(end.as_bytes())
 }
 
-// Appends the row of an entry: the signature of its soup, its id, its minute and its flat text.
+/// Appends the row of an entry: the signature of its soup, its id, its minute and its flat text.
 fn push_row(alloc: Global, text: &mut Vec<u8>, soup: Sig, entry: &Entry) -> Result<(), Fail> {
     let sig = soup.0;
     let uid = entry.uid.0;
@@ -88,7 +89,7 @@ fn push_row(alloc: Global, text: &mut Vec<u8>, soup: Sig, entry: &Entry) -> Resu
     Ok(())
 }
 
-// Appends the row of what was read as an entry of this id, or of none.
+/// Appends the row of what was read as an entry of this id, or of none.
 fn push_read(
     alloc: Global,
     text: &mut Vec<u8>,
@@ -104,7 +105,7 @@ fn push_read(
     }
 }
 
-// Appends the row of an entry that is there.
+/// Appends the row of an entry that is there.
 fn push_entry<P: PageBook>(
     alloc: Global,
     host: &mut MemHost,
@@ -121,7 +122,7 @@ fn push_entry<P: PageBook>(
     push_read(alloc, text, soup, Uid(uid), is_there, &entry)
 }
 
-// Appends the rows of the entries of a soup.
+/// Appends the rows of the entries of a soup.
 fn push_entries<P: PageBook>(
     alloc: Global,
     host: &mut MemHost,
@@ -155,7 +156,7 @@ pub(crate) fn contents<P: PageBook>(
     Ok(text)
 }
 
-// What the store of the card has, or `no store`.
+/// What the store of the card has, or `no store`.
 fn contents_in<P: PageBook>(alloc: Global, host: &mut MemHost) -> Result<Vec<u8>, Fail>
     requires { IsDurable 0 (outside_of host.old).now }
 {

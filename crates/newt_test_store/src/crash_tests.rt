@@ -3,8 +3,8 @@ use crate::tables::play;
 use newt_pageplain::PlainBook;
 use std::test::Fail;
 
-/// An entry gets a new id and minute where it moves to, and is gone where it was, by one record of
-/// 9 bytes, two pages put of 516 bytes and two let go of 4.
+/// An entry gets a new id and minute where it moves to, and is gone where it was. It takes one
+/// record: 9 bytes, 516 for each of two pages that it puts, and 4 for each of two that it lets go.
 const MOVED: &str = "
 make S => 0
 make T => 1

@@ -1,4 +1,4 @@
-// What a crash leaves within the calls of a change.
+//! What a crash leaves within the calls of a change.
 ghost use Rattle.std.specs.Prelude.{true};
 ghost use Rattle.newt_memhost.specs.Outside.{outside_of};
 ghost use Rattle.newt_store.specs.Calls.{IsOpen};
@@ -12,7 +12,7 @@ use newt_store::Store;
 use std::alloc::Global;
 use std::test::Fail;
 
-// What is tried of each call.
+/// What is tried of each call.
 const PICKS: [Pick; 5] = [
     Pick::Old,
     Pick::New,
@@ -21,14 +21,14 @@ const PICKS: [Pick; 5] = [
     Pick::Fill(255),
 ];
 
-// And of each call after which the store goes on.
+/// And of each call after which the store goes on.
 const FEW_PICKS: [Pick; 2] = [Pick::Half, Pick::Fill(0)];
 
 fn another_store(call: u64) -> Fail {
     Fail::new(format_args!("a crash within call {call} leaves another store"))
 }
 
-// An image that a crash might have left within a call opens as one of the two.
+/// An image that a crash might have left within a call opens as one of the two.
 fn expect_one<P: PageBook>(
     alloc: Global,
     image: &[u8],
@@ -61,7 +61,7 @@ pub(crate) fn expect_either<P: PageBook>(
     Ok(())
 }
 
-// An entry was taken, and is found by another run.
+/// An entry was taken, and is found by another run.
 fn expect_taken<P: PageBook>(alloc: Global, host: &MemHost, trace: &Trace) -> Result<(), Fail> {
     if trace.after.len() <= trace.before.len() {
         return Err(Fail::new("a store takes no entry after a crash"));
@@ -69,7 +69,7 @@ fn expect_taken<P: PageBook>(alloc: Global, host: &MemHost, trace: &Trace) -> Re
     expect_found::<P>(alloc, host, &trace.after)
 }
 
-// A store takes an entry in its soup 0.
+/// A store takes an entry in its soup 0.
 fn expect_one_more<P: PageBook>(
     alloc: Global,
     host: &mut MemHost,
@@ -81,7 +81,7 @@ fn expect_one_more<P: PageBook>(
     expect_taken::<P>(alloc, host, &trace)
 }
 
-// The store on these bytes does.
+/// The store on these bytes takes an entry in its soup 0.
 fn expect_more<P: PageBook>(alloc: Global, bytes: &[u8]) -> Result<(), Fail> {
     let mut host = host_of(alloc, bytes)?;
     let mut store: Store<P> = opened(alloc, &mut host)?;

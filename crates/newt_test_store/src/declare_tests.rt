@@ -1,6 +1,6 @@
-//! Indexes and tags that are declared, spelt as a directory has them: the number of indexes, each
-//! its number of parts, and of each part its kind, its order and its path; then whether there are
-//! tags, their path, their number and each.
+//! Indexes and tags that are declared, spelt as a directory has them. First comes the number of
+//! indexes; each index is its number of parts, and each part its kind, its order and its path. Then
+//! comes whether there are tags, with their path, their number and each of them.
 use crate::tables::play;
 use newt_pageplain::PlainBook;
 use std::test::Fail;
@@ -45,7 +45,7 @@ fn indexes_and_tags_are_declared(rt: HostRuntime) -> Result<(), Fail> {
     play::<PlainBook>(rt.alloc(), 13, DECLARED)
 }
 
-/// Thirteen blocks take 38 pages: the directory and 37 entries, so the directory cannot grow to two
+/// Thirteen blocks take 38 pages: the directory and 37 entries. So the directory cannot grow to two
 /// pages, as by an index of a path of 510 bytes.
 const FILLED: &str = "
 make S => 0

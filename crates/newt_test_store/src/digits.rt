@@ -1,10 +1,10 @@
-// Bytes that are spelt in digits.
+//! Bytes that are spelt in digits.
 
 use newt_base::hex_read;
 use std::alloc::Global;
 use std::test::Fail;
 
-/// Appends the bytes of a piece: two digits a byte, and behind a `*` how often they stand there.
+/// Appends the bytes of a piece: two digits a byte, and after a `*` how often they stand there.
 fn push_piece(alloc: Global, to: &mut Vec<u8>, piece: &str) -> Result<(), Fail> {
     let (digits, count) = piece.split_once('*').unwrap_or((piece, "1"));
     let bytes = hex_read(alloc, digits.as_bytes())?;

@@ -20,14 +20,14 @@ const GRAPHS: &str = "{a: 5, b: 'x}
 {b: 'm}
 {a: 5}";
 
-/// The graph of an entry, and the one that it is changed to, which is four behind.
+/// The graph of an entry, or the one that it is changed to, which stands four places later.
 fn graph(alloc: Global, uid: u32, is_changed: bool) -> Result<Graph, Fail> {
     let place = uid % 1_000 * 7 + if is_changed { 4 } else { 0 };
     let text = GRAPHS.lines().nth(place as usize % 11).ok_or("no graph")?;
     Ok(read_literal(alloc, text).ok().ok_or("no literal")?)
 }
 
-/// The graph of an entry. In a store whose entries were changed each third has another.
+/// The graph of an entry. In a store whose entries were changed, each third has another.
 pub(crate) fn graph_in(alloc: Global, uid: u32, after: bool) -> Result<Graph, Fail> {
     graph(alloc, uid, after && uid % 3 == 0)
 }

@@ -1,4 +1,4 @@
-// The small image with some bytes changed.
+//! The small image with some bytes changed.
 ghost use Rattle.std.specs.Prelude.{◌<◌};
 
 use crate::contents::contents_on;
@@ -8,9 +8,9 @@ use newt_pageplain::PlainBook;
 use std::alloc::Global;
 use std::test::Fail;
 
-/// The bytes of the bank's head and records and the first byte of the tail. A row is where some
-/// begin, where the next begin, and what the image opens as with all bits of any one of them
-/// changed, and with its last bit changed. Rows behind a `#` say what they are.
+/// The bytes of the bank's head and records, and the first byte of the tail. A row is where some
+/// begin, where the next begin, and what the image opens as: with all bits of any one of them
+/// changed, and with its last bit changed. Rows after a `#` say what they are.
 const BYTES: &str = "
 # The magic word, the version and the zero bytes.
 12288 12304 none none
@@ -172,7 +172,7 @@ fn expect_flipped(
     Ok(())
 }
 
-/// The same for each of these bytes of which the so many-th is tried.
+/// The same for every `step`-th of these bytes.
 pub(crate) fn expect_places(
     alloc: Global,
     image: &[u8],
@@ -202,14 +202,14 @@ fn expect_each(
     Ok(())
 }
 
-/// A number, and what stands behind it.
+/// A number, and what follows it.
 fn number(row: &str) -> Result<(usize, &str), Fail> {
     let (number, rest) = row.split_once(' ').ok_or("no number")?;
     Ok((number.parse()?, rest))
 }
 
-/// A row of bytes that are changed, which goes on at a place, and where the next goes on. Of the
-/// long rows, which are of bytes that are not used, the last bits are not tried.
+/// A row of bytes that are changed, which goes on at a place, and where the next row goes on. The
+/// long rows are of bytes that are not used; their last bits are not tried.
 fn expect_row(alloc: Global, image: &[u8], row: &str, begin: usize) -> Result<usize, Fail> {
     let (from, rest) = number(row)?;
     let (to, rest) = number(rest)?;
@@ -253,7 +253,7 @@ pub(crate) fn patched(
     let patch = hex_read(alloc, digits.as_bytes())?;
     let mut bytes = image.to_vec(alloc)?;
     if at > bytes.len() || patch.len() > bytes.len() - at {
-        return Err(Fail::new("a patch behind the image"));
+        return Err(Fail::new("a patch after the image"));
     }
     bytes[at..at + patch.len()].copy_from_slice(&patch);
     Ok(bytes)

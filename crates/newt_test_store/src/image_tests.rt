@@ -30,8 +30,8 @@ fn an_image_that_is_spelt_by_hand_is_read(rt: HostRuntime) -> Result<(), Fail> {
     expect_on(rt.alloc(), IMAGE, SMALL)
 }
 
-/// The card of a fresh store has 13 blocks, of which the first three vote for bank 0, and that bank
-/// is the one of the format.
+/// The card of a fresh store has 13 blocks. The first three vote for bank 0, and that bank is the
+/// one of the format.
 fn expect_fresh(alloc: Global, bytes: &[u8]) -> Result<(), Fail> {
     let bank = spelt(alloc, FRESH)?;
     if bytes.len() != 13 * 4096 || &bytes[3 * 4096..8 * 4096] != bank.as_slice() {
@@ -56,8 +56,8 @@ fn each_byte_of_the_records_matters_as_the_format_says(rt: HostRuntime) -> Resul
     expect_bytes(alloc, &spelt(alloc, IMAGE)?, 14903)
 }
 
-/// One vote of three, the rest of the blocks of votes, the tail behind its first byte, and the
-/// other bank.
+/// One vote of three, the rest of the blocks of votes, the tail after its first byte, and the other
+/// bank.
 fn expect_others(alloc: Global, image: &[u8]) -> Result<(), Fail> {
     expect_places(alloc, image, 0, 12288, 128)?;
     expect_places(alloc, image, 14903, 32768, 61)?;

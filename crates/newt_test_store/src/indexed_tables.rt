@@ -1,8 +1,9 @@
-//! Tables of what is done with the store with ranges. A row is a change of `tables`; `each WORD UID
-//! COUNT STEP` for changes of so many entries, from this id on in such steps; or `range BY STATE`,
-//! behind which ` => ` and the ids of a range stand, by `id` or the number of an index, `before` or
-//! `after` each third was changed; or `masks SOUP COUNT`, behind which ` => ` and the masks of so
-//! many ids stand.
+//! Tables of what is done with the store with ranges. A row is one of these:
+//! - a change of `tables`;
+//! - `each WORD UID COUNT STEP`: changes of so many entries, from this id on in such steps;
+//! - `range BY STATE`, then ` => ` and the ids of a range, by `id` or the number of an index,
+//!   `before` or `after` each third was changed;
+//! - `masks SOUP COUNT`, then ` => ` and the masks of so many ids.
 ghost use Rattle.std.specs.Prelude.{true, OnOk};
 ghost use Rattle.newt_memhost.specs.Outside.{outside_of};
 ghost use Rattle.newt_store_indexed.specs.Stands.{StandsOn};
@@ -19,13 +20,13 @@ use newt_store_indexed::IndexedStore;
 use std::alloc::Global;
 use std::test::Fail;
 
-/// A number, and what stands behind it.
+/// A number, and what follows it.
 fn number(text: &str) -> Result<(u32, &str), Fail> {
     let (number, rest) = text.split_once(' ').unwrap_or((text, ""));
     Ok((number.parse()?, rest))
 }
 
-/// A word, the first id, how many and the step between them.
+/// A word, the first id, how many, and the step between them.
 fn steps(text: &str) -> Result<(&str, u32, u32, u32), Fail> {
     let (word, rest) = text.split_once(' ').ok_or("no steps")?;
     let (first, rest) = number(rest)?;
@@ -53,7 +54,7 @@ fn change_each<P: PageBook>(
     Ok(())
 }
 
-/// The range of a row is the list behind it.
+/// The range of a row is the list after it.
 fn expect_range<P: PageBook>(
     alloc: Global,
     store: &IndexedStore<P>,
@@ -68,7 +69,7 @@ fn expect_range<P: PageBook>(
     Ok(())
 }
 
-/// The masks of a row are those behind it.
+/// The masks of a row are those after it.
 fn expect_masks<P: PageBook>(
     alloc: Global,
     store: &IndexedStore<P>,
@@ -131,7 +132,7 @@ fn run<P: PageBook>(alloc: Global, bytes: &[u8], rows: &str) -> Result<Vec<u8>, 
     card_bytes(alloc, &host)
 }
 
-/// Plays a table on a card of so many blocks, formatted as a store. Behind a row `reopen` another
+/// Plays a table on a card of so many blocks, formatted as a store. After a row `reopen` another
 /// run goes on.
 pub(crate) fn play<P: PageBook>(alloc: Global, blocks: u32, table: &str) -> Result<(), Fail> {
     let host = formatted::<P>(alloc, blocks)?;

@@ -1,9 +1,12 @@
-//! Stores over a host in memory: tests alone. They show what no clause of `newt_store` can: that
-//! its calls succeed with ample memory, that a fresh store has the bytes of the format, that a unit
-//! takes as many entries as it should, and that an image which is spelt by hand opens as the store
-//! that it writes down, also with any of its bytes changed; that what a crash leaves within each
-//! device call of a change opens as the store before it or after it; and that a store of 200
-//! entries, indexed, changed and opened again, has the lists that were sorted outside the program.
+//! Stores over a host in memory: tests alone. They show what no clause of `newt_store` can:
+//! - its calls succeed with ample memory;
+//! - a fresh store has the bytes of the format, and a unit takes as many entries as it should;
+//! - an image that is spelt by hand opens as the store that it writes down, and also with any of
+//!   its bytes changed opens as it should;
+//! - what a crash leaves within each device call of a change opens as the store before it or after
+//!   it;
+//! - a store of 200 entries, indexed, changed and opened again, has the lists that were sorted
+//!   outside the program.
 //!
 //! It stands on `newt_store` and `newt_store_indexed` over the plain book of pages.
 #![tactic(auto)]

@@ -1,4 +1,4 @@
-// Changes that are made.
+//! Changes that are made.
 ghost use Rattle.std.specs.Prelude.{true, OnOk};
 ghost use Rattle.newt_memhost.specs.Outside.{outside_of};
 ghost use Rattle.newt_store.specs.Calls.{IsOpen};
@@ -32,7 +32,7 @@ pub(crate) struct Trace {
     pub(crate) after: Vec<u8>,
 }
 
-// Makes a change.
+/// Makes a change.
 fn outcome_of<P: PageBook>(
     host: &mut MemHost,
     store: &mut Store<P>,
@@ -50,7 +50,7 @@ fn outcome_of<P: PageBook>(
     }
 }
 
-// Makes the change of a line.
+/// Makes the change of a line.
 fn traced<P: PageBook>(
     alloc: Global,
     host: &mut MemHost,
@@ -87,7 +87,7 @@ pub(crate) fn expect_found<P: PageBook>(
     Ok(())
 }
 
-/// Makes the change of a line, which changes nothing where it is refused.
+/// Makes the change of a line. Where it is refused, it changes nothing.
 pub(crate) fn changed<P: PageBook>(
     alloc: Global,
     host: &mut MemHost,
@@ -119,7 +119,7 @@ pub(crate) fn rows<P: PageBook>(
     Ok(rows)
 }
 
-// The three numbers of a line.
+/// The three numbers of a line.
 fn three_numbers(line: &str) -> Result<(u32, u32, u32), Fail> {
     let (first, rest) = line.split_once(' ').ok_or("no second number")?;
     let (second, third) = rest.split_once(' ').ok_or("no third number")?;

@@ -1,4 +1,4 @@
-// What is checked behind a change.
+//! What is checked after a change.
 
 use crate::card::card_bytes;
 use crate::crashes::{expect_either, expect_goes_on};
@@ -10,20 +10,20 @@ use newt_pagebook::PageBook;
 use std::alloc::{AllocError, Global};
 use std::test::Fail;
 
-/// What is checked behind a change.
+/// What is checked after a change.
 #[derive(Clone, Copy)]
 pub(crate) enum Mode {
     /// Nothing more.
     Plain,
     /// What a crash leaves.
     Cut,
-    /// That also such a store goes on.
+    /// What a crash leaves, and that such a store goes on, too.
     Resume,
     /// The record that the change adds to this many bytes of bank 0.
     Record(usize),
 }
 
-// A part of the card's bytes.
+/// A part of the card's bytes.
 fn part(alloc: Global, host: &MemHost, from: usize, to: usize) -> Result<Vec<u8>, Fail> {
     let bytes = card_bytes(alloc, host)?;
     let part = bytes.get(from..to).ok_or("the card is too small")?;
@@ -35,22 +35,22 @@ pub(crate) fn vote(alloc: Global, host: &MemHost) -> Result<Vec<u8>, Fail> {
     Ok(hex_text(alloc, &part(alloc, host, 0, 1)?)?)
 }
 
-// The first byte of bank 0, and the first behind it, on a card of 13 blocks.
+/// The first byte of bank 0, and the first after it, on a card of 13 blocks.
 const BANK: usize = 3 * 4096;
 
 const BANK_END: usize = 8 * 4096;
 
-// From the beginning of a record to the number of pages that it puts, and to the first of them.
+/// From the beginning of a record to the number of pages that it puts, and to the first of them.
 const PUTS: usize = 5;
 
 const FIRST: usize = 9;
 
-// The bytes of a page that is put; from their beginning to the object's id.
+/// The bytes of a page that is put; from their beginning to the object's id.
 const PUT: usize = 516;
 
 const OBJECT: usize = 4;
 
-// How many bytes of bank 0 are used.
+/// How many bytes of bank 0 are used.
 fn used_of(alloc: Global, host: &MemHost) -> Result<usize, Fail> {
     Ok(used(&part(alloc, host, BANK, BANK_END)?, 255))
 }
@@ -69,7 +69,7 @@ pub(crate) fn split_mode<'a>(
     }
 }
 
-// The answer, or the word of the refusal.
+/// The answer, or the word of the refusal.
 fn reply_of(alloc: Global, outcome: Outcome) -> Result<Vec<u8>, AllocError> {
     match outcome {
         Outcome::Done(answer) => Ok(format!(in alloc; "{answer}")?.into_bytes()),
@@ -77,7 +77,8 @@ fn reply_of(alloc: Global, outcome: Outcome) -> Result<Vec<u8>, AllocError> {
     }
 }
 
-// Where in bank 0 the object's id of the last page stands that the record puts which begins there.
+/// Where the object's id of the last page stands in bank 0, of those that the record at this place
+/// puts.
 fn last_object(alloc: Global, host: &MemHost, record: usize) -> Result<usize, Fail> {
     let counted = record.saturating_add(PUTS);
     let count = part(alloc, host, counted, counted.saturating_add(2))?;
@@ -90,8 +91,8 @@ fn last_object(alloc: Global, host: &MemHost, record: usize) -> Result<usize, Fa
     Ok(first.saturating_add(pages).saturating_add(OBJECT))
 }
 
-// Appends how many bytes of bank 0 are used more than before, and the object of the last page that
-// they put.
+/// Appends how many more bytes of bank 0 are used than before, and the object of the last page that
+/// they put.
 fn push_record(
     alloc: Global,
     host: &MemHost,

@@ -3,10 +3,10 @@ use crate::tables::play;
 use newt_pageplain::PlainBook;
 use std::test::Fail;
 
-/// An entry gets texts at minutes, each by one record of the journal over its own object: a longer
-/// one of one page, one of the same length, one of three pages, one of the same length, and, in
-/// another run, one of one page. A record has 9 bytes, 516 for each page that it puts, and 4 for each
-/// that it lets go: the directory is not among them, since it stays.
+/// An entry gets texts at minutes, each by one record of the journal over its own object. The texts
+/// are a longer one of one page, one of the same length, one of three pages, one of the same
+/// length, and, in another run, one of one page. A record has 9 bytes, 516 for each page that it
+/// puts, and 4 for each that it lets go. The directory is not among them, since it stays.
 const REPLACED: &str = "
 make S => 0
 make T => 1
@@ -29,8 +29,8 @@ fn an_entry_is_replaced_over_its_own_object(rt: HostRuntime) -> Result<(), Fail>
     play::<PlainBook>(rt.alloc(), 13, REPLACED)
 }
 
-/// Thirteen blocks take 38 pages: the directory and 37 entries, so an entry cannot grow, but it can
-/// change. Two entries less are as many pages as it grows by.
+/// Thirteen blocks take 38 pages: the directory and 37 entries. So an entry cannot grow, but it can
+/// change. It grows by two pages, as many as two entries have.
 const GROWN: &str = "
 make S => 0
 fill 0 0 37
@@ -48,8 +48,8 @@ fn an_entry_grows_only_where_its_pages_fit(rt: HostRuntime) -> Result<(), Fail> 
     play::<PlainBook>(rt.alloc(), 13, GROWN)
 }
 
-/// The text of a number is put where there is nothing, and then in the place of an entry: the
-/// refusals in their order.
+/// The text of a number is put where there is nothing, and then in the place of an entry. The
+/// refusals come in their order.
 const REFUSED: &str = "
 make S => 0
 make T => 1

@@ -1,4 +1,4 @@
-// A small store, and its image, spelt by hand.
+//! A small store, and its image, spelt by hand.
 
 /// What the small store has.
 pub(crate) const SMALL: &str = "Internal 7 2; S 0 3; T 1 2; 0 0 10 0206010701610004; \
@@ -8,10 +8,10 @@ pub(crate) const SMALL: &str = "Internal 7 2; S 0 3; T 1 2; 0 0 10 0206010701610
 pub(crate) const BEFORE: &str =
     "Internal 7 2; S 0 1; T 1 2; 0 0 10 0206010701610004; 1 1 11 020600";
 
-/// The image of two records: three blocks of votes, the head of bank 0, a record of the directory
-/// with two soups, the entry 0 of the first and the entry 1 of the second, and one of the
-/// directory, in which the next id of the first soup is 3, and its entry 2. Each page goes on with
-/// zeros.
+/// The image of two records, after three blocks of votes and the head of bank 0. The first record
+/// has the directory with two soups, the entry 0 of the first and the entry 1 of the second. The
+/// second has the directory in which the next id of the first soup is 3, and the entry 2 of that
+/// soup. Each page goes on with zeros.
 pub(crate) const IMAGE: &str = "
 00 FF*4095
 00 FF*4095

@@ -1,12 +1,12 @@
-//! Changes of a store, after each of which its ranges are lists that were sorted outside the
+//! Changes of a store. After each of them its ranges are lists that were sorted outside the
 //! program, also once it is opened again.
 use crate::indexed_tables::play;
 use newt_pageplain::PlainBook;
 use std::test::Fail;
 
-/// A soup of 200 entries: the index of symbols at `b`, the last first, and then of integers at `a`,
-/// is declared before them, the one of integers at `a` when half of them are there. Letters of
-/// paths and symbols are compared without their case.
+/// A soup of 200 entries. The index of symbols at `b`, the last first, and then of integers at `a`,
+/// is declared before them. The index of integers at `a` is declared when half of them are there.
+/// Letters of paths and symbols are compared without their case.
 const MADE: &str = "
 make S
 index 0 01 02 0301010162 0100010141 00
@@ -95,8 +95,8 @@ masks 0 12 => [Some(0), Some(1), Some(0), Some(0), Some(0), Some(1), Some(0), So
     Some(0), Some(2), Some(0)]
 ";
 
-/// Two entries are changed, one is removed, and two are moved into another soup, one before that
-/// has tags and one after.
+/// Two entries are changed, one is removed, and two are moved into another soup: one before that
+/// soup has tags, and one after.
 const TAGS_CHANGED: &str = "
 each replace 0 2 3
 remove 0 1

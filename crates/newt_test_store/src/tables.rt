@@ -1,23 +1,30 @@
 //! Tables of what is done with the store on a card, and how they are played. A table is one text.
-//! Each of its rows is a line and, behind ` => `, its reply; a row that is answered otherwise, or
+//! Each of its rows is a line and, after ` => `, its reply. A row that is answered otherwise, or
 //! that finds something that is not as it should be, is a test's failure.
 //!
-//! A line is a change: `make NAME`, `drop SOUP`, `add SOUP TEXT`, `remove SOUP UID`, `move SOUP UID
-//! SOUP`, `replace SOUP UID TEXT`, `index SOUP DECLARED`, `unindex SOUP DECLARED`, `tags SOUP
-//! DECLARED` and `info SOUP TEXT`, or `info SOUP` for none, with ` @MINUTE` behind it where the
-//! minute is not 0. Its reply is its answer or the word of its refusal. Bytes are spelt in digits,
-//! `00*3` for `000000`. A change that is refused changes nothing.
+//! A line that is a change is one of these:
+//! - `make NAME`, `drop SOUP`;
+//! - `add SOUP TEXT`, `remove SOUP UID`, `move SOUP UID SOUP`, `replace SOUP UID TEXT`;
+//! - `index SOUP DECLARED`, `unindex SOUP DECLARED`, `tags SOUP DECLARED`;
+//! - `info SOUP TEXT`, or `info SOUP` for no info frame.
 //!
-//! A change behind `cut` changes something, and a crash within each of its calls leaves the store
-//! before it or after it; behind `resume` that store also takes an entry. Behind `record` the reply
-//! goes on with the length of its record in the journal of bank 0, and the object of the record's
-//! last page.
+//! The minute follows as ` @MINUTE` where it is not 0. The reply is the change's answer or the word
+//! of its refusal. Bytes are spelt in digits, `00*3` for `000000`. A change that is refused changes
+//! nothing.
 //!
-//! The other lines are `fill SOUP UID COUNT`, which adds so many empty frames, the first with this
-//! id, `reopen`, behind which another run goes on, and those that ask: `rows` for all that the
-//! store has, which another run finds as well, as at the end of a table, `has SOUP UID`, `count
-//! SOUP`, `uids SOUP`, `declared SOUP` for the numbers of indexes and tags, and `vote` for the bank
-//! that the card votes for.
+//! A change after `cut` changes something, and a crash within each of its calls leaves the store
+//! before it or after it. After `resume` that store also takes an entry. After `record` the reply
+//! goes on with the length of the change's record in the journal of bank 0, and the object of the
+//! record's last page.
+//!
+//! The other lines are these:
+//! - `fill SOUP UID COUNT` adds so many empty frames, the first with this id;
+//! - after `reopen` another run goes on;
+//! - `rows` asks for all that the store has, which another run finds as well, as at the end of a
+//!   table;
+//! - `has SOUP UID`, `count SOUP` and `uids SOUP` ask for entries;
+//! - `declared SOUP` asks for the numbers of indexes and tags;
+//! - `vote` asks for the bank that the card votes for.
 ghost use Rattle.std.specs.Prelude.{true, OnOk};
 ghost use Rattle.newt_host.specs.Moments.{IsDurable};
 ghost use Rattle.newt_memhost.specs.Outside.{outside_of};
@@ -33,7 +40,7 @@ use newt_store::Store;
 use std::alloc::Global;
 use std::test::Fail;
 
-// The reply to a line that is a change.
+/// The reply to a line that is a change.
 fn change_reply<P: PageBook>(
     alloc: Global,
     host: &mut MemHost,
@@ -49,7 +56,7 @@ fn change_reply<P: PageBook>(
     mode_reply::<P>(alloc, host, mode, &trace)
 }
 
-// The reply to a line.
+/// The reply to a line.
 fn reply_to<P: PageBook>(
     alloc: Global,
     host: &mut MemHost,
@@ -74,7 +81,7 @@ fn another_reply(line: &str, reply: &[u8]) -> Fail {
     Fail::new(format_args!("another reply: {line:.200} => {reply:?}"))
 }
 
-// Plays a row, which is answered as it says.
+/// Plays a row, which is answered as it says.
 fn play_row<P: PageBook>(
     alloc: Global,
     host: &mut MemHost,
@@ -93,7 +100,7 @@ fn play_row<P: PageBook>(
     Ok(())
 }
 
-// Plays the rows of one run, behind which another run finds what the store has.
+/// Plays the rows of one run, after which another run finds what the store has.
 fn play_rows<P: PageBook>(
     alloc: Global,
     host: &mut MemHost,
@@ -111,7 +118,7 @@ fn play_rows<P: PageBook>(
     Ok(())
 }
 
-// Plays the rows of one run on the card.
+/// Plays the rows of one run on the card.
 fn play_run<P: PageBook>(alloc: Global, host: &mut MemHost, rows: &str) -> Result<(), Fail>
     requires { IsDurable 0 (outside_of host.old).now }
 {
@@ -119,7 +126,7 @@ fn play_run<P: PageBook>(alloc: Global, host: &mut MemHost, rows: &str) -> Resul
     play_rows(alloc, host, &mut store, rows)
 }
 
-// Plays the rows of one run on a card of these bytes, and answers what the card has then.
+/// Plays the rows of one run on a card of these bytes, and answers what the card has then.
 fn run<P: PageBook>(alloc: Global, bytes: &[u8], rows: &str) -> Result<Vec<u8>, Fail> {
     let mut host = host_of(alloc, bytes)?;
     play_run::<P>(alloc, &mut host, rows)?;

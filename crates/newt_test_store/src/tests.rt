@@ -157,8 +157,8 @@ fn what_is_not_there_is_refused(rt: HostRuntime) -> Result<(), Fail> {
     play::<PlainBook>(rt.alloc(), 13, MISSED)
 }
 
-/// The text of a number, and of frames of one slot, whose string takes 63,988 bytes: with them it
-/// has 64,001 bytes, or 64,000.
+/// The text of a number, and those of two frames of one slot. With a string of 63,988 bytes these
+/// have 64,001 bytes and 64,000.
 const LONGEST: &str = "
 make S => 0
 make T => 1

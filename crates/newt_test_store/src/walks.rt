@@ -33,8 +33,8 @@ fn id_of(found: &Option<(&Key, Uid)>) -> Option<u32> {
     }
 }
 
-/// The id behind an entry's in a range, by the key of its graph.
-fn id_behind(
+/// The id after an entry's in a range, by the key of its graph.
+fn id_after(
     alloc: Global,
     range: &Index,
     spec: Option<&IndexSpec>,
@@ -58,7 +58,7 @@ fn walked(
     for _ in 0..range.len() {
         let uid = next.ok_or("the range is too short")?;
         uids.push(uid)?;
-        next = id_behind(alloc, range, spec, uid, after)?;
+        next = id_after(alloc, range, spec, uid, after)?;
     }
     match next {
         Some(_) => Err(Fail::new("the range is too long")),
@@ -66,7 +66,7 @@ fn walked(
     }
 }
 
-/// The index of the soup of signature 0 by its number, and none for `id`.
+/// The index of the soup of signature 0 by its number; none for `id`.
 fn index_at<'a>(specs: &'a [IndexSpec], by: &str) -> Result<Option<&'a IndexSpec>, Fail> {
     if by == "id" {
         return Ok(None);

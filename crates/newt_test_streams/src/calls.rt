@@ -1,4 +1,4 @@
-//! What calls answer of a text, as texts.
+//! What calls answer for a text, as texts.
 
 use newt_base::{HexFault, Name, NameFault, decimal, hex_read, hex_text, signed};
 use newt_graph::{Graph, Node};

@@ -14,7 +14,7 @@ use std::process::Abort;
 use std::test::*;
 
 /// The name, the signature and the next soup of a directory of a version, and whether it is written
-/// as the same bytes; or that there is none. Another version than 1 is read as 2.
+/// as the same bytes; or that there is none. A version other than 1 is read as 2.
 pub(crate) fn directory(alloc: Global, bytes: &[u8], version: u16) -> Result<String, Fail> {
     let version = if version == 1 { 1 } else { 2 };
     match read_directory(alloc, bytes, version) {
@@ -29,7 +29,7 @@ fn described(alloc: Global, read: &Directory, bytes: &[u8]) -> Result<String, Fa
     Ok(format!(in alloc; "{name} {} {} {kept}", read.sig.0, read.next_soup)?)
 }
 
-/// The same of the store `S` with the soup `A`, from the number of that soup's indexes on.
+/// The same for the store `S` with the soup `A`, from the number of that soup's indexes on.
 pub(crate) fn soup(alloc: Global, tail: &[u8], version: u16) -> Result<String, Fail> {
     directory(alloc, &with_tail(alloc, tail)?, version)
 }
@@ -63,8 +63,8 @@ fn is_written(alloc: Global, directory: &Directory, bytes: &[u8]) -> bool {
     }
 }
 
-/// The name of the store, its signature, the next soup's signature, and the soups: the name of
-/// each, its signature, the next entry id, indexes, tags and info frame.
+/// The name of the store, its signature, the next soup's signature, and the soups. A soup is its
+/// name, its signature, the next entry id, indexes, tags and info frame.
 const DIRECTORIES: &str = "
 08 'Internal 00000007 0000 00 => Internal 7 0 true
 01 'S 00000001 0002 02 01 'A 0000 00000003 00 00 01 'a 0001 00000000 00 00 => S 1 2 true
@@ -74,8 +74,8 @@ const DIRECTORIES: &str = "
 01 'S 00000001 0000 01 01 'A 0000 00000000 00 00 => Bad
 ";
 
-/// The indexes, and whether there are tags: for an index how many parts, for each of them the type,
-/// the order and the path; the path of the tags, and the tags.
+/// The indexes, and whether there are tags. An index is how many parts it has, and for each of them
+/// the type, the order and the path. The tags are their path, and each of them.
 const SOUPS: &str = "
 00 00 => S 1 1 true
 01 01 00 00 02 04 'name 04 'last 00 => S 1 1 true
@@ -106,8 +106,8 @@ const SOUPS: &str = "
 00 00 00 => Bad
 ";
 
-/// No indexes, and an info frame, alone or behind tags: the length of its text, and the text, which
-/// is the one that is written of a frame without large binaries, of at most 4,000 bytes.
+/// No indexes, and an info frame, alone or after tags: the length of its text, and the text. The
+/// text is the one that is written for a frame without large binaries, and has at most 4,000 bytes.
 const INFOS: &str = "
 00 02 000A 02 06 01 07 03 'ver 00 08 => S 1 1 true
 00 03 01 06 'labels 01 08 'business 000A 02 06 01 07 03 'ver 00 08 => S 1 1 true
@@ -123,7 +123,7 @@ const INFOS: &str = "
 00 02 0FA1 02 06 01 07 01 'b 03 FF 00000F92 07 01 'x ~00 *3986~ => Bad
 ";
 
-/// The same of version 1, which has no info frames.
+/// The same in version 1, which has no info frames.
 const OLD_SOUPS: &str = "
 00 00 => S 1 1 true
 00 01 01 06 'labels 02 08 'business 08 'personal => S 1 1 true
@@ -139,7 +139,7 @@ fn directories_are_read_and_written(rt: HostRuntime) -> Result<(), Fail> {
     expect_rows(rt.alloc(), &Record::OldSoup, OLD_SOUPS)
 }
 
-/// A directory with so many soups, of which none has an info frame.
+/// A directory with so many soups, none of which has an info frame.
 fn with_soups(alloc: Global, count: u32) -> Result<Directory, Fail> {
     let mut directory = read_words(alloc, "01 'S 00000001 0000 00")?;
     for number in 0..count {
@@ -170,7 +170,7 @@ fn read_again(alloc: Global, directory: &Directory) -> Result<[bool; 3], Fail> {
     Ok([first, second, is_full])
 }
 
-/// Fails where it is otherwise with a directory with so many soups.
+/// Fails where a directory with so many soups answers otherwise.
 fn expect_soups(alloc: Global, count: u32, wanted: [bool; 3]) -> Result<(), Fail> {
     let directory = with_soups(alloc, count)?;
     if read_again(alloc, &directory)? != wanted {
@@ -245,7 +245,7 @@ fn count_of(directory: Directory) -> usize {
     directory.soups.into_vec().len()
 }
 
-/// An entry id is taken, a soup goes and another comes, which makes the directory what was wanted.
+/// An entry id is taken, a soup goes and another comes; then the directory is what was wanted.
 fn change_soups(rt: &impl Abort, alloc: Global, directory: &mut Directory) -> Result<(), Fail> {
     let name = Name::read(alloc, b"B")?;
     check(
@@ -360,7 +360,7 @@ fn change_with(
     Ok(())
 }
 
-/// The same of the index name.last and the path B.
+/// The same for the index name.last and the path B.
 fn change_indexes(rt: &impl Abort, alloc: Global, directory: &mut Directory) -> Result<(), Fail> {
     let spec = index_in(alloc, NAMES)?;
     change_with(rt, directory, &spec, &path_of(alloc, b"B")?)
@@ -376,7 +376,7 @@ fn tags_in(alloc: Global, words: &str) -> Result<Option<TagTable>, Fail> {
     Ok(first_tags(&read_tail(alloc, words)?))
 }
 
-/// The tags are set, which makes the directory what was wanted, and taken away.
+/// The tags are set, which makes the directory what was wanted, and are then taken away.
 fn change_tags(rt: &impl Abort, alloc: Global, directory: &mut Directory) -> Result<(), Fail> {
     directory.set_tags(Sig(0), tags_in(alloc, TAGS)?);
     check(

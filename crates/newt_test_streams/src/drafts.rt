@@ -52,7 +52,7 @@ fn an_edit_without_a_path_leaves_the_draft(rt: HostRuntime) -> Result<(), Fail> 
     Ok(())
 }
 
-/// The draft is the entry that the copy has then, of another minute.
+/// The draft is the entry that the copy then has, of another minute.
 fn begin_anew(rt: &impl Abort, alloc: Global, work: &mut Work) -> Result<(), Fail> {
     check(rt, edited(alloc, work, b"b")? == Ok(()), "the edit");
     let base = work.draft().copy()?;

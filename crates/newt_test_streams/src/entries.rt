@@ -57,8 +57,8 @@ pub(crate) fn entry(alloc: Global, bytes: &[u8]) -> Result<String, Fail> {
     Ok(format!(in alloc; "{} {} {} {kept}", row.soup.0, row.uid.0, row.time)?)
 }
 
-/// An entry: the soup, how many large binaries it has, the id, the minute, the flat text, and for
-/// each large binary its node, its object and its length.
+/// An entry: the soup, how many large binaries it has, the id, the minute and the flat text. For
+/// each large binary its node, its object and its length follow.
 const ENTRIES: &str = "
 0003 0000 00000009 00000102 02 06 01 07 01 'a 0004 => 3 9 258 true
 0003 0001 00000009 00000102 02 06 01 07 01 'a 0C 07 01 'b 00*17 00000002 00000004 00000005 => 3 9 258 true
@@ -169,8 +169,8 @@ fn is_row_made_again(
     is_same(alloc, row, &graph, object, record)
 }
 
-/// Whether the record of an entry with one large binary is made again of its graph, and the graph's
-/// skeleton has no bytes.
+/// Whether the record of an entry with one large binary is made again from its graph, and the
+/// graph's skeleton has no bytes.
 fn is_made_again(alloc: Global, record: &[u8], object: u32, bytes: &[u8]) -> Option<bool> {
     let row = read_entry(alloc, record).ok()?;
     is_row_made_again(alloc, &row, object, bytes, record)

@@ -1,5 +1,5 @@
-//! What literals read as, which texts are none, and what is printed of what they read as, with
-//! ample memory.
+//! What literals read as, which texts are no literals, and what is printed for what they read as,
+//! with ample memory.
 use crate::calls::Call;
 use newt_test_tables::expect_rows;
 use std::test::*;
@@ -115,9 +115,9 @@ $é => literal
 [#1=[], #1 #] => literal
 "##;
 
-/// What is printed of a graph: each word in the first form that fits it, escapes for characters
-/// that are not plain, bars round names that are no identifiers, one space behind a colon and a
-/// comma, and labels where an object is met again.
+/// What is printed for a graph. Each word stands in the first form that fits it, characters that
+/// are not plain are escaped, and names that are no identifiers stand between bars. One space
+/// follows a colon and a comma, and an object that is met again has a label.
 const PRINTED: &str = r##"
 -536870912 => -536870912
 -0001 => -1

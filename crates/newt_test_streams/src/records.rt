@@ -1,4 +1,4 @@
-//! What is answered of bytes.
+//! What is answered for bytes.
 use crate::directories::{directory, soup};
 use crate::entries::entry;
 use newt_test_tables::{Asks, bytes_of};
@@ -6,21 +6,21 @@ use std::alloc::Global;
 use std::process::Abort;
 use std::test::Fail;
 
-/// What is wanted holds.
+/// Asserts that what is wanted holds.
 pub(crate) fn check(rt: &impl Abort, holds: bool, what: &str) {
     assert!(rt; holds, "{what}");
 }
 
-/// What bytes are read as. They stand in words: `'foo` for its letters, and others are hexadecimal
+/// What bytes are read as. They stand in words: `'foo` for its letters, and others as hexadecimal
 /// digits.
 #[derive(Clone, Copy)]
 pub(crate) enum Record {
     /// A directory.
     Directory,
-    /// The directory of the store `S` of signature 1 with the soup `A` alone, behind that soup's
+    /// The directory of the store `S` of signature 1 with the soup `A` alone, after that soup's
     /// next entry id: its indexes, tags and info frame.
     Soup,
-    /// The same of version 1.
+    /// The same in version 1.
     OldSoup,
     /// An entry.
     Entry,

@@ -1,5 +1,5 @@
-//! Small streams: what is read has its two texts, the written one and the flat one, and what is
-//! refused is refused for its reason. What is cut off anywhere is malformed.
+//! Small streams. What is read has its two texts, the written one and the flat one, and what is
+//! refused is refused for its reason. A stream that is cut off anywhere is malformed.
 use crate::tables::expect_answers;
 use std::test::Fail;
 
@@ -58,7 +58,7 @@ fn what_is_read_is_written_in_one_form(rt: HostRuntime) -> Result<(), Fail> {
 
 /// Streams with small rectangles, whose two texts differ.
 const RECTANGLES: &str = "
-# Behind ` / ` stands the flat text, which has a small rectangle as a frame of four integers.
+# After ` / ` stands the flat text, which has a small rectangle as a frame of four integers.
 02 0B01020304 => kept / 02 0604 sides 0004 0008 000C 0010
 02 0604 sides 00FF000003FC 0008 000C 0000 => 02 0BFF020300 / kept
 02 0604 sides 00FF000003F8 0008 000C 0000 => 02 0BFE020300 / kept
@@ -109,7 +109,7 @@ fn rectangles_are_written_small(rt: HostRuntime) -> Result<(), Fail> {
     expect_answers(rt.alloc(), RECTANGLES)
 }
 
-/// Bytes that spell no graph, or one but for a flag.
+/// Bytes that spell no graph, or spell one but for a flag.
 const REFUSED: &str = "
 # No bytes, the version alone, another version, a tag that there is none of.
 00*0 => malformed
@@ -118,10 +118,10 @@ const REFUSED: &str = "
 02 0D => malformed
 # A word that is a pointer.
 02 0005 => malformed
-# Bytes behind the object.
+# Bytes after the object.
 02 0A 0A => malformed
 02 0500 00 => malformed
-# Counts and numbers below 0, and a count with no slots behind it.
+# Counts and numbers below 0, and a count with no slots after it.
 02 05FFFFFFFFFF => malformed
 02 06FFFFFFFFFF => malformed
 02 0501 09FFFFFFFFFF => malformed

@@ -56,13 +56,13 @@ fn is_length(told: &Result<u64, AllocError>, text: &[u8]) -> bool {
     }
 }
 
-/// Whether this is the written text of a graph, in the length that is told beforehand.
+/// Whether this is the written text of a graph, and has the length that is known in advance.
 fn is_written(alloc: Global, graph: &Graph, text: &[u8]) -> bool {
     is_text(&encode(alloc, graph), text) && is_length(&encoded_len(alloc, graph), text)
 }
 
-/// Whether this is the flat text of a graph, in a length of which that of its skeleton and so many
-/// bytes of large binaries are told beforehand.
+/// Whether this is the flat text of a graph. Its length is known in advance, from that of its
+/// skeleton and the number of bytes of its large binaries.
 fn is_flat(alloc: Global, graph: &Graph, text: &[u8], large: u64) -> bool {
     is_text(&encode_flat(alloc, graph), text)
         && skeleton_len(graph) == (text.len() as u64).saturating_sub(large)
@@ -84,12 +84,12 @@ fn gives(alloc: Global, given: &[u8], texts: &Texts) -> bool {
     is_written(alloc, &graph, texts.written) && is_flat(alloc, &graph, texts.flat, texts.large)
 }
 
-/// The same of a text that is not the stream itself.
+/// The same for a text that is not the stream itself.
 fn gives_too(alloc: Global, text: &[u8], given: &[u8], texts: &Texts) -> bool {
     text == given || gives(alloc, text, texts)
 }
 
-/// Whether the bytes spell a graph of these texts, each text does, and what is cut off is
+/// Whether the bytes spell a graph of these texts, each text does so too, and what is cut off is
 /// malformed.
 fn spells(alloc: Global, given: &[u8], texts: &Texts) -> bool {
     gives(alloc, given, texts)
@@ -143,11 +143,11 @@ fn has_answer(alloc: Global, given: &[u8], answer: &str, large: u64) -> Result<b
     })
 }
 
-/// Looks for the answer of each row. A row is a stream and, behind ` => `, its written text and,
-/// behind ` / `, its flat text where that is another one, or how it is refused; `kept` is a text
-/// that is the stream as it stands. Behind another ` => ` stands how many bytes of large binaries
-/// it has, if any. Rows that begin with `#` are comments.
-pub fn expect_answers(alloc: Global, table: &str) -> Result<(), Fail> {
+/// Looks for the answer of each row. A row is a stream and, after ` => `, how it is refused, or its
+/// written text and, after ` / `, its flat text where that is another one. `kept` is a text that is
+/// the stream as it stands. After another ` => ` stands how many bytes of large binaries it has, if
+/// any. Rows that begin with `#` are comments.
+pub(crate) fn expect_answers(alloc: Global, table: &str) -> Result<(), Fail> {
     for row in table.lines() {
         if row.is_empty() || row.starts_with('#') {
             continue;

@@ -1,4 +1,4 @@
-//! Tables of texts and what is answered of them, for tests, and words that stand for bytes. It
+//! Tables of texts and what is answered for them, for tests, and words that stand for bytes. It
 //! carries no promise: what is wanted stands in the rows of those who use it.
 #![tactic(auto)]
 
@@ -12,7 +12,7 @@ pub use words::{bytes_of, push_word};
 
 /// A question that is asked of texts.
 pub trait Asks {
-    /// What is answered of a text.
+    /// What is answered for a text.
     fn answer(&self, alloc: Global, text: &str) -> Result<String, Fail>;
 }
 
@@ -89,8 +89,8 @@ fn expect_row<A: Asks>(alloc: Global, asks: &A, row: &str) -> Result<(), Fail> {
     expect(row, &asks.answer(alloc, &text)?, wanted)
 }
 
-/// Fails where another answer is given than a row of the table says. A row is a text and, behind `
-/// => `, its answer. Blank rows say nothing.
+/// Fails where another answer is given than a row of the table says. A row is a text and,
+/// after ` => `, its answer. Blank rows say nothing.
 pub fn expect_rows<A: Asks>(alloc: Global, asks: &A, table: &str) -> Result<(), Fail> {
     for row in table.lines() {
         if !row.is_empty() {

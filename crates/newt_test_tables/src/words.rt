@@ -2,8 +2,8 @@
 use std::alloc::Global;
 use std::test::Fail;
 
-/// Appends what a word stands for: `'foo` for its letters, and others are hexadecimal digits. A
-/// number behind a star says how often.
+/// Appends what a word stands for: its letters for `'foo`, and otherwise the bytes of hexadecimal
+/// digits. A number after a star says how often.
 pub fn push_word(alloc: Global, to: &mut Vec<u8>, word: &str) -> Result<(), Fail> {
     let (word, count) = word.split_once('*').unwrap_or((word, "1"));
     let count: u32 = count.parse()?;

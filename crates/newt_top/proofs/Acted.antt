@@ -6,7 +6,7 @@ use Rattle.newt_host.specs.Outside.{Outside}
 use Rattle.newt_host.proofs.Extending.{extends-always, extends-trans}
 use Rattle.newt_script_session.specs.Reading.{goes_on}
 use Rattle.newt_top.specs.Reading.{ActsBeforeReply}
-use Rattle.newt_top.specs.Restoring.{AttachedBehind}
+use Rattle.newt_top.specs.Restoring.{AttachedAfter}
 
 -- of the reply `ok` the first byte is out
 abbrev begun : Moment
@@ -21,9 +21,9 @@ acts_too_late acts = elim (acts 0) [
 abbrev attached_early : List ℕ → Moment
 attached_early bytes = Took (1 ∷ []) ∷ On 0 (Attached bytes) ∷ []
 
-attached_too_early : (names : List (List ℕ)) (old new : Outside) (bytes : List ℕ) → old.now ≡ [] → new.now ≡ attached_early bytes → AttachedBehind names old new → ⊥
+attached_too_early : (names : List (List ℕ)) (old new : Outside) (bytes : List ℕ) → old.now ≡ [] → new.now ≡ attached_early bytes → AttachedAfter names old new → ⊥
 attached_too_early names old new bytes none is b =
-    let e = extends-trans (extends-always b.attached.still) b.attached.behind in
+    let e = extends-trans (extends-always b.attached.still) b.attached.after in
     go e.more b.read.now (sym is ∙ e.is) (sym b.all ∙ ap taken is) (b.same.changes refl 0 ∙ ap (changes 0) none)
   where
     -- the moment when the input was read: one that has taken the byte, and at which nothing had happened to the device

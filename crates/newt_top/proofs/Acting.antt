@@ -12,7 +12,7 @@ use Rattle.newt_script_session.proofs.Counting.{same-refl}
 use Rattle.newt_script_session.proofs.Crashing.{prints_changes}
 use Rattle.newt_script_session.proofs.Reading.{only_always, only_append, only_map, only_none}
 use Rattle.newt_top.specs.Reading.{ActsBeforeReply}
-use Rattle.newt_top.specs.Restoring.{AttachedBehind}
+use Rattle.newt_top.specs.Restoring.{AttachedAfter}
 
 -- nothing was put out
 acts-quiet : {old now : Moment} → Always (λ m. output m ≡ output old) old now → ActsBeforeReply old now
@@ -40,7 +40,7 @@ module _ (names : List (List ℕ)) (old mid new : Outside) (blank : (unit : ℕ)
     then-acts : ActsBeforeReply old.now done.now
     then-acts = acts-both (a.quiet refl) acts-attached (acts-quiet (Always-map (λ m at. at.output) fills))
 
-    pub attached-filling : AttachedBehind names old new
+    pub attached-filling : AttachedAfter names old new
     attached-filling = record {
       read = old;
       all = unread ∙ ((Always-last fills).unread ∙ Always-last (a.unread refl));

@@ -17,7 +17,7 @@ use Rattle.newt_laws_steps.proofs.Beginning.{attached-durable}
 use Rattle.newt_script_session.specs.Calls.{OutputFailed, WriteCall}
 use Rattle.newt_script_session.specs.Causes.{HasCause, NoStreamFault}
 use Rattle.newt_script_session.specs.Named.{AtEachMoment, AttachedFirst, held_by}
-use Rattle.newt_script_session.specs.Stream.{Puts, WroteSome}
+use Rattle.newt_script_session.specs.Stream.{PutsText, WroteSome}
 use Rattle.newt_script_session.specs.declared.halt.Halt.TheVariants.{Sink as NoSink}
 use Rattle.newt_script_session.proofs.Counting.{faults_err, never_of, none-append}
 use Rattle.newt_top.specs.Calls.{RunEnds}
@@ -108,7 +108,7 @@ module _ (reading : Reading) (names : List (List ℕ)) (old mid looked : Outside
 
   module _ (new : Outside) (unknown : (unit : ℕ) → new.card unit ≡ None → changes unit new.now ≡ []) (history : (unit : ℕ) → IsSome (new.card unit) → IsHistory (new.blocks unit * 4096) (changes unit new.now)) where
     -- the text was put out, or the output failed
-    pub ran-put : {T E : Type 0} (result : Result T E) (text : List ℕ) → IsSaid reading (held_by names old 0) text → Puts result text looked.now new.now → WriteCall true OutputFailed result looked new
+    pub ran-put : {T E : Type 0} (result : Result T E) (text : List ℕ) → IsSaid reading (held_by names old 0) text → PutsText result text looked.now new.now → WriteCall true OutputFailed result looked new
         → (is_err result ≡ true → RanReading reading names Sink old new) × (is_err result ≡ false → RanReading reading names Ok old new)
     ran-put (Good x) text is puts call = (
       λ fails. absurd (cc),

@@ -17,14 +17,14 @@ use Rattle.newt_pagebook.specs.Book.{format_bytes}
 use Rattle.newt_pagebook.specs.declared.book.Stop.{Stop}
 use Rattle.newt_script_session.specs.Calls.{OutputFailed, WriteCall}
 use Rattle.newt_script_session.specs.Named.{AtEachMoment, held_by}
-use Rattle.newt_script_session.specs.Stream.{Puts, WroteSome}
+use Rattle.newt_script_session.specs.Stream.{PutsText, WroteSome}
 use Rattle.newt_spec_image.specs.Records.{bank_blocks}
 use Rattle.newt_spec_store.specs.Cost.{cost}
 use Rattle.newt_spec_store.specs.Store.{Store}
 use Rattle.newt_store_backup.specs.Restored.{IsAsked, IsDone, IsLeft, IsRestored, Restores}
 use Rattle.newt_store_backup.proofs.Outcomes.{one-outcome}
 use Rattle.newt_store_catalog.specs.Readable.{readable}
-use Rattle.newt_top.specs.Restoring.{AttachedBehind, CrashLeaves, IsMade, RanRestored, Replied, WritesOneDevice}
+use Rattle.newt_top.specs.Restoring.{AttachedAfter, CrashLeaves, IsMade, RanRestored, Replied, WritesOneDevice}
 use Rattle.newt_top.specs.declared.status.Status.TheVariants.{Ok, Memory, Device, Sink}
 use Rattle.newt_top.proofs.Acting.{attached-filling}
 use Rattle.newt_top.proofs.Looking.{crash-held, crash-since, device-held, only-read, still}
@@ -119,7 +119,7 @@ module _ {T : Type 0} (names : List (List ℕ)) (input : List ℕ) (old mid done
 
   -- the device was attached first, and filled before the reply
   attached-first : (new : Outside) (text : List ℕ) → Always (PrintsSome text done.now) done.now new.now → ((unit : ℕ) → new.card unit ≡ done.card unit) → taken new.now ≡ taken done.now
-      → {X : Type 0} → AttachedBehind names old new ⊎ X
+      → {X : Type 0} → AttachedAfter names old new ⊎ X
   attached-first new text prints cards unread = inl (attached-filling names old mid new blank a (λ unit. cards unit ∙ restores.alone.cards.card unit) text done (restores.any_moment refl) prints unread)
 
   -- what the reply tells
@@ -163,7 +163,7 @@ module _ {T : Type 0} (names : List (List ℕ)) (input : List ℕ) (old mid done
     }
 
   -- the reply was put out, or the output failed
-  pub ran-replied : {U E : Type 0} (new : Outside) (past : HasHistory new) (text : List ℕ) (put : Result U E) → IsDone input 0 mid done text → Puts put text done.now new.now → WriteCall true OutputFailed put done new
+  pub ran-replied : {U E : Type 0} (new : Outside) (past : HasHistory new) (text : List ℕ) (put : Result U E) → IsDone input 0 mid done text → PutsText put text done.now new.now → WriteCall true OutputFailed put done new
       → (is_err put ≡ true → RanRestored names input Sink old new) × (is_err put ≡ false → RanRestored names input Ok old new)
   ran-replied new past text (Good x) d puts call = (
     λ fails. absurd (cc),

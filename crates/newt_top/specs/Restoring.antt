@@ -62,7 +62,7 @@ CrashLeaves (Refused refusal) names old new = OnlyReadsDevices old new × IsAsHe
 -- The device was attached after all that is read of the input was taken: until then nothing was put
 -- out, and nothing done to a device. From there on it was attached first, and nothing is done to a
 -- device once a byte of the reply is out: so the reply begins after the store was written.
-pub record AttachedBehind (names : List (List ℕ)) (old new : Outside) : Type 0 where
+pub record AttachedAfter (names : List (List ℕ)) (old new : Outside) : Type 0 where
   pub read : Outside
   pub all : taken new.now ≡ taken read.now
   pub quiet : out_of read ≡ out_of old
@@ -76,7 +76,7 @@ pub record AttachedBehind (names : List (List ℕ)) (old new : Outside) : Type 0
 -- of the store that is asked for was written once at most.
 pub record RanRestored (names : List (List ℕ)) (input : List ℕ) (status : Status)
     (old new : Outside) : Type 0 where
-  pub attached : AttachedBehind names old new ⊎ ((status ≡ Memory) × SameDevices true old new)
+  pub attached : AttachedAfter names old new ⊎ ((status ≡ Memory) × SameDevices true old new)
   pub wrote : WroteRestored status names input old new
   pub crash : (outcome : Result Store Refusal) → IsRestored input (held_by names old 0) outcome
       → CrashLeaves outcome names old new

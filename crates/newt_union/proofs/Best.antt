@@ -102,7 +102,7 @@ last_passing {X} cmp o test (x ∷ xs) h = go (test x) refl (last_passing cmp o 
         half Equal e f = cc
         half Greater e f = cc
 
-    -- with the first before those that pass behind it
+    -- with the first before those that pass after it
     with : test x ≡ true → (ys : List X) → ((y : X) → Among ys y → Passing test xs y) → IsLeast (λ a b. cmp b a) (Passing test xs) (last ys)
         → IsLeast (λ a b. cmp b a) (Passing test (x ∷ xs)) (last (x ∷ ys))
     with e [] sub more = (
@@ -141,8 +141,8 @@ insert_order : {X : Type 0} (cmp : X → X → Ordering) → IsTotalOrder cmp �
 insert_order cmp o [] x h = (tt, tt)
 insert_order {X} cmp o (y ∷ ys) x h = go (insert_order cmp o ys x h.1) (cmp x y) refl
   where
-    behind : Pairs (NotAfter cmp) (insert_by cmp ys x) → (cmp x y ≡ Less → ⊥) → Pairs (NotAfter cmp) (y ∷ insert_by cmp ys x)
-    behind more not = (
+    after : Pairs (NotAfter cmp) (insert_by cmp ys x) → (cmp x y ≡ Less → ⊥) → Pairs (NotAfter cmp) (y ∷ insert_by cmp ys x)
+    after more not = (
       each-from (NotAfter cmp y) (insert_by cmp ys x) (λ z m. elim (among-insert cmp ys x z m) [
         | inl s ↦ λ l. not (subst (λ v. cmp v y ≡ Less) (sym s) l)
         | inr n ↦ each-at (NotAfter cmp y) ys z h.0 n
@@ -160,8 +160,8 @@ insert_order {X} cmp o (y ∷ ys) x h = go (insert_order cmp o ys x h.1) (cmp x 
             turned r Less e f g = cc
             turned r Equal e f g = cc
             turned r Greater e f g = cc
-    go more Equal e = behind more (λ l. cc)
-    go more Greater e = behind more (λ l. cc)
+    go more Equal e = after more (λ l. cc)
+    go more Greater e = after more (λ l. cc)
 
 fold_order : {X : Type 0} (cmp : X → X → Ordering) → IsTotalOrder cmp → (ys xs : List X) → Pairs (NotAfter cmp) ys → Pairs (NotAfter cmp) (fold (insert_by cmp) ys xs)
 fold_order cmp o ys [] h = h

@@ -86,7 +86,7 @@ from_key o Less e = ap (λ v. is_lt (ordering_then v Less)) e
 from_key o Equal e = ap (λ v. is_lt (ordering_then v Less)) e
 from_key o Greater e = ap (λ v. is_lt (ordering_then v Less)) e
 
--- a spot whose store and soup come behind: up to its key
+-- a spot whose store and soup come after: up to its key
 pub to_key : (o r : Ordering) → o ≡ ordering_reverse r → is_gt (ordering_then o Greater) ≡ not (is_gt r)
 to_key o Less e = ap (λ v. is_gt (ordering_then v Greater)) e
 to_key o Equal e = ap (λ v. is_gt (ordering_then v Greater)) e

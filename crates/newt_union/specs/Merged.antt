@@ -1,5 +1,5 @@
--- The ranges of some soups put into one order, and its searches. That a union soup shows the entries of its members as one soup is Newton's
--- (Newton Programmer's Guide 2.0, union soups).
+-- The ranges of some soups put into one order, and its searches. It is Newton's that a union soup
+-- shows the entries of its members as one soup (Newton Programmer's Guide 2.0, union soups).
 use Rattle.std.specs.Prelude.{◌≡◌, ℕ, not, ⊤, List, [], ◌∷◌, filter, flat_map, map, Option, All}
 use Rattle.std.specs.Ordering.{is_lt, is_gt}
 use Rattle.newt_spec_store.specs.Keys.{Key, IndexSpec, key_cmp}
@@ -8,7 +8,8 @@ use Rattle.newt_spec_query.specs.Hits.{Hit, hit_cmp}
 use Rattle.newt_index.specs.Pairs.{Pair, Sorted, parts_of, first, last}
 use Rattle.newt_index.specs.Kept.{IsProbeOf}
 
--- a soup that takes part: the signatures of its store and its own, and its range (Newton Programmer's Guide 2.0, union soups)
+-- a soup that takes part: the signatures of its store and its own, and its range (Newton
+-- Programmer's Guide 2.0, union soups)
 pub record Member : Type 0 where
   pub store : ℕ
   pub soup : ℕ
@@ -28,7 +29,8 @@ merged spec ms = sorted_by (hit_cmp spec) (flat_map hits_of ms)
 
 -- ---- declarations
 
--- two declarations have the same types and orders, part by part, which is all that the order of keys looks at (this project's own)
+-- two declarations have the same types and orders, part by part, which is all that the order of
+-- keys looks at (this project's own)
 abbrev pub Agree : IndexSpec → IndexSpec → Type 0
 Agree [] [] = ⊤
 Agree (p ∷ ps) (q ∷ qs) = (p.kind ≡ q.kind) × (p.direction ≡ q.direction) × Agree ps qs
@@ -38,7 +40,7 @@ Agree _ _ = ⊥
 abbrev pub AllAgree : IndexSpec → List Member → Type 0
 AllAgree spec ms = All (λ (m : Member). Agree spec (parts_of m.range.spec)) ms
 
--- bytes are those of a key of each member's declaration (this project's own)
+-- the bytes are those of a key of each member's declaration (this project's own)
 abbrev pub IsProbeIn : List Member → Key → List ℕ → Type 0
 IsProbeIn ms key bytes = All (λ (m : Member). IsProbeOf m.range.spec key bytes) ms
 

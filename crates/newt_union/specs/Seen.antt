@@ -1,4 +1,4 @@
--- How the hits and members of the code are seen as those of the definition.
+-- How the definition sees the hits and members of the code.
 use Rattle.std.specs.Prelude.{ℕ, List, [], Option, None, Some, All}
 use Rattle.newt_spec_query.specs.Hits as spec
 use Rattle.newt_spec_store.specs.Keys.{Key}
@@ -16,7 +16,7 @@ shown h = record { key = h.key.now; store = h.store; soup = h.soup; uid = h.uid 
 abbrev pub seen : Member → merged.Member
 seen m = record { store = m.store; soup = m.soup; range = m.index.now }
 
--- the member on a place; on a place that is not used it is a soup without a pair (a word of these definitions)
+-- the member on a place; an unused place is a soup without a pair (a word of these definitions)
 abbrev pub seen_place : Option Member → merged.Member
 seen_place None = record { store = 0; soup = 0; range = record { spec = None; pairs = [] } }
 seen_place (Some m) = seen m
@@ -25,6 +25,7 @@ seen_place (Some m) = seen m
 abbrev pub AreSorted : List merged.Member → Type 0
 AreSorted ms = All (λ (m : merged.Member). IsSorted m.range) ms
 
--- bytes are those of a key of the declaration of each member on these places (a word of these definitions)
+-- the bytes are those of a key of the declaration of each member on these places (a word of these
+-- definitions)
 abbrev pub HaveProbe : Key → List ℕ → List (Option Member) → Type 0
 HaveProbe key bytes places = All (λ (p : Option Member). IsProbeOf (seen_place p).range.spec key bytes) places

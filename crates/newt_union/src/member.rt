@@ -44,7 +44,7 @@ impl<'a> Member<'a> {
         }
     }
 
-    /// How the store and the soup of a spot stand to its own.
+    /// How the store and the soup of a spot compare to its own.
     fn side(&self, spot: &Spot) -> Ordering
         ensures { result ≡ side (spot_hit spot.now) (seen self.now) }
     {
@@ -88,7 +88,7 @@ impl<'a> Member<'a> {
         }
     }
 
-    /// Its greatest hit before a spot. The condition is the same.
+    /// Its greatest hit before a spot. The probe was made for the spot's key.
     pub(crate) fn before(&self, probe: &mut Probe, spot: &Spot) -> Option<Hit<'a>>
         requires { IsProbeOf self.now.index.now.spec spot.now.key probe.old }
         ensures found { option_map shown result ≡ before_in (spot_hit spot.now) (seen self.now) }
@@ -140,7 +140,7 @@ impl<'a> Member<'a> {
         keys.then(stores.then(soups.then(uids)))
     }
 
-    /// The lesser of two hits, the first where they tie.
+    /// The lesser of two hits; the first where they tie.
     pub(crate) fn lesser(&self, a: &Option<Hit<'a>>, b: &Option<Hit<'a>>) -> Option<Hit<'a>>
         ensures { option_map shown result ≡ lesser (hit_cmp (parts_of self.now.index.now.spec))
             (option_map shown a.now) (option_map shown b.now) }
@@ -158,7 +158,7 @@ impl<'a> Member<'a> {
         }
     }
 
-    /// The greater of two hits, the first where they tie.
+    /// The greater of two hits; the first where they tie.
     pub(crate) fn greater(&self, a: &Option<Hit<'a>>, b: &Option<Hit<'a>>) -> Option<Hit<'a>>
         ensures { option_map shown result ≡ greater (hit_cmp (parts_of self.now.index.now.spec))
             (option_map shown a.now) (option_map shown b.now) }

@@ -16,11 +16,11 @@ use newt_index::{Index, Probe, Spot};
 use std::marker::Model;
 
 /// The soups of a union, at most four, one for each mounted store. Their declarations agree in
-/// types and orders, which is all that the order of keys looks at; where they do not, nothing is
-/// promised of what a search answers. No call takes memory.
+/// types and orders, which is all that the order of keys looks at. Where they do not agree, nothing
+/// is promised of what a search answers. No call takes memory.
 #[derive(Drop)]
 pub struct Members<'a> {
-    /// A place that is not used is none.
+    /// A place that is not used is `None`.
     list: ArrayVec<Option<Member<'a>>, 4>,
 }
 
@@ -47,7 +47,7 @@ impl<'a> Members<'a> {
     }
 
     /// Adds a soup by the signatures of its store and its own, with its range. Fewer than four are
-    /// there.
+    /// there before.
     pub fn add(&mut self, store: Sig, soup: Sig, index: &'a Index)
         requires { length self.old < 4 }
         ensures { self.new ≡ self.old ++ record { store = store; soup = soup; range = index.now }
@@ -89,7 +89,7 @@ impl<'a> Members<'a> {
         after_of(self.list.as_slice(), probe, spot)
     }
 
-    /// The last hit before a spot. The condition is the same.
+    /// The last hit before a spot. The probe was made as for `after`; its key bytes stay.
     pub fn before(&self, probe: &mut Probe, spot: &Spot) -> Option<Hit<'a>>
         requires { IsProbeIn self.now spot.now.key probe.old }
         ensures found { (spec : IndexSpec) → AllAgree spec self.now

@@ -64,7 +64,7 @@ pub spends_part : (unit at n part met : ℕ) (a b c : Outside) → met ≡ parts
 spends_part unit at n part met a b c is low below before more =
     Spends-widen 0 (512 * (part + 1 - at / 500)) 0 (512 * parts_met at n) (omega arith) (omega (arith, is, below)) (spends_more unit (at / 500) part a b c low before more)
 
--- behind the last part all that are met are done
+-- after the last part all that are met are done
 pub all_met : (at n part met : ℕ) → met ≡ parts_met at n → (at / 500 ≤ at / 500 + met → part ≤ at / 500 + met) → at / 500 + met ≤ part → part ≡ at / 500 + parts_met at n
 all_met at n part met is high low = let most : part ≤ at / 500 + met = high (omega arith) in omega (arith, is, most, low)
 

@@ -94,7 +94,7 @@ overwritten_cut l n p new fits low =
     ∙ ap (λ (m : List ℕ). take n m) (overwritten_left (take n l) (drop n l) p new (omega (arith, fits, size)))
     ∙ take_at (overwritten (take n l) p new) (drop n l) n (length-overwritten (take n l) p new (omega (arith, fits, size)) ∙ size)
 
--- and more of them behind those that were replaced
+-- and more of them after those that were replaced
 pub overwritten_more : (l : List ℕ) (p : ℕ) (a b : List ℕ) → p ≤ length l → overwritten (overwritten l p a) (p + length a) b ≡ overwritten l p (a ++ b)
 overwritten_more l p a b low =
     let front : List ℕ = take p l ++ a in

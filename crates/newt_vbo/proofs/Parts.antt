@@ -32,7 +32,7 @@ part_live told objects numbers unit outside id part number x are there at =
     let p = are.is_table.parts id part number x there at in
     sym (are.are.named number) ∙ ap is_some p.1
 
--- each page of an object has 500 bytes behind its header
+-- each page of an object has 500 bytes after its header
 abbrev pub HasWhole : Pages → Extent → Type 0
 HasWhole live x = (k number : ℕ) → slice_get x.numbers k ≡ Some number → length (data_at live number) ≡ 500
 

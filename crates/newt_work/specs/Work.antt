@@ -7,8 +7,8 @@ use Rattle.newt_graph.specs.Meeting.{normal_form}
 use Rattle.newt_spec_graph.specs.Slots.{put}
 use Rattle.newt_work.specs.Same.{same_graph}
 
--- A working copy: the entry that it is of, by the signatures of its store and soup and its id; the
--- time and the graph that the entry had when the copy was opened, saved or reverted last; and the
+-- A working copy: its entry, by the signatures of store and soup and the id; the base, which is the
+-- time and the graph that the entry had when the copy was last opened, saved or reverted; and the
 -- draft. (this project's own)
 pub record Copy : Type 0 where
   pub store : ℕ
@@ -48,8 +48,8 @@ IsBased time graph k = (k.time ≡ time) × (k.base ≡ graph)
 abbrev pub draft_with : List (List ℕ) → RawGraph → Copy → Option RawGraph
 draft_with path value k = put k.draft path value
 
--- the copy whose draft is the normal form of the draft with a value put into it at a path; as it
--- was where there is none (this project's own)
+-- the copy whose draft is the normal form of the draft with a value put into it at a path; the copy
+-- as it was where there is none (this project's own)
 abbrev pub drafted : List (List ℕ) → RawGraph → Copy → Copy
 drafted path value k =
     edited (unwrap_or (option_and_then normal_form (draft_with path value k)) k.draft) k

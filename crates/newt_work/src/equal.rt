@@ -1,4 +1,4 @@
-//! Whether two graphs are one.
+//! Whether two graphs are the same.
 ghost use Rattle.std.specs.Prelude.{◌≡◌, ◌↔◌, IsTrue};
 ghost use Rattle.std.specs.List.{list_all, zip};
 ghost use Rattle.newt_work.specs.Same.{same_ref, same_refs, same_node, same_nodes, same_graph};
@@ -20,7 +20,7 @@ fn same_nodes(a: &[Node], b: &[Node]) -> bool
     a.len() == b.len() && all_same_nodes(a, b)
 }
 
-/// Whether the nodes of one list are those of another, as far as the shorter one goes.
+/// Whether the nodes of one list are those of another, as far as the shorter list goes.
 fn all_same_nodes(a: &[Node], b: &[Node]) -> bool
     ensures { result ≡ list_all (λ p. same_node p.0 p.1) (zip a.now b.now) }
 {
@@ -48,7 +48,7 @@ fn same_refs(a: &[Ref], b: &[Ref]) -> bool
     a.len() == b.len() && all_same_refs(a, b)
 }
 
-/// Whether the values of one list are those of another, as far as the shorter one goes.
+/// Whether the values of one list are those of another, as far as the shorter list goes.
 fn all_same_refs(a: &[Ref], b: &[Ref]) -> bool
     ensures { result ≡ list_all (λ p. same_ref p.0 p.1) (zip a.now b.now) }
 {

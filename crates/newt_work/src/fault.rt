@@ -7,7 +7,7 @@ use std::alloc::AllocError;
 /// Why no further copy is opened. The copies are not changed.
 #[derive(Clone, Copy, PartialEq, Eq, Debug)]
 pub enum WorkFault {
-    /// Sixteen copies are there.
+    /// There are sixteen copies.
     Limit,
     /// Memory was refused.
     Memory,

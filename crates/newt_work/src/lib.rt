@@ -1,9 +1,9 @@
-//! Working copies of entries: an entry's state as it was opened, and a draft that is edited apart
+//! Working copies of entries: an entry's state when it was opened, and a draft that is edited apart
 //! from the store.
 //!
 //! It stands on `newt_graph` for graphs and on `newt_path` for what is put at a path, and on no
-//! store. The promise that it carries: the draft is the base with the edits since put into it one
-//! after another, and a copy knows whether an entry still is as its base.
+//! store. It carries this promise: the draft is the base with the edits since then put into it one
+//! after another. A copy knows whether an entry still is as its base.
 #![tactic(auto)]
 
 mod equal;

@@ -11,8 +11,8 @@ use newt_path::{Path, SetFault, set_at};
 use std::alloc::{AllocError, Global};
 use std::marker::Model;
 
-/// A working copy: which entry it is of, the time and the graph that the entry had when the copy
-/// was opened, saved or reverted last, and the draft.
+/// A working copy: which entry it is of, the base and the draft. The base is the time and the graph
+/// that the entry had when the copy was last opened, saved or reverted.
 #[derive(Drop)]
 pub struct Work {
     alloc: Global,
@@ -84,9 +84,9 @@ impl Work {
         self.time == time && same_graph(&self.base, graph)
     }
 
-    /// Puts a value at a path of the draft, as `set_at` does. After a refusal it is as before. An
-    /// engine that has to look at the new draft first makes it by `set_at`, and gives it by
-    /// `redraft`.
+    /// Puts a value at a path of the draft, as `set_at` does. After a refusal the draft is as
+    /// before. An engine that must look at the new draft first makes it by `set_at`, and gives it
+    /// by `redraft`.
     #[tactic(auto, using(crate::proofs::Forms::formed))]
     pub fn edit(&mut self, path: &Path, value: &Graph) -> Result<(), SetFault>
         ensures form { IfOk result (λ _. IsFormOf (draft_with path.now value.now self.old)
@@ -109,7 +109,8 @@ impl Work {
         self.draft = graph;
     }
 
-    /// Begins anew from another state of the entry, whose graph is given twice. It takes no memory.
+    /// Begins again from another state of the entry, whose graph is given twice. It takes no
+    /// memory.
     pub fn rebase(&mut self, time: u32, base: Graph, draft: Graph)
         requires { base ≡ draft }
         ensures { self.new ≡ rebased time base self.old }

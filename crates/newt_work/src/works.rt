@@ -42,8 +42,8 @@ impl Works {
         })
     }
 
-    /// Opens a copy of an entry at the least free number, and answers this number. Limit exactly
-    /// where sixteen copies are there.
+    /// Opens a copy of an entry at the least free number, and answers this number. `Limit` exactly
+    /// where there are sixteen copies.
     pub fn open(
         &mut self,
         store: Sig,
@@ -83,7 +83,7 @@ impl Works {
         redraft_at(&mut self.places[usize::from(number)], draft);
     }
 
-    /// Begins a copy anew from another state of its entry, whose graph is given twice. It takes no
+    /// Begins a copy again from another state of its entry, whose graph is given twice. It takes no
     /// memory.
     pub fn rebase(&mut self, number: u8, time: u32, base: Graph, draft: Graph)
         requires there { IsSome (copy_at number self.old) }
@@ -94,7 +94,7 @@ impl Works {
         rebase_at(&mut self.places[usize::from(number)], time, base, draft);
     }
 
-    /// Discards a copy. Nothing changes where no copy has this number. It takes no memory.
+    /// Discards a copy. Where no copy has this number, nothing changes. It takes no memory.
     pub fn discard(&mut self, number: u8)
         ensures { self.new ≡ slice_set self.old number None }
     {
@@ -103,7 +103,7 @@ impl Works {
         }
     }
 
-    /// The least free number. Limit exactly where sixteen copies are there.
+    /// The least free number. `Limit` exactly where there are sixteen copies.
     fn free(&self) -> Result<usize, WorkFault>
         ensures least { IfOk result (λ free. position is_none self.now ≡ Some free) }
         ensures below { IfOk result (λ free. free < 16) }
@@ -135,7 +135,7 @@ fn first_free(places: &[Option<Work>]) -> Option<usize>
     places.iter().position(|place| place.is_none())
 }
 
-/// Gives the copy another draft that is there.
+/// Gives another draft to the copy that is there.
 fn redraft_at(place: &mut Option<Work>, draft: Graph)
     ensures { place.new ≡ option_map (edited draft) place.old }
 {
@@ -144,7 +144,7 @@ fn redraft_at(place: &mut Option<Work>, draft: Graph)
     }
 }
 
-/// Begins the copy anew that is there.
+/// Begins again the copy that is there.
 fn rebase_at(place: &mut Option<Work>, time: u32, base: Graph, draft: Graph)
     requires { base ≡ draft }
     ensures { place.new ≡ option_map (rebased time base) place.old }

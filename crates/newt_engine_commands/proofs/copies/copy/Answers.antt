@@ -1,33 +1,33 @@
 -- Both soups are looked up, the entry is read, and its graph is added.
 use Rattle.std.proofs.Common.{Some, refl, subst, sym, ◌∙◌, ◌≡◌}
-use Rattle.std.proofs.lemmas.Bool.{eq-eqb}
 use Rattle.newt_engine_units.specs.Looks.{known_both}
 use Rattle.std.proofs.lemmas.Result.{err_from_is_err_and}
 use Rattle.newt_engine_units.specs.Stands.{Stands, world_of}
 use Rattle.newt_spec_world.specs.Reply.{Reply}
 use Rattle.newt_spec_world.specs.declared.command.Command.TheVariants as command
-use Rattle.std.specs.Prelude.{Err, None, Ok}
+use Rattle.std.specs.Prelude.{Err}
 use Rattle.std.specs.Option.{option_and_then}
 use Rattle.newt_spec_store.specs.Store.{Entry, entry_of}
 use Rattle.newt_store_change.specs.Entries.{ReadsEntry}
-use Rattle.newt_base.specs.Refusals.{first_of}
-use Rattle.newt_host.specs.Moments.{Moment, Always}
-use Rattle.newt_host.proofs.Outside.{NoFault-append, OnDevices-append}
-use Rattle.newt_spec_store.specs.Store.{change_soup, add_entry}
-use Rattle.newt_spec_world.specs.World.{World, store_on_unit}
-use Rattle.newt_store_change.specs.Faults.{Does}
-use Rattle.newt_spec_world.specs.Answer.{answer}
-use Rattle.newt_laws_answers.proofs.Tests.{add_tests, with_added}
-use Rattle.newt_laws_answers.specs.There.{OnUnit}
-use Rattle.newt_laws_answers.proofs.Changes.{add-said}
 use Rattle.newt_laws_answers.proofs.Copies.{copy-not-found}
 use Rattle.newt_laws_answers.proofs.Refusals.{added-uid}
-use Rattle.newt_engine_commands.proofs.Commands.{copy-missing, copy-answers, copy-makes, read-found, entry-fits}
-use Rattle.newt_engine_commands.proofs.Costing.{copy-costs, copy-few}
-use Rattle.newt_engine_units.proofs.Keeping.{change-keeps, keeps-append, read-keeps}
-use Rattle.newt_engine_units.proofs.Obeying.{cause-after, handed-ends, none-refused, read-obeys, refused-obeys}
-use Rattle.newt_engine_commands.proofs.Said.{said-made, said-moments, said-costs, behind-breaks, behind-moments, behind-untorn, unrefused}
+use Rattle.newt_engine_commands.proofs.Commands.{copy-missing, read-found}
+use Rattle.newt_engine_commands.proofs.Costing.{copy-few}
+use Rattle.newt_engine_units.proofs.Obeying.{handed-ends, none-refused, read-obeys, refused-obeys}
 use Rattle.newt_engine_units.proofs.Settings.{Setting, is-err, both-refused, has-soup}
+use Rattle.newt_laws_answers.proofs.Adds.{uid-is}
+use Rattle.newt_base.specs.declared.Refusal.TheVariants.{Entry as NoEntry}
+use Rattle.newt_laws_answers.specs.Fetched.{most_fetched, next_if_on}
+use Rattle.newt_engine_commands.proofs.Costing.{its_pages, first-low, half}
+use Rattle.newt_engine_units.proofs.Costs.{none-fits}
+use Rattle.newt_engine_commands.proofs.Effects.{after-obeys, known-formed, none-low, soup-resolves}
+use Rattle.newt_laws_effects.proofs.Found.{both-found}
+use Rattle.newt_laws_effects.specs.Effects.{effects, needs, one as only}
+use Rattle.newt_laws_effects.specs.Tells.{is_of_stores}
+use Rattle.newt_store_change.specs.declared.change.Change.TheVariants as change
+use Rattle.newt_spec_world.specs.Answer.{fields}
+use Rattle.std.proofs.Common.{◌*◌}
+use Rattle.std.proofs.Common.{ap}
 use Rattle.newt_engine_commands.proofs.copies.copy.Given.{Over}
 use Rattle.newt_engine_commands.proofs.copies.copy.Goals as goal
 
@@ -60,61 +60,29 @@ returns-in_err-graph g c =
     (e.looks.world t) c.in_err-graph.field-0.0 (subst (λ p. ReadsEntry (option_and_then (entry_of c.args.uid) p) (Err c.in_err-graph.field-0.0)) h.by_sig (e.read t h.blocks h.store h.on)) _ (is-err _ _ (err_from_is_err_and c.from_residual-in_err-graph.result c.from_residual-in_err-graph.ensures.1)))
 
 pub returns : goal.returns
+unfolding effects is_of_stores fields
 returns g c =
     let at = begins g c.requires in
-    let o = g.H.Host.outside in
     let w = world_of g.C.Card.reads c.args.units.now (g.H.Host.outside c.args.host.now) in
+    let u = c.args.unit in
+    let name = c.args.name.now in
+    let uid = c.args.uid in
     let read = c.in_ok-graph.ensures in
-    let e = c.change.ensures in
+    let to = c.args.to in
+    let target = c.args.target.now in
+    let graph = c.in_ok-graph.field-0.graph in
+    let command = command.Copy u name uid to target in
+    after-obeys read.looks (read.ends.no_fault tt) c.change.result c.change.ensures command (λ n. Reply.number n) (λ w now. refl)
+    (λ t. let h = has-soup at t u name c.in_ok-soup.soup c.in_ok-soup.ensures.0 in
+    let x : Entry = record { uid = c.in_ok-graph.field-0.uid; time = c.in_ok-graph.field-0.time; graph = c.in_ok-graph.field-0.graph } in
+    let found : entry_of uid h.soup ≡ Some x = read-found c.in_ok-soup.soup uid h.store h.soup c.in_ok-graph.field-0 x.graph refl h.by_sig (read.read t h.blocks h.store h.on) in
+    let k = has-soup at t to target c.in_ok-soup.into c.in_ok-soup.ensures.1 in
     record {
-      stands = e.stands;
-      answered = λ t.
-          let h = has-soup at t c.args.unit c.args.name.now c.in_ok-soup.soup c.in_ok-soup.ensures.0 in
-          let k = has-soup at t c.args.to c.args.target.now c.in_ok-soup.into c.in_ok-soup.ensures.1 in
-          let x : Entry = record { uid = c.in_ok-graph.field-0.uid; time = c.in_ok-graph.field-0.time; graph = c.in_ok-graph.field-0.graph } in
-          let found : entry_of c.args.uid h.soup ≡ Some x = read-found c.in_ok-soup.soup c.args.uid h.store h.soup c.in_ok-graph.field-0 c.in_ok-graph.field-0.graph refl h.by_sig (c.in_ok-graph.ensures.read t h.blocks h.store h.on) in
-          let same = read.looks.world t in
-          let there = subst (λ y. OnUnit y c.args.to k.blocks k.store) (sym same) k.on in
-          let fits = entry-fits h.store c.args.name.now h.soup c.args.uid x h.formed h.named found in
-          copy-answers w _ c.args.unit h.blocks h.store c.args.name.now h.soup c.args.uid h.on h.named refl c.args.to k.blocks k.store c.args.target.now k.soup k.on k.named k.name_is x found fits _
-          (subst (λ (y : World). Does (add_tests k.blocks y.minute k.soup.name x.graph k.store k.soup) (λ n. n ≡ k.soup.next_uid) y (with_added y c.args.to k.soup.name x.graph) (world_of g.C.Card.reads c.change.new.self (o c.change.new.host)) c.change.result) same
-          (said-made e t there (add-said k.blocks c.read_entry.new.self.minute c.in_ok-soup.into k.store k.soup k.by_sig c.in_ok-graph.field-0.graph) (λ n. n ≡ k.soup.next_uid) (λ n is. is ∙ added-uid k.blocks c.read_entry.new.self.minute c.in_ok-soup.into k.store k.soup k.by_sig c.in_ok-graph.field-0.graph)));
-      moments = λ t.
-          let h = has-soup at t c.args.unit c.args.name.now c.in_ok-soup.soup c.in_ok-soup.ensures.0 in
-          let k = has-soup at t c.args.to c.args.target.now c.in_ok-soup.into c.in_ok-soup.ensures.1 in
-          let x : Entry = record { uid = c.in_ok-graph.field-0.uid; time = c.in_ok-graph.field-0.time; graph = c.in_ok-graph.field-0.graph } in
-          let found : entry_of c.args.uid h.soup ≡ Some x = read-found c.in_ok-soup.soup c.args.uid h.store h.soup c.in_ok-graph.field-0 c.in_ok-graph.field-0.graph refl h.by_sig (c.in_ok-graph.ensures.read t h.blocks h.store h.on) in
-          let same = read.looks.world t in
-          let there = subst (λ y. OnUnit y c.args.to k.blocks k.store) (sym same) k.on in
-          let fits = entry-fits h.store c.args.name.now h.soup c.args.uid x h.formed h.named found in
-          let v = (answer w (command.Copy c.args.unit c.args.name.now c.args.uid c.args.to c.args.target.now)).0 in
-          behind-moments (command.Copy c.args.unit c.args.name.now c.args.uid c.args.to c.args.target.now) v t read.looks
-          (said-moments e t there (add-said k.blocks c.read_entry.new.self.minute c.in_ok-soup.into k.store k.soup k.by_sig c.in_ok-graph.field-0.graph) _ v (eq-eqb c.args.to c.args.to refl)
-          (λ tests. subst (λ (y : World). store_on_unit v c.args.to ≡ Some (change_soup k.soup.name (add_entry y.minute x.graph) k.store)) (sym same)
-          (copy-makes w w c.args.unit h.blocks h.store c.args.name.now h.soup c.args.uid h.on h.named refl c.args.to k.blocks k.store c.args.target.now k.soup k.on k.named k.name_is x found fits
-          (subst (λ (y : World). first_of (add_tests k.blocks y.minute k.soup.name x.graph k.store k.soup) ≡ None) same tests))));
-      costs = λ t.
-          let h = has-soup at t c.args.unit c.args.name.now c.in_ok-soup.soup c.in_ok-soup.ensures.0 in
-          let k = has-soup at t c.args.to c.args.target.now c.in_ok-soup.into c.in_ok-soup.ensures.1 in
-          let x : Entry = record { uid = c.in_ok-graph.field-0.uid; time = c.in_ok-graph.field-0.time; graph = c.in_ok-graph.field-0.graph } in
-          let found : entry_of c.args.uid h.soup ≡ Some x = read-found c.in_ok-soup.soup c.args.uid h.store h.soup c.in_ok-graph.field-0 c.in_ok-graph.field-0.graph refl h.by_sig (c.in_ok-graph.ensures.read t h.blocks h.store h.on) in
-          let same = read.looks.world t in
-          let there = subst (λ y. OnUnit y c.args.to k.blocks k.store) (sym same) k.on in
-          copy-costs h c.args.uid x found _ same (record { alone = read.looks.untouched; moment = read.looks.moment; reads = read.fetches t h.blocks h.store h.on }) k (said-costs e t there (add-said k.blocks c.read_entry.new.self.minute c.in_ok-soup.into k.store k.soup k.by_sig c.in_ok-graph.field-0.graph));
-      alone = OnDevices-append read.looks.alone e.alone;
-      cause = cause-after _ _ (read.ends.no_fault tt) e.cause;
-      broke = behind-breaks (command.Copy c.args.unit c.args.name.now c.args.uid c.args.to c.args.target.now) read.looks (read.ends.no_fault tt) e (λ t.
-          let h = has-soup at t c.args.unit c.args.name.now c.in_ok-soup.soup c.in_ok-soup.ensures.0 in
-          let k = has-soup at t c.args.to c.args.target.now c.in_ok-soup.into c.in_ok-soup.ensures.1 in
-          let x : Entry = record { uid = c.in_ok-graph.field-0.uid; time = c.in_ok-graph.field-0.time; graph = c.in_ok-graph.field-0.graph } in
-          let found : entry_of c.args.uid h.soup ≡ Some x = read-found c.in_ok-soup.soup c.args.uid h.store h.soup c.in_ok-graph.field-0 c.in_ok-graph.field-0.graph refl h.by_sig (c.in_ok-graph.ensures.read t h.blocks h.store h.on) in
-          let same = read.looks.world t in
-          let fits = entry-fits h.store c.args.name.now h.soup c.args.uid x h.formed h.named found in
-          behind-untorn e t (subst (λ y. OnUnit y c.args.to k.blocks k.store) (sym same) k.on) (add-said k.blocks c.read_entry.new.self.minute c.in_ok-soup.into k.store k.soup k.by_sig c.in_ok-graph.field-0.graph)
-          w same (command.Copy c.args.unit c.args.name.now c.args.uid c.args.to c.args.target.now) (eq-eqb c.args.to c.args.to refl) refl
-          (λ q. unrefused (λ n. Reply.number n) w _ (command.Copy c.args.unit c.args.name.now c.args.uid c.args.to c.args.target.now) k.soup.next_uid (λ r x. cc)
-          (copy-answers w _ c.args.unit h.blocks h.store c.args.name.now h.soup c.args.uid h.on h.named refl c.args.to k.blocks k.store c.args.target.now k.soup k.on k.named k.name_is x found fits (Ok k.soup.next_uid)
-          (subst (λ (y : World). first_of (add_tests k.blocks y.minute k.soup.name x.graph k.store k.soup) ≡ None) same q, refl, refl))));
-      no_fault = λ goes. NoFault-append (read.ends.no_fault tt) (e.no_fault goes);
-      kept = λ idle. keeps-append (read-keeps read.looks) (change-keeps e);
-    }
+      resolves = soup-resolves k (λ sig. change.Add sig graph) (known-formed at t)
+          (both-found w u name h.blocks h.store h.soup to target k.blocks k.store k.soup (λ p q. needs NoEntry (entry_of uid p) (λ e. only to (change.Add q.sig e.graph))) h.on h.named k.on k.named
+          ∙ ap (λ o. needs NoEntry o (λ e. only to (change.Add k.soup.sig e.graph))) found) refl refl (λ means. none-low _);
+      replied = ap Reply.number (uid-is w to k.blocks k.store target k.soup graph k.on k.named ∙ sym (added-uid k.blocks w.minute c.in_ok-soup.into k.store k.soup k.by_sig graph));
+      n = 512 * its_pages h uid;
+      fetched = read.fetches t h.blocks h.store h.on;
+      fits = λ means. none-fits u _ to (most_fetched w command) (half _ _ (first-low h uid (next_if_on w to u target)));
+    })

@@ -1,7 +1,5 @@
 -- The soup is looked up, its indexes are looked through, and its card declares one more.
-use Rattle.std.proofs.Common.{ap, refl, subst, ◌∙◌, ◌≡◌}
-use Rattle.std.proofs.lemmas.Bool.{eq-eqb}
-use Rattle.std.specs.Bool.{⊤}
+use Rattle.std.proofs.Common.{ap, refl, subst, ◌∙◌, ◌≡◌, sym}
 use Rattle.newt_engine_units.specs.Looks.{known_checks}
 use Rattle.std.proofs.lemmas.Result.{err_from_is_err_and}
 use Rattle.newt_engine_units.specs.Stands.{Stands, world_of}
@@ -10,15 +8,20 @@ use Rattle.newt_spec_world.specs.declared.command.Command.TheVariants as command
 use Rattle.std.specs.Prelude.{Ok, Err}
 use Rattle.newt_spec_store.specs.Keys.{IndexSpec}
 use Rattle.newt_spec_world.specs.Changed.{spec_of_words}
-use Rattle.newt_laws_answers.proofs.Changes.{index-said}
 use Rattle.newt_laws_answers.proofs.Declares.{index-not-found}
 use Rattle.newt_engine_commands.specs.Declares.{MayDeclare}
-use Rattle.newt_engine_commands.proofs.Declaring.{index-fails, index-answers, index-makes}
-use Rattle.newt_engine_commands.proofs.Costing.{index-costs}
-use Rattle.newt_engine_units.proofs.Keeping.{change-keeps}
+use Rattle.newt_engine_commands.proofs.Declaring.{index-fails}
 use Rattle.newt_engine_units.proofs.Obeying.{none-refused, refused-obeys}
-use Rattle.newt_engine_commands.proofs.Said.{said-done, said-moments, said-costs, done-goes, done-cause, done-costs, change-breaks, said-untorn}
 use Rattle.newt_engine_units.proofs.Settings.{Setting, is-err, stand-told, soup-refused, has-soup}
+use Rattle.newt_engine_commands.specs.Declares.{has_parts, has_real}
+use Rattle.newt_base.specs.declared.Refusal.TheVariants.{Index as BadIndex, Key as BadKey}
+use Rattle.newt_spec_graph.proofs.Lists.{both-ways}
+use Rattle.newt_laws_effects.proofs.Found.{soup-found, passes}
+use Rattle.newt_engine_commands.proofs.Effects.{change-obeys, done-obeys, known-formed, soup-resolves}
+use Rattle.newt_laws_effects.specs.Tells.{is_of_stores}
+use Rattle.newt_laws_effects.specs.Effects.{effects, Resolved, passing, one as only}
+use Rattle.newt_store_change.specs.declared.change.Change.TheVariants as change
+use Rattle.newt_spec_world.specs.Answer.{fields}
 use Rattle.newt_engine_commands.proofs.indexing.index.Given.{Over}
 use Rattle.newt_engine_commands.proofs.indexing.index.Goals as goal
 
@@ -49,37 +52,20 @@ returns-in_err-spec g c =
     (is-err _ _ (err_from_is_err_and c.from_residual-in_err-spec.result c.from_residual-in_err-spec.ensures.1)))
 
 pub returns : goal.returns
+unfolding effects is_of_stores fields
 returns g c =
     let at = begins g c.requires.stands in
     let w = world_of g.C.Card.reads c.args.units.now (g.H.Host.outside c.args.host.now) in
-    let e = c.change.ensures in
-    let is = c.done.ensures in
+    let u = c.args.unit in
+    let name = c.args.name.now in
     let words : c.in_ok-spec.spec ≡ spec_of_words c.args.parts.now = c.in_ok-spec.ensures.made ∙ ap spec_of_words c.list-words.ensures in
-    record {
-      stands = λ goes. e.stands (done-goes c.change.result is goes);
-      answered = λ t.
-          let h = has-soup at t c.args.unit c.args.name.now c.in_ok-soup.soup c.in_ok-soup.ensures in
-          let may : MayDeclare {T = IndexSpec} c.args.parts.now h.soup (Ok c.in_ok-spec.spec) = subst (λ x. MayDeclare {T = IndexSpec} x h.soup (Ok c.in_ok-spec.spec)) c.list-words.ensures
-          (c.in_ok-spec.ensures.may (g.H.Host.outside c.args.host.now) at.eight (stand-told at t) h.blocks h.store h.soup h.on h.by_sig) in
-          index-answers w _ c.args.unit h.blocks h.store h.on refl c.args.name.now h.soup h.named h.name_is c.args.parts.now c.in_ok-spec.spec words may.0 may.1 _ (said-done e t h.on (index-said h.blocks w.minute c.in_ok-soup.soup h.store h.soup h.by_sig c.in_ok-spec.spec) _ is);
-      moments = λ t.
-          let h = has-soup at t c.args.unit c.args.name.now c.in_ok-soup.soup c.in_ok-soup.ensures in
-          let may : MayDeclare {T = IndexSpec} c.args.parts.now h.soup (Ok c.in_ok-spec.spec) = subst (λ x. MayDeclare {T = IndexSpec} x h.soup (Ok c.in_ok-spec.spec)) c.list-words.ensures
-          (c.in_ok-spec.ensures.may (g.H.Host.outside c.args.host.now) at.eight (stand-told at t) h.blocks h.store h.soup h.on h.by_sig) in
-          said-moments e t h.on (index-said h.blocks w.minute c.in_ok-soup.soup h.store h.soup h.by_sig c.in_ok-spec.spec) _ _ (eq-eqb c.args.unit c.args.unit refl) (index-makes w w c.args.unit h.blocks h.store h.on refl c.args.name.now h.soup h.named h.name_is c.args.parts.now c.in_ok-spec.spec words may.0 may.1);
-      costs = λ t.
-          let h = has-soup at t c.args.unit c.args.name.now c.in_ok-soup.soup c.in_ok-soup.ensures in
-          let may : MayDeclare {T = IndexSpec} c.args.parts.now h.soup (Ok c.in_ok-spec.spec) = subst (λ x. MayDeclare {T = IndexSpec} x h.soup (Ok c.in_ok-spec.spec)) c.list-words.ensures
-          (c.in_ok-spec.ensures.may (g.H.Host.outside c.args.host.now) at.eight (stand-told at t) h.blocks h.store h.soup h.on h.by_sig) in
-          index-costs h c.args.parts.now may.0 may.1 c.in_ok-spec.spec words (done-costs c.change.result is (said-costs e t h.on (index-said h.blocks w.minute c.in_ok-soup.soup h.store h.soup h.by_sig c.in_ok-spec.spec)));
-      alone = e.alone;
-      cause = done-cause c.change.result is _ e.cause;
-      broke = done-cause c.change.result is _ (change-breaks (command.Index c.args.unit c.args.name.now c.args.parts.now) e (λ t.
-          let h = has-soup at t c.args.unit c.args.name.now c.in_ok-soup.soup c.in_ok-soup.ensures in
-          let may : MayDeclare {T = IndexSpec} c.args.parts.now h.soup (Ok c.in_ok-spec.spec) = subst (λ x. MayDeclare {T = IndexSpec} x h.soup (Ok c.in_ok-spec.spec)) c.list-words.ensures
-          (c.in_ok-spec.ensures.may (g.H.Host.outside c.args.host.now) at.eight (stand-told at t) h.blocks h.store h.soup h.on h.by_sig) in
-          said-untorn e t h.on (index-said h.blocks w.minute c.in_ok-soup.soup h.store h.soup h.by_sig c.in_ok-spec.spec) (command.Index c.args.unit c.args.name.now c.args.parts.now) (λ _. Reply.done) tt (λ _. ⊤) (eq-eqb c.args.unit c.args.unit refl) refl (λ r x. cc) tt
-          (index-answers w _ c.args.unit h.blocks h.store h.on refl c.args.name.now h.soup h.named h.name_is c.args.parts.now c.in_ok-spec.spec words may.0 may.1)));
-      no_fault = λ goes. e.no_fault (done-goes c.change.result is goes);
-      kept = λ idle. change-keeps e;
-    }
+    done-obeys c.change.result _ c.done.ensures (change-obeys c.change.result c.change.ensures (command.Index u name c.args.parts.now) (λ n. Reply.done) refl
+    (λ t. let h = has-soup at t u name c.in_ok-soup.soup c.in_ok-soup.ensures in
+    let may : MayDeclare {T = IndexSpec} c.args.parts.now h.soup (Ok c.in_ok-spec.spec) = subst (λ x. MayDeclare {T = IndexSpec} x h.soup (Ok c.in_ok-spec.spec)) c.list-words.ensures
+    (c.in_ok-spec.ensures.may (g.H.Host.outside c.args.host.now) at.eight (stand-told at t) h.blocks h.store h.soup h.on h.by_sig) in
+    let made = only u (change.AddIndex h.soup.sig (spec_of_words c.args.parts.now)) in
+    soup-resolves h (λ sig. change.AddIndex sig c.in_ok-spec.spec) (known-formed at t) (soup-found w u name h.blocks h.store h.soup (λ p. passing (BadIndex, has_parts c.args.parts.now p) (passing (BadKey, has_real c.args.parts.now) (only u (change.AddIndex p.sig (spec_of_words c.args.parts.now))))) h.on h.named
+    ∙ passes BadIndex (has_parts c.args.parts.now h.soup) (passing (BadKey, has_real c.args.parts.now) made) may.0
+    ∙ passes BadKey (has_real c.args.parts.now) made may.1
+    ∙ ap {B = Resolved} (λ x. only u (change.AddIndex h.soup.sig x)) (sym words)) refl refl (λ means. absurd (both-ways means)))
+    (λ t. refl))

@@ -1,21 +1,23 @@
 -- The soup is looked up, its indexes are looked through, and its card removes one.
 use Rattle.std.proofs.Common.{ap, refl, sym, ◌∙◌}
-use Rattle.std.proofs.lemmas.Bool.{eq-eqb}
-use Rattle.std.specs.Bool.{⊤}
 use Rattle.newt_engine_units.specs.Looks.{known_checks}
 use Rattle.std.proofs.lemmas.Result.{err_from_is_err_and}
 use Rattle.newt_engine_units.specs.Stands.{Stands, world_of}
 use Rattle.newt_spec_world.specs.Reply.{Reply}
 use Rattle.newt_spec_world.specs.declared.command.Command.TheVariants as command
 use Rattle.newt_spec_store.specs.Keys.{has_paths}
-use Rattle.newt_laws_answers.proofs.Changes.{unindex-said}
 use Rattle.newt_laws_answers.proofs.Declares.{unindex-not-found, unindex-missing}
-use Rattle.newt_engine_commands.proofs.Declaring.{unindex-answers, unindex-makes}
-use Rattle.newt_engine_commands.proofs.Costing.{unindex-costs}
-use Rattle.newt_engine_units.proofs.Keeping.{change-keeps}
 use Rattle.newt_engine_units.proofs.Obeying.{none-refused, refused-obeys, still-obeys}
-use Rattle.newt_engine_commands.proofs.Said.{said-done, said-moments, said-costs, done-goes, done-cause, done-costs, change-breaks, said-untorn}
 use Rattle.newt_engine_units.proofs.Settings.{Setting, stand-told, soup-refused, has-soup}
+use Rattle.newt_base.specs.declared.Refusal.TheVariants.{Index as BadIndex}
+use Rattle.std.proofs.Common.{not}
+use Rattle.newt_spec_graph.proofs.Lists.{both-ways}
+use Rattle.newt_laws_effects.proofs.Found.{soup-found, passes}
+use Rattle.newt_engine_commands.proofs.Effects.{change-obeys, done-obeys, known-formed, soup-resolves}
+use Rattle.newt_laws_effects.specs.Tells.{is_of_stores}
+use Rattle.newt_laws_effects.specs.Effects.{effects, passing, one as only}
+use Rattle.newt_store_change.specs.declared.change.Change.TheVariants as change
+use Rattle.newt_spec_world.specs.Answer.{fields}
 use Rattle.newt_engine_commands.proofs.indexing.unindex.Given.{Over}
 use Rattle.newt_engine_commands.proofs.indexing.unindex.Goals as goal
 
@@ -44,28 +46,15 @@ returns-then-not-has_index g c =
     unindex-missing w c.args.unit h.blocks h.store c.args.name.now h.soup h.on h.named c.args.paths (ap (λ x. has_paths x h.soup.specs) (sym c.list.ensures) ∙ sym (c.has_index.ensures (g.H.Host.outside c.args.host.now) at.eight (stand-told at t) h.blocks h.store h.soup h.on h.by_sig) ∙ c.if-not-has_index.true))
 
 pub returns : goal.returns
+unfolding effects is_of_stores fields
 returns g c =
     let at = begins g c.requires in
     let w = world_of g.C.Card.reads c.args.units.now (g.H.Host.outside c.args.host.now) in
-    let e = c.change.ensures in
-    let is = c.done.ensures in
-    record {
-      stands = λ goes. e.stands (done-goes c.change.result is goes);
-      answered = λ t.
-          let h = has-soup at t c.args.unit c.args.name.now c.in_ok-soup.soup c.in_ok-soup.ensures in
-          unindex-answers w _ c.args.unit h.blocks h.store h.on refl c.args.name.now h.soup h.named h.name_is c.args.paths (ap (λ x. has_paths x h.soup.specs) (sym c.list.ensures) ∙ sym (c.has_index.ensures (g.H.Host.outside c.args.host.now) at.eight (stand-told at t) h.blocks h.store h.soup h.on h.by_sig) ∙ c.if-not-has_index.false) _ (said-done e t h.on (unindex-said h.blocks w.minute c.in_ok-soup.soup h.store h.soup h.by_sig c.args.paths) _ is);
-      moments = λ t.
-          let h = has-soup at t c.args.unit c.args.name.now c.in_ok-soup.soup c.in_ok-soup.ensures in
-          said-moments e t h.on (unindex-said h.blocks w.minute c.in_ok-soup.soup h.store h.soup h.by_sig c.args.paths) _ _ (eq-eqb c.args.unit c.args.unit refl) (λ _. unindex-makes w w c.args.unit h.blocks h.store h.on refl c.args.name.now h.soup h.named h.name_is c.args.paths (ap (λ x. has_paths x h.soup.specs) (sym c.list.ensures) ∙ sym (c.has_index.ensures (g.H.Host.outside c.args.host.now) at.eight (stand-told at t) h.blocks h.store h.soup h.on h.by_sig) ∙ c.if-not-has_index.false));
-      costs = λ t.
-          let h = has-soup at t c.args.unit c.args.name.now c.in_ok-soup.soup c.in_ok-soup.ensures in
-          unindex-costs h c.args.paths c.args.paths (ap (λ x. has_paths x h.soup.specs) (sym c.list.ensures) ∙ sym (c.has_index.ensures (g.H.Host.outside c.args.host.now) at.eight (stand-told at t) h.blocks h.store h.soup h.on h.by_sig) ∙ c.if-not-has_index.false) refl (done-costs c.change.result is (said-costs e t h.on (unindex-said h.blocks w.minute c.in_ok-soup.soup h.store h.soup h.by_sig c.args.paths)));
-      alone = e.alone;
-      cause = done-cause c.change.result is _ e.cause;
-      broke = done-cause c.change.result is _ (change-breaks (command.Unindex c.args.unit c.args.name.now c.args.paths) e (λ t.
-          let h = has-soup at t c.args.unit c.args.name.now c.in_ok-soup.soup c.in_ok-soup.ensures in
-          said-untorn e t h.on (unindex-said h.blocks w.minute c.in_ok-soup.soup h.store h.soup h.by_sig c.args.paths) (command.Unindex c.args.unit c.args.name.now c.args.paths) (λ _. Reply.done) tt (λ _. ⊤) (eq-eqb c.args.unit c.args.unit refl) refl (λ r x. cc) tt
-          (unindex-answers w _ c.args.unit h.blocks h.store h.on refl c.args.name.now h.soup h.named h.name_is c.args.paths (ap (λ x. has_paths x h.soup.specs) (sym c.list.ensures) ∙ sym (c.has_index.ensures (g.H.Host.outside c.args.host.now) at.eight (stand-told at t) h.blocks h.store h.soup h.on h.by_sig) ∙ c.if-not-has_index.false))));
-      no_fault = λ goes. e.no_fault (done-goes c.change.result is goes);
-      kept = λ idle. change-keeps e;
-    }
+    let u = c.args.unit in
+    let name = c.args.name.now in
+    done-obeys c.change.result _ c.done.ensures (change-obeys c.change.result c.change.ensures (command.Unindex u name c.args.paths) (λ n. Reply.done) refl
+    (λ t. let h = has-soup at t u name c.in_ok-soup.soup c.in_ok-soup.ensures in
+    let here = ap (λ x. has_paths x h.soup.specs) (sym c.list.ensures) ∙ sym (c.has_index.ensures (g.H.Host.outside c.args.host.now) at.eight (stand-told at t) h.blocks h.store h.soup h.on h.by_sig) ∙ c.if-not-has_index.false in
+    soup-resolves h (λ sig. change.DropIndex sig c.args.paths) (known-formed at t) (soup-found w u name h.blocks h.store h.soup (λ p. passing (BadIndex, not (has_paths c.args.paths p.specs)) (only u (change.DropIndex p.sig c.args.paths))) h.on h.named
+    ∙ passes BadIndex (not (has_paths c.args.paths h.soup.specs)) (only u (change.DropIndex h.soup.sig c.args.paths)) (ap not here)) refl refl (λ means. absurd (both-ways means)))
+    (λ t. refl))

@@ -1,33 +1,34 @@
 -- The soup is looked up, the entry is read, its large binary is found, and its card puts the bytes over it.
-use Rattle.std.proofs.Common.{Some, length, refl, subst, sym, ◌≡◌}
-use Rattle.std.proofs.lemmas.Bool.{eq-eqb}
+use Rattle.std.proofs.Common.{Some, refl, subst, sym, ◌≡◌}
 use Rattle.newt_engine_units.specs.Looks.{known_checks}
 use Rattle.std.proofs.lemmas.Result.{err_from_is_err_and}
 use Rattle.newt_engine_units.specs.Stands.{Stands, world_of}
 use Rattle.newt_spec_world.specs.Reply.{Reply}
 use Rattle.newt_spec_world.specs.declared.command.Command.TheVariants as command
-use Rattle.std.specs.Prelude.{Err, Ok}
+use Rattle.std.specs.Prelude.{Err}
 use Rattle.std.specs.Option.{option_and_then}
 use Rattle.newt_spec_store.specs.Store.{Entry, entry_of}
 use Rattle.newt_store_change.specs.Entries.{ReadsEntry}
-use Rattle.std.specs.Bool.{⊤}
-use Rattle.newt_host.specs.Moments.{Moment, Always}
-use Rattle.newt_host.proofs.Outside.{NoFault-append, OnDevices-append}
-use Rattle.newt_spec_world.specs.World.{World, change_store}
-use Rattle.newt_store_change.specs.Faults.{Does}
-use Rattle.newt_spec_world.specs.Answer.{answer}
-use Rattle.newt_laws_answers.proofs.Tests.{patch_tests, patched_within}
-use Rattle.newt_laws_answers.specs.There.{OnUnit}
-use Rattle.newt_laws_answers.proofs.Changes.{patch-said}
 use Rattle.newt_laws_answers.proofs.Entries.{no-soup}
 use Rattle.newt_laws_answers.proofs.Larges.{vwrite-not-found}
-use Rattle.newt_engine_commands.proofs.Binaries.{missing, reached, vwrite-answers, vwrite-makes, vwrite-nowhere}
+use Rattle.newt_engine_commands.proofs.Binaries.{missing, vwrite-nowhere}
 use Rattle.newt_engine_commands.proofs.Commands.{read-found}
-use Rattle.newt_engine_commands.proofs.Costing.{vwrite-costs, get-few}
-use Rattle.newt_engine_units.proofs.Keeping.{change-keeps, keeps-append, read-keeps}
-use Rattle.newt_engine_units.proofs.Obeying.{cause-after, ends-after, handed-ends, none-ends, none-refused, read-obeys, refused-obeys}
-use Rattle.newt_engine_commands.proofs.Said.{said-done, said-moments, said-costs, done-goes, done-cause, done-costs, behind-breaks, behind-moments, behind-untorn, unrefused}
+use Rattle.newt_engine_commands.proofs.Costing.{get-few}
+use Rattle.newt_engine_units.proofs.Obeying.{ends-after, handed-ends, none-ends, none-refused, read-obeys, refused-obeys}
 use Rattle.newt_engine_units.proofs.Settings.{Setting, is-err, soup-refused, has-soup}
+use Rattle.newt_base.specs.declared.Refusal.TheVariants.{Path as NoPath}
+use Rattle.newt_laws_answers.specs.Fetched.{most_fetched}
+use Rattle.newt_spec_graph.specs.Larges.{large_at}
+use Rattle.newt_engine_commands.proofs.Costing.{its_pages, half-more, named-low, thrice}
+use Rattle.newt_engine_units.proofs.Costs.{same-fits}
+use Rattle.newt_engine_commands.proofs.Effects.{after-obeys, done-obeys, known-formed, soup-resolves}
+use Rattle.newt_laws_effects.proofs.Found.{entry-found}
+use Rattle.newt_laws_effects.specs.Effects.{effects, needs, one as only}
+use Rattle.newt_laws_effects.specs.Tells.{is_of_stores}
+use Rattle.newt_store_change.specs.declared.change.Change.TheVariants as change
+use Rattle.newt_spec_world.specs.Answer.{fields}
+use Rattle.std.proofs.Common.{◌*◌}
+use Rattle.std.proofs.Common.{ap, ◌∙◌}
 use Rattle.newt_engine_commands.proofs.larges.vwrite.Given.{Over}
 use Rattle.newt_engine_commands.proofs.larges.vwrite.Goals as goal
 
@@ -60,55 +61,30 @@ returns-in_err-graph g c =
     (subst (λ p. ReadsEntry (option_and_then (entry_of c.args.uid) p) (Err c.in_err-graph.field-0.0)) h.by_sig (e.read t h.blocks h.store h.on)) _ (is-err _ _ (err_from_is_err_and c.from_residual-in_err-graph.result c.from_residual-in_err-graph.ensures.1)))
 
 pub returns-in-Some : goal.returns-in-Some
+unfolding effects is_of_stores fields
 returns-in-Some g c =
     let at = begins g c.requires in
-    let o = g.H.Host.outside in
     let w = world_of g.C.Card.reads c.args.units.now (g.H.Host.outside c.args.host.now) in
+    let u = c.args.unit in
+    let name = c.args.name.now in
+    let uid = c.args.uid in
     let read = c.in_ok-graph.ensures in
-    let e = c.change.ensures in
-    let is = c.done.ensures in
-    let reach = sym c.in-Some.ensures in
-    let binary = reached c.in_ok-graph.field-0.graph c.args.path.now c.in-Some.node reach in
+    let path = c.args.path.now in
+    let node = c.in-Some.node in
+    let command = command.Vwrite u name uid path c.args.at c.args.bytes in
+    done-obeys c.change.result _ c.done.ensures (after-obeys read.looks (read.ends.no_fault tt) c.change.result c.change.ensures command (λ n. Reply.done) (λ w now. refl)
+    (λ t. let h = has-soup at t u name c.in_ok-soup.soup c.in_ok-soup.ensures in
+    let x : Entry = record { uid = c.in_ok-graph.field-0.uid; time = c.in_ok-graph.field-0.time; graph = c.in_ok-graph.field-0.graph } in
+    let found : entry_of uid h.soup ≡ Some x = read-found c.in_ok-soup.soup uid h.store h.soup c.in_ok-graph.field-0 x.graph refl h.by_sig (read.read t h.blocks h.store h.on) in
     record {
-      stands = λ goes. e.stands (done-goes c.change.result is goes);
-      answered = λ t.
-          let h = has-soup at t c.args.unit c.args.name.now c.in_ok-soup.soup c.in_ok-soup.ensures in
-          let x : Entry = record { uid = c.in_ok-graph.field-0.uid; time = c.in_ok-graph.field-0.time; graph = c.in_ok-graph.field-0.graph } in
-          let found : entry_of c.args.uid h.soup ≡ Some x = read-found c.in_ok-soup.soup c.args.uid h.store h.soup c.in_ok-graph.field-0 c.in_ok-graph.field-0.graph refl h.by_sig (c.in_ok-graph.ensures.read t h.blocks h.store h.on) in
-          let same = read.looks.world t in
-          vwrite-answers w _ c.args.unit h.blocks h.store h.on refl c.args.name.now h.soup h.named h.name_is c.args.uid x found c.args.path.now c.args.at c.args.bytes c.in-Some.node reach _
-          (subst (λ (y : World). Does (patch_tests c.in-Some.node c.args.at (length c.args.bytes) x) (λ _. ⊤) y (change_store y c.args.unit (patched_within h.soup.name c.args.uid c.in-Some.node c.args.at c.args.bytes)) (world_of g.C.Card.reads c.change.new.self (o c.change.new.host)) c.done.result) same
-          (said-done e t (subst (λ y. OnUnit y c.args.unit h.blocks h.store) (sym same) h.on) (patch-said h.blocks c.read_entry.new.self.minute c.in_ok-soup.soup h.store h.soup h.by_sig c.args.uid x found c.in-Some.node c.args.at c.args.bytes binary.0 binary.1 binary.2) _ is));
-      moments = λ t.
-          let h = has-soup at t c.args.unit c.args.name.now c.in_ok-soup.soup c.in_ok-soup.ensures in
-          let x : Entry = record { uid = c.in_ok-graph.field-0.uid; time = c.in_ok-graph.field-0.time; graph = c.in_ok-graph.field-0.graph } in
-          let found : entry_of c.args.uid h.soup ≡ Some x = read-found c.in_ok-soup.soup c.args.uid h.store h.soup c.in_ok-graph.field-0 c.in_ok-graph.field-0.graph refl h.by_sig (c.in_ok-graph.ensures.read t h.blocks h.store h.on) in
-          let same = read.looks.world t in
-          let v = (answer w (command.Vwrite c.args.unit c.args.name.now c.args.uid c.args.path.now c.args.at c.args.bytes)).0 in
-          behind-moments (command.Vwrite c.args.unit c.args.name.now c.args.uid c.args.path.now c.args.at c.args.bytes) v t read.looks
-          (said-moments e t (subst (λ y. OnUnit y c.args.unit h.blocks h.store) (sym same) h.on) (patch-said h.blocks c.read_entry.new.self.minute c.in_ok-soup.soup h.store h.soup h.by_sig c.args.uid x found c.in-Some.node c.args.at c.args.bytes binary.0 binary.1 binary.2) _ v (eq-eqb c.args.unit c.args.unit refl)
-          (vwrite-makes w w c.args.unit h.blocks h.store h.on refl c.args.name.now h.soup h.named h.name_is c.args.uid x found c.args.path.now c.args.at c.args.bytes c.in-Some.node reach));
-      costs = λ t.
-          let h = has-soup at t c.args.unit c.args.name.now c.in_ok-soup.soup c.in_ok-soup.ensures in
-          let x : Entry = record { uid = c.in_ok-graph.field-0.uid; time = c.in_ok-graph.field-0.time; graph = c.in_ok-graph.field-0.graph } in
-          let found : entry_of c.args.uid h.soup ≡ Some x = read-found c.in_ok-soup.soup c.args.uid h.store h.soup c.in_ok-graph.field-0 c.in_ok-graph.field-0.graph refl h.by_sig (c.in_ok-graph.ensures.read t h.blocks h.store h.on) in
-          let same = read.looks.world t in
-          vwrite-costs h c.args.uid x found _ same (record { alone = read.looks.untouched; moment = read.looks.moment; reads = read.fetches t h.blocks h.store h.on }) c.args.path.now c.args.at c.in-Some.node reach c.args.bytes
-          (done-costs c.change.result is (said-costs e t (subst (λ y. OnUnit y c.args.unit h.blocks h.store) (sym same) h.on) (patch-said h.blocks c.read_entry.new.self.minute c.in_ok-soup.soup h.store h.soup h.by_sig c.args.uid x found c.in-Some.node c.args.at c.args.bytes binary.0 binary.1 binary.2)));
-      alone = OnDevices-append read.looks.alone e.alone;
-      cause = cause-after _ _ (read.ends.no_fault tt) (done-cause c.change.result is _ e.cause);
-      broke = done-cause c.change.result is _ (behind-breaks (command.Vwrite c.args.unit c.args.name.now c.args.uid c.args.path.now c.args.at c.args.bytes) read.looks (read.ends.no_fault tt) e (λ t.
-          let h = has-soup at t c.args.unit c.args.name.now c.in_ok-soup.soup c.in_ok-soup.ensures in
-          let x : Entry = record { uid = c.in_ok-graph.field-0.uid; time = c.in_ok-graph.field-0.time; graph = c.in_ok-graph.field-0.graph } in
-          let found : entry_of c.args.uid h.soup ≡ Some x = read-found c.in_ok-soup.soup c.args.uid h.store h.soup c.in_ok-graph.field-0 c.in_ok-graph.field-0.graph refl h.by_sig (c.in_ok-graph.ensures.read t h.blocks h.store h.on) in
-          let same = read.looks.world t in
-          behind-untorn e t (subst (λ y. OnUnit y c.args.unit h.blocks h.store) (sym same) h.on) (patch-said h.blocks c.read_entry.new.self.minute c.in_ok-soup.soup h.store h.soup h.by_sig c.args.uid x found c.in-Some.node c.args.at c.args.bytes binary.0 binary.1 binary.2)
-          w same (command.Vwrite c.args.unit c.args.name.now c.args.uid c.args.path.now c.args.at c.args.bytes) (eq-eqb c.args.unit c.args.unit refl) refl
-          (λ k. unrefused {T = Unit {0}} (λ _. Reply.done) w _ (command.Vwrite c.args.unit c.args.name.now c.args.uid c.args.path.now c.args.at c.args.bytes) tt (λ r x. cc)
-          (vwrite-answers w _ c.args.unit h.blocks h.store h.on refl c.args.name.now h.soup h.named h.name_is c.args.uid x found c.args.path.now c.args.at c.args.bytes c.in-Some.node reach (Ok tt) (k, tt, refl)))));
-      no_fault = λ goes. NoFault-append (read.ends.no_fault tt) (e.no_fault (done-goes c.change.result is goes));
-      kept = λ idle. keeps-append (read-keeps read.looks) (change-keeps e);
-    }
+      resolves = soup-resolves h (λ sig. change.Patch sig uid node c.args.at c.args.bytes) (known-formed at t)
+          (entry-found w u name uid h.blocks h.store h.soup x (λ p e. needs NoPath (large_at e.graph path) (λ n. only u (change.Patch p.sig uid n c.args.at c.args.bytes))) h.on h.named found
+          ∙ ap (λ o. needs NoPath o (λ n. only u (change.Patch h.soup.sig uid n c.args.at c.args.bytes))) (sym c.in-Some.ensures)) refl refl (λ means. half-more _ _ (named-low h uid));
+      replied = refl;
+      n = 512 * its_pages h uid;
+      fetched = read.fetches t h.blocks h.store h.on;
+      fits = λ means. same-fits u _ _ (most_fetched w command) (thrice _ _ (named-low h uid));
+    }))
 
 pub returns-in-None : goal.returns-in-None
 returns-in-None g c =

@@ -1,19 +1,18 @@
 -- The entry is looked up, and its card puts the graph in its place.
 use Rattle.std.proofs.Common.{refl}
 use Rattle.std.proofs.lemmas.Result.{err_from_is_err_and}
-use Rattle.std.proofs.lemmas.Bool.{eq-eqb}
-use Rattle.std.specs.Bool.{⊤}
 use Rattle.newt_engine_units.specs.Stands.{Stands, world_of}
 use Rattle.newt_spec_world.specs.Reply.{Reply}
 use Rattle.newt_spec_world.specs.declared.command.Command.TheVariants as command
-use Rattle.newt_laws_answers.proofs.Changes.{replace-said}
 use Rattle.newt_laws_answers.proofs.Replaces.{change-not-found}
-use Rattle.newt_engine_commands.proofs.Replacing.{change-answers, change-makes}
-use Rattle.newt_engine_commands.proofs.Costing.{change-costs}
-use Rattle.newt_engine_units.proofs.Keeping.{change-keeps}
 use Rattle.newt_engine_units.proofs.Obeying.{none-only, refused-obeys}
-use Rattle.newt_engine_commands.proofs.Said.{said-done, said-moments, said-costs, done-goes, done-cause, done-costs, change-breaks, said-untorn}
 use Rattle.newt_engine_units.proofs.Settings.{Setting, stand-told, entry-refused}
+use Rattle.newt_laws_effects.proofs.Found.{entry-found}
+use Rattle.newt_engine_commands.proofs.Effects.{change-obeys, done-obeys, known-formed, none-low, soup-resolves}
+use Rattle.newt_laws_effects.specs.Tells.{is_of_stores}
+use Rattle.newt_laws_effects.specs.Effects.{effects, one as only}
+use Rattle.newt_store_change.specs.declared.change.Change.TheVariants as change
+use Rattle.newt_spec_world.specs.Answer.{fields}
 use Rattle.newt_engine_commands.proofs.replaces.change.Given.{Over}
 use Rattle.newt_engine_commands.proofs.replaces.change.Goals as goal
 
@@ -34,35 +33,14 @@ returns-in_err-soup g c =
     (λ t. entry-refused at t c.args.unit c.args.name.now c.args.uid _ _ (λ r k. change-not-found w c.args.unit c.args.name.now c.args.uid r k c.args.graph) _ (c.in_err-soup.ensures.found (g.H.Host.outside c.args.host.now) at.eight (stand-told at t)) _ (err_from_is_err_and c.from_residual.result c.from_residual.ensures.1))
 
 pub returns : goal.returns
+unfolding effects is_of_stores fields
 returns g c =
     let at = begins g c.requires in
     let w = world_of g.C.Card.reads c.args.units.now (g.H.Host.outside c.args.host.now) in
-    let e = c.change.ensures in
-    let is = c.done.ensures in
-    record {
-      stands = λ goes. e.stands (done-goes c.change.result is goes);
-      answered = λ t.
-          let k = c.in_ok-soup.ensures.found (g.H.Host.outside c.args.host.now) at.eight (stand-told at t) in
-          let h = k.of in
-          change-answers w _ c.args.unit h.blocks h.store h.on refl c.args.name.now h.soup h.named h.name_is c.args.uid k.entry k.found c.args.graph _
-          (said-done e t h.on (replace-said h.blocks w.minute c.in_ok-soup.soup h.store h.soup h.by_sig c.args.uid k.entry k.found c.args.graph) _ is);
-      moments = λ t.
-          let k = c.in_ok-soup.ensures.found (g.H.Host.outside c.args.host.now) at.eight (stand-told at t) in
-          let h = k.of in
-          said-moments e t h.on (replace-said h.blocks w.minute c.in_ok-soup.soup h.store h.soup h.by_sig c.args.uid k.entry k.found c.args.graph) _ _ (eq-eqb c.args.unit c.args.unit refl)
-          (change-makes w w c.args.unit h.blocks h.store h.on refl c.args.name.now h.soup h.named h.name_is c.args.uid k.entry k.found c.args.graph);
-      costs = λ t.
-          let k = c.in_ok-soup.ensures.found (g.H.Host.outside c.args.host.now) at.eight (stand-told at t) in
-          let h = k.of in
-          change-costs k c.args.graph
-          (done-costs c.change.result is (said-costs e t h.on (replace-said h.blocks w.minute c.in_ok-soup.soup h.store h.soup h.by_sig c.args.uid k.entry k.found c.args.graph)));
-      alone = e.alone;
-      cause = done-cause c.change.result is _ e.cause;
-      broke = done-cause c.change.result is _ (change-breaks (command.Change c.args.unit c.args.name.now c.args.uid c.args.graph) e (λ t.
-          let k = c.in_ok-soup.ensures.found (g.H.Host.outside c.args.host.now) at.eight (stand-told at t) in
-          let h = k.of in
-          said-untorn e t h.on (replace-said h.blocks w.minute c.in_ok-soup.soup h.store h.soup h.by_sig c.args.uid k.entry k.found c.args.graph) (command.Change c.args.unit c.args.name.now c.args.uid c.args.graph) (λ _. Reply.done) tt (λ _. ⊤) (eq-eqb c.args.unit c.args.unit refl) refl (λ r x. cc) tt
-          (change-answers w _ c.args.unit h.blocks h.store h.on refl c.args.name.now h.soup h.named h.name_is c.args.uid k.entry k.found c.args.graph)));
-      no_fault = λ goes. e.no_fault (done-goes c.change.result is goes);
-      kept = λ idle. change-keeps e;
-    }
+    let u = c.args.unit in
+    let name = c.args.name.now in
+    done-obeys c.change.result _ c.done.ensures (change-obeys c.change.result c.change.ensures (command.Change u name c.args.uid c.args.graph) (λ n. Reply.done) refl
+    (λ t. let k = c.in_ok-soup.ensures.found (g.H.Host.outside c.args.host.now) at.eight (stand-told at t) in
+    let h = k.of in
+    soup-resolves h (λ sig. change.Replace sig c.args.uid c.args.graph) (known-formed at t) (entry-found w u name c.args.uid h.blocks h.store h.soup k.entry (λ p e. only u (change.Replace p.sig c.args.uid c.args.graph)) h.on h.named k.found) refl refl (λ means. none-low _))
+    (λ t. refl))

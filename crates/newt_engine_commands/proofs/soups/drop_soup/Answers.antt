@@ -1,20 +1,20 @@
 -- The soup is looked up, and its card drops it.
 use Rattle.std.proofs.Common.{refl}
-use Rattle.std.proofs.lemmas.Bool.{eq-eqb}
-use Rattle.std.specs.Bool.{⊤}
 use Rattle.newt_engine_units.specs.Looks.{known_checks}
 use Rattle.std.proofs.lemmas.Result.{err_from_is_err_and}
 use Rattle.newt_engine_units.specs.Stands.{Stands, world_of}
 use Rattle.newt_spec_world.specs.Reply.{Reply}
 use Rattle.newt_spec_world.specs.declared.command.Command.TheVariants as command
-use Rattle.newt_laws_answers.proofs.Changes.{drop-said}
 use Rattle.newt_laws_answers.proofs.Soups.{drop-not-found}
-use Rattle.newt_engine_commands.proofs.Commands.{drop-answers, drop-makes}
-use Rattle.newt_engine_commands.proofs.Costing.{drop-costs}
-use Rattle.newt_engine_units.proofs.Keeping.{change-keeps}
 use Rattle.newt_engine_units.proofs.Obeying.{none-refused, refused-obeys}
-use Rattle.newt_engine_commands.proofs.Said.{said-done, said-moments, said-costs, done-goes, done-cause, done-costs, change-breaks, said-untorn}
 use Rattle.newt_engine_units.proofs.Settings.{Setting, soup-refused, has-soup}
+use Rattle.newt_spec_graph.proofs.Lists.{both-ways}
+use Rattle.newt_laws_effects.proofs.Found.{soup-found}
+use Rattle.newt_engine_commands.proofs.Effects.{change-obeys, done-obeys, known-formed, soup-resolves}
+use Rattle.newt_laws_effects.specs.Tells.{is_of_stores}
+use Rattle.newt_laws_effects.specs.Effects.{effects, one as only}
+use Rattle.newt_store_change.specs.declared.change.Change.TheVariants as change
+use Rattle.newt_spec_world.specs.Answer.{fields}
 use Rattle.newt_engine_commands.proofs.soups.drop_soup.Given.{Over}
 use Rattle.newt_engine_commands.proofs.soups.drop_soup.Goals as goal
 
@@ -35,30 +35,13 @@ returns-in_err-soup g c =
     (λ t. soup-refused at t c.args.unit c.args.name.now _ _ (drop-not-found w c.args.unit c.args.name.now) _ c.in_err-soup.ensures _ (err_from_is_err_and c.from_residual.result c.from_residual.ensures.1))
 
 pub returns : goal.returns
+unfolding effects is_of_stores fields
 returns g c =
     let at = begins g c.requires in
     let w = world_of g.C.Card.reads c.args.units.now (g.H.Host.outside c.args.host.now) in
-    let e = c.change.ensures in
-    let is = c.done.ensures in
-    record {
-      stands = λ goes. e.stands (done-goes c.change.result is goes);
-      answered = λ t.
-          let h = has-soup at t c.args.unit c.args.name.now c.in_ok-soup.soup c.in_ok-soup.ensures in
-          drop-answers w _ c.args.unit h.blocks h.store h.on refl c.args.name.now h.soup h.named h.name_is _
-          (said-done e t h.on (drop-said h.blocks w.minute c.in_ok-soup.soup h.store h.soup h.by_sig) _ is);
-      moments = λ t.
-          let h = has-soup at t c.args.unit c.args.name.now c.in_ok-soup.soup c.in_ok-soup.ensures in
-          said-moments e t h.on (drop-said h.blocks w.minute c.in_ok-soup.soup h.store h.soup h.by_sig) _ _ (eq-eqb c.args.unit c.args.unit refl)
-          (λ _. drop-makes w w c.args.unit h.blocks h.store h.on refl c.args.name.now h.soup h.named h.name_is);
-      costs = λ t.
-          let h = has-soup at t c.args.unit c.args.name.now c.in_ok-soup.soup c.in_ok-soup.ensures in
-          drop-costs h (done-costs c.change.result is (said-costs e t h.on (drop-said h.blocks w.minute c.in_ok-soup.soup h.store h.soup h.by_sig)));
-      alone = e.alone;
-      cause = done-cause c.change.result is _ e.cause;
-      broke = done-cause c.change.result is _ (change-breaks (command.Drop c.args.unit c.args.name.now) e (λ t.
-          let h = has-soup at t c.args.unit c.args.name.now c.in_ok-soup.soup c.in_ok-soup.ensures in
-          said-untorn e t h.on (drop-said h.blocks w.minute c.in_ok-soup.soup h.store h.soup h.by_sig) (command.Drop c.args.unit c.args.name.now) (λ _. Reply.done) tt (λ _. ⊤) (eq-eqb c.args.unit c.args.unit refl) refl (λ r x. cc) tt
-          (drop-answers w _ c.args.unit h.blocks h.store h.on refl c.args.name.now h.soup h.named h.name_is)));
-      no_fault = λ goes. e.no_fault (done-goes c.change.result is goes);
-      kept = λ idle. change-keeps e;
-    }
+    let u = c.args.unit in
+    let name = c.args.name.now in
+    done-obeys c.change.result _ c.done.ensures (change-obeys c.change.result c.change.ensures (command.Drop u name) (λ n. Reply.done) refl
+    (λ t. let h = has-soup at t u name c.in_ok-soup.soup c.in_ok-soup.ensures in
+    soup-resolves h (λ sig. change.DropSoup sig) (known-formed at t) (soup-found w u name h.blocks h.store h.soup (λ p. only u (change.DropSoup p.sig)) h.on h.named) refl refl (λ means. absurd (both-ways means)))
+    (λ t. refl))

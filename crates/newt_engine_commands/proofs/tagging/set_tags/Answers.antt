@@ -1,23 +1,25 @@
 -- The soup is looked up, and its card gives it the declaration.
-use Rattle.std.proofs.Common.{ap, false, length, nat_lt, refl, subst, ◌<◌, ◌∙◌, ◌≡◌, ◌≤◌}
-use Rattle.std.specs.Bool.{⊤}
+use Rattle.std.proofs.Common.{ap, false, length, nat_lt, refl, subst, ◌<◌, ◌∙◌, ◌≡◌, ◌≤◌, sym}
 use Rattle.newt_engine_units.specs.Looks.{known_checks}
 use Rattle.std.proofs.lemmas.Result.{err_from_is_err_and}
 use Rattle.newt_engine_units.specs.Stands.{Stands, world_of}
 use Rattle.newt_spec_world.specs.Reply.{Reply}
 use Rattle.newt_spec_world.specs.declared.command.Command.TheVariants as command
-use Rattle.std.proofs.lemmas.Bool.{lt-ltb, le-ltb, eq-eqb}
+use Rattle.std.proofs.lemmas.Bool.{lt-ltb, le-ltb}
 use Rattle.newt_spec_store.specs.Store.{TagTable}
-use Rattle.newt_laws_answers.proofs.Changes.{tags-said}
 use Rattle.newt_laws_answers.proofs.Declares.{set-tags-not-found, set-tags-many}
-use Rattle.newt_engine_commands.proofs.Declaring.{tags-answers, tags-makes}
-use Rattle.newt_engine_commands.proofs.Costing.{tags-costs}
-use Rattle.newt_engine_units.proofs.Keeping.{change-keeps}
 use Rattle.newt_engine_units.proofs.Obeying.{none-refused, refused-obeys, still-obeys}
-use Rattle.newt_engine_commands.proofs.Said.{said-done, said-moments, said-costs, done-goes, done-cause, done-costs, change-breaks, said-untorn}
 use Rattle.newt_pagebook.specs.declared.book.Stop.TheVariants.{Memory}
 use Rattle.newt_store_change.specs.declared.fault.StoreFault.TheVariants.{Stop}
 use Rattle.newt_engine_units.proofs.Settings.{Setting, ends, soup-refused, has-soup}
+use Rattle.newt_base.specs.declared.Refusal.TheVariants.{Limit}
+use Rattle.newt_spec_graph.proofs.Lists.{both-ways}
+use Rattle.newt_laws_effects.proofs.Found.{soup-found, passes}
+use Rattle.newt_engine_commands.proofs.Effects.{change-obeys, done-obeys, known-formed, soup-resolves}
+use Rattle.newt_laws_effects.specs.Tells.{is_of_stores}
+use Rattle.newt_laws_effects.specs.Effects.{effects, Resolved, passing, one as only}
+use Rattle.newt_store_change.specs.declared.change.Change.TheVariants as change
+use Rattle.newt_spec_world.specs.Answer.{fields}
 use Rattle.newt_engine_commands.proofs.tagging.set_tags.Given.{Over}
 use Rattle.newt_engine_commands.proofs.tagging.set_tags.Goals as goal
 
@@ -53,30 +55,18 @@ returns-in_err-table g c =
     refused-obeys at (command.SetTags c.args.unit c.args.name.now c.args.path.now c.args.symbols.now) (λ _. Reply.done) (Stop Memory) tt _ p (λ t. ends _ _ (command.SetTags c.args.unit c.args.name.now c.args.path.now c.args.symbols.now) (λ _. Reply.done) (Stop Memory) tt _ p)
 
 pub returns : goal.returns
+unfolding effects is_of_stores fields
 returns g c =
     let at = begins g c.requires.stands in
     let w = world_of g.C.Card.reads c.args.units.now (g.H.Host.outside c.args.host.now) in
-    let e = c.change.ensures in
-    let is = c.done.ensures in
+    let u = c.args.unit in
+    let name = c.args.name.now in
     let few : nat_lt 64 (length c.args.symbols.now) ≡ false = le-ltb 64 (length c.args.symbols.now) (subst (λ n. n ≤ 64) (ap (λ xs. length xs) c.list-names.ensures) c.if-names-gt-MOST_TAGS.false) in
-    let words : c.in_ok-table.table ≡ record { path = c.args.path.now; symbols = c.args.symbols.now } = c.in_ok-table.ensures ∙ ap {B = TagTable} (λ xs. record { path = c.args.path.now; symbols = xs }) c.list-names.ensures in
-    record {
-      stands = λ goes. e.stands (done-goes c.change.result is goes);
-      answered = λ t.
-          let h = has-soup at t c.args.unit c.args.name.now c.in_ok-soup.soup c.in_ok-soup.ensures in
-          tags-answers w _ c.args.unit h.blocks h.store h.on refl c.args.name.now h.soup h.named h.name_is c.args.path.now c.args.symbols.now few c.in_ok-table.table words _ (said-done e t h.on (tags-said h.blocks w.minute c.in_ok-soup.soup h.store h.soup h.by_sig c.in_ok-table.table) _ is);
-      moments = λ t.
-          let h = has-soup at t c.args.unit c.args.name.now c.in_ok-soup.soup c.in_ok-soup.ensures in
-          said-moments e t h.on (tags-said h.blocks w.minute c.in_ok-soup.soup h.store h.soup h.by_sig c.in_ok-table.table) _ _ (eq-eqb c.args.unit c.args.unit refl) (tags-makes w w c.args.unit h.blocks h.store h.on refl c.args.name.now h.soup h.named h.name_is c.args.path.now c.args.symbols.now few c.in_ok-table.table words);
-      costs = λ t.
-          let h = has-soup at t c.args.unit c.args.name.now c.in_ok-soup.soup c.in_ok-soup.ensures in
-          tags-costs h c.args.path.now c.args.symbols.now few c.in_ok-table.table words (done-costs c.change.result is (said-costs e t h.on (tags-said h.blocks w.minute c.in_ok-soup.soup h.store h.soup h.by_sig c.in_ok-table.table)));
-      alone = e.alone;
-      cause = done-cause c.change.result is _ e.cause;
-      broke = done-cause c.change.result is _ (change-breaks (command.SetTags c.args.unit c.args.name.now c.args.path.now c.args.symbols.now) e (λ t.
-          let h = has-soup at t c.args.unit c.args.name.now c.in_ok-soup.soup c.in_ok-soup.ensures in
-          said-untorn e t h.on (tags-said h.blocks w.minute c.in_ok-soup.soup h.store h.soup h.by_sig c.in_ok-table.table) (command.SetTags c.args.unit c.args.name.now c.args.path.now c.args.symbols.now) (λ _. Reply.done) tt (λ _. ⊤) (eq-eqb c.args.unit c.args.unit refl) refl (λ r x. cc) tt
-          (tags-answers w _ c.args.unit h.blocks h.store h.on refl c.args.name.now h.soup h.named h.name_is c.args.path.now c.args.symbols.now few c.in_ok-table.table words)));
-      no_fault = λ goes. e.no_fault (done-goes c.change.result is goes);
-      kept = λ idle. change-keeps e;
-    }
+    let table : TagTable = record { path = c.args.path.now; symbols = c.args.symbols.now } in
+    let words : c.in_ok-table.table ≡ table = c.in_ok-table.ensures ∙ ap {B = TagTable} (λ xs. record { path = c.args.path.now; symbols = xs }) c.list-names.ensures in
+    done-obeys c.change.result _ c.done.ensures (change-obeys c.change.result c.change.ensures (command.SetTags u name c.args.path.now c.args.symbols.now) (λ n. Reply.done) refl
+    (λ t. let h = has-soup at t u name c.in_ok-soup.soup c.in_ok-soup.ensures in
+    soup-resolves h (λ sig. change.SetTags sig c.in_ok-table.table) (known-formed at t) (soup-found w u name h.blocks h.store h.soup (λ p. passing (Limit, nat_lt 64 (length c.args.symbols.now)) (only u (change.SetTags p.sig table))) h.on h.named
+    ∙ passes Limit (nat_lt 64 (length c.args.symbols.now)) (only u (change.SetTags h.soup.sig table)) few
+    ∙ ap {B = Resolved} (λ x. only u (change.SetTags h.soup.sig x)) (sym words)) refl refl (λ means. absurd (both-ways means)))
+    (λ t. refl))

@@ -1,4 +1,4 @@
--- The key of the place is read, those behind it take theirs, and then it does.
+-- The key of the place is read, those after it take theirs, and then it does.
 use Rattle.std.proofs.Common.{arith, ◌≡◌, ◌∙◌, ap, sym, subst, ◌+◌, ◌≤◌, length, List, Option, Some}
 use Rattle.std.specs.Prelude.{option_and_then, slice_get}
 use Rattle.newt_host.proofs.Outside.{NoFault-append, NoFault-refl}
@@ -12,7 +12,7 @@ use Rattle.newt_engine_hits.proofs.Reading.{not-read, read-then}
 use Rattle.newt_engine_cursors.specs.Fits.{DeskFits}
 use Rattle.newt_engine_cursors.specs.Keyed.{change_from, given, key_where}
 use Rattle.newt_engine_cursors.specs.Reached.{seen_reach}
-use Rattle.newt_engine_cursors.proofs.Cursors.{before-change, change-one, from-behind, from-next, given-fits}
+use Rattle.newt_engine_cursors.proofs.Cursors.{before-change, change-one, from-after, from-next, given-fits}
 use Rattle.newt_engine_cursors.proofs.Reaches.{given-where}
 use Rattle.newt_engine_cursors.proofs.settling.+settle_from.Goals as goal
 
@@ -25,7 +25,7 @@ returns-then-from-ge-PLACES-clause-settles g t c = record {
       let test = c.if-from-ge-PLACES.true in
       let places = c.requires.desk.places in
       let none : length c.args.desk.now ≤ c.args.from = omega (arith, test, places) in
-      sym (ap (λ (ks : List (Option Cursor)). with_cursors ks base) (from-behind c.args.from (settle_where (seen_reach c.args.reach.now) base) c.args.desk.now none));
+      sym (ap (λ (ks : List (Option Cursor)). with_cursors ks base) (from-after c.args.from (settle_where (seen_reach c.args.reach.now) base) c.args.desk.now none));
   cause = tt;
   failed = tt;
   kept = tt;
@@ -45,14 +45,14 @@ returns-clause-settles g t c =
           let mid = world_of g.C.Card.reads c.key_if_reached.new.units (g.H.Host.outside c.key_if_reached.new.host) in
           let r = seen_reach c.args.reach.now in
           let same = key.ensures.reading.read.world told in
-          let behind : c.settle_from.new.desk ≡ change_from (c.args.from + 1) (settle_where r base) c.args.desk.now =
+          let after : c.settle_from.new.desk ≡ change_from (c.args.from + 1) (settle_where r base) c.args.desk.now =
           ap (λ (w : World). w.cursors) (s.settled told (subst MountedApart (sym same) apart)) ∙ ap (λ (w : World). change_from (c.args.from + 1) (settle_where r w) c.args.desk.now) same in
           let gives : (k : Cursor) → flat (slice_get c.settle_from.new.desk c.args.from) ≡ Some k → given key.key k ≡ settle_where r base k = λ k e.
           given-where r base k key.key (key.ensures.found told apart ∙ ap (option_and_then (key_where r base)) (sym here ∙ e)) in
           ap (with_cursors c.take_key.new.desk) (s.read.world told ∙ same)
           ∙ ap (λ (ks : List (Option Cursor)). with_cursors ks base) (c.take_key.ensures
           ∙ change-one (given key.key) (settle_where r base) c.settle_from.new.desk c.args.from gives
-          ∙ ap (change_at c.args.from (settle_where r base)) behind
+          ∙ ap (change_at c.args.from (settle_where r base)) after
           ∙ from-next c.args.from (settle_where r base) c.args.desk.now);
       cause = tt;
       failed = tt;

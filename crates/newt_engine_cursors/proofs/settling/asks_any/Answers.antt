@@ -4,7 +4,7 @@ use Rattle.std.specs.Prelude.{slice_get}
 use Rattle.newt_spec_query.specs.Cursor.{Cursor}
 use Rattle.newt_spec_world.specs.World.{flat}
 use Rattle.newt_engine_cursors.specs.Reached.{asks_on}
-use Rattle.newt_engine_cursors.proofs.Cursors.{next-or-before, none-behind, one-or-behind}
+use Rattle.newt_engine_cursors.proofs.Cursors.{next-or-before, none-after, one-or-after}
 use Rattle.newt_engine_cursors.proofs.settling.asks_any.Goals as goal
 
 pub loop-cursor-init : goal.loop-cursor-init
@@ -25,7 +25,7 @@ pub returns-clause-none : goal.returns-clause-none
 returns-clause-none c says n =
     let test = c.loop-cursor-test.false in
     let places = c.requires.places in
-    elim (one-or-behind n (length c.args.desk.now)) [
+    elim (one-or-after n (length c.args.desk.now)) [
       | inl less ↦ c.loop-cursor.invariant.none n (omega (arith, less, test, places))
-      | inr behind ↦ ap (λ (k : Option Cursor). asks_on c.args.store c.args.soup c.args.uid k) (none-behind c.args.desk.now n behind)
+      | inr after ↦ ap (λ (k : Option Cursor). asks_on c.args.store c.args.soup c.args.uid k) (none-after c.args.desk.now n after)
     ]

@@ -1,4 +1,4 @@
--- The code and what is behind it are those of the definition.
+-- The code and what is after it are those of the definition.
 use Rattle.std.proofs.Common.{arith}
 use Rattle.std.proofs.lemmas.Grind.{common_steps}
 use Rattle.newt_nsof_read.proofs.immediates.wide_character.Goals as goal

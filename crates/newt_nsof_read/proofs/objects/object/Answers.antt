@@ -23,33 +23,33 @@ returns-in_err-front c =
 
 pub enter-requires-clause-stack : goal.enter-requires-clause-stack
 enter-requires-clause-stack c =
-    let taken = front_takes c.args.wide _ c.loop-stack.seen c.loop-stack.rest.now (c.in_ok-front.front, c.front.new.seen, c.in_ok-front.behind.now) c.loop-stack.invariant.fits c.in_ok-front.ensures in
+    let taken = front_takes c.args.wide _ c.loop-stack.seen c.loop-stack.rest.now (c.in_ok-front.front, c.front.new.seen, c.in_ok-front.after.now) c.loop-stack.invariant.fits c.in_ok-front.ensures in
     AreOpen-stays c.loop-stack.seen c.front.new.seen taken.stays c.loop-stack.stack.items c.loop-stack.invariant.stack
 
 pub enter-requires-clause-front : goal.enter-requires-clause-front
 enter-requires-clause-front c =
-    (front_takes c.args.wide _ c.loop-stack.seen c.loop-stack.rest.now (c.in_ok-front.front, c.front.new.seen, c.in_ok-front.behind.now) c.loop-stack.invariant.fits c.in_ok-front.ensures).opened
+    (front_takes c.args.wide _ c.loop-stack.seen c.loop-stack.rest.now (c.in_ok-front.front, c.front.new.seen, c.in_ok-front.after.now) c.loop-stack.invariant.fits c.in_ok-front.ensures).opened
 
 pub returns-in-Some : goal.returns-in-Some
 returns-in-Some c =
     let depth : c.len.result ≡ length c.loop-stack.stack.items = c.len.ensures ∙ omega (arith, c.loop-stack.stack.ok) in
-    let read = subst (λ (n : ℕ). front_of c.args.wide (ltb n 200) c.loop-stack.seen c.loop-stack.rest.now ≡ Some (c.in_ok-front.front, c.front.new.seen, c.in_ok-front.behind.now)) depth c.in_ok-front.ensures in
-    let entered = subst (λ (root : Option Ref). awaited c.args.wide root c.enter.new.stack.items c.enter.new.seen c.in_ok-front.behind.now ≡ resumed c.args.wide 200 c.loop-stack.stack.items (whole c.args.wide (200 - length c.loop-stack.stack.items - 1) (c.in_ok-front.front, c.front.new.seen, c.in_ok-front.behind.now)))
-    c.in-Some.is (c.in_ok-root.ensures.reading c.args.wide c.in_ok-front.behind.now) in
-    sym (goes_on c.args.wide c.loop-stack.stack.items c.loop-stack.seen c.loop-stack.rest.now c.in_ok-front.front c.front.new.seen c.in_ok-front.behind.now _ _ read c.loop-stack.invariant.reading entered)
+    let read = subst (λ (n : ℕ). front_of c.args.wide (ltb n 200) c.loop-stack.seen c.loop-stack.rest.now ≡ Some (c.in_ok-front.front, c.front.new.seen, c.in_ok-front.after.now)) depth c.in_ok-front.ensures in
+    let entered = subst (λ (root : Option Ref). awaited c.args.wide root c.enter.new.stack.items c.enter.new.seen c.in_ok-front.after.now ≡ resumed c.args.wide 200 c.loop-stack.stack.items (whole c.args.wide (200 - length c.loop-stack.stack.items - 1) (c.in_ok-front.front, c.front.new.seen, c.in_ok-front.after.now)))
+    c.in-Some.is (c.in_ok-root.ensures.reading c.args.wide c.in_ok-front.after.now) in
+    sym (goes_on c.args.wide c.loop-stack.stack.items c.loop-stack.seen c.loop-stack.rest.now c.in_ok-front.front c.front.new.seen c.in_ok-front.after.now _ _ read c.loop-stack.invariant.reading entered)
 
 pub loop-stack-smaller : goal.loop-stack-smaller
 loop-stack-smaller c =
-    (front_takes c.args.wide _ c.loop-stack.seen c.loop-stack.rest.now (c.in_ok-front.front, c.front.new.seen, c.in_ok-front.behind.now) c.loop-stack.invariant.fits c.in_ok-front.ensures).shorter
+    (front_takes c.args.wide _ c.loop-stack.seen c.loop-stack.rest.now (c.in_ok-front.front, c.front.new.seen, c.in_ok-front.after.now) c.loop-stack.invariant.fits c.in_ok-front.ensures).shorter
 
 pub loop-stack-preserved : goal.loop-stack-preserved
 loop-stack-preserved c =
     let depth : c.len.result ≡ length c.loop-stack.stack.items = c.len.ensures ∙ omega (arith, c.loop-stack.stack.ok) in
-    let read = subst (λ (n : ℕ). front_of c.args.wide (ltb n 200) c.loop-stack.seen c.loop-stack.rest.now ≡ Some (c.in_ok-front.front, c.front.new.seen, c.in_ok-front.behind.now)) depth c.in_ok-front.ensures in
-    let entered = subst (λ (root : Option Ref). awaited c.args.wide root c.enter.new.stack.items c.enter.new.seen c.in_ok-front.behind.now ≡ resumed c.args.wide 200 c.loop-stack.stack.items (whole c.args.wide (200 - length c.loop-stack.stack.items - 1) (c.in_ok-front.front, c.front.new.seen, c.in_ok-front.behind.now)))
-    c.in-None.is (c.in_ok-root.ensures.reading c.args.wide c.in_ok-front.behind.now) in
+    let read = subst (λ (n : ℕ). front_of c.args.wide (ltb n 200) c.loop-stack.seen c.loop-stack.rest.now ≡ Some (c.in_ok-front.front, c.front.new.seen, c.in_ok-front.after.now)) depth c.in_ok-front.ensures in
+    let entered = subst (λ (root : Option Ref). awaited c.args.wide root c.enter.new.stack.items c.enter.new.seen c.in_ok-front.after.now ≡ resumed c.args.wide 200 c.loop-stack.stack.items (whole c.args.wide (200 - length c.loop-stack.stack.items - 1) (c.in_ok-front.front, c.front.new.seen, c.in_ok-front.after.now)))
+    c.in-None.is (c.in_ok-root.ensures.reading c.args.wide c.in_ok-front.after.now) in
     record {
-      fits = (front_takes c.args.wide _ c.loop-stack.seen c.loop-stack.rest.now (c.in_ok-front.front, c.front.new.seen, c.in_ok-front.behind.now) c.loop-stack.invariant.fits c.in_ok-front.ensures).fits;
+      fits = (front_takes c.args.wide _ c.loop-stack.seen c.loop-stack.rest.now (c.in_ok-front.front, c.front.new.seen, c.in_ok-front.after.now) c.loop-stack.invariant.fits c.in_ok-front.ensures).fits;
       stack = c.in_ok-root.ensures.stays;
-      reading = goes_on c.args.wide c.loop-stack.stack.items c.loop-stack.seen c.loop-stack.rest.now c.in_ok-front.front c.front.new.seen c.in_ok-front.behind.now _ _ read c.loop-stack.invariant.reading entered;
+      reading = goes_on c.args.wide c.loop-stack.stack.items c.loop-stack.seen c.loop-stack.rest.now c.in_ok-front.front c.front.new.seen c.in_ok-front.after.now _ _ read c.loop-stack.invariant.reading entered;
     }

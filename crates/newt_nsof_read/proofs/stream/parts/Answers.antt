@@ -1,4 +1,4 @@
--- A graph is read where nothing is behind the root and the nodes are light.
+-- A graph is read where nothing is after the root and the nodes are light.
 use Rattle.std.proofs.Common.{arith}
 use Rattle.std.proofs.lemmas.Grind.{common_steps}
 use Rattle.newt_nsof_read.specs.Reading.{graph_at}

@@ -15,7 +15,7 @@ data_more live numbers i low =
     ap (flat_map (data_at live)) (take_more numbers i 0 low) ∙ flat_map-append (data_at live) (take i numbers) (get_or numbers i 0 ∷ [])
     ∙ ap (λ (l : List ℕ). flat_map (data_at live) (take i numbers) ++ l) (append-nil (data_at live (get_or numbers i 0)))
 
--- what is taken of two texts, one behind the other
+-- what is taken of two texts, one after the other
 take_on : (n : ℕ) (xs ys : List ℕ) → take n xs ++ take (n - length (take n xs)) ys ≡ take n (xs ++ ys)
 take_on zero xs ys = ap (λ (k : ℕ). take k ys) (let e : zero - length (take zero xs) ≡ zero = omega arith in e)
 take_on (suc n) [] ys = ap (λ (k : ℕ). take k ys) (let e : suc n - 0 ≡ suc n = omega arith in e)

@@ -37,7 +37,7 @@ plan_gone-requires-clause-no_plan c = λ id among.
       λ same. c.requires.can.apart.record_apart e is (subst (λ (n : ℕ). Among c.args.gone.now n) same among),
       λ large. c.requires.can.apart.larges_apart e id is large among,
     ))
-    (c.in_ok-plan_directory.ensures.others id (above_zero id (c.requires.can.behind id among)) (start_unplanned c.args.objects.now id c.requires.can.none))
+    (c.in_ok-plan_directory.ensures.others id (above_zero id (c.requires.can.above id among)) (start_unplanned c.args.objects.now id c.requires.can.none))
 
 pub plan_gone-requires-clause-way : goal.plan_gone-requires-clause-way
 plan_gone-requires-clause-way c =
@@ -54,7 +54,7 @@ returns-clause-way c = λ live texts w.
       z.0,
       z.1,
       written (bytes_if c.args.directory.now) c.args.entry.now c.args.gone.now texts x.0 y.0 z.0 x.2 y.2 z.2
-          (λ e is. not_zero e.id (c.requires.can.ids e is).odd) (λ e id is among. above_zero id ((c.requires.can.ids e is).even id among).1) (λ id among. above_zero id (c.requires.can.behind id among))
+          (λ e is. not_zero e.id (c.requires.can.ids e is).odd) (λ e id is among. above_zero id ((c.requires.can.ids e is).even id among).1) (λ id among. above_zero id (c.requires.can.above id among))
           c.requires.can.apart,
     )
 

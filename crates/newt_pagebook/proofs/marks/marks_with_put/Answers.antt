@@ -25,7 +25,7 @@ returns c = λ change page is.
             | else-number-marks w ↦ absurd (other (omega (arith, low, high, w.from-is)))
           ])
           (cases_eq q number);
-      behind = λ q low. names_put change number page q ∙ ap (λ (b : Bool). b || (q == number)) (is.behind q (omega (arith, low, c.max.ensures)))
+      after = λ q low. names_put change number page q ∙ ap (λ (b : Bool). b || (q == number)) (is.after q (omega (arith, low, c.max.ensures)))
           ∙ equal_false q number (λ same. omega (arith, low, same, c.max.ensures));
       small = omega (arith, c.requires);
     }

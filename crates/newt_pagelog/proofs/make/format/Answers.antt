@@ -55,9 +55,9 @@ spent unit blocks batch payload a b sound many fits no_deletes is costs =
     let size : length payload ≡ 4 + 516 * length batch.puts + 4 * length batch.deletes = ap (λ (l : List ℕ). length l) is ∙ written-length batch sound few (omega (arith, none)) in
     Spends-widen (24 + length payload) 0 (format_bytes (length batch.puts)) 0 (omega (arith, size, none)) (omega arith) costs
 
--- what stands behind the first bank is what a crash might have left
-behind : (u n : ℕ) (now : Moment) (left : List ℕ) → IsTornIn u 0 n now left → IsLeftFrom u n now left
-behind u n now left torn =
+-- what stands after the first bank is what a crash might have left
+left_as : (u n : ℕ) (now : Moment) (left : List ℕ) → IsTornIn u 0 n now left → IsLeftFrom u n now left
+left_as u n now left torn =
     let none : 0 + n ≡ n = omega arith in
     (torn.0, torn.1, subst (λ (k : ℕ). drop k left ≡ drop k torn.0) none torn.2.after)
 
@@ -82,7 +82,7 @@ returns-in-Ok g c =
             (c.in-Ok.ensures.fresh tells).durable,
           );
       unchanged = λ bad. absurd (not-err bad);
-      any_moment = λ tells. Leaves-weaken (behind c.args.unit (bank_start ((g.H.Host.outside c.args.host.now).blocks c.args.unit) 1) (g.H.Host.outside c.args.host.now).now) (writes.any_moment tells);
+      any_moment = λ tells. Leaves-weaken (left_as c.args.unit (bank_start ((g.H.Host.outside c.args.host.now).blocks c.args.unit) 1) (g.H.Host.outside c.args.host.now).now) (writes.any_moment tells);
       costs = spent c.args.unit blocks batch c.deref.result.now (o c.args.host.now) (o c.format.new.host) c.written.ensures.sound c.requires.not_too_many c.requires.few c.requires.no_deletes
           (c.deref.ensures.value ∙ c.in_ok-payload.ensures.says) writes.costs;
       wears = writes.wears;
@@ -98,7 +98,7 @@ returns g c =
     record {
       formatted = λ tells. tt;
       unchanged = λ bad. absurd (cc);
-      any_moment = λ tells. Leaves-weaken (behind c.args.unit (bank_start ((g.H.Host.outside c.args.host.now).blocks c.args.unit) 1) (g.H.Host.outside c.args.host.now).now) (writes.any_moment tells);
+      any_moment = λ tells. Leaves-weaken (left_as c.args.unit (bank_start ((g.H.Host.outside c.args.host.now).blocks c.args.unit) 1) (g.H.Host.outside c.args.host.now).now) (writes.any_moment tells);
       costs = spent c.args.unit ((o c.args.host.now).blocks c.args.unit) c.args.batch.now c.deref.result.now (o c.args.host.now) (o c.format.new.host) c.written.ensures.sound c.requires.not_too_many c.requires.few
           c.requires.no_deletes (c.deref.ensures.value ∙ c.in_ok-payload.ensures.says) writes.costs;
       wears = writes.wears;

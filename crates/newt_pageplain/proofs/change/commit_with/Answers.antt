@@ -6,7 +6,7 @@ use Rattle.newt_pageplain.proofs.change.commit_with.Goals as goal
 
 pub returns-then-has_room : goal.returns-then-has_room
 returns-then-has_room g c =
-    let e = c.commit_behind.ensures in
+    let e = c.commit_after.ensures in
     record {
       commits = commits-widen _ _ (record { programs = omega arith; fetches = omega arith; erases = omega arith; syncs = omega arith }) e.commits;
       pages = e.pages;

@@ -22,7 +22,7 @@ use Rattle.newt_pagelog.proofs.Placing.{numbered-placed}
 use Rattle.newt_pages.specs.Copies.{below}
 use Rattle.newt_pages.specs.Disk.{IsPlacedBy, StandAt}
 use Rattle.newt_pages.proofs.Tables.{length-lifted, numbers-lifted, small-puts, any_pages, any_stand}
-use Rattle.newt_pages.proofs.Moving.{stand-front, stand-behind, all-moved}
+use Rattle.newt_pages.proofs.Moving.{stand-front, stand-after, all-moved}
 use Rattle.newt_pages.proofs.Committed.{payloads_of}
 use Rattle.newt_pages.proofs.Replaced.{AreLeft, left-of, left-small, whole, whole-after, whole-count, moved-after, sound-whole, stand-alone}
 use Rattle.newt_pages.proofs.change.commit_beside.Goals as goal
@@ -182,7 +182,7 @@ returns-clause-takes g c =
     let front : StandAt g first (lifted f (below 65536 left)) = stand-front g first (lifted f (below 65536 left)) batch.puts stand in
     let back : StandAt g c.move_pages-next.result c.puts-4.result.now =
     subst (λ (l : List Put). StandAt g c.move_pages-next.result l) (sym puts3)
-    (subst (λ (a : ℕ). StandAt g a batch.puts) (ap (λ (m : ℕ). first + 516 * m) (length-lifted f (below 65536 left)) ∙ sym next) (stand-behind g first (lifted f (below 65536 left)) batch.puts stand)) in
+    (subst (λ (a : ℕ). StandAt g a batch.puts) (ap (λ (m : ℕ). first + 516 * m) (length-lifted f (below 65536 left)) ∙ sym next) (stand-after g first (lifted f (below 65536 left)) batch.puts stand)) in
     moved-after batch is old left numbered are_left f g moved new (all-moved f g left moved (c.move_pages-next.ensures.moves.moved f g front) c.move_pages-next.ensures.moves.kept (left-small batch is old left numbered are_left))
     (λ q. c.place_puts.ensures.pages g back q ∙ ap (λ (l : List Put). map.get (with_puts l (map_of (lifted g moved))) q) puts3) in
     let book : IsPlacedBy told k new (o c.replace_all.new.host) = record {

@@ -7,11 +7,11 @@ use Rattle.newt_pages.proofs.change.commit_with.Goals as goal
 
 pub returns-then-has_room : goal.returns-then-has_room
 returns-then-has_room g c =
-    let e = c.commit_behind.ensures in
+    let e = c.commit_after.ensures in
     record {
       commits = commits-widen _ _ (record { programs = omega arith; fetches = omega arith; erases = omega arith; syncs = omega arith }) e.commits;
       takes = e.takes;
-      caches = λ tells. IfOk-weaker c.commit_behind.result _ _ (λ after still. still c.args.cache.now.entries (c.requires.caches tells)) (e.caches tells);
+      caches = λ tells. IfOk-weaker c.commit_after.result _ _ (λ after still. still c.args.cache.now.entries (c.requires.caches tells)) (e.caches tells);
       appends = record { costs = λ tells free. e.commits.writes.costs; wears = λ tells free. e.commits.writes.wears };
     }
 

@@ -8,5 +8,5 @@ returns c =
     let fields : List (List ℕ) = map (λ part. part.now) c.args.fields.now in
     let text = literal c.args.graph.now in
     whole_line (fields ++ text ∷ []) c.in_ok-line.line.items c.push-2.new.self.items
-    (one_field_more fields text c.in_ok-front.front.items c.push.new.self.items c.in_ok-line.line.items c.print_behind.ensures.some c.in_ok-front.ensures c.in_ok-push.ensures.items c.in_ok-line.ensures.behind)
+    (one_field_more fields text c.in_ok-front.front.items c.push.new.self.items c.in_ok-line.line.items c.print_after.ensures.some c.in_ok-front.ensures c.in_ok-push.ensures.items c.in_ok-line.ensures.after)
     c.in_ok-push-2.ensures.items

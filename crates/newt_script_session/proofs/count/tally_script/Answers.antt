@@ -1,7 +1,7 @@
 use Rattle.std.proofs.Common.{Bool, Err, ◌∙◌, ap, subst, arith}
 use Rattle.std.proofs.lemmas.Result.{err_from_is_err_and}
 use Rattle.newt_script_session.specs.Counts.{Tallies}
-use Rattle.newt_spec_script.specs.Rows.{world_behind}
+use Rattle.newt_spec_script.specs.Rows.{last_world}
 use Rattle.newt_script_session.proofs.Counting.{answer_err, answer_write, quiet-refl, quiet_then}
 use Rattle.newt_script_session.proofs.Crashing.{at_rest}
 use Rattle.newt_script_session.proofs.Summing.{counted_halted, counted_put}
@@ -25,7 +25,7 @@ returns-clause-counted g c = λ told w means.
     let mid = g.H.Host.outside c.answer_text.new.host in
     let new = g.H.Host.outside c.put_tally.new.host in
     let ran = c.in_ok-answer_text.ensures.ran told w means in
-    let last = world_behind w ran.given.rows in
+    let last = last_world w ran.given.rows in
     let stands = subst (λ (t : Bool). it.stands t c.answer_text.new.interpreter mid) told c.in_ok-answer_text.ensures.stands in
     let its = at_rest it.store_of_image last mid.now (g.met.I.Interpreter.leaves c.answer_text.new.interpreter mid last stands ran.done.1.stands_for) in
     counted_put it.step it.store_of_image c.args.script.now w before mid _ _ (Tallies c.answer_text.new.sink) c.new-tally.result c.answer_text.new.sink ran its

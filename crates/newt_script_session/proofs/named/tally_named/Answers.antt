@@ -2,7 +2,7 @@ use Rattle.std.proofs.Common.{false, Bool, Global, Result, Err, map, string_byte
 use Rattle.newt_host.proofs.Extending.{extends-always, extends-refl}
 use Rattle.newt_host_attach.specs.Named.{AreAttached}
 use Rattle.newt_spec_whole.specs.Whole.{Whole}
-use Rattle.newt_script_session.specs.Counted.{Counted}
+use Rattle.newt_script_session.specs.Counted.{CountedRun}
 use Rattle.newt_script_session.specs.Causes.{HasSinkCause}
 use Rattle.newt_script_session.specs.First.{unmounted}
 use Rattle.newt_script_session.specs.Script.{script_items}
@@ -27,7 +27,7 @@ returns-in_default-clause-counted g c = λ told.
     let found = first_is it.store_of_image names old mid a (λ unit. g.met.H.Host.sized c.new.new.host unit told) in
     let its = rests_first it.store_of_image mid (attached-at-rest g.H.Host.told _ _ _ c.new.ensures.attached told) in
     let result : Result (Unit {0}) Halt = Err Memory in
-    let S : Whole → Type 0 = λ w. Counted it.step it.store_of_image c.args.script.now result w mid mid in
+    let S : Whole → Type 0 = λ w. CountedRun it.step it.store_of_image c.args.script.now result w mid mid in
     named_counted names old mid mid a it.step it.store_of_image
     (λ unit none. g.met.H.Host.untouched c.new.new.host unit told none) (λ unit. refl) (λ unit. g.met.H.Host.untouched c.args.host.now unit told (c.requires.free unit))
     (λ unit none. g.met.H.Host.untouched c.new.new.host unit told none) (λ unit some. g.met.H.Host.history c.new.new.host unit told some)

@@ -2,7 +2,7 @@ use Rattle.std.proofs.Common.{◌++◌, [], ◌∷◌, ℕ, List, Bool, IsTrue, 
 use Rattle.std.proofs.lemmas.Result.{err_from_is_err_and}
 use Rattle.newt_spec_world.specs.Reply.{Reply, reply_text}
 use Rattle.newt_laws_steps.specs.Devices.{SameDevices}
-use Rattle.newt_script_session.specs.Stream.{Puts, put_out}
+use Rattle.newt_script_session.specs.Stream.{PutsText, put_out}
 use Rattle.newt_script_session.proofs.Counting.{answer_put, answer_stopped, answer_unput, quiet_apply}
 use Rattle.newt_script_session.proofs.Crashing.{answering_command, at_rest}
 use Rattle.newt_script_session.proofs.Obeying.{ran_item, ran_stopped, ran_untaken}
@@ -21,7 +21,7 @@ returns-in_err-put_reply-clause-ran g c = λ told w means.
     let stands = subst (λ (t : Bool). it.stands t c.apply.new.self mid) told c.in-Ok.ensures.stands in
     let s = c.in-Ok.ensures.stepped told w means in
     let its = at_rest it.store_of_image s.next mid.now (g.met.I.Interpreter.leaves c.apply.new.self mid s.next stands s.answered.1) in
-    let R : Reply → Type 0 = λ r. Puts c.put_reply.result (put_out shows (reply_text r)) mid.now new.now in
+    let R : Reply → Type 0 = λ r. PutsText c.put_reply.result (put_out shows (reply_text r)) mid.now new.now in
     ran_untaken it.step shows it.store_of_image w (Ok c.args.command) (s.next, s.reply) s.steps before.now mid.now before.dev_faults new.dev_faults
     (answering_command it.store_of_image w c.args.command s.next before.now mid.now s.moments)
     (threw_after s.reply before.dev_faults mid.dev_faults new.dev_faults c.put_reply.ensures.call.devices.counts.dev_faults s.threw)
@@ -50,7 +50,7 @@ returns-clause-ran g c = λ told w means.
     let its = at_rest it.store_of_image s.next mid.now (g.met.I.Interpreter.leaves c.apply.new.self mid s.next stands s.answered.1) in
     let same = g.met.I.Interpreter.same_worlds c.apply.new.self mid new s.next (subst (λ (t : Bool). SameDevices t mid new) told c.put_reply.ensures.call.devices) s.answered.1 in
     let counts = c.put_reply.ensures.call.devices.counts.dev_faults in
-    let R : Reply → Type 0 = λ r. Puts c.put_reply.result (put_out shows (reply_text r)) mid.now new.now in
+    let R : Reply → Type 0 = λ r. PutsText c.put_reply.result (put_out shows (reply_text r)) mid.now new.now in
     let T : Reply → Type 0 = λ r. (texts : List (List ℕ)) → g.S.Sink.has c.args.sink.now texts → g.S.Sink.has c.put_reply.new.sink (texts ++ reply_text r ∷ []) in
     ran_item it.step shows it.store_of_image w (Ok c.args.command) (s.next, s.reply) s.steps before.now mid.now before.dev_faults new.dev_faults
     (answering_command it.store_of_image w c.args.command s.next before.now mid.now s.moments)

@@ -74,8 +74,8 @@ write_next-requires-clause-can g c =
 pub write_next-requires-clause-formed : goal.write_next-requires-clause-formed
 write_next-requires-clause-formed g c = λ d is. subst (λ (o : Option Directory). well_formed (bare_store (directory_after c.args.catalog.now.directory o)) ≡ true) is c.requires.next.formed
 
-pub follow-answer-requires : goal.follow-answer-requires
-follow-answer-requires g c =
+pub follow_written-answer-requires : goal.follow_written-answer-requires
+follow_written-answer-requires g c =
     let old : Places = place_of c.args.catalog.now.places in
     let records : List ℕ = c.in_ok-gathered.gathered.records.items in
     let are : AreGone old c.args.next.gone records = record { real = c.in_ok-gathered.ensures.real; all = c.in_ok-gathered.ensures.all } in
@@ -95,7 +95,7 @@ returns-in-Ok g c =
     let now : List ℕ = image u (o c.args.host.now).now in
     let old : Places = place_of cat.places in
     let mid : Places = place_of c.keep_new.new.places in
-    let new : Places = place_of c.follow-answer.new.places in
+    let new : Places = place_of c.follow_written-answer.new.places in
     let records : List ℕ = c.in_ok-gathered.gathered.records.items in
     let e = c.in_ok-gathered.ensures in
     let are : AreGone old next.gone records = record { real = e.real; all = e.all } in
@@ -106,8 +106,8 @@ returns-in-Ok g c =
     let is = c.requires.next in
     let w = c.in-Ok.ensures.writes in
     let k = c.in-Ok.ensures.commits in
-    let f = c.follow-answer.ensures in
-    let next-names = names-next cat next records places names is are (names_of c.prepare_names.new.names) f.names.between (names_of c.follow-answer.new.names) c.prepare_names.ensures.same f.names.forgotten f.names.others (λ x new-is. f.names.names x new-is ∙ e.named x new-is) f.names.stay in
+    let f = c.follow_written-answer.ensures in
+    let next-names = names-next cat next records places names is are (names_of c.prepare_names.new.names) f.names.between (names_of c.follow_written-answer.new.names) c.prepare_names.ensures.same f.names.forgotten f.names.others (λ x new-is. f.names.names x new-is ∙ e.named x new-is) f.names.stay in
     record {
       leaves = record {
         book = k.stands;
@@ -116,7 +116,7 @@ returns-in-Ok g c =
           places = sound-next next old mid new c.in_ok-keep_new.ensures.kept c.in_ok-keep_new.ensures.others f.places.gone f.places.others
               c.deref.result.now (λ sig uid id at m. place-goes cat next records places names is are sig uid id at (subst (λ (l : List ℕ). Among l id) ids-are m))
               (held cat.objects) (held c.write_next.new.objects) places is.free is.ids w.new w.there;
-          names = names-sound-next cat next records places names is are (names_of c.follow-answer.new.names) next-names (held c.write_next.new.objects) w.new w.new_larges
+          names = names-sound-next cat next records places names is are (names_of c.follow_written-answer.new.names) next-names (held c.write_next.new.objects) w.new w.new_larges
               (λ id some out. w.there id some (λ m. out (subst (λ (l : List ℕ). Among l id) ids-are m)));
           formed = subst (λ (d : Directory). well_formed (bare_store d) ≡ true) (sym f.directory) is.formed;
         };
@@ -138,7 +138,7 @@ returns-in-Ok g c =
             record {
               texts = h.0;
               holds = h.1;
-              describes = subst (λ (d : Directory). Describes d new (names_of c.follow-answer.new.names) h.0 t) (sym f.directory) (described-by cat next records places names is are s t now stands turns new (names_of c.follow-answer.new.names) h.0
+              describes = subst (λ (d : Directory). Describes d new (names_of c.follow_written-answer.new.names) h.0 t) (sym f.directory) (described-by cat next records places names is are s t now stands turns new (names_of c.follow_written-answer.new.names) h.0
                   (table-next next old mid new c.in_ok-keep_new.ensures.kept c.in_ok-keep_new.ensures.others f.places.gone f.places.others (turns.stays stands.texts stands.describes)) next-names wrote);
               fits = same-cap now later (cost t) size low;
               keeps = keeps-all later t h.4;

@@ -6,7 +6,7 @@ use Rattle.newt_spec_store.specs.Store.{entry_at}
 use Rattle.newt_store_change.specs.Change.{pages_of_entry}
 use Rattle.newt_store_indexed.specs.Filling.{with_all}
 use Rattle.newt_store_change.specs.Change.{pages_listed}
-use Rattle.newt_store_indexed.proofs.Ends.{with-none, pages-none, behind, pages-first, with-first, sum-next, sum-below}
+use Rattle.newt_store_indexed.proofs.Ends.{with-none, pages-none, after, pages-first, with-first, sum-next, sum-below}
 use Rattle.newt_store.proofs.Readings.{shows-on, reads-more, spends-on, fetches-more}
 use Rattle.newt_store_indexed.proofs.fill.fill_all.Goals as goal
 
@@ -30,7 +30,7 @@ returns-in_err-fill_entry-clause-costs g c = λ tells s shows.
     let k : ℕ = pages_of_entry (entry_at c.args.soup c.uid-item.result s) in
     let two = c.in_err-fill_entry.ensures.costs tells s (shows-on place g.P.PageBook.numbers g.P.PageBook.stands g.H.Host.told c.args.store.now c.loop-left.store (o c.args.host.now) (o c.loop-left.host) s reads shows) in
     fetches-more (place c.args.store.now.book) (i.0 + k) total (o c.args.host.now) (o c.fill_entry.new.host)
-    (sum-below i.0 (pages_listed c.args.soup s left) total k (pages_listed c.args.soup s (behind left)) i.1 (pages-first c.args.soup s left c.uid-item.result c.in-len1-up.len_at_least c.uid-item.is))
+    (sum-below i.0 (pages_listed c.args.soup s left) total k (pages_listed c.args.soup s (after left)) i.1 (pages-first c.args.soup s left c.uid-item.result c.in-len1-up.len_at_least c.uid-item.is))
     (spends-on place g.P.PageBook.numbers g.P.PageBook.stands g.H.Host.told c.args.store.now c.loop-left.store (o c.args.host.now) (o c.loop-left.host) (o c.fill_entry.new.host) i.0 k reads i.2 two)
 
 pub loop-left-preserved : goal.loop-left-preserved
@@ -45,7 +45,7 @@ loop-left-preserved g c =
           reads c.in_ok-fill_entry.ensures.reads;
       no_fault = NoFault-append c.loop-left.invariant.no_fault c.in_ok-fill_entry.ensures.ends.no_fault;
       filled = λ tells s shows.
-          ap (with_all g.T.Filled.with c.args.soup s (behind left)) (c.in_ok-fill_entry.ensures.filled tells s (on s reads shows))
+          ap (with_all g.T.Filled.with c.args.soup s (after left)) (c.in_ok-fill_entry.ensures.filled tells s (on s reads shows))
           ∙ sym (with-first g.T.Filled.with c.args.soup s left c.uid-item.result c.loop-left.kept c.in-len1-up.len_at_least c.uid-item.is)
           ∙ c.loop-left.invariant.filled tells s shows;
       costs = λ tells s shows.
@@ -53,7 +53,7 @@ loop-left-preserved g c =
           let total : ℕ = pages_listed c.args.soup s c.args.uids.now in
           let k : ℕ = pages_of_entry (entry_at c.args.soup c.uid-item.result s) in (
             i.0 + k,
-            sum-next i.0 (pages_listed c.args.soup s left) total k (pages_listed c.args.soup s (behind left)) i.1 (pages-first c.args.soup s left c.uid-item.result c.in-len1-up.len_at_least c.uid-item.is),
+            sum-next i.0 (pages_listed c.args.soup s left) total k (pages_listed c.args.soup s (after left)) i.1 (pages-first c.args.soup s left c.uid-item.result c.in-len1-up.len_at_least c.uid-item.is),
             spends-on place g.P.PageBook.numbers g.P.PageBook.stands g.H.Host.told c.args.store.now c.loop-left.store (o c.args.host.now) (o c.loop-left.host) (o c.fill_entry.new.host) i.0 k reads i.2
                 (c.in_ok-fill_entry.ensures.costs tells s (on s reads shows)),
           );

@@ -9,8 +9,8 @@ use Rattle.newt_top.proofs.top.run_mode.Goals as goal
 
 pub returns-in-Run-clause-ran : goal.returns-in-Run-clause-ran
 returns-in-Run-clause-ran g c = λ told.
-    let P : Mode → Type 0 = λ mode. Ran (Some mode) (map (string_bytes {Z = Global}) c.args.names.now) c.args.limit c.run_script.result (g.H.Host.outside c.args.host.now) (g.H.Host.outside c.run_script.new.host) in
-    subst P (sym c.in-Run.is) (c.run_script.ensures.ran told)
+    let P : Mode → Type 0 = λ mode. Ran (Some mode) (map (string_bytes {Z = Global}) c.args.names.now) c.args.limit c.run_on_devices.result (g.H.Host.outside c.args.host.now) (g.H.Host.outside c.run_on_devices.new.host) in
+    subst P (sym c.in-Run.is) (c.run_on_devices.ensures.ran told)
 
 pub returns-in-Generate-clause-ran : goal.returns-in-Generate-clause-ran
 returns-in-Generate-clause-ran g c = λ told.
@@ -28,10 +28,10 @@ pub returns-in-Run-clause-plain : goal.returns-in-Run-clause-plain
 returns-in-Run-clause-plain g c = λ told ok none.
     let names = map (string_bytes {Z = Global}) c.args.names.now in
     let before = g.H.Host.outside c.args.host.now in
-    let after = g.H.Host.outside c.run_script.new.host in
+    let after = g.H.Host.outside c.run_on_devices.new.host in
     let R : Status → Type 0 = λ status. RanScript names c.args.limit status before after in
     let P : Mode → Type 0 = λ mode. IsPlain (Some mode) names before after in
-    subst P (sym c.in-Run.is) (plain_script names before after none c.args.limit (subst R ok (c.run_script.ensures.ran told)))
+    subst P (sym c.in-Run.is) (plain_script names before after none c.args.limit (subst R ok (c.run_on_devices.ensures.ran told)))
 
 pub returns-in-Convert-clause-plain : goal.returns-in-Convert-clause-plain
 returns-in-Convert-clause-plain g c = λ told ok none.
@@ -57,7 +57,7 @@ returns-in-Read-clause-plain g c = λ told ok none.
 
 pub returns-in-Run-clause-devices : goal.returns-in-Run-clause-devices
 returns-in-Run-clause-devices g c =
-    let P : Mode → Type 0 = λ mode. LeavesDevices g.H.Host.told (Some mode) (g.H.Host.outside c.args.host.now) (g.H.Host.outside c.run_script.new.host) in
+    let P : Mode → Type 0 = λ mode. LeavesDevices g.H.Host.told (Some mode) (g.H.Host.outside c.args.host.now) (g.H.Host.outside c.run_on_devices.new.host) in
     subst P (sym c.in-Run.is) tt
 
 pub returns-in-Generate-clause-devices : goal.returns-in-Generate-clause-devices
@@ -84,8 +84,8 @@ returns-in-Restore-clause-devices g c =
 
 pub returns-in-Run-clause-ends : goal.returns-in-Run-clause-ends
 returns-in-Run-clause-ends g c =
-    let P : Mode → Type 0 = λ mode. RunEnds mode c.run_script.result (g.H.Host.outside c.args.host.now) (g.H.Host.outside c.run_script.new.host) in
-    subst P (sym c.in-Run.is) c.run_script.ensures.ends
+    let P : Mode → Type 0 = λ mode. RunEnds mode c.run_on_devices.result (g.H.Host.outside c.args.host.now) (g.H.Host.outside c.run_on_devices.new.host) in
+    subst P (sym c.in-Run.is) c.run_on_devices.ensures.ends
 
 pub returns-in-Convert-clause-ends : goal.returns-in-Convert-clause-ends
 returns-in-Convert-clause-ends g c =

@@ -29,7 +29,7 @@ use Rattle.newt_engine_hits.proofs.Stores.{stores-formed}
 use Rattle.newt_engine_commands.proofs.Commands.{read-found}
 use Rattle.newt_engine_commands.proofs.Costing.{copy-few}
 use Rattle.newt_engine_commands.proofs.Moves.{move-missing}
-use Rattle.newt_engine_commands.proofs.Said.{behind-breaks}
+use Rattle.newt_engine_commands.proofs.Said.{after-breaks}
 use Rattle.newt_engine_cursors.specs.Reached.{in_reach, reached_by}
 use Rattle.newt_engine_cursors.specs.World.{world_with}
 use Rattle.newt_engine_cursors.specs.declared.reach.Aim.{Aim}
@@ -107,7 +107,7 @@ returns-in_err-added g c name target both =
       costs = λ t. added-costs (b t) first;
       alone = ends.alone;
       cause = ends.cause;
-      broke = behind-breaks cmd read.looks (read.ends.no_fault tt) first (λ t. added-untorn (b t) first);
+      broke = after-breaks cmd read.looks (read.ends.no_fault tt) first (λ t. added-untorn (b t) first);
       no_fault = ends.no_fault;
       kept = λ idle. keeps-append (read-keeps read.looks) (change-keeps first);
     })

@@ -27,9 +27,9 @@ use Rattle.newt_engine_units.proofs.Costs.{alone-once, alone-refl, once-after, s
 use Rattle.newt_engine_units.proofs.Keeping.{keeps-refl}
 use Rattle.newt_engine_units.proofs.Marked.{free-card}
 use Rattle.newt_engine_units.specs.Looks.{IsFree, known_ready}
-use Rattle.newt_engine_units.proofs.Obeying.{breaks-behind, end-answers, handed, handed-ends, none-ends, none-refused, ends-after}
+use Rattle.newt_engine_units.proofs.Obeying.{breaks-after, end-answers, handed, handed-ends, none-ends, none-refused, ends-after}
 use Rattle.newt_engine_units.proofs.Settings.{Setting, still, not-looked, ready-refused, ready-there}
-use Rattle.newt_engine_units.proofs.Sure.{as-seen, failed-device, failed-end, failed-keeps, failed-moments, failed-stands, images-same, moments-behind, now-free, now-setting, now-stands, now-sure, sure-breaks, sure-keeps, sure-read-breaks, sync-still}
+use Rattle.newt_engine_units.proofs.Sure.{as-seen, failed-device, failed-end, failed-keeps, failed-moments, failed-stands, images-same, moments-after, now-free, now-setting, now-stands, now-sure, sure-breaks, sure-keeps, sure-read-breaks, sync-still}
 use Rattle.newt_engine_units.proofs.Turns.{world-still}
 use Rattle.newt_engine_units.proofs.units.Units.format.Given.{Over}
 use Rattle.newt_engine_units.proofs.units.Units.format.Goals as goal
@@ -183,7 +183,7 @@ returns g c =
           (subst (λ (x : World). formats x format u ≡ true) (sym same) (format-formats mid mid u _ found c.args.name.now c.args.sig (ready t) refl empty))
           (format-makes mid mid u _ found c.args.name.now c.args.sig (ready t) refl empty) in
           subst (λ (x : World). Always (Meanwhile g.C.Card.reads (due_in c.args.self.now.slots.items) before format (answer x format).0 o.now) o.now p.now) (as-seen at free made format refl t)
-          (moments-behind at free made t (may t) format v (λ j other. ne_eqb u j (λ k. other (sym k)))
+          (moments-after at free made t (may t) format v (λ j other. ne_eqb u j (λ k. other (sym k)))
           (subst (λ (x : World). formats x format u ≡ true) (as-seen at free made format refl t) (format-formats mid mid u _ found c.args.name.now c.args.sig (ready t) refl empty)) empty
           (subst (λ (k : Moment). Always (Meanwhile g.C.Card.reads (due_in c.make_sure.new.self.slots.items) mid format v k) k p.now) e.looks.moment
           (subst (λ (x : World). Always (Meanwhile g.C.Card.reads (due_in c.make_sure.new.self.slots.items) x format v q.now) q.now p.now) same way)));
@@ -191,7 +191,7 @@ returns g c =
       open_after = λ t goes j. same-before j o.now q.now p.now (ap (image j) e.looks.moment ∙ images-same at free made t j) (c.make.ensures.open_after t goes j);
       ends = ends-after made.ends tt (ends-after e.ends tt c.make.ensures.ends);
       broke = err-device-map P B c.make.result (λ k b. subst B (sym b.0) (record {
-        breaks = sure-breaks at free made (breaks-behind e.looks (e.ends.no_fault tt)
+        breaks = sure-breaks at free made (breaks-after e.looks (e.ends.no_fault tt)
             (subst (Breaks g.C.Card.reads g.C.Card.place g.C.Card.stands g.H.Host.told c.make_sure.new.self c.make_sure.new.self q p) b.0 b.1));
         same = λ t untorn sure store.
             let empty = sym (e.has t) ∙ c.if-branch.false in

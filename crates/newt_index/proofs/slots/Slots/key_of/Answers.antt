@@ -1,5 +1,5 @@
 use Rattle.std.proofs.Common.{ℕ, List, Some, map, option_map, sym, ◌∙◌, ap, subst}
-use Rattle.newt_index.specs.declared.slots.Notes.{Notes}
+use Rattle.newt_index.specs.declared.slots.IdSlots.{IdSlots}
 use Rattle.newt_index.specs.Pairs.{key_at}
 use Rattle.newt_index.specs.Kept.{Entry, pair_of}
 use Rattle.newt_index.specs.Noted.{AreNoted, AreNotes, ArePlain, bytes_at}
@@ -9,7 +9,7 @@ use Rattle.newt_index.proofs.slots.Slots.key_of.Goals as goal
 pub returns-in_err-get-in-OfIds : goal.returns-in_err-get-in-OfIds
 returns-in_err-get-in-OfIds c =
     let es = c.self.inside.keys.entries in
-    let are : AreNotes c.in-OfIds.notes es = subst (λ (notes : Notes). AreNoted notes es) c.in-OfIds.is c.self.invariant in
+    let are : AreNotes c.in-OfIds.notes es = subst (λ (notes : IdSlots). AreNoted notes es) c.in-OfIds.is c.self.invariant in
     ap (option_map (λ k. k.now)) c.from_residual.ensures
     ∙ sym (no_key_noted (bytes_at c.in-OfIds.notes) c.args.uid es are.each (ap bytes_found (sym c.in_err-get-in-OfIds.ensures.value)))
     ∙ ap (λ (l : List Entry). key_at (map pair_of l) c.args.uid) c.self.view_is
@@ -18,7 +18,7 @@ pub returns-in_ok-get-in-OfIds : goal.returns-in_ok-get-in-OfIds
 returns-in_ok-get-in-OfIds c =
     let es = c.self.inside.keys.entries in
     let slot = c.in_ok-get-in-OfIds.field-0.now in
-    let are : AreNotes c.in-OfIds.notes es = subst (λ (notes : Notes). AreNoted notes es) c.in-OfIds.is c.self.invariant in
+    let are : AreNotes c.in-OfIds.notes es = subst (λ (notes : IdSlots). AreNoted notes es) c.in-OfIds.is c.self.invariant in
     let known = noted_slot c.in-OfIds.notes c.args.uid slot es are (sym c.in_ok-get-in-OfIds.ensures.value) in
     c.get-in-OfIds.ensures.value
     ∙ key_noted (bytes_at c.in-OfIds.notes) slot es are.each known.1
@@ -28,7 +28,7 @@ returns-in_ok-get-in-OfIds c =
 pub returns-in-Plain : goal.returns-in-Plain
 returns-in-Plain c =
     let es = c.self.inside.keys.entries in
-    let are : ArePlain es = subst (λ (notes : Notes). AreNoted notes es) c.in-Plain.is c.self.invariant in
+    let are : ArePlain es = subst (λ (notes : IdSlots). AreNoted notes es) c.in-Plain.is c.self.invariant in
     c.get-in-Plain.ensures.value
     ∙ key_noted plain_told c.plain.result es (plain_tells es are) (ap (λ (bytes : List ℕ). Some bytes) (sym c.plain.ensures.bytes))
     ∙ ap (λ (uid : ℕ). key_at (map pair_of es) uid) c.plain.ensures.uid

@@ -1,7 +1,7 @@
 use Rattle.std.proofs.Common.{ℕ, List, sym, subst}
 use Rattle.newt_objects_commit.specs.Names.{names_of}
 use Rattle.newt_spec_graph.specs.Lists.{Among}
-use Rattle.newt_store.proofs.carry.follow.Goals as goal
+use Rattle.newt_store.proofs.carry.follow_written.Goals as goal
 
 pub name_new-requires : goal.name_new-requires
 name_new-requires c = record { ready = λ e is. c.forget_names.ensures.ready e.id (λ m. c.requires.stays e is (subst (λ (l : List ℕ). Among l e.id) c.deref.ensures.value m)) (c.requires.ready e is) }

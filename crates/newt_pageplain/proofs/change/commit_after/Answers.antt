@@ -16,7 +16,7 @@ use Rattle.newt_pagelog.proofs.Committing.{commits, commits-failed, commits-wide
 use Rattle.newt_pagelog.proofs.Stepping.{NoMore}
 use Rattle.newt_pagelog.proofs.Near.{room-few}
 use Rattle.newt_pageplain.specs.Plain.{IsHeldBy}
-use Rattle.newt_pageplain.proofs.change.commit_behind.Goals as goal
+use Rattle.newt_pageplain.proofs.change.commit_after.Goals as goal
 
 -- with a record more the pages are those after the batch
 reads : (told : Bool) (j : Journal) (entries : Entries) (batch : Change) (o : Outside) → IsHeldBy told j entries o → AreSound entries → IsBatch batch → 4 + 516 * length batch.puts + 4 * length (filter (is_kept entries) batch.deletes) ≤ room j

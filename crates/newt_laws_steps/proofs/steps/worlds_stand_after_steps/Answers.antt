@@ -1,6 +1,6 @@
 use Rattle.newt_laws_steps.proofs.Fitting.{step-valid}
 use Rattle.newt_laws_steps.proofs.Standing.{step-sure, step-settled, step-apart}
-use Rattle.newt_laws_steps.proofs.steps.worlds_stand_behind_steps.Goals as goal
+use Rattle.newt_laws_steps.proofs.steps.worlds_stand_after_steps.Goals as goal
 
 pub returns-clause-sure : goal.returns-clause-sure
 returns-clause-sure c = step-sure

@@ -2,7 +2,7 @@ use Rattle.std.proofs.Common.{Ok, Err, map, Global, string_bytes, refl, arith}
 use Rattle.std.proofs.lemmas.List.{length-map}
 use Rattle.newt_top.proofs.Halting.{ends_halted, ends_ok}
 use Rattle.newt_top.proofs.Naming.{few_names, distinct_names}
-use Rattle.newt_top.proofs.top.run_script.Goals as goal
+use Rattle.newt_top.proofs.top.run_on_devices.Goals as goal
 
 pub run_named-requires-clause-few : goal.run_named-requires-clause-few
 run_named-requires-clause-few g c =

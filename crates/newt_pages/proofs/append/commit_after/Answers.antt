@@ -24,7 +24,7 @@ use Rattle.newt_pages.specs.Disk.{IsPlacedBy, StandAt}
 use Rattle.newt_pages.proofs.Tables.{needed-lifted}
 use Rattle.newt_pages.proofs.Caching.{cached-appended}
 use Rattle.newt_pages.proofs.Committed.{holds-appended, placed-wider}
-use Rattle.newt_pages.proofs.append.commit_behind.Goals as goal
+use Rattle.newt_pages.proofs.append.commit_after.Goals as goal
 
 -- with a record more the pages are those after the batch
 reads : (told : Bool) (j : Journal) (places : Places) (batch : Change) (o : Outside) → IsPlacedBy told j places o → AreNumbered places → IsBatch batch → 4 + 516 * length batch.puts + 4 * length (filter (is_kept places) batch.deletes) ≤ room j
