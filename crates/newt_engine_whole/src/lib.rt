@@ -5,9 +5,9 @@
 //! `newt_script_session`, whose `Interpreter` says what a script asks of an engine. It carries the
 //! promise of one command: world, watches, copies and devices stand for one whole, or for several;
 //! from each of them a command that is of its form makes a step to one that is stood for then, and
-//! at each moment a crash leaves each unit as in the one or in the other. Room for notes and for a
-//! copy's new base is there before the world is asked, so that once it has answered, the whole
-//! answers too: `tell` and `rebase` have no error.
+//! at each moment a crash leaves each unit as in the one or in the other. Room for notes is there
+//! before the world is asked, and a saved copy's new base is its draft, so that once the world has
+//! answered, the whole answers too: `tell` and `rebase_to_draft` have no error.
 #![tactic(auto)]
 
 mod due;

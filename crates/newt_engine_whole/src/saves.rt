@@ -126,8 +126,8 @@ impl<C: Card> Whole<C> {
         }
     }
 
-    /// The same over this state of the entry. The copies for the new base are made before the
-    /// commit, so that nothing wants memory once the world has answered.
+    /// The same over this state of the entry. A copy of the draft is given to the world, and the
+    /// draft is then the new base, so that nothing wants memory once the world has answered.
     fn save_over<H: Host>(
         &mut self,
         host: &mut H,
@@ -154,16 +154,13 @@ impl<C: Card> Whole<C> {
         // (used by the proof alone: what a type says of a value is known where the value is read;
         // here that the draft is within the limits, as `change` requires)
         let _root = work.draft().root();
-        let base = work.draft().copy()?;
         let draft = work.draft().copy()?;
-        let given = work.draft().copy()?;
         let name = place.name.copy()?;
-        let change = Command::Change(place.unit, name, place.uid, given);
+        let change = Command::Change(place.unit, name, place.uid, draft);
         let reply = self.world.apply(host, change)?;
         match reply {
             Reply::Done => {
-                self.works
-                    .rebase(number, self.world.units().minute(), base, draft);
+                self.works.rebase_to_draft(number, self.world.units().minute());
                 self.tell_saved(place);
                 Ok(Reply::Done)
             }
@@ -199,8 +196,7 @@ impl<C: Card> Whole<C> {
         let reply = self.world.apply(host, read)?;
         match reply {
             Reply::Timed(time, graph) => {
-                let draft = graph.copy()?;
-                self.works.rebase(number, time, graph, draft);
+                self.works.rebase(number, time, graph);
                 Ok(Reply::Done)
             }
             other => Ok(other),

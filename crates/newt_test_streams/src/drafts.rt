@@ -59,6 +59,10 @@ fn begin_anew(rt: &impl Abort, alloc: Global, work: &mut Work) -> Result<(), Fai
     let draft = base.copy()?;
     work.rebase(5, base, draft);
     check(rt, work.based(5, work.draft()), "the draft");
+    check(rt, edited(alloc, work, b"c")? == Ok(()), "the next edit");
+    check(rt, !work.based(5, work.draft()), "another draft");
+    work.rebase_to_draft(6);
+    check(rt, work.based(6, work.draft()), "the next draft");
     Ok(())
 }
 

@@ -21,10 +21,12 @@ pub struct Work {
     uid: Uid,
     time: u32,
     base: Graph,
-    draft: Graph,
+    /// The draft; none while it is the base.
+    edited: Option<Graph>,
 }
 
 impl Model for Work {
+    ghost use Rattle.std.specs.Prelude.{unwrap_or};
     ghost use Rattle.newt_work.specs.Work.{Copy};
 
     ghost Value = { Copy };
@@ -35,12 +37,12 @@ impl Model for Work {
       uid = w.uid;
       time = w.time;
       base = w.base;
-      draft = w.draft;
+      draft = unwrap_or w.edited w.base;
     } };
 }
 
 impl Work {
-    /// A copy of an entry as it is now. Its draft is the entry's graph.
+    /// A copy of an entry as it is now. Its draft is the entry's graph. It takes no memory.
     pub fn open(
         alloc: Global,
         store: Sig,
@@ -57,8 +59,8 @@ impl Work {
             soup,
             uid,
             time,
-            draft: graph.copy()?,
             base: graph,
+            edited: None,
         })
     }
 
@@ -73,7 +75,10 @@ impl Work {
     pub fn draft(&self) -> &Graph
         ensures { result.now ≡ self.now.draft }
     {
-        &self.draft
+        match &self.edited {
+            Some(draft) => draft,
+            None => &self.base,
+        }
     }
 
     /// Whether an entry with this time and graph is as the base. It takes no memory.
@@ -98,7 +103,8 @@ impl Work {
             → PassesALimit (draft_with path.now value.now self.old) }
         ensures err { OnErr result (self.new ≡ self.old) }
     {
-        self.draft = set_at(self.alloc, &self.draft, path, value)?;
+        let draft = set_at(self.alloc, self.draft(), path, value)?;
+        self.edited = Some(draft);
         Ok(())
     }
 
@@ -106,7 +112,7 @@ impl Work {
     pub fn redraft(&mut self, graph: Graph)
         ensures { self.new ≡ edited graph self.old }
     {
-        self.draft = graph;
+        self.edited = Some(graph);
     }
 
     /// Begins again from another state of the entry, whose graph is given twice. It takes no
@@ -115,8 +121,26 @@ impl Work {
         requires { base ≡ draft }
         ensures { self.new ≡ rebased time base self.old }
     {
+        drop(draft);
+        self.begin_again(time, base);
+    }
+
+    /// Begins again from another state of the entry. It takes no memory.
+    pub(crate) fn begin_again(&mut self, time: u32, graph: Graph)
+        ensures { self.new ≡ rebased time graph self.old }
+    {
         self.time = time;
-        self.base = base;
-        self.draft = draft;
+        self.base = graph;
+        self.edited = None;
+    }
+
+    /// Begins again from the draft, which the entry has got at this time. It takes no memory.
+    pub fn rebase_to_draft(&mut self, time: u32)
+        ensures { self.new ≡ rebased time self.old.draft self.old }
+    {
+        self.time = time;
+        if let Some(draft) = self.edited.take() {
+            self.base = draft;
+        }
     }
 }

@@ -83,15 +83,23 @@ impl Works {
         redraft_at(&mut self.places[usize::from(number)], draft);
     }
 
-    /// Begins a copy again from another state of its entry, whose graph is given twice. It takes no
-    /// memory.
-    pub fn rebase(&mut self, number: u8, time: u32, base: Graph, draft: Graph)
-        requires there { IsSome (copy_at number self.old) }
-        requires same { base ≡ draft }
+    /// Begins a copy again from another state of its entry. It takes no memory.
+    pub fn rebase(&mut self, number: u8, time: u32, graph: Graph)
+        requires { IsSome (copy_at number self.old) }
         ensures { self.new ≡ slice_set self.old number
-            (option_map (rebased time base) (copy_at number self.old)) }
+            (option_map (rebased time graph) (copy_at number self.old)) }
     {
-        rebase_at(&mut self.places[usize::from(number)], time, base, draft);
+        rebase_at(&mut self.places[usize::from(number)], time, graph);
+    }
+
+    /// Begins a copy again from its draft, which its entry has got at this time. It takes no
+    /// memory.
+    pub fn rebase_to_draft(&mut self, number: u8, time: u32)
+        requires { IsSome (copy_at number self.old) }
+        ensures { self.new ≡ slice_set self.old number
+            (option_map (λ k. rebased time k.draft k) (copy_at number self.old)) }
+    {
+        rebase_to_draft_at(&mut self.places[usize::from(number)], time);
     }
 
     /// Discards a copy. Where no copy has this number, nothing changes. It takes no memory.
@@ -145,11 +153,19 @@ fn redraft_at(place: &mut Option<Work>, draft: Graph)
 }
 
 /// Begins again the copy that is there.
-fn rebase_at(place: &mut Option<Work>, time: u32, base: Graph, draft: Graph)
-    requires { base ≡ draft }
-    ensures { place.new ≡ option_map (rebased time base) place.old }
+fn rebase_at(place: &mut Option<Work>, time: u32, graph: Graph)
+    ensures { place.new ≡ option_map (rebased time graph) place.old }
 {
     if let Some(work) = place {
-        work.rebase(time, base, draft);
+        work.begin_again(time, graph);
+    }
+}
+
+/// Begins again, from its draft, the copy that is there.
+fn rebase_to_draft_at(place: &mut Option<Work>, time: u32)
+    ensures { place.new ≡ option_map (λ k. rebased time k.draft k) place.old }
+{
+    if let Some(work) = place {
+        work.rebase_to_draft(time);
     }
 }

@@ -76,8 +76,8 @@ returns-in_default g c =
     let f = found g it host c.args.number at c.requires.stands (λ h s m. subst (λ (r : Result Place Refusal). FindsLiving h c.args.number r) c.in-Ok.is (c.in_ok-place.ensures.found (g.H.Host.outside host) h s m)) in
     revert-handed c.args.number at c.requires.stands f (turn g it host c.args.number at c.requires.stands f) (untimed _ c.in_default.not-Timed) c.in_ok-reply.ensures
 
-pub returns-in_ok-draft-in-Timed : goal.returns-in_ok-draft-in-Timed
-returns-in_ok-draft-in-Timed g c =
+pub returns-in-Timed : goal.returns-in-Timed
+returns-in-Timed g c =
     let it = c.args.self.now in
     let host = c.args.host.now in
     let at = c.in-Ok.place in
@@ -85,20 +85,6 @@ returns-in_ok-draft-in-Timed g c =
     revert-done c.args.number at c.requires.stands f (turn g it host c.args.number at c.requires.stands f)
     (λ t. let s = whole-told c.requires.stands t in (record (known_whole g.C.Card.reads it (g.H.Host.outside host)) { watches = s.watches.0 }, known-means (laws g) it (g.H.Host.outside host) s))
     refl refl c.rebase.ensures (applied-as c.in-Timed.is c.in_ok-reply.ensures)
-
-pub returns-in_err-draft-in-Timed : goal.returns-in_err-draft-in-Timed
-unfolding is_plain
-returns-in_err-draft-in-Timed g c =
-    let memory = err_from_is_err_and c.from_residual-in_err-draft-in-Timed.result c.from_residual-in_err-draft-in-Timed.ensures.1 in
-    let it = c.args.self.now in
-    let host = c.args.host.now in
-    let at = c.in-Ok.place in
-    let f = found g it host c.args.number at c.requires.stands (λ h s m. subst (λ (r : Result Place Refusal). FindsLiving h c.args.number r) c.in-Ok.is (c.in_ok-place.ensures.found (g.H.Host.outside host) h s m)) in
-    subst (λ (r : Result Reply AllocError). Applied g.C.Card.reads g.C.Card.place g.C.Card.stands g.H.Host.told (command.Revert c.args.number) it (record it { world = c.apply.new.self }) (g.H.Host.outside host) (g.H.Host.outside c.apply.new.host) r)
-    (sym memory.1)
-    (read-memory refl c.requires.stands at.unit at.uid at.name (applied-as c.in-Timed.is c.in_ok-reply.ensures) memory.0 (λ w. refl) refl refl refl (λ t. ([], turn g it host c.args.number at c.requires.stands f t))
-    (still-read c.requires.stands at.unit at.uid at.name (applied-as c.in-Timed.is c.in_ok-reply.ensures) (λ t h m v x e r. timed-stays h.world v at.unit at.uid at.name _ _ x e r))
-    (let timed = applied-as c.in-Timed.is c.in_ok-reply.ensures in λ x. timed.finished.failed x refl))
 
 pub returns-in_err-reply : goal.returns-in_err-reply
 unfolding is_plain

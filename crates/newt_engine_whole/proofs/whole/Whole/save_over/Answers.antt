@@ -49,7 +49,7 @@ pub apply-requires : goal.apply-requires
 unfolding has_form
 apply-requires g c = record {
   stands = c.requires.stands.world;
-  form = ap within_limits (c.in_ok-given.ensures ∙ c.draft-4.ensures) ∙ graph-within c.in-Some.work.now.draft (subst IsGraph c.draft.ensures c.root-root.ensures.graph);
+  form = ap within_limits (c.in_ok-draft.ensures ∙ c.draft-2.ensures) ∙ graph-within c.in-Some.work.now.draft (subst IsGraph c.draft.ensures c.root-root.ensures.graph);
 }
 
 -- the copies are of the draft, and the entry is as the base
@@ -65,40 +65,41 @@ known : (g : Over) (it : Whole g.row.C.Denot) (host : _) → Standing g.C.Card.r
     → IsTrue g.H.Host.told → (ws : List (Option Watching)) × Means g.C.Card.reads it (g.H.Host.outside host) (record (known_whole g.C.Card.reads it (g.H.Host.outside host)) { watches = ws })
 known g it host begun t = let s = whole-told begun t in (s.watches.0, known-means (laws g) it (g.H.Host.outside host) s)
 
-pub rebase-requires : goal.rebase-requires
-rebase-requires g c = record { there = c.requires.there; same = c.in_ok-base.ensures ∙ c.draft-2.ensures ∙ sym (c.in_ok-draft.ensures ∙ c.draft-3.ensures) }
+pub rebase_to_draft-requires : goal.rebase_to_draft-requires
+rebase_to_draft-requires g c = c.requires.there
+
+-- the copy that begins anew from its draft is the one that begins anew from what was given
+begun-from : (works : List (Option Copy)) (n : ℕ) (k : Copy) (given : RawGraph) {time minute : ℕ} → Some k ≡ copy_at n works → given ≡ k.draft → time ≡ minute
+    → slice_set works n (option_map (λ (j : Copy). rebased time j.draft j) (copy_at n works)) ≡ slice_set works n (option_map (rebased minute given) (copy_at n works))
+begun-from works n k given {time} {minute} there same times =
+    ap (λ (o : Option Copy). slice_set works n (option_map (λ (j : Copy). rebased time j.draft j) o)) (sym there)
+    ∙ (λ i. slice_set works n (Some (rebased (times i) (sym same i) k)))
+    ∙ ap (λ (o : Option Copy). slice_set works n (option_map (rebased minute given) o)) there
 
 pub returns-in_default-reply : goal.returns-in_default-reply
 returns-in_default-reply g c =
     let k = c.in-Some.work.now in
-    let given = c.in_ok-given.ensures ∙ c.draft-4.ensures in
-    save-handed c.args.number c.args.place.now c.in_ok-given.given
-    (base g c.args.self.now c.args.host.now c.args.number c.args.time c.args.graph.now c.args.place.now c.requires.stands k c.in-Some.ensures (sym c.based.ensures.value ∙ c.if-not-based.false) c.in_ok-given.given given c.requires.read)
-    c.requires.stands (known g c.args.self.now c.args.host.now c.requires.stands) (undone _ c.in_default-reply.not-Done) (applied-of (ap (λ (s : List ℕ). command.Change c.args.place.now.unit s c.args.place.now.uid c.in_ok-given.given) c.in_ok-name.ensures) c.in_ok-reply.ensures)
+    let given = c.in_ok-draft.ensures ∙ c.draft-2.ensures in
+    save-handed c.args.number c.args.place.now c.in_ok-draft.draft
+    (base g c.args.self.now c.args.host.now c.args.number c.args.time c.args.graph.now c.args.place.now c.requires.stands k c.in-Some.ensures (sym c.based.ensures.value ∙ c.if-not-based.false) c.in_ok-draft.draft given c.requires.read)
+    c.requires.stands (known g c.args.self.now c.args.host.now c.requires.stands) (undone _ c.in_default-reply.not-Done) (applied-of (ap (λ (s : List ℕ). command.Change c.args.place.now.unit s c.args.place.now.uid c.in_ok-draft.draft) c.in_ok-name.ensures) c.in_ok-reply.ensures)
 
 pub returns-in-Done : goal.returns-in-Done
 returns-in-Done g c =
     let k = c.in-Some.work.now in
     let n = c.args.number in
     let works = c.args.self.now.works in
-    let given = c.in_ok-given.ensures ∙ c.draft-4.ensures in
-    let same = c.in_ok-base.ensures ∙ c.draft-2.ensures ∙ sym given in
+    let given = c.in_ok-draft.ensures ∙ c.draft-2.ensures in
     let minute = c.minute.ensures ∙ ap (λ units. units.minute) c.units.ensures in
-    save-over n c.args.place.now c.in_ok-given.given
-    (base g c.args.self.now c.args.host.now n c.args.time c.args.graph.now c.args.place.now c.requires.stands k c.in-Some.ensures (sym c.based.ensures.value ∙ c.if-not-based.false) c.in_ok-given.given given c.requires.read)
-    c.requires.stands (known g c.args.self.now c.args.host.now c.requires.stands) k c.in-Some.ensures given (applied-as c.in-Done.is (applied-of (ap (λ (s : List ℕ). command.Change c.args.place.now.unit s c.args.place.now.uid c.in_ok-given.given) c.in_ok-name.ensures) c.in_ok-reply.ensures)) refl refl
-    (c.rebase.ensures ∙ (λ i. slice_set works n (option_map (rebased (minute i) (same i)) (copy_at n works)))) c.tell_saved.ensures
+    save-over n c.args.place.now c.in_ok-draft.draft
+    (base g c.args.self.now c.args.host.now n c.args.time c.args.graph.now c.args.place.now c.requires.stands k c.in-Some.ensures (sym c.based.ensures.value ∙ c.if-not-based.false) c.in_ok-draft.draft given c.requires.read)
+    c.requires.stands (known g c.args.self.now c.args.host.now c.requires.stands) k c.in-Some.ensures given (applied-as c.in-Done.is (applied-of (ap (λ (s : List ℕ). command.Change c.args.place.now.unit s c.args.place.now.uid c.in_ok-draft.draft) c.in_ok-name.ensures) c.in_ok-reply.ensures)) refl refl
+    (c.rebase_to_draft.ensures ∙ begun-from works n k c.in_ok-draft.draft c.in-Some.ensures given minute) c.tell_saved.ensures
 
 -- ---- memory is refused
 
-pub returns-in_err-base : goal.returns-in_err-base
-returns-in_err-base g c = ends g c.requires.stands c.from_residual.result (err_from_is_err_and c.from_residual.result c.from_residual.ensures.1)
-
 pub returns-in_err-draft : goal.returns-in_err-draft
-returns-in_err-draft g c = ends g c.requires.stands c.from_residual-in_err-draft.result (err_from_is_err_and c.from_residual-in_err-draft.result c.from_residual-in_err-draft.ensures.1)
-
-pub returns-in_err-given : goal.returns-in_err-given
-returns-in_err-given g c = ends g c.requires.stands c.from_residual-in_err-given.result (err_from_is_err_and c.from_residual-in_err-given.result c.from_residual-in_err-given.ensures.1)
+returns-in_err-draft g c = ends g c.requires.stands c.from_residual.result (err_from_is_err_and c.from_residual.result c.from_residual.ensures.1)
 
 pub returns-in_err-name : goal.returns-in_err-name
 returns-in_err-name g c = ends g c.requires.stands c.from_residual-in_err-name.result (err_from_is_err_and c.from_residual-in_err-name.result c.from_residual-in_err-name.ensures.1)
@@ -107,9 +108,9 @@ pub returns-in_err-reply : goal.returns-in_err-reply
 returns-in_err-reply g c =
     let memory = err_from_is_err_and c.from_residual-in_err-reply.result c.from_residual-in_err-reply.ensures.1 in
     let k = c.in-Some.work.now in
-    let given = c.in_ok-given.ensures ∙ c.draft-4.ensures in
+    let given = c.in_ok-draft.ensures ∙ c.draft-2.ensures in
     subst (λ (r : Result Reply AllocError). AppliedRest g.C.Card.reads g.C.Card.place g.C.Card.stands g.H.Host.told (command.Save c.args.number) c.args.self.now (record c.args.self.now { world = c.apply.new.self })
     (g.H.Host.outside c.args.host.now) (g.H.Host.outside c.apply.new.host) r) (sym memory.1)
-    (change-memory c.args.number c.args.place.now c.in_ok-given.given
-    (base g c.args.self.now c.args.host.now c.args.number c.args.time c.args.graph.now c.args.place.now c.requires.stands k c.in-Some.ensures (sym c.based.ensures.value ∙ c.if-not-based.false) c.in_ok-given.given given c.requires.read)
-    c.requires.stands (known g c.args.self.now c.args.host.now c.requires.stands) memory.0 (applied-of (ap (λ (s : List ℕ). command.Change c.args.place.now.unit s c.args.place.now.uid c.in_ok-given.given) c.in_ok-name.ensures) c.in_err-reply.ensures))
+    (change-memory c.args.number c.args.place.now c.in_ok-draft.draft
+    (base g c.args.self.now c.args.host.now c.args.number c.args.time c.args.graph.now c.args.place.now c.requires.stands k c.in-Some.ensures (sym c.based.ensures.value ∙ c.if-not-based.false) c.in_ok-draft.draft given c.requires.read)
+    c.requires.stands (known g c.args.self.now c.args.host.now c.requires.stands) memory.0 (applied-of (ap (λ (s : List ℕ). command.Change c.args.place.now.unit s c.args.place.now.uid c.in_ok-draft.draft) c.in_ok-name.ensures) c.in_err-reply.ensures))
