@@ -27,12 +27,12 @@ use Rattle.newt_spec_store.specs.StoreOf.{store_of}
 use Rattle.newt_spec_store.specs.Valid.{well_formed, fits}
 use Rattle.newt_spec_check.specs.declared.Layer.TheVariants as layer
 use Rattle.newt_spec_check.specs.Damage.{damage, if_missing, if_above, broken_object, least, broken_ids, of_objects, directory_in, no_directory, bad_entry, bad_large, too_costly, pages_taken, is_odd}
-use Rattle.newt_laws_check.proofs.Complete.{complete}
-use Rattle.newt_laws_check.proofs.Entries.{entries-count}
-use Rattle.newt_laws_check.proofs.Finds.{skip}
-use Rattle.newt_laws_check.proofs.Journal.{pages-whole}
-use Rattle.newt_laws_check.proofs.Objects.{objects-whole, whole-objects}
-use Rattle.newt_laws_check.proofs.Sound.{sound-cost}
+use Rattle.newt_spec_check.proofs.Complete.{complete}
+use Rattle.newt_spec_check.proofs.Entries.{entries-count}
+use Rattle.newt_spec_check.proofs.Finds.{skip}
+use Rattle.newt_spec_check.proofs.Journal.{pages-whole}
+use Rattle.newt_spec_check.proofs.Objects.{objects-whole, whole-objects}
+use Rattle.newt_spec_check.proofs.Sound.{sound-cost}
 use Rattle.newt_check.specs.Reports.{IsDamaged}
 use Rattle.newt_check.proofs.Voted.{hit, no-store-at}
 

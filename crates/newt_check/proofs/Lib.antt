@@ -1,3 +1,5 @@
+pub mod Written
+pub mod LineRows
 pub mod Gates
 pub mod Voted
 pub mod Damages

@@ -29,9 +29,9 @@ use Rattle.newt_laws_images.specs.Found.{HasGiven}
 use Rattle.newt_laws_images.proofs.Alone.{missing, bad-alone}
 use Rattle.newt_laws_images.proofs.Finite.{object-get, entries-rising, entry-get, get-entry}
 use Rattle.newt_laws_images.proofs.Rows.{large-parts}
-use Rattle.newt_laws_check.proofs.Complete.{true-given}
-use Rattle.newt_laws_check.proofs.Finds.{none-find, any-true, among-any}
-use Rattle.newt_laws_check.proofs.Sound.{both, given-true, again-some}
+use Rattle.newt_spec_check.proofs.Complete.{true-given}
+use Rattle.newt_spec_check.proofs.Finds.{none-find, any-true, among-any}
+use Rattle.newt_spec_check.proofs.Sound.{both, given-true, again-some}
 use Rattle.newt_spec_check.specs.Damage.{directory_in, first_object, is_odd, is_again, is_given, is_named_before, is_sound, is_bad_record, entry_of, bad_entry, all_named}
 use Rattle.newt_store_catalog.specs.Calls.{IsDirectory}
 use Rattle.newt_store_catalog.specs.Opening.{AreFoundTo, HasObject, IsRoot, OfObjects, objects_named}

@@ -22,9 +22,9 @@ use Rattle.newt_spec_store.specs.OfImage.{blocks_of}
 use Rattle.newt_spec_check.specs.declared.Layer.{Layer}
 use Rattle.newt_spec_check.specs.declared.Layer.TheVariants as layer
 use Rattle.newt_spec_check.specs.Damage.{damage, first_row, if_missing, start_of as start_in, versioned_in, no_bank, no_header, gates, gates_after, bank_gates, first_gate, leaves_bank, is_unformed, bad_payload}
-use Rattle.newt_laws_check.proofs.Finds.{skip}
-use Rattle.newt_laws_check.proofs.Journal.{whole-pages, whole-records}
-use Rattle.newt_laws_check.proofs.Law.{is_cost, no-store}
+use Rattle.newt_spec_check.proofs.Finds.{skip}
+use Rattle.newt_spec_check.proofs.Journal.{whole-pages, whole-records}
+use Rattle.newt_spec_check.proofs.Law.{is_cost, no-store}
 use Rattle.newt_check.specs.Gates.{first_from, unformed_in}
 use Rattle.newt_check.specs.Reports.{HasRecords, IsDamaged}
 

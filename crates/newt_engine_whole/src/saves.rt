@@ -160,7 +160,8 @@ impl<C: Card> Whole<C> {
         let reply = self.world.apply(host, change)?;
         match reply {
             Reply::Done => {
-                self.works.rebase_to_draft(number, self.world.units().minute());
+                self.works
+                    .rebase_to_draft(number, self.world.units().minute());
                 self.tell_saved(place);
                 Ok(Reply::Done)
             }

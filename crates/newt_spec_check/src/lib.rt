@@ -1,8 +1,14 @@
 //! Definitions of what is damaged in an image: the first row that holds of a table of nine layers,
 //! each with its place.
 //!
-//! It stands on the definitions of images and of stores. The names of the layers are its only code.
+//! It stands on the definitions of images and of stores, and on the laws of whole images
+//! (`newt_laws_images`). It carries the law that an image is damaged exactly where it is read as no
+//! store (`damaged_images_are_no_stores`). The names of the layers are its only code.
 #![tactic(auto)]
+
+mod damaged_images;
+
+pub use damaged_images::damaged_images_are_no_stores;
 
 /// The layer of an image that is damaged. The layers stand in the order in which they are tested.
 #[derive(Clone, Copy, PartialEq, Eq, Debug)]

@@ -9,7 +9,7 @@ ghost use Rattle.newt_top.specs.Calls.{MayRun, RunEnds};
 ghost use Rattle.newt_top.specs.Reading.{IsSaid, OnlyReadsDevices, RanReading};
 
 use crate::status::{Mode, Reading, Status};
-use newt_check_text::check_text;
+use newt_check::check_text;
 use newt_host::{Host, Unit};
 use newt_host_attach::attach_names;
 use newt_pagebook::Stop;

@@ -5,7 +5,7 @@ use Rattle.newt_base.specs.Text.{decimal_text}
 use Rattle.newt_check.specs.Reports.{IsReport}
 use Rattle.newt_check.specs.declared.report.Report.{Report}
 use Rattle.newt_check.specs.declared.report.Report.TheVariants.{Clean, Damaged}
-use Rattle.newt_check_text.specs.Lines.{IsReported, clean_line, damaged_line, layer_word, report_line}
+use Rattle.newt_check.specs.Lines.{IsReported, clean_line, damaged_line, layer_word, report_line}
 use Rattle.newt_spec_check.specs.declared.Layer.{Layer}
 use Rattle.newt_spec_graph.proofs.Lists.{none-some, some-same}
 use Rattle.newt_spec_store.specs.Cost.{cost}

@@ -1,9 +1,4 @@
 //! The law of damage: it is the contract of a function without a body.
-//!
-//! It stands on the definition of damage (`newt_spec_check`) and on the laws of whole images
-//! (`newt_laws_images`): an image is damaged exactly where it is read as no store.
-#![tactic(auto)]
-
 ghost use Rattle.std.specs.Prelude.{ℕ, ◌≡◌, List, IsTrue, IsSome, Option, Some, None};
 ghost use Rattle.newt_graph.specs.Graph.{RawGraph};
 ghost use Rattle.newt_spec_image.specs.Records.{has_banks};

@@ -1,6 +1,6 @@
 use Rattle.std.proofs.Common.{◌≡◌, ap, Option, IsSome, Some, is_some}
-use Rattle.newt_laws_check.proofs.Law.{store-whole, whole-store}
-use Rattle.newt_laws_check.proofs.damaged_images_are_no_stores.Goals as goal
+use Rattle.newt_spec_check.proofs.Law.{store-whole, whole-store}
+use Rattle.newt_spec_check.proofs.damaged_images.damaged_images_are_no_stores.Goals as goal
 
 is-some : {X : Type 0} (o : Option X) (x : X) → o ≡ Some x → IsSome o
 is-some o x h = ap is_some h

@@ -1,6 +1,6 @@
 use Rattle.newt_host.specs.Moments.{image}
-use Rattle.newt_check_text.proofs.Written.{reported}
-use Rattle.newt_check_text.proofs.text.report_text.Goals as goal
+use Rattle.newt_check.proofs.Written.{reported}
+use Rattle.newt_check.proofs.text.report_text.Goals as goal
 
 pub returns-clause-text : goal.returns-clause-text
 returns-clause-text g c tells =

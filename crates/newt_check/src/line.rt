@@ -1,8 +1,9 @@
 //! The line of a report.
 ghost use Rattle.std.specs.Prelude.{◌≡◌, IfOk};
-ghost use Rattle.newt_check_text.specs.Lines as spec;
+ghost use Rattle.newt_check.specs.Lines as spec;
 
-use newt_check::{Layer, Report};
+use crate::report::Report;
+use newt_spec_check::Layer;
 use std::alloc::{AllocError, Global};
 
 /// The word of a layer.

@@ -20,8 +20,8 @@ use Rattle.newt_laws_images.proofs.Known.{names-apart}
 use Rattle.newt_laws_images.proofs.Parts.{reading}
 use Rattle.newt_laws_images.proofs.Refused.{has-directory, has-record, has-names, stands-twice}
 use Rattle.newt_spec_check.specs.Damage.{if_missing, directory_in, no_directory, is_odd, is_given, is_again, entry_of, is_named_before, is_sound, is_bad_record, bad_entry, all_named, count_of, is_stray, bad_large, pages_taken, if_above, too_costly, first_object}
-use Rattle.newt_laws_check.proofs.Counts.{apart-count}
-use Rattle.newt_laws_check.proofs.Finds.{none-find, any-true, among-any}
+use Rattle.newt_spec_check.proofs.Counts.{apart-count}
+use Rattle.newt_spec_check.proofs.Finds.{none-find, any-true, among-any}
 
 pub both : (a b : Bool) → a ≡ true → b ≡ true → (a && b) ≡ true
 both a b h k = grind (arith, h, k)

@@ -6,7 +6,7 @@ use Rattle.newt_spec_image.specs.Records.{and_then, body, chosen_bank, has_banks
 use Rattle.newt_spec_image.specs.Pages.{Pages, Change, pages, pages_after, is_change, said_by, change_in, after}
 use Rattle.newt_spec_graph.proofs.Lists.{none-some, some-same}
 use Rattle.newt_spec_check.specs.Damage.{Gate, start_of, versioned_in, gates_after, bank_gates, gates, first_gate, leaves_bank, is_unformed, if_missing, no_bank, no_header, long_record, bad_payload}
-use Rattle.newt_laws_check.proofs.Finds.{map-none, missing-none}
+use Rattle.newt_spec_check.proofs.Finds.{map-none, missing-none}
 
 -- the payload after a gate
 abbrev pub payload_of : Gate → List ℕ

@@ -25,9 +25,9 @@ use Rattle.newt_laws_images.proofs.Rows.{read-as, ids_of}
 use Rattle.newt_laws_images.proofs.Totals.{lies-total}
 use Rattle.newt_laws_images.proofs.Whole.{lies-read}
 use Rattle.newt_spec_check.specs.Damage.{if_missing, directory_in, no_directory, is_odd, is_given, is_again, entry_of, is_named_before, is_sound, is_bad_record, bad_entry, ids_in, all_named, count_of, is_stray, bad_large, pages_taken, if_above, too_costly, first_object}
-use Rattle.newt_laws_check.proofs.Counts.{count-apart, count-among}
-use Rattle.newt_laws_check.proofs.Finds.{find-none, map-none, missing-none, any-true, any-false, among-any}
-use Rattle.newt_laws_check.proofs.Sound.{both, again-some}
+use Rattle.newt_spec_check.proofs.Counts.{count-apart, count-among}
+use Rattle.newt_spec_check.proofs.Finds.{find-none, map-none, missing-none, any-true, any-false, among-any}
+use Rattle.newt_spec_check.proofs.Sound.{both, again-some}
 
 then-some : {A B : Type 0} (f : A → Option B) (o : Option A) (b : B) → option_and_then f o ≡ Some b → (a : A) × (o ≡ Some a) × (f a ≡ Some b)
 then-some f None b h = absurd (none-some b h)

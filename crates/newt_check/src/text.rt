@@ -4,11 +4,11 @@ ghost use Rattle.newt_host.specs.Meanings.{device_on};
 ghost use Rattle.newt_host.specs.Moments.{IsDurable, image};
 ghost use Rattle.newt_host.specs.Outside.{OnlyReads};
 ghost use Rattle.newt_store_catalog.specs.Reading.{ReadEnds};
-ghost use Rattle.newt_check_text.specs.Lines.{IsChecked, IsReported};
+ghost use Rattle.newt_check.specs.Lines.{IsChecked, IsReported};
 
 use crate::line::report_line;
+use crate::rows::check;
 use newt_base::Refusal;
-use newt_check::check;
 use newt_host::{Host, Unit};
 use newt_pagebook::{LEAST_BLOCKS, MOST_BLOCKS, Stop};
 use newt_reply::{Reply, write_reply};

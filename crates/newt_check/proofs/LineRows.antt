@@ -2,7 +2,7 @@
 use Rattle.std.proofs.Common.{◌≡◌, refl, [], ◌∷◌, ◌++◌, codes}
 use Rattle.newt_check.specs.declared.report.Report.TheVariants.{Clean, Damaged}
 use Rattle.newt_spec_check.specs.declared.Layer.TheVariants as layer
-use Rattle.newt_check_text.specs.Lines.{clean_line, damaged_line, report_line}
+use Rattle.newt_check.specs.Lines.{clean_line, damaged_line, report_line}
 
 a_clean_image : report_line (Clean 1 2 31) ≡ codes "ok clean 1 2 31" ++ 10 ∷ []
 unfolding clean_line

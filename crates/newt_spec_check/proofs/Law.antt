@@ -17,12 +17,12 @@ use Rattle.newt_laws_images.proofs.Gathering.{objects-sound}
 use Rattle.newt_spec_check.specs.declared.Layer.{Layer}
 use Rattle.newt_spec_check.specs.declared.Layer.TheVariants as layer
 use Rattle.newt_spec_check.specs.Damage.{Damage, damage, first_row, least, broken_ids, of_objects, no_bank, no_header, long_record, bad_payload, broken_object, no_directory, bad_entry, bad_large, too_costly}
-use Rattle.newt_laws_check.proofs.Bytes.{objects-bytes}
-use Rattle.newt_laws_check.proofs.Complete.{complete}
-use Rattle.newt_laws_check.proofs.Finds.{row-none, skip}
-use Rattle.newt_laws_check.proofs.Journal.{IsWhole, whole-pages, pages-whole}
-use Rattle.newt_laws_check.proofs.Objects.{whole-objects, objects-whole}
-use Rattle.newt_laws_check.proofs.Sound.{sound-directory, sound-entries, sound-larges, sound-cost}
+use Rattle.newt_spec_check.proofs.Bytes.{objects-bytes}
+use Rattle.newt_spec_check.proofs.Complete.{complete}
+use Rattle.newt_spec_check.proofs.Finds.{row-none, skip}
+use Rattle.newt_spec_check.proofs.Journal.{IsWhole, whole-pages, pages-whole}
+use Rattle.newt_spec_check.proofs.Objects.{whole-objects, objects-whole}
+use Rattle.newt_spec_check.proofs.Sound.{sound-directory, sound-entries, sound-larges, sound-cost}
 
 then-some : {A B : Type 0} (f : A → Option B) (o : Option A) (b : B) → option_and_then f o ≡ Some b → (a : A) × (o ≡ Some a) × (f a ≡ Some b)
 then-some f None b h = absurd (none-some b h)
