@@ -3,41 +3,36 @@ use Rattle.std.specs.Prelude.{Bool, true, false}
 use Rattle.newt_spec_world.specs.declared.command.Command.{Command}
 use Rattle.newt_spec_world.specs.declared.command.Command.TheVariants as command
 
--- A device is read or written. Most commands of cursors may read entries, to show one or for the
--- words of a query; one that tells a side, or clones or closes a cursor, reads none.
+-- A device is read or written, but for these commands: they show what was given, or look at what is
+-- in memory, or change that alone. The last nine are of watches and working copies; the world does
+-- nothing for them.
 abbrev pub uses_device : Command → Bool
-uses_device (command.Format _ _ _) = true
-uses_device (command.Mount _) = true
-uses_device (command.Soup _ _) = true
-uses_device (command.Drop _ _) = true
-uses_device (command.Index _ _ _) = true
-uses_device (command.Unindex _ _ _) = true
-uses_device (command.SetTags _ _ _ _) = true
-uses_device (command.SetInfo _ _ _) = true
-uses_device (command.Add _ _ _) = true
-uses_device (command.Addx _ _ _) = true
-uses_device (command.Addu _ _) = true
-uses_device (command.Get _ _ _) = true
-uses_device (command.Getx _ _ _) = true
-uses_device (command.Set _ _ _ _ _) = true
-uses_device (command.Change _ _ _ _) = true
-uses_device (command.Remove _ _ _) = true
-uses_device (command.Copy _ _ _ _ _) = true
-uses_device (command.Move _ _ _ _ _) = true
-uses_device (command.Vread _ _ _ _ _ _) = true
-uses_device (command.Vwrite _ _ _ _ _ _) = true
-uses_device (command.Query _ _ _) = true
-uses_device (command.QueryAll _ _) = true
-uses_device (command.Entry _) = true
-uses_device (command.Next _) = true
-uses_device (command.Prev _) = true
-uses_device (command.Reset _) = true
-uses_device (command.End _) = true
-uses_device (command.Moveby _ _) = true
-uses_device (command.Goto _ _ _) = true
-uses_device (command.Gotokey _ _) = true
-uses_device (command.Count _) = true
-uses_device _ = false
+uses_device (command.Nsof _) = false
+uses_device (command.Lit _) = false
+uses_device (command.Time _) = false
+uses_device command.Quit = false
+uses_device (command.Unmount _) = false
+uses_device command.Stores = false
+uses_device (command.Default _) = false
+uses_device (command.Soups _) = false
+uses_device (command.Alias _ _ _) = false
+uses_device (command.Resolve _) = false
+uses_device (command.Indexes _ _) = false
+uses_device (command.Tags _ _) = false
+uses_device (command.Info _ _) = false
+uses_device (command.Which _) = false
+uses_device (command.Clone _) = false
+uses_device (command.Close _) = false
+uses_device (command.Watch _ _) = false
+uses_device (command.Notes _) = false
+uses_device (command.Unwatch _) = false
+uses_device (command.Open _ _ _) = false
+uses_device (command.Draft _) = false
+uses_device (command.Edit _ _ _) = false
+uses_device (command.Save _) = false
+uses_device (command.Revert _) = false
+uses_device (command.Discard _) = false
+uses_device _ = true
 
 -- memory is taken; whatever uses a device takes some
 abbrev pub takes_memory : Command → Bool
