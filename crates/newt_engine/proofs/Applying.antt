@@ -28,7 +28,7 @@ use Rattle.newt_laws_world.specs.Worlds.{OnMedia}
 use Rattle.newt_laws_world.proofs.Kept.{Every, Wf}
 use Rattle.newt_laws_world.proofs.Mounted.{change-sigs, sigs-apart}
 use Rattle.newt_laws_steps.specs.StandsFor.{Turned, seen}
-use Rattle.newt_laws_steps.specs.Thrown.{Failed, Threw}
+use Rattle.newt_laws_steps.specs.Thrown.{FaultsTold, Threw}
 use Rattle.newt_engine_units.specs.Breaks.{FailsAlone}
 use Rattle.newt_engine_units.specs.Stands.{Eight, Stands, StandsBut, world_of}
 use Rattle.newt_engine_units.specs.declared.units.Units.{Units}
@@ -87,7 +87,7 @@ thrown-threw u o p alone broke = record { later = alone.dev_faults; rose = λ n 
 pub thrown-broke : (u : ℕ) (o p : Outside) → Broke u o p → ThrownBroke (reply.Thrown u) o p
 thrown-broke u o p broke n h = Broke-on (sym (eqb-true n u h)) broke
 
-pub thrown-failed : (u : ℕ) (o p : Outside) → FailsAlone o p u → Failed (plain.Reply.thrown u) o.dev_faults p.dev_faults
+pub thrown-failed : (u : ℕ) (o p : Outside) → FailsAlone o p u → FaultsTold (plain.Reply.thrown u) o.dev_faults p.dev_faults
 thrown-failed u o p failed n h = failed.others n (λ is. both-ways (sym h ∙ eq-eqb n u is))
 
 -- ---- thrown out

@@ -5,7 +5,7 @@ use Rattle.newt_base.specs.declared.Refusal.{Refusal}
 use Rattle.newt_host.specs.Moments.{Always, changes}
 use Rattle.newt_host.specs.Outside.{Outside, Broke, NoFault, OnDevices}
 use Rattle.newt_laws_steps.specs.StandsFor.{Obeys, seen}
-use Rattle.newt_laws_steps.specs.Thrown.{Failed, Threw}
+use Rattle.newt_laws_steps.specs.Thrown.{FaultsTold, Threw}
 use Rattle.newt_reply.specs.Said.{said}
 use Rattle.newt_reply.specs.declared.reply.Reply.{Reply}
 use Rattle.newt_reply.specs.declared.reply.Reply.TheVariants as reply
@@ -224,7 +224,7 @@ module _ {C : Type 0} (reads : List ℕ → Option Store) where
     pub open_after : IsTrue told → IfOk result (λ it. (u : ℕ) → it ≢ reply.Thrown u → IsOpenOrSame u before.now after.now)
     pub threw : IfOk result (λ it. Threw (said it) before.dev_faults after.dev_faults)
     pub broke : IfOk result (λ it. ThrownBroke it before after)
-    pub failed : IfOk result (λ it. Failed (said it) before.dev_faults after.dev_faults)
+    pub failed : IfOk result (λ it. FaultsTold (said it) before.dev_faults after.dev_faults)
     pub unhidden : OnErr result ((u : ℕ) → after.dev_faults u ≡ before.dev_faults u)
     pub later : (u : ℕ) → before.dev_faults u ≤ after.dev_faults u
     pub never_memory : takes_memory command ≡ false → IsOk result

@@ -24,7 +24,7 @@ use Rattle.newt_spec_world.specs.declared.command.Command.{Command}
 use Rattle.newt_spec_world.specs.declared.command.Command.TheVariants as command
 use Rattle.newt_laws_steps.specs.Answering.{Answering}
 use Rattle.newt_laws_steps.specs.StandsFor.{Obeys, seen}
-use Rattle.newt_laws_steps.specs.Thrown.{Failed, Threw}
+use Rattle.newt_laws_steps.specs.Thrown.{FaultsTold, Threw}
 use Rattle.newt_laws_steps.proofs.Seen.{seen-step}
 use Rattle.newt_laws_whole.specs.Steps.{notes_after, noting}
 use Rattle.newt_laws_whole.proofs.Telling.{steps-tell}
@@ -108,7 +108,7 @@ pub asked-step : {C : Type 0} (reads : List ℕ → Option Store) (old new : Who
     → Obeys reads {R = Reply} {E = AllocError} said (means reads new.world p) h.world c (Ok it) o.now p.now
     → ((v : World) → Step h.world c v (said it) → means reads new.world p v → notes ≡ notes_after h.world c v (said it))
     → ((watches : List (Option Watching)) → old.watches ≡ kept_all watches → new.watches ≡ kept_all (note_all notes watches)) → new.works ≡ old.works
-    → Threw (said it) o.dev_faults p.dev_faults → Failed (said it) o.dev_faults p.dev_faults
+    → Threw (said it) o.dev_faults p.dev_faults → FaultsTold (said it) o.dev_faults p.dev_faults
     → Stepped {E = AllocError} WholeStep reads c (Ok it) h (Means reads new p) o.now p.now o.dev_faults p.dev_faults
 asked-step reads old new o p c h it notes plain m (v, turned, stands, moments) told watches works threw failed = record {
   next = noting h v (notes_after h.world c v (said it));

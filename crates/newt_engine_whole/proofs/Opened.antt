@@ -33,7 +33,7 @@ use Rattle.newt_work.specs.Work.{Copy, copy_at, opened}
 use Rattle.newt_laws_world.proofs.Settled.{find-passes}
 use Rattle.newt_laws_steps.specs.Answering.{Answering}
 use Rattle.newt_laws_steps.specs.StandsFor.{Obeys}
-use Rattle.newt_laws_steps.specs.Thrown.{Failed, Threw}
+use Rattle.newt_laws_steps.specs.Thrown.{FaultsTold, Threw}
 use Rattle.newt_laws_whole.specs.Runs.{AllFormed, CanBeEntry, DraftsFit}
 use Rattle.newt_laws_whole.proofs.Fits.{entry-in-can, put-all}
 use Rattle.newt_laws_whole.proofs.Reading.{GetsOr, entry_tests, gets, open-done, open-full, open-refused, open-thrown}
@@ -62,7 +62,7 @@ pub reading-ended : {C : Type 0} {reads : List ℕ → Option Store} {told : Boo
     → ((w : World) → steps_unread w c ≡ false) → is_format c ≡ false → whole_takes_memory c ≡ true → whole_uses_device c ≡ true
     → (IsTrue told → (rest : List Command) × (asked_in_turn (known_whole reads old o) c ≡ command.Get u s uid ∷ rest))
     → Finished reads told (command.Get u s uid) old.world o p inner → (IsTrue told → IfOk result (λ it. (x : ℕ) → (it ≡ reply.Thrown x → ⊥) → IsOpenOrSame x o.now p.now))
-    → IfOk result (λ it. Threw (said it) o.dev_faults p.dev_faults) → IfOk result (λ it. Failed (said it) o.dev_faults p.dev_faults) → OnErr result ((x : ℕ) → p.dev_faults x ≡ o.dev_faults x)
+    → IfOk result (λ it. Threw (said it) o.dev_faults p.dev_faults) → IfOk result (λ it. FaultsTold (said it) o.dev_faults p.dev_faults) → OnErr result ((x : ℕ) → p.dev_faults x ≡ o.dev_faults x)
     → Ended reads told c (asked_in_turn (known_whole reads old o) c) old o p result
 reading-ended {C} {reads} {told} {c} {old} {o} {p} {inner} {result} u uid s unread other memory device turn f opens threw failed unhidden =
     let w = stood_for reads old.world o in

@@ -32,7 +32,7 @@ use Rattle.newt_spec_world.specs.declared.command.Command.{Command}
 use Rattle.newt_spec_world.specs.declared.command.Command.TheVariants as command
 use Rattle.newt_work.specs.Work.{Copy, is_based, rebased}
 use Rattle.newt_laws_steps.specs.Answering.{Answering}
-use Rattle.newt_laws_steps.specs.Thrown.{Failed, Threw}
+use Rattle.newt_laws_steps.specs.Thrown.{FaultsTold, Threw}
 use Rattle.newt_engine_card.specs.Bounds.{IsOpenOrSame}
 use Rattle.newt_engine.specs.Calls.{Applied as Inner}
 use Rattle.newt_engine.specs.Standing.{means, stood_for}
@@ -225,7 +225,7 @@ module _ {C : Type 0} {reads : List ℕ → Option Store} {place : C → ℕ} {s
         }
         risen (Err e) k = tt
 
-        none-more : (r : Result Reply AllocError) → IfOk r (λ it. Failed (said it) p.dev_faults q.dev_faults) → IfOk r (λ it. Failed (said it) o.dev_faults q.dev_faults)
+        none-more : (r : Result Reply AllocError) → IfOk r (λ it. FaultsTold (said it) p.dev_faults q.dev_faults) → IfOk r (λ it. FaultsTold (said it) o.dev_faults q.dev_faults)
         none-more (Ok it) k = λ x none. k x none ∙ a.finished.failed x refl
         none-more (Err e) k = tt
 

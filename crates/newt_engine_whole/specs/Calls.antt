@@ -3,7 +3,7 @@ use Rattle.std.specs.Prelude.{◌≡◌, ◌≢◌, ℕ, ◌≤◌, Bool, true, 
 use Rattle.std.specs.Prelude.{IfOk, IsOk, OnErr, OnOk, drop}
 use Rattle.std.specs.declared.alloc.AllocError.{AllocError}
 use Rattle.newt_host.specs.Outside.{Outside, OnDevices}
-use Rattle.newt_laws_steps.specs.Thrown.{Failed, Threw}
+use Rattle.newt_laws_steps.specs.Thrown.{FaultsTold, Threw}
 use Rattle.newt_spec_store.specs.Store.{Store}
 use Rattle.newt_spec_whole.specs.Whole as plain
 use Rattle.newt_spec_whole.specs.Whole.{asked_in_turn}
@@ -62,7 +62,7 @@ module _ {C : Type 0} (reads : List ℕ → Option Store) where
     pub open_after : IsTrue told → IfOk result
         (λ it. (u : ℕ) → it ≢ reply.Thrown u → IsOpenOrSame u before.now after.now)
     pub threw : IfOk result (λ it. Threw (said it) before.dev_faults after.dev_faults)
-    pub failed : IfOk result (λ it. Failed (said it) before.dev_faults after.dev_faults)
+    pub failed : IfOk result (λ it. FaultsTold (said it) before.dev_faults after.dev_faults)
     pub unhidden : OnErr result ((u : ℕ) → after.dev_faults u ≡ before.dev_faults u)
     pub later : (u : ℕ) → before.dev_faults u ≤ after.dev_faults u
     pub never_memory : whole_takes_memory command ≡ false → IsOk result

@@ -12,8 +12,8 @@ pub record Threw (reply : Reply) (was is : ℕ → ℕ) : Type 0 where
   pub rose : (unit : ℕ) → throws unit reply ≡ true → Rose (was unit) (is unit)
 
 -- where the reply does not say so of a unit, no fault of its device was counted
-abbrev pub Failed : Reply → (was is : ℕ → ℕ) → Type 0
-Failed reply was is = (unit : ℕ) → throws unit reply ≡ false → is unit ≡ was unit
+abbrev pub FaultsTold : Reply → (was is : ℕ → ℕ) → Type 0
+FaultsTold reply was is = (unit : ℕ) → throws unit reply ≡ false → is unit ≡ was unit
 
 -- a count has risen by so much at least, or stands at its last value
 abbrev pub RoseBy : ℕ → ℕ → ℕ → Type 0

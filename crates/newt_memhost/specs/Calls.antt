@@ -114,7 +114,7 @@ LeavesPending unit at n held result old new = new.calls ≡ old.calls + 1 → On
 
 -- What a call does that is to put n bytes into a range. The range reads like these, and the card
 -- holds what has happened. After an error the range is pending and reads as before.
-pub record Puts {T E : Type 0} (unit at n : ℕ) (bytes : List ℕ) (result : Result T E)
+pub record PutsBytes {T E : Type 0} (unit at n : ℕ) (bytes : List ℕ) (result : Result T E)
     (old new : Card) (before now : Log) : Type 0 where
   pub event : Writes unit at bytes result (now_of before) (now_of now)
   pub stands : StandsAs true old (changes unit (now_of before))

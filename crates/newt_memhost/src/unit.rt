@@ -3,7 +3,7 @@ ghost use Rattle.std.specs.Prelude.{◌≡◌, ◌+◌, ◌*◌, ◌≤◌, ◌<
 ghost use Rattle.std.specs.Prelude.{drop, OnOk};
 ghost use Rattle.newt_host.specs.Moments.{changes};
 ghost use Rattle.newt_host.specs.Outside.{Syncs, blank, fetching, one_erase, one_sync, programming};
-ghost use Rattle.newt_memhost.specs.Calls.{Keeps, OnCard, Puts};
+ghost use Rattle.newt_memhost.specs.Calls.{Keeps, OnCard, PutsBytes};
 ghost use Rattle.newt_memhost.specs.Cards.{StandsAs};
 ghost use Rattle.newt_memhost.specs.Happened.{after, bytes_of, counts};
 ghost use Rattle.newt_memhost.specs.Log.{HasRoom, now_of};
@@ -52,7 +52,7 @@ fn write(
 ) -> Result<(), Failed>
     requires inside { at + length bytes.now ≤ length card.old.held.items }
     requires waits { HasRoom waiting 0 log.old }
-    ensures put { Puts unit at (length bytes.now) bytes.now result
+    ensures put { PutsBytes unit at (length bytes.now) bytes.now result
         card.old card.new log.old log.new }
     ensures kept { Keeps waiting (length bytes.now) (Some unit) fails
         (HasRoom (waiting + 1) (length bytes.now) log.old) result log.old log.new }
@@ -88,7 +88,7 @@ pub(crate) fn program(
 ) -> Result<(), Failed>
     requires inside { at + length bytes.now ≤ length card.old.held.items }
     requires waits { HasRoom waiting 0 log.old }
-    ensures put { Puts unit at (length bytes.now) bytes.now result
+    ensures put { PutsBytes unit at (length bytes.now) bytes.now result
         card.old card.new log.old log.new }
     ensures kept { Keeps waiting (length bytes.now) (Some unit) fails
         (HasRoom (waiting + 1) (length bytes.now) log.old) result log.old log.new }
@@ -110,7 +110,7 @@ pub(crate) fn erase(
 ) -> Result<(), Failed>
     requires inside { block * 4096 + 4096 ≤ length card.old.held.items }
     requires waits { HasRoom waiting 0 log.old }
-    ensures put { Puts unit (block * 4096) 4096 (blank 4096) result
+    ensures put { PutsBytes unit (block * 4096) 4096 (blank 4096) result
         card.old card.new log.old log.new }
     ensures kept { Keeps waiting 4096 (Some unit) fails
         (HasRoom (waiting + 1) 4096 log.old) result log.old log.new }

@@ -14,7 +14,7 @@ use Rattle.newt_script_session.specs.Moments.{SafeAt, Untouched}
 use Rattle.newt_script_session.specs.Reading.{ActsInTime}
 use Rattle.newt_script_session.specs.Run.{HaltedIn}
 use Rattle.newt_script_session.specs.Stream.{PutsText, WroteSome, put_out}
-use Rattle.newt_laws_steps.specs.Thrown.{Failed, Threw}
+use Rattle.newt_laws_steps.specs.Thrown.{FaultsTold, Threw}
 use Rattle.newt_script_session.specs.declared.halt.Halt.{Halt}
 use Rattle.newt_script_session.specs.declared.halt.Halt.TheVariants.{Memory, Source, Sink, TooLong}
 use Rattle.newt_script_session.proofs.Acting.{acts_printing, acts_quiet}
@@ -24,7 +24,7 @@ use Rattle.newt_script_session.proofs.Throwing.{failed_one, threw_one}
 use Rattle.newt_script_session.proofs.Writing.{wrote_nothing}
 
 module _ (step : Stepping Whole) (shows : Bool) (reads : List ℕ → Option Store) (world : Whole) (item : Item) (row : Row Whole) (goes : Goes step world item row) (old then : Moment) (was is : ℕ → ℕ)
-    (answering : Always (AnsweringItem reads world item row.0 old) old then) (threw : Threw row.1 was is) (failed : Failed row.1 was is) where
+    (answering : Always (AnsweringItem reads world item row.0 old) old then) (threw : Threw row.1 was is) (failed : FaultsTold row.1 was is) where
   abbrev text : List ℕ
   text = reply_text row.1
 

@@ -4,7 +4,7 @@ use Rattle.newt_host.specs.Outside.{Rose}
 use Rattle.newt_spec_script.specs.Rows.{Row, throws, thrown_count}
 use Rattle.newt_spec_whole.specs.Whole.{Whole}
 use Rattle.newt_spec_world.specs.Reply.{Reply}
-use Rattle.newt_laws_steps.specs.Thrown.{Failed, RoseBy, RowsFailed, RowsThrew, Threw}
+use Rattle.newt_laws_steps.specs.Thrown.{FaultsTold, RoseBy, RowsFailed, RowsThrew, Threw}
 
 -- how many there are of one row
 pub thrown_one : (unit : ℕ) (row : Row Whole) (rows : List (Row Whole)) → thrown_count unit (row ∷ rows) ≡ cond (throws unit row.1) 1 0 + thrown_count unit rows
@@ -31,7 +31,7 @@ threw_one row was is t = record { later = t.later; rose = λ unit. go unit (thro
     go unit true e = subst (λ (n : ℕ). RoseBy n (was unit) (is unit)) (sym (thrown_one unit row [] ∙ ap (λ (b : Bool). cond b 1 0 + 0) e)) (t.rose unit e)
     go unit false e = subst (λ (n : ℕ). RoseBy n (was unit) (is unit)) (sym (thrown_one unit row [] ∙ ap (λ (b : Bool). cond b 1 0 + 0) e)) (omega (arith, t.later unit))
 
-pub failed_one : (row : Row Whole) (was is : ℕ → ℕ) → Failed row.1 was is → RowsFailed (row ∷ []) was is
+pub failed_one : (row : Row Whole) (was is : ℕ → ℕ) → FaultsTold row.1 was is → RowsFailed (row ∷ []) was is
 failed_one row was is failed unit none = go (throws unit row.1) refl
   where
     go : (b : Bool) → throws unit row.1 ≡ b → is unit ≡ was unit
@@ -78,7 +78,7 @@ threw_after reply was mid is same t = record {
   rose = λ unit e. subst (λ (n : ℕ). Rose (was unit) n) (sym (same unit)) (t.rose unit e);
 }
 
-pub failed_after : (reply : Reply) (was mid is : ℕ → ℕ) → ((unit : ℕ) → is unit ≡ mid unit) → Failed reply was mid → Failed reply was is
+pub failed_after : (reply : Reply) (was mid is : ℕ → ℕ) → ((unit : ℕ) → is unit ≡ mid unit) → FaultsTold reply was mid → FaultsTold reply was is
 failed_after reply was mid is same t unit e = same unit ∙ t unit e
 
 -- a line was refused

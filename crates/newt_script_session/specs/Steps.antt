@@ -9,7 +9,7 @@ use Rattle.newt_spec_store.specs.Store.{Store}
 use Rattle.newt_spec_world.specs.Reply.{Reply}
 use Rattle.newt_spec_whole.specs.Whole.{Whole}
 use Rattle.newt_spec_world.specs.declared.command.Command.{Command}
-use Rattle.newt_laws_steps.specs.Thrown.{Failed, Threw}
+use Rattle.newt_laws_steps.specs.Thrown.{FaultsTold, Threw}
 
 -- A command was given in a world. Whatever became of the call, there is a step; its reply tells the
 -- faults of devices that were counted; and at each moment a crash leaves each unit as in the one
@@ -22,6 +22,6 @@ pub record Stepped {E : Type 0} (step : Stepping Whole) (store_of_image : List �
   pub reply : Reply
   pub steps : step world command next reply
   pub threw : Threw reply was is
-  pub failed : Failed reply was is
+  pub failed : FaultsTold reply was is
   pub answered : IfOk result (λ it. (said it ≡ reply) × StoodFor next)
   pub moments : Always (Answering store_of_image world.world command next.world old) old now

@@ -18,8 +18,8 @@ use Rattle.newt_index_ranges.proofs.Standing.{AreGraphsWith, range_none, range_a
 use Rattle.newt_store_change.specs.Change.{uids_in}
 use Rattle.newt_store_indexed.specs.Filling.{with_read, with_all}
 use Rattle.newt_store_indexed.specs.Steps.{IsDeclaring, IsTagging, IsStepOf}
-use Rattle.newt_store_indexed.specs.declared.step.Step.{Step}
-use Rattle.newt_store_indexed.specs.declared.step.Step.TheVariants as step
+use Rattle.newt_store_indexed.specs.declared.step.RangeStep.{RangeStep}
+use Rattle.newt_store_indexed.specs.declared.step.RangeStep.TheVariants as step
 use Rattle.newt_store_indexed.proofs.Told.{Told, graph_in, nothing, told_one, told_all, at_sig, still_none, soup-told, ids-rise, ids-there, IsThere}
 
 -- what entries are added to stands for the graphs that are told
@@ -76,7 +76,7 @@ module _ (s : Store) (sig : ℕ) where
   }
 
 -- what is said of each entry is said of the step
-pub moved-step : (result : Result Step Stop) (source uid : ℕ) (s : Store) → ((e : Entry) → entry_at source uid s ≡ Some e → IfOk result (λ made. made ≡ step.Moved e.graph))
+pub moved-step : (result : Result RangeStep Stop) (source uid : ℕ) (s : Store) → ((e : Entry) → entry_at source uid s ≡ Some e → IfOk result (λ made. made ≡ step.Moved e.graph))
     → IfOk result (λ made. (e : Entry) → entry_at source uid s ≡ Some e → made ≡ step.Moved e.graph)
 moved-step (Ok made) source uid s h = h
 moved-step (Err stop) source uid s h = tt

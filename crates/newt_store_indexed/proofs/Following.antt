@@ -26,8 +26,8 @@ use Rattle.newt_store_change.specs.Change.{changed_by, answer_of, refusals, refu
 use Rattle.newt_store_change.specs.declared.change.Change.{Change}
 use Rattle.newt_store_change.specs.declared.change.Change.TheVariants as change
 use Rattle.newt_store_indexed.specs.Steps.{IsStepOf, IsDeclaring, IsTagging, rows_after}
-use Rattle.newt_store_indexed.specs.declared.step.Step.{Step}
-use Rattle.newt_store_indexed.specs.declared.step.Step.TheVariants as step
+use Rattle.newt_store_indexed.specs.declared.step.RangeStep.{RangeStep}
+use Rattle.newt_store_indexed.specs.declared.step.RangeStep.TheVariants as step
 use Rattle.newt_store_indexed.proofs.Checks.{none-first, none-two, is-there, neither, later-checks}
 
 -- no entry of a soup has the id that the next one gets
@@ -57,12 +57,12 @@ module _ (s : Store) (rows : List SoupRanges) (formed : well_formed s ≡ true) 
   changed-as : (sig : ℕ) (p : Soup) (f : Soup → Soup) (after : List SoupRanges) → soup_of sig s ≡ Some p → AreRangesOf (change_soup p.name f s) after → AreRangesOf (changed_soup (soup_of sig s) f s) after
   changed-as sig p f after found is = subst (λ (t : Store). AreRangesOf t after) (sym (ap (λ (o : Option Soup). changed_soup o f s) found)) is
 
-  follows-dropped : (st : Step) (sig blocks now : ℕ) → refusal_of (change.DropSoup sig) blocks now s ≡ None → AreRangesOf (changed_by (change.DropSoup sig) now s) (rows_after (change.DropSoup sig) st 0 rows)
+  follows-dropped : (st : RangeStep) (sig blocks now : ℕ) → refusal_of (change.DropSoup sig) blocks now s ≡ None → AreRangesOf (changed_by (change.DropSoup sig) now s) (rows_after (change.DropSoup sig) st 0 rows)
   follows-dropped st sig blocks now none =
       let there = is-there (soup_of sig s) (none-first NoSoup (is_none (soup_of sig s)) [] none).0 in
       subst (λ (t : Store). AreRangesOf t (rows_after (change.DropSoup sig) st 0 rows)) (sym (ap (λ (o : Option Soup). dropped_soup o s) there.1)) (laws.dropped s rows sig there.0 formed there.1 are)
 
-  follows-added : (st : Step) (sig blocks now : ℕ) (g : RawGraph) → refusal_of (change.Add sig g) blocks now s ≡ None
+  follows-added : (st : RangeStep) (sig blocks now : ℕ) (g : RawGraph) → refusal_of (change.Add sig g) blocks now s ≡ None
       → AreRangesOf (changed_by (change.Add sig g) now s) (rows_after (change.Add sig g) st (answer_of (change.Add sig g) s) rows)
   follows-added st sig blocks now g none =
       let there = is-there (soup_of sig s) (none-first NoSoup (is_none (soup_of sig s)) (later-checks (refusals (change.Add sig g) blocks now s)) none).0 in
@@ -70,12 +70,12 @@ module _ (s : Store) (rows : List SoupRanges) (formed : well_formed s ≡ true) 
       subst (λ (n : ℕ). AreRangesOf (changed_by (change.Add sig g) now s) (rows_after (change.Add sig g) st n rows)) (sym (ap next_uid_of there.1))
       (changed-as sig p (add_entry now g) (rows_after (change.Add sig g) st p.next_uid rows) there.1 (laws.entry_added s rows sig p formed there.1 are now g (no-next s sig p formed there.1)))
 
-  follows-removed : (st : Step) (sig uid blocks now : ℕ) → refusal_of (change.Remove sig uid) blocks now s ≡ None → AreRangesOf (changed_by (change.Remove sig uid) now s) (rows_after (change.Remove sig uid) st 0 rows)
+  follows-removed : (st : RangeStep) (sig uid blocks now : ℕ) → refusal_of (change.Remove sig uid) blocks now s ≡ None → AreRangesOf (changed_by (change.Remove sig uid) now s) (rows_after (change.Remove sig uid) st 0 rows)
   follows-removed st sig uid blocks now none =
       let there = is-there (soup_of sig s) (none-first NoSoup (is_none (soup_of sig s)) (later-checks (refusals (change.Remove sig uid) blocks now s)) none).0 in
       changed-as sig there.0 (remove_entry uid) (rows_after (change.Remove sig uid) st 0 rows) there.1 (laws.entry_removed s rows sig there.0 formed there.1 are uid)
 
-  follows-replaced : (st : Step) (sig uid blocks now : ℕ) (g : RawGraph) → refusal_of (change.Replace sig uid g) blocks now s ≡ None
+  follows-replaced : (st : RangeStep) (sig uid blocks now : ℕ) (g : RawGraph) → refusal_of (change.Replace sig uid g) blocks now s ≡ None
       → AreRangesOf (changed_by (change.Replace sig uid g) now s) (rows_after (change.Replace sig uid g) st 0 rows)
   follows-replaced st sig uid blocks now g none =
       let two = none-two NoSoup NoEntry (is_none (soup_of sig s)) (is_none (entry_at sig uid s)) (later-checks (later-checks (refusals (change.Replace sig uid g) blocks now s))) none in
@@ -114,24 +114,24 @@ module _ (s : Store) (rows : List SoupRanges) (formed : well_formed s ≡ true) 
       go None = are
       go (Some p) = informed-soups (λ q. equal_text q.name p.name) s.soups rows are
 
-  follows-declared : (sig blocks now : ℕ) (spec : IndexSpec) (st : Step) → refusal_of (change.AddIndex sig spec) blocks now s ≡ None → IsDeclaring sig spec s st
+  follows-declared : (sig blocks now : ℕ) (spec : IndexSpec) (st : RangeStep) → refusal_of (change.AddIndex sig spec) blocks now s ≡ None → IsDeclaring sig spec s st
       → AreRangesOf (changed_by (change.AddIndex sig spec) now s) (rows_after (change.AddIndex sig spec) st 0 rows)
   follows-declared sig blocks now spec st none is =
       let there = is-there (soup_of sig s) (none-first NoSoup (is_none (soup_of sig s)) (later-checks (refusals (change.AddIndex sig spec) blocks now s)) none).0 in
-      subst (λ (x : Step). AreRangesOf (changed_by (change.AddIndex sig spec) now s) (rows_after (change.AddIndex sig spec) x 0 rows)) (sym is.is)
+      subst (λ (x : RangeStep). AreRangesOf (changed_by (change.AddIndex sig spec) now s) (rows_after (change.AddIndex sig spec) x 0 rows)) (sym is.is)
       (changed-as sig there.0 (with_index spec) (change_ranges sig (with_range is.range) rows) there.1 (laws.declared s rows sig there.0 formed there.1 are spec is.range (is.of_soup there.0 there.1)))
 
-  follows-undeclared : (st : Step) (sig blocks now : ℕ) (paths : List Path) → refusal_of (change.DropIndex sig paths) blocks now s ≡ None
+  follows-undeclared : (st : RangeStep) (sig blocks now : ℕ) (paths : List Path) → refusal_of (change.DropIndex sig paths) blocks now s ≡ None
       → AreRangesOf (changed_by (change.DropIndex sig paths) now s) (rows_after (change.DropIndex sig paths) st 0 rows)
   follows-undeclared st sig blocks now paths none =
       let there = is-there (soup_of sig s) (none-first NoSoup (is_none (soup_of sig s)) [] none).0 in
       changed-as sig there.0 (without_index paths) (rows_after (change.DropIndex sig paths) st 0 rows) there.1 (laws.undeclared s rows sig there.0 formed there.1 are paths)
 
-  follows-tagged : (sig blocks now : ℕ) (table : TagTable) (st : Step) → refusal_of (change.SetTags sig table) blocks now s ≡ None → IsTagging sig table s st
+  follows-tagged : (sig blocks now : ℕ) (table : TagTable) (st : RangeStep) → refusal_of (change.SetTags sig table) blocks now s ≡ None → IsTagging sig table s st
       → AreRangesOf (changed_by (change.SetTags sig table) now s) (rows_after (change.SetTags sig table) st 0 rows)
   follows-tagged sig blocks now table st none is =
       let there = is-there (soup_of sig s) (none-first NoSoup (is_none (soup_of sig s)) (later-checks (refusals (change.SetTags sig table) blocks now s)) none).0 in
-      subst (λ (x : Step). AreRangesOf (changed_by (change.SetTags sig table) now s) (rows_after (change.SetTags sig table) x 0 rows)) (sym is.is)
+      subst (λ (x : RangeStep). AreRangesOf (changed_by (change.SetTags sig table) now s) (rows_after (change.SetTags sig table) x 0 rows)) (sym is.is)
       (changed-as sig there.0 (with_tags (Some table)) (change_ranges sig (with_masks is.masks) rows) there.1 (laws.tagged s rows sig there.0 formed there.1 are table is.masks (is.of_soup there.0 there.1)))
 
   -- an entry is added to the one soup, and then goes from the other
@@ -168,13 +168,13 @@ module _ (s : Store) (rows : List SoupRanges) (formed : well_formed s ≡ true) 
         ∙ ap (λ (o : Option Soup). changed_soup (soup_of source s) (remove_entry e.uid) (changed_soup o (add_entry now e.graph) s)) (sym into)
         ∙ ap (λ (o : Option Entry). moved_entry o (soup_of source s) (soup_of target s) now s) (sym entry)
 
-    moved-so : (st : Step) → st ≡ step.Moved e.graph → AreRangesOf (changed_by (change.Move source uid target) now s) (rows_after (change.Move source uid target) st (answer_of (change.Move source uid target) s) rows)
+    moved-so : (st : RangeStep) → st ≡ step.Moved e.graph → AreRangesOf (changed_by (change.Move source uid target) now s) (rows_after (change.Move source uid target) st (answer_of (change.Move source uid target) s) rows)
     moved-so st is =
-        subst (λ (x : Step). AreRangesOf (changed_by (change.Move source uid target) now s) (rows_after (change.Move source uid target) x (answer_of (change.Move source uid target) s) rows)) (sym is)
+        subst (λ (x : RangeStep). AreRangesOf (changed_by (change.Move source uid target) now s) (rows_after (change.Move source uid target) x (answer_of (change.Move source uid target) s) rows)) (sym is)
         (subst (λ (n : ℕ). AreRangesOf (changed_by (change.Move source uid target) now s) (rows_after (change.Move source uid target) (step.Moved e.graph) n rows)) (sym (ap next_uid_of into))
         (subst (λ (t : Store). AreRangesOf t (change_ranges source (entry_forgotten uid) rows-between)) is-moved removed))
 
-  follows-moved : (source uid target blocks now : ℕ) (st : Step) → refusal_of (change.Move source uid target) blocks now s ≡ None → IsStepOf (change.Move source uid target) s st
+  follows-moved : (source uid target blocks now : ℕ) (st : RangeStep) → refusal_of (change.Move source uid target) blocks now s ≡ None → IsStepOf (change.Move source uid target) s st
       → AreRangesOf (changed_by (change.Move source uid target) now s) (rows_after (change.Move source uid target) st (answer_of (change.Move source uid target) s) rows)
   follows-moved source uid target blocks now st none is =
       let rest : Checks = (Ids, has_no_ids (soup_of target s)) ∷ full_check (change.Move source uid target) blocks now s in
@@ -187,7 +187,7 @@ module _ (s : Store) (rows : List SoupRanges) (formed : well_formed s ≡ true) 
       moved-so source uid target blocks now from.0 into.0 entry.0 from.1 into.1 entry.1 ids st (is entry.0 entry.1)
 
   -- what any change is to the ranges
-  pub follows : (change : Change) (blocks now : ℕ) (st : Step) → refusal_of change blocks now s ≡ None → IsStepOf change s st → AreRangesOf (changed_by change now s) (rows_after change st (answer_of change s) rows)
+  pub follows : (change : Change) (blocks now : ℕ) (st : RangeStep) → refusal_of change blocks now s ≡ None → IsStepOf change s st → AreRangesOf (changed_by change now s) (rows_after change st (answer_of change s) rows)
   follows (change.MakeSoup name) blocks now st none is = laws.made s rows name are
   follows (change.DropSoup sig) blocks now st none is = follows-dropped st sig blocks now none
   follows (change.Add sig g) blocks now st none is = follows-added st sig blocks now g none

@@ -9,10 +9,10 @@ ghost use Rattle.newt_store.specs.Calls.{IsOpen, Reads, Shows, unit_of};
 ghost use Rattle.newt_store_change.specs.Change.{pages_listed};
 ghost use Rattle.newt_store_indexed.specs.Steps.{IsStepOf, IsDeclaring, IsTagging};
 ghost use Rattle.newt_store_change.specs.Change.{pages_read};
-ghost use Rattle.newt_store_indexed.specs.declared.step.Step.TheVariants as step;
+ghost use Rattle.newt_store_indexed.specs.declared.step.RangeStep.TheVariants as step;
 
 use crate::fill::{filled_masks, filled_range};
-use crate::step::Step;
+use crate::step::RangeStep;
 use newt_base::{Sig, Uid};
 use newt_host::Host;
 use newt_keys::IndexSpec;
@@ -28,7 +28,7 @@ fn moving<P: PageBook, H: Host>(
     host: &mut H,
     source: Sig,
     uid: Uid,
-) -> Result<Step, Stop>
+) -> Result<RangeStep, Stop>
     requires { IsOpen P.place P.numbers P.stands H.told store.old (H.outside host.old) }
     ensures moved { IsTrue H.told → (s : PlainStore) (e : PlainEntry)
         → Shows P.place store.old (H.outside host.old) s → entry_at source uid s ≡ Some e
@@ -42,8 +42,8 @@ fn moving<P: PageBook, H: Host>(
         (H.outside host.old) (H.outside host.new) result }
 {
     match store.entry(host, source, uid) {
-        Ok(Some(entry)) => Ok(Step::Moved(entry.graph)),
-        Ok(None) => Ok(Step::Known),
+        Ok(Some(entry)) => Ok(RangeStep::Moved(entry.graph)),
+        Ok(None) => Ok(RangeStep::Known),
         Err(stop) => Err(stop),
     }
 }
@@ -54,7 +54,7 @@ fn declaring<P: PageBook, H: Host>(
     host: &mut H,
     soup: Sig,
     spec: &IndexSpec,
-) -> Result<Step, Stop>
+) -> Result<RangeStep, Stop>
     requires { IsOpen P.place P.numbers P.stands H.told store.old (H.outside host.old) }
     ensures declared { IsTrue H.told → (s : PlainStore) →
         Shows P.place store.old (H.outside host.old) s → IfOk result (IsDeclaring soup spec.now s) }
@@ -68,7 +68,7 @@ fn declaring<P: PageBook, H: Host>(
         (H.outside host.old) (H.outside host.new) result }
 {
     match filled_range(store, host, soup, spec) {
-        Ok(range) => Ok(Step::Declared(range)),
+        Ok(range) => Ok(RangeStep::Declared(range)),
         Err(stop) => Err(stop),
     }
 }
@@ -79,7 +79,7 @@ fn tagging<P: PageBook, H: Host>(
     host: &mut H,
     soup: Sig,
     table: &TagTable,
-) -> Result<Step, Stop>
+) -> Result<RangeStep, Stop>
     requires { IsOpen P.place P.numbers P.stands H.told store.old (H.outside host.old) }
     ensures tagged { IsTrue H.told → (s : PlainStore) →
         Shows P.place store.old (H.outside host.old) s → IfOk result (IsTagging soup table.now s) }
@@ -93,7 +93,7 @@ fn tagging<P: PageBook, H: Host>(
         (H.outside host.old) (H.outside host.new) result }
 {
     match filled_masks(store, host, soup, table) {
-        Ok(masks) => Ok(Step::Tagged(masks)),
+        Ok(masks) => Ok(RangeStep::Tagged(masks)),
         Err(stop) => Err(stop),
     }
 }
@@ -103,7 +103,7 @@ pub(crate) fn step_of<P: PageBook, H: Host>(
     store: &mut Store<P>,
     host: &mut H,
     change: &Change,
-) -> Result<Step, Stop>
+) -> Result<RangeStep, Stop>
     requires { IsOpen P.place P.numbers P.stands H.told store.old (H.outside host.old) }
     ensures step { IsTrue H.told → (s : PlainStore) →
         Shows P.place store.old (H.outside host.old) s → IfOk result (IsStepOf change.now s) }
@@ -116,16 +116,16 @@ pub(crate) fn step_of<P: PageBook, H: Host>(
         (H.outside host.old) (H.outside host.new) result }
 {
     match change {
-        Change::MakeSoup(_) => Ok(Step::Known),
-        Change::DropSoup(_) => Ok(Step::Known),
-        Change::Add(_, _) => Ok(Step::Known),
-        Change::Remove(_, _) => Ok(Step::Known),
+        Change::MakeSoup(_) => Ok(RangeStep::Known),
+        Change::DropSoup(_) => Ok(RangeStep::Known),
+        Change::Add(_, _) => Ok(RangeStep::Known),
+        Change::Remove(_, _) => Ok(RangeStep::Known),
         Change::Move(source, uid, _) => moving(store, host, *source, *uid),
-        Change::Replace(_, _, _) => Ok(Step::Known),
-        Change::Patch(..) => Ok(Step::Known),
+        Change::Replace(_, _, _) => Ok(RangeStep::Known),
+        Change::Patch(..) => Ok(RangeStep::Known),
         Change::AddIndex(soup, spec) => declaring(store, host, *soup, spec),
-        Change::DropIndex(_, _) => Ok(Step::Known),
+        Change::DropIndex(_, _) => Ok(RangeStep::Known),
         Change::SetTags(soup, table) => tagging(store, host, *soup, table),
-        Change::SetInfo(..) => Ok(Step::Known),
+        Change::SetInfo(..) => Ok(RangeStep::Known),
     }
 }

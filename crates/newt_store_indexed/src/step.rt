@@ -16,7 +16,7 @@ use std::alloc::AllocError;
 /// What was read of the store before a change, for what the change is to the ranges beside what it
 /// says itself.
 #[derive(Drop)]
-pub(crate) enum Step {
+pub(crate) enum RangeStep {
     /// Nothing is needed.
     Known,
     /// The graph of the entry that is moved.
@@ -33,44 +33,44 @@ fn take_move(
     source: Sig,
     uid: Uid,
     target: Sig,
-    step: Step,
+    step: RangeStep,
     answer: u32,
 ) -> Result<(), AllocError>
     ensures { OnOk result (ranges.new ≡ rows_moved source uid target answer step ranges.old) }
 {
     match step {
-        Step::Moved(graph) => {
+        RangeStep::Moved(graph) => {
             ranges.add(target, Uid(answer), &graph)?;
             ranges.remove(source, uid);
             Ok(())
         }
-        Step::Known => Ok(()),
-        Step::Declared(_) => Ok(()),
-        Step::Tagged(_) => Ok(()),
+        RangeStep::Known => Ok(()),
+        RangeStep::Declared(_) => Ok(()),
+        RangeStep::Tagged(_) => Ok(()),
     }
 }
 
 // A soup gets a range after its others.
-fn take_range(ranges: &mut Ranges, soup: Sig, step: Step) -> Result<(), AllocError>
+fn take_range(ranges: &mut Ranges, soup: Sig, step: RangeStep) -> Result<(), AllocError>
     ensures { OnOk result (ranges.new ≡ rows_declared soup step ranges.old) }
 {
     match step {
-        Step::Declared(range) => ranges.declare(soup, range),
-        Step::Known => Ok(()),
-        Step::Moved(_) => Ok(()),
-        Step::Tagged(_) => Ok(()),
+        RangeStep::Declared(range) => ranges.declare(soup, range),
+        RangeStep::Known => Ok(()),
+        RangeStep::Moved(_) => Ok(()),
+        RangeStep::Tagged(_) => Ok(()),
     }
 }
 
 // A soup gets other masks.
-fn take_masks(ranges: &mut Ranges, soup: Sig, step: Step)
+fn take_masks(ranges: &mut Ranges, soup: Sig, step: RangeStep)
     ensures { ranges.new ≡ rows_tagged soup step ranges.old }
 {
     match step {
-        Step::Tagged(masks) => ranges.set_masks(soup, masks),
-        Step::Known => {}
-        Step::Moved(_) => {}
-        Step::Declared(_) => {}
+        RangeStep::Tagged(masks) => ranges.set_masks(soup, masks),
+        RangeStep::Known => {}
+        RangeStep::Moved(_) => {}
+        RangeStep::Declared(_) => {}
     }
 }
 
@@ -78,7 +78,7 @@ fn take_masks(ranges: &mut Ranges, soup: Sig, step: Step)
 fn take_step(
     ranges: &mut Ranges,
     change: &Change,
-    step: Step,
+    step: RangeStep,
     answer: u32,
 ) -> Result<(), AllocError>
     ensures { OnOk result (ranges.new ≡ rows_after change.now step answer ranges.old) }
@@ -116,7 +116,7 @@ fn take_step(
 pub(crate) fn follow_change(
     ranges: &mut Ranges,
     change: &Change,
-    step: Step,
+    step: RangeStep,
     answer: u32,
 ) -> Result<u32, StoreFault>
     ensures rows { OnOk result (ranges.new ≡ rows_after change.now step answer ranges.old) }

@@ -14,7 +14,7 @@ ghost use Rattle.newt_store_indexed.specs.Steps.{IsStepOf};
 
 use crate::listing::Listing;
 use crate::plan::step_of;
-use crate::step::{Step, follow_change};
+use crate::step::{RangeStep, follow_change};
 use newt_base::{Name, Sig, Uid};
 use newt_engine_card::Card;
 use newt_graph::{Bytes, Graph};
@@ -194,7 +194,7 @@ fn change_with<P: PageBook, H: Host>(
     host: &mut H,
     change: &Change,
     now: u32,
-    step: Step,
+    step: RangeStep,
 ) -> Result<u32, StoreFault>
     requires { IsOpen P.place P.numbers P.stands H.told store.old (H.outside host.old) }
     ensures changes { Changes P.place P.numbers P.stands H.told change.now now store.old store.new

@@ -20,12 +20,12 @@ const PICKS: [Pick; 6] = [
 
 /// How many images a stop left, and how many of them were read as the store.
 #[derive(Clone, Copy)]
-struct Found {
+struct StopCounts {
     images: u32,
     stores: u32,
 }
 
-impl Found {
+impl StopCounts {
     fn add(&mut self, is_store: bool) {
         self.images = self.images.saturating_add(1);
         if is_store {
@@ -59,7 +59,7 @@ fn stop_at_each(
     host: &MemHost,
     input: &[u8],
     pick: Pick,
-    found: &mut Found,
+    found: &mut StopCounts,
 ) -> Result<(), Fail> {
     if host.blocks(Unit(0)) == 0 {
         return Err(Fail::new("a unit without a device"));
@@ -79,12 +79,12 @@ fn stop_at_each(
 }
 
 /// The same for a restoring to a device of these bytes, whose reply is written a byte at a time.
-fn stop_restoring(alloc: Global, device: &[u8]) -> Result<Found, Fail> {
+fn stop_restoring(alloc: Global, device: &[u8]) -> Result<StopCounts, Fail> {
     let input = backup_after(alloc, STORE)?;
     let mut host = over(alloc, &input, device, &[])?;
     host.piece(1);
     expect_status(alloc, "restore a", &mut host, Status::Ok)?;
-    let mut found = Found {
+    let mut found = StopCounts {
         images: 0,
         stores: 0,
     };
@@ -94,7 +94,7 @@ fn stop_restoring(alloc: Global, device: &[u8]) -> Result<Found, Fail> {
     Ok(found)
 }
 
-fn expect_found(found: Found, images: u32, stores: u32) -> Result<(), Fail> {
+fn expect_found(found: StopCounts, images: u32, stores: u32) -> Result<(), Fail> {
     if found.images != images || found.stores != stores {
         return Err(Fail::new(format_args!("{} images, {} stores", found.images, found.stores)));
     }

@@ -4,8 +4,8 @@ ghost use Rattle.newt_host.specs.Moments.{IsDurable};
 ghost use Rattle.newt_memhost.specs.Outside.{outside_of};
 ghost use Rattle.newt_journal.specs.Journal.{Stands};
 
-use crate::halt::Halt;
 use crate::records::{Held, held_by};
+use crate::row_fault::RowFault;
 use newt_host::{Host, Unit};
 use newt_journal::{Journal, JournalFault};
 use newt_memhost::MemHost;
@@ -52,23 +52,23 @@ pub(crate) fn wear_of(host: &MemHost) -> Wear {
 }
 
 /// The journal of the card; none where it holds no records.
-pub(crate) fn opened(host: &mut MemHost) -> Result<Option<Journal>, Halt>
+pub(crate) fn opened(host: &mut MemHost) -> Result<Option<Journal>, RowFault>
     requires { IsDurable 0 (outside_of host.old).now }
     ensures { IfOk result (λ found. IfSome found (λ journal. Stands true journal
         (outside_of host.new) × (journal.unit ≡ 0))) }
 {
     if host.blocks(CARD) < 13 || host.blocks(CARD) > 4099 {
-        return Err(Halt::Row);
+        return Err(RowFault::Row);
     }
     match Journal::open(host, CARD) {
         Ok(journal) => Ok(Some(journal)),
         Err(JournalFault::NotStore) => Ok(None),
-        Err(JournalFault::Device) => Err(Halt::Device),
+        Err(JournalFault::Device) => Err(RowFault::Device),
     }
 }
 
 /// What stands on a card; none where it holds no journal.
-fn held_in(alloc: Global, host: &mut MemHost) -> Result<Option<Held>, Halt>
+fn held_in(alloc: Global, host: &mut MemHost) -> Result<Option<Held>, RowFault>
     requires { IsDurable 0 (outside_of host.old).now }
 {
     match opened(host)? {
@@ -78,7 +78,11 @@ fn held_in(alloc: Global, host: &mut MemHost) -> Result<Option<Held>, Halt>
 }
 
 /// The same for these bytes.
-pub(crate) fn held_on(rt: &impl Abort, alloc: Global, bytes: &[u8]) -> Result<Option<Held>, Halt> {
+pub(crate) fn held_on(
+    rt: &impl Abort,
+    alloc: Global,
+    bytes: &[u8],
+) -> Result<Option<Held>, RowFault> {
     let mut host = host_of(rt, alloc, bytes);
     held_in(alloc, &mut host)
 }

@@ -1,7 +1,7 @@
 //! What a crash leaves within the calls of a host.
 use crate::card::{CARD, has_card, held_on};
-use crate::halt::Halt;
 use crate::records::Held;
+use crate::row_fault::RowFault;
 use newt_memhost::{MemHost, Pick};
 use std::alloc::Global;
 use std::process::Abort;
@@ -32,10 +32,10 @@ pub(crate) fn images(
     host: &MemHost,
     from: u64,
     few: bool,
-) -> Result<Vec<Left>, Halt> {
+) -> Result<Vec<Left>, RowFault> {
     let mut all = Vec::new(alloc);
     if !has_card(host) {
-        return Err(Halt::Row);
+        return Err(RowFault::Row);
     }
     let picks: &[Pick] = if few { &FEW_PICKS } else { &PICKS };
     for call in from..host.calls() {
@@ -54,11 +54,11 @@ pub(crate) fn expect_either(
     images: &[Left],
     before: &Held,
     after: &Held,
-) -> Result<(), Halt> {
+) -> Result<(), RowFault> {
     for left in images {
         match held_on(rt, alloc, &left.image)? {
             Some(found) if found == *before || found == *after => {}
-            _ => return Err(Halt::Crash(left.call)),
+            _ => return Err(RowFault::Crash(left.call)),
         }
     }
     Ok(())

@@ -16,11 +16,11 @@ mod counts;
 #[cfg(test)]
 mod crashes;
 #[cfg(test)]
-mod halt;
-#[cfg(test)]
 mod picks;
 #[cfg(test)]
 mod records;
+#[cfg(test)]
+mod row_fault;
 #[cfg(test)]
 mod rows;
 #[cfg(test)]

@@ -4,7 +4,7 @@ ghost use Rattle.newt_host.specs.Outside.{Touches};
 ghost use Rattle.newt_journal.specs.Journal.{Stands, room};
 ghost use Rattle.newt_memhost.specs.Outside.{outside_of};
 
-use crate::halt::Halt;
+use crate::row_fault::RowFault;
 use newt_host::{Failed, Host};
 use newt_journal::Journal;
 use newt_memhost::MemHost;
@@ -21,7 +21,11 @@ pub(crate) struct Held {
 }
 
 /// What a journal holds.
-pub(crate) fn held_by<H: Host>(alloc: Global, journal: &Journal, host: &mut H) -> Result<Held, Halt>
+pub(crate) fn held_by<H: Host>(
+    alloc: Global,
+    journal: &Journal,
+    host: &mut H,
+) -> Result<Held, RowFault>
     requires { Stands H.told journal.now (H.outside host.old) }
     ensures stands { Stands H.told journal.now (H.outside host.new) }
     ensures moment { (H.outside host.new).now ≡ (H.outside host.old).now }
@@ -35,7 +39,7 @@ pub(crate) fn held_by<H: Host>(alloc: Global, journal: &Journal, host: &mut H) -
 }
 
 /// The payloads of a journal, in order.
-fn payloads<H: Host>(alloc: Global, journal: &Journal, host: &mut H) -> Result<Records, Halt>
+fn payloads<H: Host>(alloc: Global, journal: &Journal, host: &mut H) -> Result<Records, RowFault>
     requires { Stands H.told journal.now (H.outside host.old) }
     ensures stands { Stands H.told journal.now (H.outside host.new) }
     ensures moment { (H.outside host.new).now ≡ (H.outside host.old).now }
@@ -99,7 +103,7 @@ pub(crate) fn changed(
     host: &mut MemHost,
     word: &str,
     payload: &[u8],
-) -> Result<Journal, Halt>
+) -> Result<Journal, RowFault>
     requires { Stands true journal (outside_of host.old) × (journal.unit ≡ 0) }
     ensures { IfOk result (λ after. Stands true after (outside_of host.new) × (after.unit ≡ 0)) }
 {
@@ -110,6 +114,6 @@ pub(crate) fn changed(
         }
         "replace" if len <= 4096 => Ok(replace(journal, host, payload)?),
         "repair" => Ok(repair(journal, host)?),
-        _ => Err(Halt::Row),
+        _ => Err(RowFault::Row),
     }
 }

@@ -18,8 +18,8 @@ ghost use Rattle.newt_journal.specs.Journal.{Stands};
 
 use crate::card::{CARD, Wear, has_card, held_on, host_of, opened, wear_of};
 use crate::crashes::{expect_either, images};
-use crate::halt::Halt;
 use crate::records::{Held, changed, held_by};
+use crate::row_fault::RowFault;
 use crate::texts::{around, filled, payload_of, poked, records_of};
 use newt_host::Host;
 use newt_journal::Journal;
@@ -57,7 +57,7 @@ impl Last {
 }
 
 /// What a change makes of what the journal holds. A bank is written with version 2.
-fn after(alloc: Global, held: &Held, word: &str, payload: &[u8]) -> Result<Held, Halt> {
+fn after(alloc: Global, held: &Held, word: &str, payload: &[u8]) -> Result<Held, RowFault> {
     let mut version = held.version;
     let mut records = Vec::new(alloc);
     if word != "replace" {
@@ -80,7 +80,7 @@ fn change(
     last: &mut Last,
     word: &str,
     payload: &[u8],
-) -> Result<Journal, Halt>
+) -> Result<Journal, RowFault>
     requires { Stands true journal (outside_of host.old) × (journal.unit ≡ 0) }
     ensures { IfOk result (λ after. Stands true after (outside_of host.new) × (after.unit ≡ 0)) }
 {
@@ -91,31 +91,31 @@ fn change(
     let journal = changed(journal, host, word, payload)?;
     last.room = journal.room();
     if held_by(alloc, &journal, host)? != last.held {
-        return Err(Halt::Other);
+        return Err(RowFault::Other);
     }
     Ok(journal)
 }
 
 /// The version after the last change.
-fn expect_version(last: &Last, want: &str) -> Result<(), Halt> {
+fn expect_version(last: &Last, want: &str) -> Result<(), RowFault> {
     let version: u16 = want.parse()?;
     if last.held.version != version {
-        return Err(Halt::Other);
+        return Err(RowFault::Other);
     }
     Ok(())
 }
 
 /// The room after the last change.
-fn expect_room(last: &Last, want: &str) -> Result<(), Halt> {
+fn expect_room(last: &Last, want: &str) -> Result<(), RowFault> {
     let room: u32 = want.parse()?;
     if last.room != room {
-        return Err(Halt::Other);
+        return Err(RowFault::Other);
     }
     Ok(())
 }
 
 /// What the last change took of the card: erases or syncs.
-fn expect_wear(host: &MemHost, last: &Last, word: &str, want: &str) -> Result<(), Halt> {
+fn expect_wear(host: &MemHost, last: &Last, word: &str, want: &str) -> Result<(), RowFault> {
     let now = wear_of(host);
     let took = if word == "erases" {
         now.erased.checked_sub(last.wear.erased)
@@ -123,31 +123,31 @@ fn expect_wear(host: &MemHost, last: &Last, word: &str, want: &str) -> Result<()
         now.synced.checked_sub(last.wear.synced)
     };
     if took != Some(want.parse()?) {
-        return Err(Halt::Other);
+        return Err(RowFault::Other);
     }
     Ok(())
 }
 
-fn expect_byte(part: &[u8], byte: u8) -> Result<(), Halt> {
+fn expect_byte(part: &[u8], byte: u8) -> Result<(), RowFault> {
     for held in part {
         if *held != byte {
-            return Err(Halt::Other);
+            return Err(RowFault::Other);
         }
     }
     Ok(())
 }
 
 /// Each byte between two places.
-fn expect_all(host: &MemHost, places: &str, want: &str) -> Result<(), Halt> {
+fn expect_all(host: &MemHost, places: &str, want: &str) -> Result<(), RowFault> {
     if !has_card(host) {
-        return Err(Halt::Row);
+        return Err(RowFault::Row);
     }
     let (from, to) = around(places, " ");
     let (from, to): (usize, usize) = (from.parse()?, to.parse()?);
     let byte: u8 = want.parse()?;
     match host.bytes(CARD).get(from..to) {
         Some(part) => expect_byte(part, byte),
-        None => Err(Halt::Row),
+        None => Err(RowFault::Row),
     }
 }
 
@@ -158,9 +158,9 @@ fn expect_read(
     host: &MemHost,
     pokes: &str,
     want: &str,
-) -> Result<(), Halt> {
+) -> Result<(), RowFault> {
     if !has_card(host) {
-        return Err(Halt::Row);
+        return Err(RowFault::Row);
     }
     let bytes = poked(alloc, host.bytes(CARD), pokes)?;
     let found = match held_on(rt, alloc, &bytes)? {
@@ -168,7 +168,7 @@ fn expect_read(
         None => None,
     };
     if found != records_of(alloc, want)? {
-        return Err(Halt::Other);
+        return Err(RowFault::Other);
     }
     Ok(())
 }
@@ -181,7 +181,7 @@ fn look(
     last: &Last,
     asked: (&str, &str),
     want: &str,
-) -> Result<(), Halt> {
+) -> Result<(), RowFault> {
     match asked.0 {
         "cut" => {
             let images = images(alloc, host, last.from, asked.1 == "few")?;
@@ -192,7 +192,7 @@ fn look(
         "erases" | "syncs" => expect_wear(host, last, asked.0, want),
         "all" => expect_all(host, asked.1, want),
         "reads" => expect_read(rt, alloc, host, asked.1, want),
-        _ => Err(Halt::Row),
+        _ => Err(RowFault::Row),
     }
 }
 
@@ -204,7 +204,7 @@ fn play_row(
     host: &mut MemHost,
     last: &mut Last,
     row: &str,
-) -> Result<Journal, Halt>
+) -> Result<Journal, RowFault>
     requires { Stands true journal (outside_of host.old) × (journal.unit ≡ 0) }
     ensures { IfOk result (λ after. Stands true after (outside_of host.new) × (after.unit ≡ 0)) }
 {
@@ -237,7 +237,7 @@ fn play_rows(
     for row in table.lines() {
         match play_row(rt, alloc, journal, host, last, row) {
             Ok(after) => journal = after,
-            Err(halt) => return Err(Fail::new(format_args!("{halt:?} at {row}"))),
+            Err(fault) => return Err(Fail::new(format_args!("{fault:?} at {row}"))),
         }
     }
     Ok(())

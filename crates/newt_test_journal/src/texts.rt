@@ -1,6 +1,6 @@
 //! What the words of a row say.
-use crate::halt::Halt;
 use crate::records::Records;
+use crate::row_fault::RowFault;
 use std::alloc::{AllocError, Global};
 
 /// So many times the same byte.
@@ -16,7 +16,7 @@ pub(crate) fn around<'a>(row: &'a str, mark: &str) -> (&'a str, &'a str) {
 }
 
 /// A payload: the text itself, or a byte and how often it stands there, as in `1*4096`.
-pub(crate) fn payload_of(alloc: Global, word: &str) -> Result<Vec<u8>, Halt> {
+pub(crate) fn payload_of(alloc: Global, word: &str) -> Result<Vec<u8>, RowFault> {
     match word.split_once('*') {
         Some((byte, count)) => Ok(filled(alloc, byte.parse()?, count.parse()?)?),
         None => Ok(word.as_bytes().to_vec(alloc)?),
@@ -25,7 +25,7 @@ pub(crate) fn payload_of(alloc: Global, word: &str) -> Result<Vec<u8>, Halt> {
 
 /// The records of a text, one for each word: an empty list for `no record`, and none for
 /// `no journal`.
-pub(crate) fn records_of(alloc: Global, text: &str) -> Result<Option<Records>, Halt> {
+pub(crate) fn records_of(alloc: Global, text: &str) -> Result<Option<Records>, RowFault> {
     let mut records = Vec::new(alloc);
     match text {
         "no journal" => return Ok(None),
@@ -39,13 +39,13 @@ pub(crate) fn records_of(alloc: Global, text: &str) -> Result<Option<Records>, H
 }
 
 /// The same bytes with some others: each word is a place and the byte there, as in `4096=1`.
-pub(crate) fn poked(alloc: Global, bytes: &[u8], pokes: &str) -> Result<Vec<u8>, Halt> {
+pub(crate) fn poked(alloc: Global, bytes: &[u8], pokes: &str) -> Result<Vec<u8>, RowFault> {
     let mut poked = bytes.to_vec(alloc)?;
     for poke in pokes.split_whitespace() {
         let (place, byte) = around(poke, "=");
         let place: usize = place.parse()?;
         let Some(there) = poked.get_mut(place) else {
-            return Err(Halt::Row);
+            return Err(RowFault::Row);
         };
         *there = byte.parse()?;
     }

@@ -266,42 +266,42 @@ fn adds_and_removes(alloc: Global, index: &mut Index) -> Result<bool, AllocError
 
 /// What is done with the id 7.
 #[derive(Clone, Copy)]
-enum Step {
+enum Action {
     Add(i32),
     Remove(i32),
     Forget,
 }
 
-/// Steps, each with the key by which the id is found after it, and how many pairs there are.
-const STEPS: [(Step, Option<(i32, u32)>, usize); 5] = [
-    (Step::Add(2), Some((2, 7)), 1),
-    (Step::Add(1), Some((1, 7)), 2),
-    (Step::Remove(1), Some((2, 7)), 1),
-    (Step::Add(1), Some((1, 7)), 2),
-    (Step::Forget, None, 0),
+/// Actions, each with the key by which the id is found after it, and how many pairs there are.
+const ACTIONS: [(Action, Option<(i32, u32)>, usize); 5] = [
+    (Action::Add(2), Some((2, 7)), 1),
+    (Action::Add(1), Some((1, 7)), 2),
+    (Action::Remove(1), Some((2, 7)), 1),
+    (Action::Add(1), Some((1, 7)), 2),
+    (Action::Forget, None, 0),
 ];
 
 #[tactic(auto, using(crate::proofs::Integers::int_key))]
-fn take_step(alloc: Global, index: &mut Index, step: Step) -> Result<(), AllocError>
+fn take_action(alloc: Global, index: &mut Index, action: Action) -> Result<(), AllocError>
     requires { index.old.spec ≡ Some (integers order.Ascend) }
     ensures { OnOk result (index.new.spec ≡ Some (integers order.Ascend)) }
 {
-    match step {
-        Step::Add(number) => index.add(key(alloc, number)?, Uid(7)),
-        Step::Remove(number) => index.remove(&key(alloc, number)?, Uid(7)),
-        Step::Forget => {
+    match action {
+        Action::Add(number) => index.add(key(alloc, number)?, Uid(7)),
+        Action::Remove(number) => index.remove(&key(alloc, number)?, Uid(7)),
+        Action::Forget => {
             index.forget(Uid(7));
             Ok(())
         }
     }
 }
 
-/// Whether each step leaves what it should: the id 7 gets two keys and loses both.
-fn takes_steps(alloc: Global, index: &mut Index) -> Result<bool, AllocError>
+/// Whether each action leaves what it should: the id 7 gets two keys and loses both.
+fn takes_actions(alloc: Global, index: &mut Index) -> Result<bool, AllocError>
     requires { index.old.spec ≡ Some (integers order.Ascend) }
 {
-    for (step, shown, count) in STEPS {
-        take_step(alloc, index, step)?;
+    for (step, shown, count) in ACTIONS {
+        take_action(alloc, index, step)?;
         if key_of(index, Order::Ascend, 7) != shown || index.len() != count {
             return Ok(false);
         }
@@ -310,14 +310,14 @@ fn takes_steps(alloc: Global, index: &mut Index) -> Result<bool, AllocError>
 }
 
 /// The same for an index that is empty at first.
-fn takes_steps_from_none(alloc: Global) -> Result<bool, AllocError> {
+fn takes_actions_from_none(alloc: Global) -> Result<bool, AllocError> {
     let mut index = empty(alloc, Order::Ascend)?;
-    takes_steps(alloc, &mut index)
+    takes_actions(alloc, &mut index)
 }
 
 #[test]
 fn an_id_may_have_two_keys(rt: HostRuntime) {
-    assert!(rt; matches!(takes_steps_from_none(rt.alloc()), Ok(true)));
+    assert!(rt; matches!(takes_actions_from_none(rt.alloc()), Ok(true)));
 }
 
 #[test]

@@ -299,8 +299,8 @@ add 0 Next {}
 
 /// The version of the bank after so many lines.
 fn version_after(looks: &Looks, lines: usize) -> u8 {
-    match looks.told.get(lines) {
-        Some(told) => told.version,
+    match looks.next_runs.get(lines) {
+        Some(next_run) => next_run.version,
         None => 0,
     }
 }

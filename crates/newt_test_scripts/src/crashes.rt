@@ -16,16 +16,16 @@ use std::test::Fail;
 /// What a next run tells of a unit: its answers, the version of the bank that it found, which is 0
 /// where it found no store, and the backup of what it leaves.
 #[derive(Drop, PartialEq)]
-pub struct Told {
+pub struct NextRun {
     pub answers: Vec<u8>,
     pub version: u8,
     pub left: Vec<u8>,
 }
 
-impl Told {
+impl NextRun {
     /// Nothing yet.
-    fn none(alloc: Global) -> Told {
-        Told {
+    fn none(alloc: Global) -> NextRun {
+        NextRun {
             answers: Vec::new(alloc),
             version: 0,
             left: Vec::new(alloc),
@@ -33,8 +33,8 @@ impl Told {
     }
 
     /// The same once more.
-    fn copy(&self, alloc: Global) -> Result<Told, AllocError> {
-        Ok(Told {
+    fn copy(&self, alloc: Global) -> Result<NextRun, AllocError> {
+        Ok(NextRun {
             answers: Vec::from_slice(alloc, &self.answers)?,
             version: self.version,
             left: Vec::from_slice(alloc, &self.left)?,
@@ -47,7 +47,7 @@ impl Told {
 #[derive(Drop)]
 pub struct Looks {
     pub images: Vec<Vec<u8>>,
-    pub told: Vec<Told>,
+    pub next_runs: Vec<NextRun>,
 }
 
 /// How much was compared: the images that a stop may leave, and those of them that are neither just
@@ -121,13 +121,13 @@ fn version_of(bytes: &[u8]) -> u8 {
 
 /// What a next run tells of a device of these bytes, which it mounts first. That is mounted exactly
 /// where the mode `check` finds nothing damaged.
-pub fn look(alloc: Global, ask: &[u8], bytes: &[u8]) -> Result<Told, Fail> {
+pub fn look(alloc: Global, ask: &[u8], bytes: &[u8]) -> Result<NextRun, Fail> {
     let host = run_over(alloc, "run a", ask, bytes, &[])?;
     let is_store = host.output().starts_with(b"ok ");
     if is_clean(alloc, bytes)? != is_store {
         return Err(Fail::new("what is mounted is damaged, or what is clean is not mounted"));
     }
-    Ok(Told {
+    Ok(NextRun {
         answers: Vec::from_slice(alloc, host.output())?,
         version: if is_store { version_of(bytes) } else { 0 },
         left: backed_up(alloc, &image(alloc, &host, Unit(0))?)?,
@@ -170,19 +170,22 @@ fn looks_of(
         return Err(Fail::new("a unit without a device"));
     }
     let mut images: Vec<Vec<u8>> = Vec::new(alloc);
-    let mut all: Vec<Told> = Vec::new(alloc);
+    let mut all: Vec<NextRun> = Vec::new(alloc);
     for call in 0..host.calls() {
         if ends_line(host, script, call) {
             let Crash { image, .. } = host.images(unit, call, Pick::New)?;
-            let told = match all.last() {
+            let next_run = match all.last() {
                 Some(last) if ends_with(&images, &image) => last.copy(alloc)?,
                 _ => look(alloc, ask, &image)?,
             };
             images.push(image)?;
-            all.push(told)?;
+            all.push(next_run)?;
         }
     }
-    Ok(Looks { images, told: all })
+    Ok(Looks {
+        images,
+        next_runs: all,
+    })
 }
 
 /// The same of a script over the devices `a` and `b` of these bytes. The script is read a byte at a
@@ -228,16 +231,16 @@ pub fn begun(output: &[u8]) -> usize {
 
 impl Looks {
     /// Whether a next run tells this of the unit after so many lines.
-    fn tells(&self, found: &Told, lines: usize) -> bool {
-        match self.told.get(lines) {
-            Some(told) => *told == *found,
+    fn tells(&self, found: &NextRun, lines: usize) -> bool {
+        match self.next_runs.get(lines) {
+            Some(next_run) => *next_run == *found,
             None => false,
         }
     }
 
     /// After how many lines a next run tells what was found: those whose replies have begun, or
     /// one more.
-    pub fn lines_before(&self, found: &Told, replies: usize) -> Option<usize> {
+    pub fn lines_before(&self, found: &NextRun, replies: usize) -> Option<usize> {
         let next = replies.saturating_add(1);
         if self.tells(found, replies) {
             return Some(replies);
@@ -263,10 +266,11 @@ impl Looks {
 
     /// Whether the store is still that from before the run, and the next line does not change it.
     fn is_untouched(&self, replies: usize) -> bool {
-        match self.told.first() {
+        match self.next_runs.first() {
             Some(none) => {
                 let next = replies.saturating_add(1);
-                self.tells(none, replies) && (next >= self.told.len() || self.tells(none, next))
+                self.tells(none, replies)
+                    && (next >= self.next_runs.len() || self.tells(none, next))
             }
             None => false,
         }
@@ -279,7 +283,7 @@ pub(crate) fn expect_found(
     replies: usize,
     left: &[u8],
     held: &[u8],
-    found: &Told,
+    found: &NextRun,
     looks: &Looks,
 ) -> Result<(), Fail> {
     if looks.lines_before(found, replies).is_none() {
@@ -307,7 +311,7 @@ pub fn expect_safe(
     let Crash { image: held, .. } = host.images(unit, 0, Pick::Old)?;
     let mut counts = Counts::none();
     let mut left = Vec::new(alloc);
-    let mut found = Told::none(alloc);
+    let mut found = NextRun::none(alloc);
     for call in 0..host.calls() {
         let Crash { image, out } = host.images(unit, call, pick)?;
         let shown = host.output().len().min(out as usize);

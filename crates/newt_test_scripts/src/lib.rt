@@ -13,7 +13,7 @@ mod tables;
 mod thrown;
 
 pub use crashes::{
-    Counts, Looks, Told, begun, expect_all_safe, expect_safe, expect_unit_safe, look,
+    Counts, Looks, NextRun, begun, expect_all_safe, expect_safe, expect_unit_safe, look,
     looks_by_line, looks_from_blank,
 };
 pub use halts::{expect_halts, expect_statuses};

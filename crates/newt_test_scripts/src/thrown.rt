@@ -5,7 +5,7 @@ ghost use Rattle.newt_memhost.specs.Outside.{outside_of};
 ghost use Rattle.newt_memhost.specs.Words.{calls_of};
 ghost use Rattle.newt_test_scripts.specs.Free.{IsFree};
 
-use crate::crashes::{Looks, Told, begun, look, looks_from_blank};
+use crate::crashes::{Looks, NextRun, begun, look, looks_from_blank};
 use crate::hosts::over_blank;
 use crate::restores::backed_up;
 use crate::runs::{expect_status, image, run_table};
@@ -227,11 +227,11 @@ impl Failing<'_> {
         host: &MemHost,
         unit: Unit,
         trial: &Trial,
-    ) -> Result<Found, Fail> {
+    ) -> Result<AfterFailure, Fail> {
         let found = look(alloc, trial.ask, &image(alloc, host, unit)?)?;
         match trial.looks(unit).lines_before(&found, self.replies()) {
-            Some(lines) => Ok(Found {
-                told: found,
+            Some(lines) => Ok(AfterFailure {
+                next_run: found,
                 is_later: lines > self.replies(),
             }),
             None => Err(Fail::new(format_args!("another store after call {}", self.call))),
@@ -239,7 +239,7 @@ impl Failing<'_> {
     }
 
     /// The card has the store that was found, gone on as it goes on elsewhere.
-    fn expect_left(&self, alloc: Global, host: &MemHost, found: &Told) -> Result<(), Fail> {
+    fn expect_left(&self, alloc: Global, host: &MemHost, found: &NextRun) -> Result<(), Fail> {
         if backed_up(alloc, &image(alloc, host, self.unit)?)? != found.left {
             return Err(Fail::new(format_args!("goes on otherwise after call {}", self.call)));
         }
@@ -248,7 +248,7 @@ impl Failing<'_> {
 
     /// A next mount tells which store the card holds, and answers and goes on then as another run
     /// does over it.
-    fn expect_comes_back(&self, alloc: Global, trial: &Trial, found: &Told) -> Result<(), Fail> {
+    fn expect_comes_back(&self, alloc: Global, trial: &Trial, found: &NextRun) -> Result<(), Fail> {
         let script = self.script(alloc, trial.table, &[trial.ask])?;
         let host = run_failing(alloc, "run a b", &script, &[self.call])?;
         self.expect_output(alloc, &host, 1, &found.answers)?;
@@ -266,7 +266,7 @@ impl Failing<'_> {
         &self,
         alloc: Global,
         trial: &Trial,
-        found: &Told,
+        found: &NextRun,
     ) -> Result<(), Fail> {
         let script = self.script(alloc, trial.table, &[b"mount 0\n", trial.ask])?;
         let other = self.next_call(alloc, &script)?;
@@ -341,8 +341,8 @@ impl Failing<'_> {
         let own = self.found_on(alloc, &host, self.unit, trial)?;
         let beside = Unit(1u8.saturating_sub(self.unit.0));
         let other = self.found_on(alloc, &host, beside, trial)?;
-        self.expect_comes_back(alloc, trial, &own.told)?;
-        self.expect_comes_back_later(alloc, trial, &own.told)?;
+        self.expect_comes_back(alloc, trial, &own.next_run)?;
+        self.expect_comes_back_later(alloc, trial, &own.next_run)?;
         self.expect_all_goes_on(alloc, trial, own.is_later, other.is_later)
     }
 }
@@ -350,8 +350,8 @@ impl Failing<'_> {
 /// What a next run tells of a unit after the line that failed, and whether that is of the store
 /// after the line, and not of that before it.
 #[derive(Drop)]
-struct Found {
-    told: Told,
+struct AfterFailure {
+    next_run: NextRun,
     is_later: bool,
 }
 

@@ -8,7 +8,7 @@ use std::num::ParseIntError;
 /// the card, or something else was found than is wanted. Or a crash within the call of a number
 /// left other records.
 #[derive(Clone, Copy, Debug)]
-pub(crate) enum Halt {
+pub(crate) enum RowFault {
     Memory,
     Device,
     Row,
@@ -16,26 +16,26 @@ pub(crate) enum Halt {
     Crash(u64),
 }
 
-impl From<AllocError> for Halt {
+impl From<AllocError> for RowFault {
     fn from(_: AllocError) -> Self {
-        Halt::Memory
+        RowFault::Memory
     }
 }
 
-impl<T: Drop> From<AllocFailed<T>> for Halt {
+impl<T: Drop> From<AllocFailed<T>> for RowFault {
     fn from(_: AllocFailed<T>) -> Self {
-        Halt::Memory
+        RowFault::Memory
     }
 }
 
-impl From<Failed> for Halt {
+impl From<Failed> for RowFault {
     fn from(_: Failed) -> Self {
-        Halt::Device
+        RowFault::Device
     }
 }
 
-impl From<ParseIntError> for Halt {
+impl From<ParseIntError> for RowFault {
     fn from(_: ParseIntError) -> Self {
-        Halt::Row
+        RowFault::Row
     }
 }
