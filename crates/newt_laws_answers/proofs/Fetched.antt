@@ -1,14 +1,14 @@
 -- The pages of the entries that a command means.
 use Rattle.std.proofs.Common.{arith, ◌≡◌, refl, ap, ◌∙◌, ℕ, ◌+◌, ◌≤◌, List, [], ◌∷◌, ◌++◌, Bool, cond, Option}
+use Rattle.std.specs.Prelude.{unwrap_or}
 use Rattle.std.proofs.lemmas.Bool.{eq-eqb}
 use Rattle.std.proofs.lemmas.List.Sums.{sum_by-append, sum_by-cons}
 use Rattle.newt_spec_query.specs.Cursor.{Cursor}
-use Rattle.newt_spec_world.specs.World.{World, entry_in}
+use Rattle.newt_spec_world.specs.World.{World, default_unit, entry_in}
 use Rattle.newt_spec_world.specs.declared.command.Command.{Command}
-use Rattle.newt_spec_world.specs.declared.command.Command.TheVariants as command
 use Rattle.newt_laws_world.specs.Cursors.{with_cursors}
 use Rattle.newt_store_change.specs.Change.{pages_of_entry}
-use Rattle.newt_laws_answers.specs.Fetched.{if_on, meant, pages_there}
+use Rattle.newt_laws_answers.specs.Fetched.{Meant, named, next, next_in_default, all_on_unit, entries_meant, if_on, next_if_on, meant, pages_there}
 
 -- one entry
 abbrev one : List ℕ → ℕ → List (List ℕ × ℕ)
@@ -41,17 +41,14 @@ last-pages w u more last = low _ _ _ (sum_by-append (weight w u) more last)
     low a b c h = omega (arith, h)
 
 -- the same entries are meant whatever cursors are open
+unit-beside : (ks : List (Option Cursor)) (w : World) (u : ℕ) (ms : List Meant) → all_on_unit (with_cursors ks w) u ms ≡ all_on_unit w u ms
+unit-beside ks w u [] = refl
+unit-beside ks w u (named t s uid ∷ []) = refl
+unit-beside ks w u (next t s ∷ []) = refl
+unit-beside ks w u (next_in_default s ∷ []) = refl
+unit-beside ks w u (named t s uid ∷ n ∷ ms) = ap (λ es. if_on t u s uid ++ es) (unit-beside ks w u (n ∷ ms))
+unit-beside ks w u (next t s ∷ n ∷ ms) = ap (λ es. next_if_on w t u s ++ es) (unit-beside ks w u (n ∷ ms))
+unit-beside ks w u (next_in_default s ∷ n ∷ ms) = ap (λ es. next_if_on w (default_unit w) u s ++ es) (unit-beside ks w u (n ∷ ms))
+
 pub meant-beside : (ks : List (Option Cursor)) (w : World) (c : Command) (u : ℕ) → meant (with_cursors ks w) c u ≡ meant w c u
-meant-beside ks w (command.Get t s uid) u = refl
-meant-beside ks w (command.Getx t s uid) u = refl
-meant-beside ks w (command.Vread t s uid path at many) u = refl
-meant-beside ks w (command.Set t s uid path g) u = refl
-meant-beside ks w (command.Change t s uid g) u = refl
-meant-beside ks w (command.Remove t s uid) u = refl
-meant-beside ks w (command.Vwrite t s uid path at bytes) u = refl
-meant-beside ks w (command.Add t s g) u = refl
-meant-beside ks w (command.Addx t s g) u = refl
-meant-beside ks w (command.Addu s g) u = refl
-meant-beside ks w (command.Copy t s uid x y) u = refl
-meant-beside ks w (command.Move t s uid x y) u = refl
-meant-beside ks w _ u = refl
+meant-beside ks w c u = unit-beside ks w u (unwrap_or (entries_meant c) [])

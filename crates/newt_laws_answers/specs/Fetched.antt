@@ -1,5 +1,5 @@
 -- How many bytes a command fetches at most. All of it is this project's own.
-use Rattle.std.specs.Prelude.{ℕ, ◌+◌, ◌*◌, ◌++◌, ◌==◌, Bool, true, false, List, [], ◌∷◌, sum_by, if◌then◌else◌}
+use Rattle.std.specs.Prelude.{ℕ, ◌+◌, ◌*◌, ◌++◌, ◌==◌, Bool, List, [], ◌∷◌, sum_by, if◌then◌else◌, Option, Some, None, is_some, unwrap_or}
 use Rattle.newt_spec_store.specs.Cost.{entry_pages}
 use Rattle.newt_spec_store.specs.Store.{next_uid_of}
 use Rattle.newt_spec_world.specs.Answer.{answer}
@@ -27,37 +27,48 @@ if_on t u s uid = if t == u then (s, uid) ∷ [] else []
 abbrev pub next_if_on : World → ℕ → ℕ → List ℕ → List (List ℕ × ℕ)
 next_if_on w t u s = if_on t u s (next_uid_of (soup_in w t s))
 
+-- an entry that a command means: one that it names by its unit, soup and id, or the next one of a
+-- soup, which it appends, on a unit or on the default unit
+pub data Meant : Type 0 where
+  named : ℕ → List ℕ → ℕ → Meant
+  next : ℕ → List ℕ → Meant
+  next_in_default : List ℕ → Meant
+
+-- the entries that a command names or appends; none is said of a command that may read others
+abbrev pub entries_meant : Command → Option (List Meant)
+entries_meant (command.Get t s uid) = Some (named t s uid ∷ [])
+entries_meant (command.Getx t s uid) = Some (named t s uid ∷ [])
+entries_meant (command.Vread t s uid path at many) = Some (named t s uid ∷ [])
+entries_meant (command.Set t s uid path g) = Some (named t s uid ∷ [])
+entries_meant (command.Change t s uid g) = Some (named t s uid ∷ [])
+entries_meant (command.Remove t s uid) = Some (named t s uid ∷ [])
+entries_meant (command.Vwrite t s uid path at bytes) = Some (named t s uid ∷ [])
+entries_meant (command.Add t s g) = Some (next t s ∷ [])
+entries_meant (command.Addx t s g) = Some (next t s ∷ [])
+entries_meant (command.Addu s g) = Some (next_in_default s ∷ [])
+entries_meant (command.Copy t s uid x y) = Some (named t s uid ∷ next x y ∷ [])
+entries_meant (command.Move t s uid x y) = Some (named t s uid ∷ next x y ∷ [])
+entries_meant c = None
+
+-- the command names or appends entries, and reads no others
+abbrev pub means_entries : Command → Bool
+means_entries c = is_some (entries_meant c)
+
+-- the entry, if it is of a unit, by the name of its soup and its id
+abbrev pub on_unit : World → ℕ → Meant → List (List ℕ × ℕ)
+on_unit w u (named t s uid) = if_on t u s uid
+on_unit w u (next t s) = next_if_on w t u s
+on_unit w u (next_in_default s) = next_if_on w (default_unit w) u s
+
+-- those of these entries that are of a unit
+abbrev pub all_on_unit : World → ℕ → List Meant → List (List ℕ × ℕ)
+all_on_unit w u [] = []
+all_on_unit w u (m ∷ []) = on_unit w u m
+all_on_unit w u (m ∷ n ∷ ms) = on_unit w u m ++ all_on_unit w u (n ∷ ms)
+
 -- the entries of a unit that a command names or appends, by the name of their soup and their id
 abbrev pub meant : World → Command → ℕ → List (List ℕ × ℕ)
-meant w (command.Get t s uid) u = if_on t u s uid
-meant w (command.Getx t s uid) u = if_on t u s uid
-meant w (command.Vread t s uid path at many) u = if_on t u s uid
-meant w (command.Set t s uid path g) u = if_on t u s uid
-meant w (command.Change t s uid g) u = if_on t u s uid
-meant w (command.Remove t s uid) u = if_on t u s uid
-meant w (command.Vwrite t s uid path at bytes) u = if_on t u s uid
-meant w (command.Add t s g) u = next_if_on w t u s
-meant w (command.Addx t s g) u = next_if_on w t u s
-meant w (command.Addu s g) u = next_if_on w (default_unit w) u s
-meant w (command.Copy t s uid x y) u = if_on t u s uid ++ next_if_on w x u y
-meant w (command.Move t s uid x y) u = if_on t u s uid ++ next_if_on w x u y
-meant w c u = []
-
--- the command names or appends entries
-abbrev pub means_entries : Command → Bool
-means_entries (command.Get t s uid) = true
-means_entries (command.Getx t s uid) = true
-means_entries (command.Vread t s uid path at many) = true
-means_entries (command.Set t s uid path g) = true
-means_entries (command.Change t s uid g) = true
-means_entries (command.Remove t s uid) = true
-means_entries (command.Vwrite t s uid path at bytes) = true
-means_entries (command.Add t s g) = true
-means_entries (command.Addx t s g) = true
-means_entries (command.Addu s g) = true
-means_entries (command.Copy t s uid x y) = true
-means_entries (command.Move t s uid x y) = true
-means_entries c = false
+meant w c u = all_on_unit w u (unwrap_or (entries_meant c) [])
 
 -- the pages of those of these entries of a unit that are there
 abbrev pub pages_there : World → ℕ → List (List ℕ × ℕ) → ℕ
