@@ -12,7 +12,7 @@ use Rattle.newt_spec_script.specs.Rows.{throws}
 use Rattle.newt_spec_world.specs.Reply.{Reply}
 use Rattle.newt_spec_world.specs.Step.{moves_away}
 use Rattle.newt_engine_units.specs.declared.effects.Effect.{Effect}
-use Rattle.newt_engine_commands.specs.Plans.{told_by}
+use Rattle.newt_engine_commands.specs.Plans.{told_as}
 use Rattle.newt_engine.specs.Ends.{takes_memory, uses_device}
 use Rattle.newt_engine.specs.Bounds.{is_format}
 use Rattle.newt_engine.specs.Groups.{is_between, is_other, is_shown, on_place}
@@ -68,11 +68,11 @@ of_stores (command.Soup a b) stores = (refl, refl, refl)
 of_stores _ stores = (cc, cc, cc)
 
 -- what it did is told by no refusal, and says of no unit that its device failed
-pub told_done : (k : Command) (x : Effect) (r : Refusal) → told_by k x ≡ Reply.refused r → ⊥
+pub told_done : (k : Command) (x : Effect) (r : Refusal) → told_as k x ≡ Reply.refused r → ⊥
 told_done (command.Soup a b) x r h = cc
 told_done _ x r h = cc
 
-pub told_quiet : (k : Command) (x : Effect) (u : ℕ) → throws u (told_by k x) ≡ false
+pub told_quiet : (k : Command) (x : Effect) (u : ℕ) → throws u (told_as k x) ≡ false
 told_quiet (command.Soup a b) x u = refl
 told_quiet _ x u = refl
 
