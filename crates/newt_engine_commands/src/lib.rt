@@ -5,26 +5,23 @@
 //! world answers it that units and devices stand for, leaves units that stand for the world after
 //! it, programs no more than the command may, and at every moment a crash leaves each store as it
 //! was or as it is then: soup, drop, index, unindex, indexes, tags, info, add, addx, addu, get,
-//! getx, set, change, remove, copy, move within one store, alias, vread, vwrite.
+//! getx, set, change, remove, copy, move within one store, alias, vread, vwrite. One that changes a
+//! store resolves to one change, and answers the effect that it made.
 #![tactic(auto)]
 
-mod copies;
+mod changes;
 mod declarations;
-mod done;
 mod entries;
 mod forms;
 mod indexing;
 mod infos;
 mod larges;
-mod replaces;
-mod soups;
+mod plans;
 mod tagging;
 
-pub use copies::{copy, move_within};
-pub use entries::{add, add_to_default, alias, get, remove};
-pub use indexing::{index, indexes, unindex};
-pub use infos::{info, set_info};
-pub use larges::{vread, vwrite};
-pub use replaces::{change, set};
-pub use soups::{drop_soup, soup};
-pub use tagging::{set_tags, tags};
+pub use changes::{changes_stores, obey};
+pub use entries::{alias, get};
+pub use indexing::indexes;
+pub use infos::info;
+pub use larges::vread;
+pub use tagging::tags;
