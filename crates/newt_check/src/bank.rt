@@ -1,4 +1,4 @@
-// The rows of votes, header, records and payloads: one of them holds of an image without pages.
+//! The rows of votes, header, records and payloads: one of them holds of an image without pages.
 ghost use Rattle.std.specs.Prelude.{IsTrue, ◌≡◌, ◌≤◌, ◌+◌, ◌-◌, ◌*◌, None, IfOk, IsSome, MatchOption};
 ghost use Rattle.newt_host.specs.Moments.{image};
 ghost use Rattle.newt_host.specs.Outside.{OnlyReads};

@@ -1,4 +1,4 @@
-// The rows of the directory and of the records of entries.
+//! The rows of the directory and of the records of entries.
 ghost use Rattle.std.specs.Prelude.{IsTrue, ◌≡◌, ◌+◌, ℕ, [], true, false, Some, None, IfOk, MatchOption};
 ghost use Rattle.std.specs.FinMap as map;
 ghost use Rattle.newt_host.specs.Moments.{image};

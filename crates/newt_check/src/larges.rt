@@ -1,4 +1,4 @@
-// The row of large binaries.
+//! The row of large binaries.
 ghost use Rattle.std.specs.Prelude.{◌≡◌, ◌++◌, ◌∷◌, [], ◌%◌, ◌==◌, ◌^◌, ◌<◌, ℕ, List, filter, find};
 ghost use Rattle.std.specs.Prelude.{length, OnOk};
 ghost use Rattle.newt_store_catalog.specs.Opening.{objects_named};

@@ -6,8 +6,8 @@
 //! the first four rows of the table of `newt_spec_check` holds. The promise that it carries
 //! upwards: the report is that the image is a store, with its counts, exactly where it is read as
 //! one, and else the first row that holds of it; and nothing happens to the unit. `check_text` is
-//! what is written of it, by the lines of `newt_reply`; for a unit that is not of 13 to 4,099 blocks
-//! it is the line that says why there is no report.
+//! what is written of it, by the lines of `newt_reply`; for a unit that is not of 13 to 4,099
+//! blocks it is the line that says why there is no report.
 #![tactic(auto)]
 
 mod bank;

@@ -1,4 +1,4 @@
-// The row of objects.
+//! The row of objects.
 ghost use Rattle.std.specs.Prelude.{◌≡◌, ◌++◌, ◌∷◌, [], ℕ, List, Some, IfOk, OnOk};
 ghost use Rattle.std.specs.Prelude.{if◌then◌else◌};
 ghost use Rattle.newt_spec_check.specs.Damage.{least as least_of};

@@ -1,4 +1,4 @@
-// What is said of an image.
+//! What is said of an image.
 use newt_spec_check::Layer;
 
 /// What is said of an image.
@@ -6,7 +6,7 @@ use newt_spec_check::Layer;
 pub enum Report {
     /// It is a store with so many soups and entries, which costs so many pages.
     Clean(u32, u32, u32),
-    /// It is no store: a layer is damaged at a place, whose unit (a byte, an object's id or a number
-    /// of pages) the layer tells.
+    /// It is no store: a layer is damaged at a place, whose unit (a byte, an object's id or a
+    /// number of pages) the layer tells.
     Damaged(Layer, u32),
 }

@@ -1,4 +1,4 @@
-// All rows, one after the other.
+//! All rows, one after the other.
 ghost use Rattle.std.specs.Prelude.{IsTrue, ◌≤◌, ℕ, List, IfOk};
 ghost use Rattle.newt_host.specs.Moments.{image, IsDurable};
 ghost use Rattle.newt_host.specs.Outside.{OnlyReads};

@@ -59,9 +59,10 @@ impl<C: Card> World<C> {
         &self.units
     }
 
-    /// Answers a command. A refusal is a reply, and leaves the world as the command saw it. A device
-    /// that fails costs its own command: its unit is thrown out, and the reply says so. The error is
-    /// that memory was refused; after it the world is spent, and no further command may be given.
+    /// Answers a command. A refusal is a reply, and leaves the world as the command saw it. A
+    /// device that fails costs its own command: its unit is thrown out, and the reply says so. The
+    /// error is that memory was refused; after it the world is spent, and no further command may be
+    /// given.
     pub fn apply<H: Host>(&mut self, host: &mut H, command: Command) -> Result<Reply, AllocError>
         requires stands { IsStanding C.reads C.place C.stands H.told self.old
             (H.outside host.old) }

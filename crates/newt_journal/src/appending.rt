@@ -1,4 +1,4 @@
-// A record that is being written after the others.
+//! A record that is being written after the others.
 ghost use Rattle.std.specs.Prelude.{IsTrue, ◌≡◌, ◌≤◌, ◌<◌, ◌+◌};
 ghost use Rattle.newt_journal.specs.Bank.{limit_of};
 

@@ -1,4 +1,4 @@
-// A bank is begun anew.
+//! A bank is begun anew.
 ghost use Rattle.std.specs.Prelude.{IsTrue, ◌≤◌, ◌+◌, ◌-◌, OnOk};
 ghost use Rattle.newt_host.specs.Moments.{image, changes, SameOutside};
 ghost use Rattle.newt_spec_image.specs.Records.{bank_size, bank_blocks};

@@ -1,4 +1,4 @@
-// A unit becomes a journal.
+//! A unit becomes a journal.
 ghost use Rattle.std.specs.Prelude.{IsTrue, ◌≡◌, ◌≤◌, OnOk};
 
 use crate::fresh::begin_bank;

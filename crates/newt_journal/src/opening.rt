@@ -1,4 +1,4 @@
-// A journal is opened.
+//! A journal is opened.
 ghost use Rattle.std.specs.Prelude.{IsTrue, ◌≡◌, ◌≤◌, None, IfOk, MatchOption, Some};
 ghost use Rattle.newt_host.specs.Moments.{image};
 ghost use Rattle.newt_host.specs.Outside.{HasBlocks};

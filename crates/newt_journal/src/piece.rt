@@ -1,4 +1,4 @@
-// The two calls that change a device. All that this crate writes goes through them.
+//! The two calls that change a device. All that this crate writes goes through them.
 ghost use Rattle.std.specs.Prelude.{IsTrue, ◌+◌, ◌*◌, ◌<◌, ◌≤◌, length, IsSome};
 ghost use Rattle.newt_host.specs.Moments.{image};
 ghost use Rattle.newt_host.specs.Outside.{blank, IsBlank, Writes};

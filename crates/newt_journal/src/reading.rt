@@ -1,4 +1,4 @@
-// The records of a journal are read, one after the other.
+//! The records of a journal are read, one after the other.
 ghost use Rattle.std.specs.Prelude.{IsTrue, ◌≡◌};
 
 use crate::Journal;

@@ -1,4 +1,4 @@
-// Votes that differ from the bank that they choose are rewritten.
+//! Votes that differ from the bank that they choose are rewritten.
 ghost use Rattle.std.specs.Prelude.{IsTrue, ◌≡◌, ◌≤◌, ◌<◌, ◌*◌, if◌then◌else◌, ◌==◌, Some, OnOk};
 ghost use Rattle.newt_host.specs.Moments.{image, IsDurable};
 ghost use Rattle.newt_journal.specs.Bank.{bank_number, other_bank};

@@ -1,4 +1,4 @@
-// A record that is being written alone into the other bank.
+//! A record that is being written alone into the other bank.
 ghost use Rattle.std.specs.Prelude.{IsTrue, ◌≡◌, ◌≤◌, ◌+◌};
 ghost use Rattle.newt_spec_image.specs.Records.{bank_size};
 

@@ -1,4 +1,4 @@
-// The rows of the table: an object by its id, or a place kept for one.
+//! The rows of the table: an object by its id, or a place kept for one.
 ghost use Rattle.std.specs.Prelude.{◌≡◌, ◌≢◌, ℕ, ◌+◌, ◌++◌, ◌∷◌, [], if◌then◌else◌};
 ghost use Rattle.std.specs.Prelude.{is_some, IsSome, Some, OnOk, IfOk};
 ghost use Rattle.std.specs.BTreeMap as tree;
@@ -36,7 +36,7 @@ pub(crate) fn keep_row(rows: &mut BTreeMap<u32, Option<Extent>>, id: u32) -> Res
     Ok(())
 }
 
-// Writes an object into its row.
+/// Writes an object into its row.
 fn write_row(rows: &mut BTreeMap<u32, Option<Extent>>, id: u32, extent: Extent)
     requires { IsSome (tree.get nat_cmp rows.old id) }
     ensures object { tree.get nat_cmp rows.new id ≡ Some (Some extent) }
@@ -83,7 +83,7 @@ pub(crate) fn next_row(rows: &BTreeMap<u32, Option<Extent>>, from: u32) -> Optio
     None
 }
 
-// Appends the id of a row, if it has an object.
+/// Appends the id of a row, if it has an object.
 fn list_row(ids: &mut Vec<u32>, id: u32, row: &Option<Extent>) -> Result<(), AllocError>
     ensures { OnOk result (ids.new.items ≡ ids.old.items
         ++ (if is_some row.now then id ∷ [] else [])) }

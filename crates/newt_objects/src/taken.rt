@@ -1,4 +1,4 @@
-// Which page numbers the objects have, kept from one plan to the next.
+//! Which page numbers the objects have, kept from one plan to the next.
 ghost use Rattle.std.specs.Prelude.{◌≡◌, ℕ, [], ◌==◌, ◌<◌, ◌≤◌, true, false, IsTrue, IfOk, None, Some};
 ghost use Rattle.std.specs.Prelude.{length, slice_get};
 ghost use Rattle.std.specs.List.{list_any};
@@ -30,7 +30,7 @@ pub(crate) struct Taken {
     pub(crate) low: u32,
 }
 
-// Clears the flag of a number, if it has one.
+/// Clears the flag of a number, if it has one.
 fn clear_flag(flags: &mut Vec<bool>, number: u32)
     ensures { ClearsAlso (λ q. q == number) flags.old.items flags.new.items }
 {
@@ -40,7 +40,7 @@ fn clear_flag(flags: &mut Vec<bool>, number: u32)
     }
 }
 
-// Clears the flags of some numbers.
+/// Clears the flags of some numbers.
 fn clear_numbers(flags: &mut Vec<bool>, numbers: &[u32])
     ensures { ClearsAlso (λ q. list_any (λ n. q == n) numbers.now) flags.old.items flags.new.items }
 {
@@ -49,7 +49,7 @@ fn clear_numbers(flags: &mut Vec<bool>, numbers: &[u32])
     }
 }
 
-// Clears the flags of the groups of some numbers.
+/// Clears the flags of the groups of some numbers.
 fn clear_groups(full: &mut Vec<bool>, numbers: &[u32])
     ensures { ClearsAlso (λ q. list_any (λ n. q == group_of n) numbers.now) full.old.items
         full.new.items }
@@ -59,7 +59,7 @@ fn clear_groups(full: &mut Vec<bool>, numbers: &[u32])
     }
 }
 
-// Lowers a bound to the groups of some numbers.
+/// Lowers a bound to the groups of some numbers.
 fn lower(low: &mut u32, numbers: &[u32])
     ensures bound { low.new ≤ low.old }
     ensures each { (k number : ℕ) → slice_get numbers.now k ≡ Some number
@@ -70,7 +70,7 @@ fn lower(low: &mut u32, numbers: &[u32])
     }
 }
 
-// Whether none of these numbers is had.
+/// Whether none of these numbers is had.
 fn are_free(flags: &[bool], numbers: &[u32]) -> bool
     ensures { IsTrue result → (k number : ℕ) → slice_get numbers.now k ≡ Some number
         → slice_get flags.now number ≡ Some false }
@@ -84,7 +84,7 @@ fn are_free(flags: &[bool], numbers: &[u32]) -> bool
     true
 }
 
-// Takes the numbers of an object, if there is one. False where another object has one of them.
+/// Takes the numbers of an object, if there is one. False where another object has one of them.
 fn take_row(flags: &mut Vec<bool>, row: &Option<Extent>) -> bool
     ensures { IsTrue result → Follows None row.now (λ t. IsLive t flags.old.items)
         (λ t. IsLive t flags.new.items) }
@@ -101,7 +101,7 @@ fn take_row(flags: &mut Vec<bool>, row: &Option<Extent>) -> bool
     }
 }
 
-// Gives the numbers of an object back, if there is one.
+/// Gives the numbers of an object back, if there is one.
 fn give_row(taken: &mut Taken, was: Option<&Extent>)
     ensures live { Follows (option_copied was.entry) None (λ t. IsLive t taken.old.flags.items)
         (λ t. IsLive t taken.new.flags.items) }
@@ -114,7 +114,7 @@ fn give_row(taken: &mut Taken, was: Option<&Extent>)
     }
 }
 
-// Gives numbers of an object back and takes others. False where another object has one of these.
+/// Gives numbers of an object back and takes others. False where another object has one of these.
 fn exchange(taken: &mut Taken, was: Option<&Extent>, next: &Option<Extent>) -> bool
     ensures { IsTrue result → Follows (option_copied was.entry) next.now (λ t. IsTaken t taken.old)
         (λ t. IsTaken t taken.new) }
@@ -135,7 +135,7 @@ pub(crate) fn move_row(known: &mut Option<Taken>, was: Option<&Extent>, next: &O
     }
 }
 
-// Takes the numbers of all objects. False where two of them have one number.
+/// Takes the numbers of all objects. False where two of them have one number.
 fn take_rows(flags: &mut Vec<bool>, rows: &BTreeMap<u32, Option<Extent>>) -> bool
     ensures { IsTrue result → IsLive (row_at []) flags.old.items
         → IsLive (row_at (tree.values rows.now)) flags.new.items }
@@ -156,7 +156,7 @@ pub(crate) fn has_flag(flags: &[bool], place: u32) -> bool
     place < flags.len() && flags[place]
 }
 
-// Whether the flags of all numbers of a group are set.
+/// Whether the flags of all numbers of a group are set.
 fn are_set(flags: &[bool], group: u32) -> bool
     requires inside { group < 2048 }
     requires size { length flags.now ≡ 65536 }
@@ -171,7 +171,7 @@ fn are_set(flags: &[bool], group: u32) -> bool
     true
 }
 
-// Makes known that all numbers of a group are had.
+/// Makes known that all numbers of a group are had.
 fn make_full(taken: &mut Taken, group: u32)
     requires inside { group < 2048 }
     requires it { IsFull taken.old.flags.items group }
@@ -202,7 +202,7 @@ pub(crate) fn is_full(taken: &mut Taken, group: u32) -> bool
     full
 }
 
-// Makes known which groups are full.
+/// Makes known which groups are full.
 fn find_full(taken: &mut Taken)
     requires size { length taken.old.flags.items ≡ 65536 }
     requires full { AreFull taken.old }

@@ -1,4 +1,4 @@
-// The objects of a change, planned into one batch.
+//! The objects of a change, planned into one batch.
 ghost use Rattle.std.specs.Prelude.{◌≡◌, ◌≢◌, ◌+◌, ℕ, length, map as map_list, sum_by, Some};
 ghost use Rattle.std.specs.Prelude.{IsSome, OnOk};
 ghost use Rattle.newt_spec_image.specs.Objects.{pages_for};
@@ -60,7 +60,7 @@ pub fn plan_object(
     Ok(())
 }
 
-// Plans large binaries, each as an object.
+/// Plans large binaries, each as an object.
 fn plan_larges(
     objects: &mut Objects,
     larges: &[NewLarge],
@@ -109,7 +109,7 @@ pub fn plan_entry(
     Ok(())
 }
 
-// Plans that objects go.
+/// Plans that objects go.
 fn plan_gone(objects: &mut Objects, gone: &[u32], batch: &mut Batch) -> Result<(), AllocError>
     requires there { (id : ℕ) → Among gone.now id → IsSome (held objects.old id) }
     requires no_plan { (id : ℕ) → Among gone.now id → IsUnplanned objects.old id }
@@ -127,7 +127,7 @@ fn plan_gone(objects: &mut Objects, gone: &[u32], batch: &mut Batch) -> Result<(
     Ok(())
 }
 
-// Plans the bytes of the directory, if it is put.
+/// Plans the bytes of the directory, if it is put.
 fn plan_directory(
     objects: &mut Objects,
     directory: &Option<Vec<u8>>,

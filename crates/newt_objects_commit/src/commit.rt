@@ -1,4 +1,4 @@
-// One batch of objects: it is committed, and its plans are taken over.
+//! One batch of objects: it is committed, and its plans are taken over.
 ghost use Rattle.newt_host.specs.Moments.{image};
 ghost use Rattle.newt_spec_image.specs.Objects.{Objects as Texts};
 ghost use Rattle.newt_pagebook.specs.Book.{batch_bytes};

@@ -1,4 +1,4 @@
-// Which objects the records of entries name.
+//! Which objects the records of entries name.
 ghost use Rattle.std.specs.Prelude.{◌≡◌, ◌≢◌, ◌++◌, [], ℕ, OnOk, OnErr};
 ghost use Rattle.newt_objects_commit.specs.Names.{names_of, IsReady};
 

@@ -1,4 +1,4 @@
-// Bytes of an object are overwritten, as one batch.
+//! Bytes of an object are overwritten, as one batch.
 ghost use Rattle.std.specs.Prelude.{◌*◌, length, IsSome};
 ghost use Rattle.newt_objects.specs.Held.{held};
 ghost use Rattle.newt_vbo.specs.Ranges.{parts_met};

@@ -1,4 +1,4 @@
-// Where the records of entries are.
+//! Where the records of entries are.
 ghost use Rattle.std.specs.Prelude.{◌≡◌, ◌≢◌, ◌==◌, ◌++◌, ◌∷◌, [], ℕ, List, filter, length, Some};
 ghost use Rattle.std.specs.Prelude.{None, is_some, OnOk, OnErr, IfOk};
 ghost use Rattle.std.specs.List.{IsDistinct};
@@ -15,7 +15,7 @@ use newt_base::{Sig, Uid};
 use std::alloc::{AllocError, Global};
 use std::collections::BTreeMap;
 
-// Appends the object of a row, if it is one of the soup.
+/// Appends the object of a row, if it is one of the soup.
 fn pick_one(key: &(u32, u32), id: &u32, sig: u32, ids: &mut Vec<u32>) -> Result<(), AllocError>
     ensures { OnOk result (ids.new.items ≡ ids.old.items ++ picked sig ((key.now, id.now) ∷ [])) }
 {
@@ -25,7 +25,7 @@ fn pick_one(key: &(u32, u32), id: &u32, sig: u32, ids: &mut Vec<u32>) -> Result<
     Ok(())
 }
 
-// Appends the objects of the rows of a soup.
+/// Appends the objects of the rows of a soup.
 fn pick(rows: &BTreeMap<(u32, u32), u32>, sig: u32, ids: &mut Vec<u32>) -> Result<(), AllocError>
     ensures picked { OnOk result (ids.new.items ≡ ids.old.items ++ picked sig rows.now.entries) }
     ensures ordered { tree.IsOrdered part_cmp rows.now }
@@ -36,7 +36,7 @@ fn pick(rows: &BTreeMap<(u32, u32), u32>, sig: u32, ids: &mut Vec<u32>) -> Resul
     Ok(())
 }
 
-// Appends the id of the entry of a row, if it is one of the soup.
+/// Appends the id of the entry of a row, if it is one of the soup.
 fn list_one(key: &(u32, u32), id: &u32, sig: u32, uids: &mut Vec<Uid>) -> Result<(), AllocError>
     ensures { OnOk result (uids.new.items ≡ uids.old.items ++ uids_at sig
         ((key.now, id.now) ∷ [])) }
@@ -47,7 +47,7 @@ fn list_one(key: &(u32, u32), id: &u32, sig: u32, uids: &mut Vec<Uid>) -> Result
     Ok(())
 }
 
-// Appends the ids of the entries of the rows of a soup.
+/// Appends the ids of the entries of the rows of a soup.
 fn list_uids(
     rows: &BTreeMap<(u32, u32), u32>,
     sig: u32,
@@ -62,7 +62,7 @@ fn list_uids(
     Ok(())
 }
 
-// How many rows are a soup's.
+/// How many rows are a soup's.
 fn count_rows(rows: &BTreeMap<(u32, u32), u32>, sig: u32) -> usize
     ensures counted { result ≡ length (filter (λ k. k.0 == sig) (tree.keys rows.now)) }
     ensures ordered { tree.IsOrdered part_cmp rows.now }

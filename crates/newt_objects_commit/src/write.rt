@@ -1,4 +1,4 @@
-// One batch of pages: room is made for it, and it is committed.
+//! One batch of pages: room is made for it, and it is committed.
 ghost use Rattle.newt_objects_commit.specs.Calls.{CommitsBatch};
 
 use newt_base::Refusal;

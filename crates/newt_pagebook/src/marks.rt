@@ -1,4 +1,4 @@
-// What is known of the numbers of a batch without a look at all of them.
+//! What is known of the numbers of a batch without a look at all of them.
 ghost use Rattle.std.specs.Prelude.{◌<◌, ℕ, List};
 ghost use Rattle.newt_spec_image.specs.Pages.{Change};
 ghost use Rattle.newt_pagebook.specs.Batch.{IsMarked, puts_one, deletes_one};

@@ -1,4 +1,4 @@
-// Which pages there are, and how many after a batch, whatever is kept of a page.
+//! Which pages there are, and how many after a batch, whatever is kept of a page.
 ghost use Rattle.std.specs.Prelude.{◌≡◌, length, nat_eq};
 ghost use Rattle.std.specs.List.{filter};
 ghost use Rattle.std.specs.HashMap as hash;

@@ -1,4 +1,4 @@
-// A unit is made one that holds pages.
+//! A unit is made one that holds pages.
 ghost use Rattle.std.specs.Prelude.{◌≡◌, ◌≤◌, [], length};
 ghost use Rattle.newt_spec_image.specs.Pages.{cap as cap_of};
 ghost use Rattle.newt_pagebook.specs.Calls.{Formats};

@@ -1,4 +1,4 @@
-// The journal of a book is opened.
+//! The journal of a book is opened.
 ghost use Rattle.std.specs.Prelude.{IsTrue, ◌≡◌, None, IfOk, IsErrOf};
 ghost use Rattle.newt_host.specs.Moments.{image};
 ghost use Rattle.newt_spec_image.specs.Pages.{pages as pages_of};

@@ -1,4 +1,4 @@
-// The records of a journal are replayed: where the pages stand that they leave. No page is read.
+//! The records of a journal are replayed: where the pages stand that they leave. No page is read.
 ghost use Rattle.std.specs.Prelude.{IsTrue, ◌≡◌, ◌+◌, ◌*◌, ◌≤◌, ◌<◌, [], length, nat_eq, true};
 ghost use Rattle.std.specs.Prelude.{false, None, Some, IfOk, IfSome, IsErrOf, MatchOption};
 ghost use Rattle.std.specs.HashSet.{contains};
@@ -21,7 +21,7 @@ use newt_pagebook::BookFault;
 use std::alloc::{AllocError, Global};
 use std::collections::{HashMap, HashSet};
 
-// The number in four bytes of the records.
+/// The number in four bytes of the records.
 fn read_word<H: Host>(journal: &Journal, host: &mut H, at: u32) -> Result<u32, Failed>
     requires low { first_place journal.now ≤ at }
     requires high { at + 4 ≤ end_of journal.now }
@@ -36,7 +36,7 @@ fn read_word<H: Host>(journal: &Journal, host: &mut H, at: u32) -> Result<u32, F
     Ok(u32::from_be_bytes(bytes))
 }
 
-// The number in two bytes of the records.
+/// The number in two bytes of the records.
 fn read_short<H: Host>(journal: &Journal, host: &mut H, at: u32) -> Result<u16, Failed>
     requires low { first_place journal.now ≤ at }
     requires high { at + 2 ≤ end_of journal.now }
@@ -51,7 +51,7 @@ fn read_short<H: Host>(journal: &Journal, host: &mut H, at: u32) -> Result<u16, 
     Ok(u16::from_be_bytes(bytes))
 }
 
-// Whether this is a page number that was not seen before. Then it is seen.
+/// Whether this is a page number that was not seen before. Then it is seen.
 fn take_number(seen: &mut HashSet<u32>, number: u32) -> Result<bool, AllocError>
     ensures yes { IfOk result (λ new. new ≡ true
         → IsTaken number (contains nat_eq seen.old) (contains nat_eq seen.new)) }
@@ -63,8 +63,8 @@ fn take_number(seen: &mut HashSet<u32>, number: u32) -> Result<bool, AllocError>
     Ok(seen.insert(number)?)
 }
 
-// Reads the number at a place and marks it as seen. None where it is no page number, or was seen
-// before.
+/// Reads the number at a place and marks it as seen. None where it is no page number, or was seen
+/// before.
 fn next_number<H: Host>(
     journal: &Journal,
     host: &mut H,
@@ -91,8 +91,8 @@ fn next_number<H: Host>(
     Ok(Some(number))
 }
 
-// Takes over the puts of a record, which stand from the fifth byte of its payload on. False where
-// one breaks a rule.
+/// Takes over the puts of a record, which stand from the fifth byte of its payload on. False where
+/// one breaks a rule.
 fn replay_puts<H: Host>(
     journal: &Journal,
     host: &mut H,
@@ -127,7 +127,7 @@ fn replay_puts<H: Host>(
     Ok(true)
 }
 
-// Takes over the deletes of a record, after its puts. False where one breaks a rule.
+/// Takes over the deletes of a record, after its puts. False where one breaks a rule.
 fn replay_deletes<H: Host>(
     journal: &Journal,
     host: &mut H,

@@ -1,4 +1,4 @@
-// A record is written that says a change.
+//! A record is written that says a change.
 ghost use Rattle.std.specs.Prelude.{Bool, IsTrue, true, ◌≡◌, ◌+◌, ◌*◌, ◌≤◌, ◌<◌, ◌++◌, ◌∷◌, []};
 ghost use Rattle.std.specs.Prelude.{length, OnOk, IfOk};
 ghost use Rattle.std.specs.Int.{to_be_bytes, w16};
@@ -24,7 +24,7 @@ use newt_journal::{Draft, Journal};
 use newt_pagebook::{Batch, Page};
 use std::alloc::{AllocError, Global};
 
-// A put, as a record has it.
+/// A put, as a record has it.
 fn push_put(bytes: &mut Vec<u8>, number: u32, page: &Page) -> Result<(), AllocError>
     ensures { OnOk result (bytes.new.items ≡ bytes.old.items ++ written_put (number, page.now)) }
 {
@@ -33,7 +33,7 @@ fn push_put(bytes: &mut Vec<u8>, number: u32, page: &Page) -> Result<(), AllocEr
     Ok(())
 }
 
-// A put, as a record has it, in one piece.
+/// A put, as a record has it, in one piece.
 fn put_piece(number: u32, page: &Page) -> [u8; 516]
     ensures { result ≡ written_put (number, page.now) }
 {
@@ -43,7 +43,7 @@ fn put_piece(number: u32, page: &Page) -> [u8; 516]
     piece
 }
 
-// The two counts at the front of a record, in one piece.
+/// The two counts at the front of a record, in one piece.
 fn counts_piece(puts: u16, deletes: u16) -> [u8; 4]
     ensures { result ≡ to_be_bytes w16 puts ++ to_be_bytes w16 deletes }
 {
@@ -130,7 +130,7 @@ pub fn write_puts<H: Host>(
     Ok(())
 }
 
-// Writes the number of a page that is deleted, if it is there.
+/// Writes the number of a page that is deleted, if it is there.
 fn write_delete<V, H: Host>(
     draft: &mut Draft,
     host: &mut H,
@@ -155,7 +155,7 @@ fn write_delete<V, H: Host>(
     Ok(())
 }
 
-// Writes the numbers of the pages that are deleted, of those that are there.
+/// Writes the numbers of the pages that are deleted, of those that are there.
 fn write_deletes<V, H: Host>(
     draft: &mut Draft,
     host: &mut H,
@@ -179,7 +179,7 @@ fn write_deletes<V, H: Host>(
     Ok(())
 }
 
-// Writes a batch: its puts, and the deletes of pages that are there.
+/// Writes a batch: its puts, and the deletes of pages that are there.
 fn write_batch<V, H: Host>(
     draft: &mut Draft,
     host: &mut H,

@@ -1,4 +1,4 @@
-// A batch is applied to the pages in memory.
+//! A batch is applied to the pages in memory.
 ghost use Rattle.std.specs.Prelude.{◌≡◌, ℕ, ◌+◌, ◌≤◌, ◌<◌, if◌then◌else◌, length, nat_eq, Some};
 ghost use Rattle.std.specs.HashMap as hash;
 ghost use Rattle.newt_spec_image.specs.Pages.{after};
@@ -10,7 +10,7 @@ use newt_pagelog::Table;
 /// The pages of a book, by their numbers.
 pub(crate) type Kept = Table<Page>;
 
-// Puts a page, for which there is room.
+/// Puts a page, for which there is room.
 fn put_page(pages: &mut Kept, number: u32, page: &Page)
     requires { 0 < hash.spare pages.old }
     ensures updates { (q : ℕ) → hash.get nat_eq pages.new q

@@ -1,4 +1,4 @@
-// The book.
+//! The book.
 ghost use Rattle.std.specs.Prelude.{◌≤◌};
 ghost use Rattle.std.specs.HashMap as hash;
 ghost use Rattle.std.proofs.Props.{props};

@@ -1,5 +1,5 @@
-// A batch is committed: appended where the bank has room and is not closed, and else written with
-// all pages into the other bank.
+//! A batch is committed: appended where the bank has room and is not closed, and else written with
+//! all pages into the other bank.
 ghost use Rattle.std.specs.Prelude.{◌≡◌, ◌≤◌, OnOk};
 ghost use Rattle.std.specs.FinSet as set;
 ghost use Rattle.newt_spec_image.specs.Pages.{after as pages_after};
@@ -18,7 +18,7 @@ use newt_journal::Journal;
 use newt_pagebook::Batch;
 use newt_pagelog::{append_batch, has_room};
 
-// Appends a batch, and then applies it to the pages in memory.
+/// Appends a batch, and then applies it to the pages in memory.
 fn commit_after<H: Host>(
     journal: Journal,
     host: &mut H,
@@ -39,7 +39,7 @@ fn commit_after<H: Host>(
     Ok(journal)
 }
 
-// Applies a batch to the pages in memory, and then writes all of them into the other bank.
+/// Applies a batch to the pages in memory, and then writes all of them into the other bank.
 fn commit_beside<H: Host>(
     journal: Journal,
     host: &mut H,

@@ -1,4 +1,4 @@
-// All pages of a journal are read.
+//! All pages of a journal are read.
 ghost use Rattle.std.specs.Prelude.{IsTrue, ◌≡◌, ◌+◌, ◌≤◌, None, Some, IfOk, OnOk, IsErrOf};
 ghost use Rattle.newt_host.specs.Moments.{image};
 ghost use Rattle.newt_spec_image.specs.Pages.{pages as pages_of};
@@ -17,7 +17,7 @@ use newt_pagelog::{Table, replay};
 use std::alloc::Global;
 use std::collections::HashMap;
 
-// Reads the page at a place.
+/// Reads the page at a place.
 fn read_page<H: Host>(journal: &Journal, host: &mut H, at: u32) -> Result<Page, Failed>
     requires low { first_place journal.now ≤ at }
     requires high { at + 512 ≤ end_of journal.now }
@@ -32,7 +32,7 @@ fn read_page<H: Host>(journal: &Journal, host: &mut H, at: u32) -> Result<Page, 
     Ok(page)
 }
 
-// Reads the page of a number, if it has a place.
+/// Reads the page of a number, if it has a place.
 fn read_number<H: Host>(
     journal: &Journal,
     host: &mut H,

@@ -1,4 +1,4 @@
-// All pages are written as one record.
+//! All pages are written as one record.
 ghost use Rattle.std.specs.Prelude.{IsTrue, ◌≡◌, ◌+◌, ◌*◌, ◌≤◌, ◌<◌, ◌∷◌, [], length, OnOk, Some};
 ghost use Rattle.std.specs.List.{flat_map};
 ghost use Rattle.newt_spec_image.specs.Pages.{written_put, written_change};
@@ -14,7 +14,7 @@ use newt_host::{Failed, Host};
 use newt_journal::{Draft, Journal};
 use newt_pagelog::{begin_alone, write_counts, write_put};
 
-// Writes all pages as puts.
+/// Writes all pages as puts.
 fn write_pages<H: Host>(draft: &mut Draft, host: &mut H, pages: &Kept) -> Result<(), Failed>
     requires room { put_of draft.old + 516 * length pages.now.entries ≤ len_of draft.old }
     requires draft { IsDraftOf H.told draft.old (H.outside host.old) }
@@ -31,7 +31,7 @@ fn write_pages<H: Host>(draft: &mut Draft, host: &mut H, pages: &Kept) -> Result
     Ok(())
 }
 
-// Writes a batch that puts all pages.
+/// Writes a batch that puts all pages.
 fn write_all<H: Host>(draft: &mut Draft, host: &mut H, pages: &Kept) -> Result<(), Failed>
     requires few { length pages.now.entries < 65536 }
     requires room { put_of draft.old + (4 + 516 * length pages.now.entries) ≤ len_of draft.old }

@@ -1,4 +1,4 @@
-// A batch is committed after the other records.
+//! A batch is committed after the other records.
 ghost use Rattle.std.specs.Prelude.{IsTrue, ℕ, List, ◌≡◌, ◌≤◌, ◌+◌, ◌*◌, IfOk};
 ghost use Rattle.newt_host.specs.Moments.{image};
 ghost use Rattle.newt_journal.specs.Journal.{room, unit_under};

@@ -1,4 +1,4 @@
-// The book.
+//! The book.
 ghost use Rattle.std.specs.Prelude.{◌≡◌, ◌≤◌, [], IfOk};
 ghost use Rattle.std.specs.HashMap as hash;
 ghost use Rattle.std.proofs.Props.{props};
@@ -166,7 +166,7 @@ impl PageBook for DiskBook {
     }
 }
 
-// A cache of no pages yet.
+/// A cache of no pages yet.
 fn empty_cache(alloc: Global) -> Result<Cache, AllocError>
     ensures { IfOk result (λ cache. cache.entries ≡ []) }
 {

@@ -1,5 +1,5 @@
-// A batch is committed: appended where the bank has room and is not closed, and else written with
-// all pages into the other bank.
+//! A batch is committed: appended where the bank has room and is not closed, and else written with
+//! all pages into the other bank.
 ghost use Rattle.std.specs.Prelude.{IsTrue, ◌≡◌, IfOk};
 ghost use Rattle.std.specs.FinSet as set;
 ghost use Rattle.newt_host.specs.Moments.{image};
@@ -19,7 +19,7 @@ use newt_journal::Journal;
 use newt_pagebook::Batch;
 use newt_pagelog::{Table, has_room};
 
-// Writes all pages after a batch into the other bank, and then notes where they stand.
+/// Writes all pages after a batch into the other bank, and then notes where they stand.
 fn commit_beside<H: Host>(
     journal: Journal,
     host: &mut H,

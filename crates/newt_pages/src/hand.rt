@@ -1,4 +1,4 @@
-// The page at hand.
+//! The page at hand.
 ghost use Rattle.std.specs.Prelude.{IsTrue, ◌≡◌, [], IfOk};
 ghost use Rattle.newt_host.specs.Moments.{image};
 ghost use Rattle.newt_journal.specs.Calls.{Reads};

@@ -1,4 +1,4 @@
-// All pages after a batch are written into the other bank, each copied from where it stands.
+//! All pages after a batch are written into the other bank, each copied from where it stands.
 ghost use Rattle.std.specs.Prelude.{IsTrue, ◌≡◌, ℕ, ◌+◌, ◌*◌, ◌≤◌, ◌<◌, ◌∷◌, ◌++◌, [], List};
 ghost use Rattle.std.specs.Prelude.{length, nat_eq, Some, IfOk, OnOk};
 ghost use Rattle.std.specs.Map.{lookup};
@@ -22,7 +22,7 @@ use newt_journal::{Draft, Journal};
 use newt_pagebook::Page;
 use newt_pagelog::{Table, begin_alone, write_counts, write_put, write_puts};
 
-// Copies the page at a place of the records into the record that is written.
+/// Copies the page at a place of the records into the record that is written.
 fn copy_page<H: Host>(draft: &mut Draft, host: &mut H, number: u32, at: u32) -> Result<(), Failed>
     requires room { put_of draft.old + 516 ≤ len_of draft.old }
     requires draft { IsSteadyDraft H.told draft.old (H.outside host.old) }
@@ -38,7 +38,7 @@ fn copy_page<H: Host>(draft: &mut Draft, host: &mut H, number: u32, at: u32) -> 
     Ok(())
 }
 
-// Copies the page of a number, if there is one.
+/// Copies the page of a number, if there is one.
 fn copy_number<H: Host>(
     draft: &mut Draft,
     host: &mut H,
@@ -61,7 +61,7 @@ fn copy_number<H: Host>(
     }
 }
 
-// Copies all pages, in the order of their numbers, which are below the bound.
+/// Copies all pages, in the order of their numbers, which are below the bound.
 fn copy_pages<H: Host>(
     draft: &mut Draft,
     host: &mut H,
@@ -85,7 +85,7 @@ fn copy_pages<H: Host>(
     Ok(())
 }
 
-// Writes all pages as one payload: those at the places, and the given ones after them.
+/// Writes all pages as one payload: those at the places, and the given ones after them.
 fn copy_whole<H: Host>(
     draft: &mut Draft,
     host: &mut H,

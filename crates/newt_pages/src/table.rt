@@ -1,4 +1,4 @@
-// The places of the pages.
+//! The places of the pages.
 ghost use Rattle.std.specs.Prelude.{◌≡◌, ℕ, ◌+◌, ◌*◌, ◌^◌, ◌≤◌, ◌<◌, ◌==◌, Bool, cond};
 ghost use Rattle.std.specs.Prelude.{if◌then◌else◌, List, length, map as map_list, nat_eq, true};
 ghost use Rattle.std.specs.Prelude.{Some, None};
@@ -26,7 +26,7 @@ pub(crate) const PUT: u32 = 516;
 /// counts and a number.
 pub(crate) const FIRST_PAGE: u32 = 13;
 
-// Notes where a page stands. There is room for it.
+/// Notes where a page stands. There is room for it.
 fn place_page(places: &mut Table<u32>, number: u32, at: u32)
     requires { 0 < hash.spare places.old }
     ensures updates { (q : ℕ) → lookup (nat_eq q) places.new.entries
@@ -106,7 +106,7 @@ pub(crate) fn apply(places: &mut Table<u32>, batch: &Batch, first: u32)
     remove_numbers(places, batch.deletes());
 }
 
-// Notes another place for the page of a number that has one.
+/// Notes another place for the page of a number that has one.
 fn move_page(places: &mut Table<u32>, number: u32, at: u32)
     requires { is_kept places.old.entries number ≡ true }
     ensures updates { (q : ℕ) → lookup (nat_eq q) places.new.entries

@@ -1,4 +1,4 @@
-// A change is written, and the memory follows.
+//! A change is written, and the memory follows.
 ghost use Rattle.std.specs.Prelude.{IsTrue, ◌≡◌, ◌≢◌, ◌++◌, [], ℕ, true, false, Some, None, OnOk};
 ghost use Rattle.std.specs.Prelude.{IfOk};
 ghost use Rattle.newt_soupdir.specs.Bare.{bare_store};
@@ -31,7 +31,7 @@ use newt_store_catalog::Catalog;
 use newt_store_change::StoreFault;
 use std::alloc::{AllocError, Global};
 
-// The one object, or none.
+/// The one object, or none.
 fn one_object(alloc: Global, found: Option<u32>) -> Result<Vec<u32>, AllocError>
     ensures real { IfOk result (λ ids. (id : ℕ) → Among ids.items id → found ≡ Some id) }
     ensures all { IfOk result (λ ids. (id : ℕ) → found ≡ Some id → Among ids.items id) }
@@ -45,7 +45,7 @@ fn one_object(alloc: Global, found: Option<u32>) -> Result<Vec<u32>, AllocError>
     Ok(ids)
 }
 
-// The objects of the records of the entries that go.
+/// The objects of the records of the entries that go.
 fn gone_records(alloc: Global, places: &PlaceTable, gone: Gone) -> Result<Vec<u32>, AllocError>
     requires { (sig uid other_sig other_uid id : ℕ) → place_of places.now sig uid ≡ Some id
         → place_of places.now other_sig other_uid ≡ Some id
@@ -66,7 +66,7 @@ fn gone_records(alloc: Global, places: &PlaceTable, gone: Gone) -> Result<Vec<u3
     }
 }
 
-// Appends what a record that is put over another names no more.
+/// Appends what a record that is put over another names no more.
 fn append_replaced(
     names: &NameTable,
     entry: &Option<NewEntry>,
@@ -81,8 +81,8 @@ fn append_replaced(
     }
 }
 
-// The objects that go: the records of the entries that go, and what these and a record that is put
-// over another name no more.
+/// The objects that go: the records of the entries that go, and what these and a record that is put
+/// over another name no more.
 fn gone_objects(
     alloc: Global,
     names: &NameTable,
@@ -100,7 +100,7 @@ fn gone_objects(
     Ok(ids)
 }
 
-// What the record of the new entry names, nothing where there is none.
+/// What the record of the new entry names, nothing where there is none.
 fn new_names(alloc: Global, entry: &Option<NewEntry>) -> Result<Vec<u32>, AllocError>
     ensures { IfOk result (λ ids. (e : NewOne) → entry.now ≡ Some e → ids.items ≡ large_ids e) }
 {
@@ -110,8 +110,8 @@ fn new_names(alloc: Global, entry: &Option<NewEntry>) -> Result<Vec<u32>, AllocE
     }
 }
 
-// What a change takes from memory before it is written: the records that go, all objects that go,
-// and what the record of the new entry names.
+/// What a change takes from memory before it is written: the records that go, all objects that go,
+/// and what the record of the new entry names.
 #[derive(Drop)]
 struct Gathered {
     records: Vec<u32>,
@@ -119,7 +119,7 @@ struct Gathered {
     named: Vec<u32>,
 }
 
-// Gathers what a change takes from memory.
+/// Gathers what a change takes from memory.
 fn gather(
     alloc: Global,
     places: &PlaceTable,
@@ -149,7 +149,7 @@ fn gather(
     })
 }
 
-// Takes the memory that the names of the new entry need.
+/// Takes the memory that the names of the new entry need.
 fn prepare_names(
     alloc: Global,
     names: &mut NameTable,
@@ -164,7 +164,7 @@ fn prepare_names(
     }
 }
 
-// Forgets what the records of the entries that go name.
+/// Forgets what the records of the entries that go name.
 fn forget_names(names: &mut NameTable, records: &[u32])
     ensures gone { (r : ℕ) → Among records.now r → names_of names.new r ≡ [] }
     ensures others { (r : ℕ) → (Among records.now r → ⊥)
@@ -177,7 +177,7 @@ fn forget_names(names: &mut NameTable, records: &[u32])
     }
 }
 
-// Keeps what the record of the new entry names, if there is one.
+/// Keeps what the record of the new entry names, if there is one.
 fn name_new(names: &mut NameTable, entry: &Option<NewEntry>, ids: Vec<u32>)
     requires ready { (e : NewOne) → entry.now ≡ Some e → IsReady names.old e.id }
     ensures named { (e : NewOne) → entry.now ≡ Some e → names_of names.new e.id ≡ ids.items }
@@ -189,7 +189,7 @@ fn name_new(names: &mut NameTable, entry: &Option<NewEntry>, ids: Vec<u32>)
     }
 }
 
-// Forgets the places of the entries that go.
+/// Forgets the places of the entries that go.
 fn forget_gone(places: &mut PlaceTable, gone: Gone)
     ensures { FollowsPlaces gone (place_of places.old) (place_of places.new) }
 {
@@ -200,7 +200,7 @@ fn forget_gone(places: &mut PlaceTable, gone: Gone)
     }
 }
 
-// Keeps the place of the new entry, if there is one.
+/// Keeps the place of the new entry, if there is one.
 fn keep_new(places: &mut PlaceTable, entry: &Option<NewEntry>) -> Result<(), AllocError>
     ensures kept { OnOk result ((e : NewOne) → entry.now ≡ Some e → place_of places.new e.sig e.uid
         ≡ Some e.id) }
@@ -213,7 +213,7 @@ fn keep_new(places: &mut PlaceTable, entry: &Option<NewEntry>) -> Result<(), All
     Ok(())
 }
 
-// Whether the new entry has its place already, since it is put in the place of another.
+/// Whether the new entry has its place already, since it is put in the place of another.
 fn is_placed(places: &PlaceTable, entry: &Option<NewEntry>) -> bool
     ensures placed { result ≡ true → (e : NewOne) → entry.now ≡ Some e
         → place_of places.now e.sig e.uid ≡ Some e.id }
@@ -226,7 +226,7 @@ fn is_placed(places: &PlaceTable, entry: &Option<NewEntry>) -> bool
     }
 }
 
-// Forgets the place of the new entry, if there is one that had no place before.
+/// Forgets the place of the new entry, if there is one that had no place before.
 fn forget_new(places: &mut PlaceTable, entry: &Option<NewEntry>, was_placed: bool)
     ensures gone { was_placed ≡ false → (sig uid : ℕ) → IsNew entry.now sig uid
         → place_of places.new sig uid ≡ None }
@@ -243,7 +243,7 @@ fn forget_new(places: &mut PlaceTable, entry: &Option<NewEntry>, was_placed: boo
     }
 }
 
-// Where the search for a free object id goes on.
+/// Where the search for a free object id goes on.
 fn hint_after(entry: &Option<NewEntry>, was_placed: bool, hint: u32) -> u32 {
     match entry {
         Some(e) if !was_placed => e.id / 2 + 1,
@@ -251,7 +251,7 @@ fn hint_after(entry: &Option<NewEntry>, was_placed: bool, hint: u32) -> u32 {
     }
 }
 
-// The directory becomes the one that was written, if it does not stay.
+/// The directory becomes the one that was written, if it does not stay.
 fn follow_directory(directory: &mut Directory, written: Option<Directory>)
     ensures { directory.new ≡ directory_after directory.old written }
 {
@@ -260,9 +260,9 @@ fn follow_directory(directory: &mut Directory, written: Option<Directory>)
     }
 }
 
-// The memory follows what was written: the entries that go have no places, and their records name
-// nothing; the new entry's record names its large binaries; the directory is the new one, if there
-// is one. Answers the change's answer.
+/// The memory follows what was written: the entries that go have no places, and their records name
+/// nothing; the new entry's record names its large binaries; the directory is the new one, if there
+/// is one. Answers the change's answer.
 fn follow_written(
     names: &mut NameTable,
     places: &mut PlaceTable,
@@ -286,7 +286,7 @@ fn follow_written(
     next.answer
 }
 
-// The bytes of the directory, if it is written.
+/// The bytes of the directory, if it is written.
 fn directory_text(
     alloc: Global,
     directory: &Option<Directory>,
@@ -303,8 +303,8 @@ fn directory_text(
     }
 }
 
-// Writes what a change makes, as one batch: the directory, if it does not stay, the new entry's
-// record and large binaries, and no object that goes.
+/// Writes what a change makes, as one batch: the directory, if it does not stay, the new entry's
+/// record and large binaries, and no object that goes.
 fn write_next<P: PageBook, H: Host>(
     alloc: Global,
     host: &mut H,

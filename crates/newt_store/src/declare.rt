@@ -1,4 +1,4 @@
-// What each change of a soup's declarations makes of a store, or why it is refused.
+//! What each change of a soup's declarations makes of a store, or why it is refused.
 ghost use Rattle.std.specs.Prelude.{IsTrue, ◌≡◌, ℕ, Some, false, nat_le, length, IfOk, IfErr};
 ghost use Rattle.std.specs.Prelude.{IfSome};
 ghost use Rattle.newt_base.specs.Refusals.{first_of};
@@ -26,8 +26,8 @@ use std::alloc::AllocError;
 /// The most indexes of a soup.
 const MOST_INDEXES: usize = 16;
 
-// Whether one of the indexes has the paths of the declaration, in this order and but for ASCII
-// case.
+/// Whether one of the indexes has the paths of the declaration, in this order and but for ASCII
+/// case.
 fn has_paths_of(specs: &[IndexSpec], spec: &IndexSpec) -> bool
     ensures has { result ≡ has_paths (paths_of spec.now) specs.now }
     ensures valid { IsTrue (valid_spec spec.now) }
@@ -36,7 +36,7 @@ fn has_paths_of(specs: &[IndexSpec], spec: &IndexSpec) -> bool
     specs.iter().any(|other| other.same_paths(spec))
 }
 
-// Whether a soup with these indexes takes no further one.
+/// Whether a soup with these indexes takes no further one.
 fn is_full(specs: &[IndexSpec]) -> bool
     ensures { result ≡ nat_le 16 (length specs.now) }
 {
@@ -135,7 +135,7 @@ pub(crate) fn plan_set_tags(
     })
 }
 
-// Whether a graph is there that is no info frame.
+/// Whether a graph is there that is no info frame.
 fn is_bad_info(info: &Option<Graph>) -> bool
     ensures bad { result ≡ bad_info info.now }
     ensures graph { IfSome info.now IsGraph }
@@ -146,7 +146,7 @@ fn is_bad_info(info: &Option<Graph>) -> bool
     }
 }
 
-// Whether an info frame's text is too long.
+/// Whether an info frame's text is too long.
 #[tactic(auto, using(crate::proofs::Declaring::no_large))]
 fn is_large_info(info: &Option<Graph>) -> bool
     requires { bad_info info.now ≡ false }
@@ -158,7 +158,7 @@ fn is_large_info(info: &Option<Graph>) -> bool
     }
 }
 
-// The same info frame, or none.
+/// The same info frame, or none.
 fn copied_info(info: &Option<Graph>) -> Result<Option<Graph>, AllocError>
     ensures { IfOk result (λ copy. copy ≡ info.now) }
 {

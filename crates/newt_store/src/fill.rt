@@ -1,4 +1,4 @@
-// A store is written to a unit whole.
+//! A store is written to a unit whole.
 ghost use Rattle.std.specs.Prelude.{◌≡◌, ◌*◌, ◌+◌, ◌%◌, ◌<◌, ◌≤◌, ℕ, All, IfOk, OnOk, None};
 ghost use Rattle.std.specs.Prelude.{map as map_list};
 ghost use Rattle.newt_objects.specs.Held.{held};
@@ -17,7 +17,7 @@ use newt_pagebook::{Batch, PageBook, Stop};
 use newt_soupdir::{Directory, write_directory};
 use std::alloc::{AllocError, Global};
 
-// The next id that is odd or even as this one is. A unit's pages are fewer than there are ids.
+/// The next id that is odd or even as this one is. A unit's pages are fewer than there are ids.
 fn next_id(id: u32) -> Result<u32, AllocError>
     ensures next { IfOk result (λ next. next ≡ id + 2) }
     ensures fits { IfOk result (λ next. next < 4294967296) }
@@ -28,7 +28,7 @@ fn next_id(id: u32) -> Result<u32, AllocError>
     }
 }
 
-// Large binaries, each with the next even id after the last one, and the last one then.
+/// Large binaries, each with the next even id after the last one, and the last one then.
 fn with_next_ids(
     alloc: Global,
     from: u32,
@@ -50,8 +50,8 @@ fn with_next_ids(
     Ok((new, last))
 }
 
-// What is written for an entry: its record gets this id, each of its large binaries the next even
-// one; and the last of these then.
+/// What is written for an entry: its record gets this id, each of its large binaries the next even
+/// one; and the last of these then.
 fn numbered(
     alloc: Global,
     entry: &FullEntry,
@@ -76,7 +76,7 @@ fn numbered(
     Ok((new, next))
 }
 
-// Plans one more entry, and answers the last id of a large binary then.
+/// Plans one more entry, and answers the last id of a large binary then.
 fn plan_next(
     alloc: Global,
     objects: &mut Objects,
@@ -97,8 +97,8 @@ fn plan_next(
     Ok(next)
 }
 
-// Plans entries, with ids from the least ones on. What was written of an entry is let go before the
-// next one.
+/// Plans entries, with ids from the least ones on. What was written of an entry is let go before
+/// the next one.
 fn plan_entries(
     alloc: Global,
     objects: &mut Objects,
@@ -123,7 +123,7 @@ fn plan_entries(
     Ok(())
 }
 
-// The batch that writes the store of a directory and entries on a blank unit.
+/// The batch that writes the store of a directory and entries on a blank unit.
 fn plan_store(
     alloc: Global,
     directory: &Directory,

@@ -1,4 +1,4 @@
-// A fresh store.
+//! A fresh store.
 ghost use Rattle.std.specs.Prelude.{IsTrue, ◌≡◌, ◌≤◌, IfOk, OnOk};
 ghost use Rattle.newt_base.specs.Names.{is_name};
 ghost use Rattle.newt_host.specs.Moments.{image};

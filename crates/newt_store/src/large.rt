@@ -1,4 +1,4 @@
-// Bytes of an entry's large binary are read.
+//! Bytes of an entry's large binary are read.
 ghost use Rattle.std.specs.Prelude.{◌≡◌, ◌==◌, ◌*◌, ℕ, Some, IsSome, IfOk, length};
 ghost use Rattle.std.specs.List.{find};
 ghost use Rattle.std.specs.Option.{option_and_then, option_map};
@@ -29,7 +29,7 @@ use newt_store_change::StoreFault;
 use newt_vbo::{RangeFault, read_range};
 use std::alloc::Global;
 
-// The row of the large binary that a path of a record's graph reaches, if it reaches one.
+/// The row of the large binary that a path of a record's graph reaches, if it reaches one.
 fn row_at_path<'a>(row: &'a EntryRow, path: &Path) -> Option<&'a LargeAt>
     ensures { option_map (λ row. row.now) result ≡
         option_and_then (λ node. find (λ row. row.node == node) row.now.larges)
@@ -41,7 +41,7 @@ fn row_at_path<'a>(row: &'a EntryRow, path: &Path) -> Option<&'a LargeAt>
     }
 }
 
-// The object of the large binary that a path of an entry's graph reaches.
+/// The object of the large binary that a path of an entry's graph reaches.
 fn find_by_path<P: PageBook, H: Host>(
     alloc: Global,
     host: &mut H,
@@ -73,7 +73,7 @@ fn find_by_path<P: PageBook, H: Host>(
     Ok(large.object)
 }
 
-// So many bytes of an object, from a place on. Range where they end past the object's end.
+/// So many bytes of an object, from a place on. Range where they end past the object's end.
 fn read_part<P: PageBook, H: Host>(
     alloc: Global,
     host: &mut H,

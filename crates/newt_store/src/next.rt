@@ -1,4 +1,4 @@
-// What a change makes of a store, before it is written.
+//! What a change makes of a store, before it is written.
 use newt_base::{Sig, Uid};
 use newt_objects_commit::NewEntry;
 use newt_soupdir::Directory;

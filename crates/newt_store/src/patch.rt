@@ -1,4 +1,4 @@
-// Bytes of an entry's large binary are overwritten.
+//! Bytes of an entry's large binary are overwritten.
 ghost use Rattle.std.specs.Prelude.{IsTrue, ◌≡◌, ◌==◌, ◌*◌, ℕ, List, IsSome, IfOk, IsErrOf};
 ghost use Rattle.std.specs.List.{find};
 ghost use Rattle.std.specs.Option.{option_map};
@@ -26,14 +26,14 @@ use newt_store_catalog::{Catalog, read_row};
 use newt_store_change::{Change, StoreFault};
 use std::alloc::Global;
 
-// The row of the large binary with this node, if there is one.
+/// The row of the large binary with this node, if there is one.
 pub(crate) fn row_of_node(rows: &[LargeAt], node: u32) -> Option<&LargeAt>
     ensures { option_map (λ row. row.now) result ≡ find (λ row. row.node == node) rows.now }
 {
     rows.iter().find(|row| row.node == node)
 }
 
-// The object of an entry's large binary: the node of this number.
+/// The object of an entry's large binary: the node of this number.
 fn find_large<P: PageBook, H: Host>(
     alloc: Global,
     host: &mut H,

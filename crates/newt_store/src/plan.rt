@@ -1,4 +1,4 @@
-// What each change makes of a store, or why it is refused.
+//! What each change makes of a store, or why it is refused.
 ghost use Rattle.std.specs.Prelude.{IsTrue, ◌≡◌, ◌*◌, ◌+◌, ◌%◌, ◌<◌, ◌≤◌, ℕ, false};
 ghost use Rattle.std.specs.Prelude.{map as map_list, length, None, IfOk, IfErr, IfSome};
 ghost use Rattle.std.specs.Prelude.{IsSome};
@@ -46,8 +46,8 @@ const LAST_SIGNATURE: u32 = 65_535;
 /// How many odd ids there are, and how many even ones.
 const HALF_IDS: u32 = 2_147_483_648;
 
-// The least id that no object has of the odd ids (`parity` 1) or the even ones (0), from `2 * from
-// + parity` on.
+/// The least id that no object has of the odd ids (`parity` 1) or the even ones (0), from `2 * from
+/// + parity` on.
 fn free_from(objects: &Objects, from: u32, parity: u32) -> Option<u32>
     requires parity { parity < 2 }
     ensures free { IfSome result (λ id. held objects.now id ≡ None) }
@@ -67,8 +67,8 @@ fn free_from(objects: &Objects, from: u32, parity: u32) -> Option<u32>
     None
 }
 
-// The least half of an odd number from which on no object has an id: from there on the search for
-// a free id is short.
+/// The least half of an odd number from which on no object has an id: from there on the search for
+/// a free id is short.
 fn half_above(objects: &Objects) -> u32
     ensures { result ≤ 2147483648 }
 {
@@ -85,8 +85,8 @@ fn half_above(objects: &Objects) -> u32
     low
 }
 
-// An odd id that no object has, the least from `2 * hint + 1` on, or else the least of all. Without
-// a hint, which is 0, the search begins above all objects.
+/// An odd id that no object has, the least from `2 * hint + 1` on, or else the least of all.
+/// Without a hint, which is 0, the search begins above all objects.
 fn free_id(objects: &Objects, hint: u32) -> Option<u32>
     ensures free { IfSome result (λ id. held objects.now id ≡ None) }
     ensures odd { IfSome result (λ id. id % 2 ≡ 1) }
@@ -100,14 +100,14 @@ fn free_id(objects: &Objects, hint: u32) -> Option<u32>
     }
 }
 
-// Whether an entry's text would be too long.
+/// Whether an entry's text would be too long.
 fn is_too_large(graph: &Graph) -> bool
     ensures { result ≡ too_large graph.now }
 {
     MOST_TEXT < skeleton_len(graph)
 }
 
-// The least even id above `from` that no object has.
+/// The least even id above `from` that no object has.
 fn free_even(objects: &Objects, from: u32) -> Option<u32>
     ensures free { IfSome result (λ id. held objects.now id ≡ None) }
     ensures even { IfSome result (λ id. (id % 2 ≡ 0) × (from < id)) }
@@ -118,7 +118,7 @@ fn free_even(objects: &Objects, from: u32) -> Option<u32>
     free_from(objects, from / 2 + 1, 0)
 }
 
-// Large binaries, each with an even id that no object has, in rising order.
+/// Large binaries, each with an even id that no object has, in rising order.
 fn with_ids(
     alloc: Global,
     objects: &Objects,
@@ -147,7 +147,7 @@ fn with_ids(
     Ok(new)
 }
 
-// The ids of the objects of large binaries, in order.
+/// The ids of the objects of large binaries, in order.
 pub(crate) fn ids_of(alloc: Global, larges: &[NewLarge]) -> Result<Vec<u32>, AllocError>
     ensures { IfOk result (λ ids. ids.items ≡ map_list (λ l. l.id) larges.now) }
 {
@@ -158,7 +158,7 @@ pub(crate) fn ids_of(alloc: Global, larges: &[NewLarge]) -> Result<Vec<u32>, All
     Ok(ids)
 }
 
-// The bytes of the record of an entry whose large binaries have objects of these ids.
+/// The bytes of the record of an entry whose large binaries have objects of these ids.
 pub(crate) fn record_of(
     alloc: Global,
     sig: Sig,
@@ -176,8 +176,8 @@ pub(crate) fn record_of(
     write_entry(alloc, &row)
 }
 
-// The entry that is written for a graph: its record gets an object's id, each of its large binaries
-// an even one that no object has.
+/// The entry that is written for a graph: its record gets an object's id, each of its large
+/// binaries an even one that no object has.
 fn entry_of(
     alloc: Global,
     objects: &Objects,
@@ -206,8 +206,8 @@ fn entry_of(
     })
 }
 
-// A new soup, after the others. Exists where one has its name, Limit where there are as many as a
-// store has, Ids where no signature is left.
+/// A new soup, after the others. Exists where one has its name, Limit where there are as many as a
+/// store has, Ids where no signature is left.
 fn plan_make(alloc: Global, catalog: &Catalog, name: &Name) -> Result<Next, StoreFault>
     requires { IsTrue (well_formed (bare_store catalog.now.directory)) }
     ensures next { IfOk result (IsNextOf catalog.now) }
@@ -236,7 +236,7 @@ fn plan_make(alloc: Global, catalog: &Catalog, name: &Name) -> Result<Next, Stor
     })
 }
 
-// The soup goes with its entries. Soup where there is no such soup.
+/// The soup goes with its entries. Soup where there is no such soup.
 fn plan_drop(catalog: &Catalog, sig: Sig) -> Result<Next, StoreFault>
     requires { IsTrue (well_formed (bare_store catalog.now.directory)) }
     ensures next { IfOk result (IsNextOf catalog.now) }
@@ -259,7 +259,7 @@ fn plan_drop(catalog: &Catalog, sig: Sig) -> Result<Next, StoreFault>
     })
 }
 
-// A new entry in a soup, of which nothing is to be refused.
+/// A new entry in a soup, of which nothing is to be refused.
 fn next_with(
     alloc: Global,
     catalog: &Catalog,
@@ -290,8 +290,8 @@ fn next_with(
     })
 }
 
-// A new entry in a soup. Soup where there is none, Notframe where the graph's root is no frame,
-// Size where its text is too long, Ids where no id is left.
+/// A new entry in a soup. Soup where there is none, Notframe where the graph's root is no frame,
+/// Size where its text is too long, Ids where no id is left.
 fn plan_add(
     alloc: Global,
     catalog: &Catalog,
@@ -323,7 +323,7 @@ fn plan_add(
     Ok(next)
 }
 
-// An entry goes. Soup or Entry where it is not there.
+/// An entry goes. Soup or Entry where it is not there.
 fn plan_remove(catalog: &Catalog, sig: Sig, uid: Uid) -> Result<Next, StoreFault>
     requires { IsTrue (well_formed (bare_store catalog.now.directory)) }
     ensures next { IfOk result (IsNextOf catalog.now) }
@@ -347,8 +347,8 @@ fn plan_remove(catalog: &Catalog, sig: Sig, uid: Uid) -> Result<Next, StoreFault
     })
 }
 
-// An entry is read, added to another soup and gone from its own. Soup or Entry where it or the
-// other soup is not there, Ids where that has no id left.
+/// An entry is read, added to another soup and gone from its own. Soup or Entry where it or the
+/// other soup is not there, Ids where that has no id left.
 fn plan_move<P: PageBook, H: Host>(
     alloc: Global,
     host: &mut H,
@@ -394,8 +394,8 @@ fn plan_move<P: PageBook, H: Host>(
     Ok(next)
 }
 
-// An entry gets another graph under its id. Soup or Entry where it is not there, then as for a new
-// entry, but no id is needed.
+/// An entry gets another graph under its id. Soup or Entry where it is not there, then as for a new
+/// entry, but no id is needed.
 fn plan_replace(
     alloc: Global,
     catalog: &Catalog,

@@ -1,4 +1,4 @@
-// A store on one unit.
+//! A store on one unit.
 ghost use Rattle.std.specs.Prelude.{IsTrue, ◌≡◌, ◌≤◌, ◌*◌, ℕ, Some, IfOk, IsErrOf, is_some, List};
 ghost use Rattle.std.specs.Prelude.{OnOk};
 ghost use Rattle.std.specs.Option.{option_map};

@@ -1,12 +1,11 @@
-//! The backup of the store on a unit and the store of a backup on a unit, and what is written of
-//! both.
+//! The backup of the store on a unit, the store of a backup on a unit, and what is written of both.
 //!
 //! It stands on a store of `newt_store`, over whichever `PageBook` that is, and on the backups of
-//! `newt_backup`. It carries these promises: of a unit whose image is read as a store the text of
-//! that store's backup is answered, else the line that says why there is none, and nothing happens
-//! to the unit; of a stream the store whose backup it is stands on the unit and its line is
-//! answered, else the line that says why it does not, and the unit is only read; and the text of a
-//! store's backup is restored as this very store.
+//! `newt_backup`. It carries these promises. For a unit whose image is read as a store, the answer
+//! is the text of that store's backup; for any other unit it is the line that says why there is
+//! none. Nothing happens to the unit. For a stream that is a backup, its store stands on the unit,
+//! and the answer is the line of that store. For any other stream the answer is the line that says
+//! why not, and the unit is only read. The text of a store's backup is restored as this very store.
 #![tactic(auto)]
 
 mod backup;

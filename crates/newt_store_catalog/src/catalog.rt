@@ -1,4 +1,4 @@
-// What is kept in memory of a store.
+//! What is kept in memory of a store.
 use newt_objects::Objects;
 use newt_objects_commit::{NameTable, PlaceTable};
 use newt_soupdir::Directory;

@@ -3,9 +3,9 @@
 //!
 //! It stands on a `PageBook` of `newt_pagebook`, whichever it is, on the objects of `newt_objects`
 //! and on the codecs of directory and entry records. The promise that it carries upwards: a unit is
-//! opened exactly where its image is read as a store, its catalog stands for that store, each of
-//! its entries is told to a `Gatherer` when its record is read, and an entry is read as it lies in
-//! the objects.
+//! opened exactly where its image is read as a store, and its catalog stands for that store. Each
+//! entry is told to a `Gatherer` when its record is read. An entry is read as it lies in the
+//! objects.
 #![tactic(auto)]
 
 mod catalog;

@@ -1,4 +1,4 @@
-// The store of an image is found.
+//! The store of an image is found.
 ghost use Rattle.std.specs.Prelude.{IsTrue, ◌≡◌, ◌≢◌, ◌+◌, ◌%◌, ◌<◌, ◌≤◌, ℕ, [], true, false};
 ghost use Rattle.std.specs.Prelude.{IsSome, Some, None, OnOk, IfOk, IsErrOf};
 ghost use Rattle.std.specs.List.{list_all};
@@ -269,7 +269,8 @@ struct Finding {
     owners: BTreeMap<u32, u32>,
 }
 
-/// Keeps which objects a record names, of which none were kept. Where it names none nothing is kept.
+/// Keeps which objects a record names, of which none were kept. Where it names none nothing is
+/// kept.
 fn keep_names(names: &mut NameTable, id: u32, ids: Vec<u32>) -> Result<(), AllocError>
     requires { names_of names.old id ≡ [] }
     ensures kept { OnOk result (names_of names.new id ≡ ids.items) }

@@ -1,4 +1,4 @@
-// An entry is read, with its large binaries.
+//! An entry is read, with its large binaries.
 ghost use Rattle.std.specs.Prelude.{IsTrue, ◌≡◌, ◌*◌, true, IfOk, length, map as list_map};
 ghost use Rattle.newt_host.specs.Moments.{image};
 ghost use Rattle.newt_host.specs.Outside.{Spends};
@@ -21,8 +21,8 @@ use newt_pagebook::{PageBook, Stop};
 use newt_store_change::Entry;
 use std::alloc::Global;
 
-/// Why a reading ends where the device gave other bytes than were written. Over a host that tells its
-/// bytes this is never called; over another it is want of memory, since no fault was counted.
+/// Why a reading ends where the device gave other bytes than were written. Over a host that tells
+/// its bytes this is never called; over another it is want of memory, since no fault was counted.
 pub fn lies<H: Host>() -> Stop
     requires { IsTrue H.told → ⊥ }
     ensures { result ≡ Stop.Memory }

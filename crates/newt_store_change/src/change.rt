@@ -1,4 +1,4 @@
-// What is changed in a store.
+//! What is changed in a store.
 use newt_base::{Name, Sig, Uid};
 use newt_graph::{Bytes, Graph};
 use newt_keys::IndexSpec;

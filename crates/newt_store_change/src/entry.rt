@@ -1,4 +1,4 @@
-// One entry of a store.
+//! One entry of a store.
 use newt_base::Uid;
 use newt_graph::Graph;
 

@@ -1,4 +1,4 @@
-// Why a change was not made.
+//! Why a change was not made.
 use newt_base::Refusal;
 use newt_pagebook::Stop;
 use newt_path::SetFault;

@@ -21,8 +21,8 @@ use newt_store::Store;
 use newt_store_change::Change;
 use newt_tags::TagTable;
 
-// The graph of an entry that is moved. Where it is not there the change is refused, and nothing is
-// needed.
+/// The graph of an entry that is moved. Where it is not there the change is refused, and nothing is
+/// needed.
 fn moving<P: PageBook, H: Host>(
     store: &mut Store<P>,
     host: &mut H,
@@ -48,7 +48,7 @@ fn moving<P: PageBook, H: Host>(
     }
 }
 
-// The range by a new declaration.
+/// The range by a new declaration.
 fn declaring<P: PageBook, H: Host>(
     store: &mut Store<P>,
     host: &mut H,
@@ -73,7 +73,7 @@ fn declaring<P: PageBook, H: Host>(
     }
 }
 
-// The masks by another tags declaration.
+/// The masks by another tags declaration.
 fn tagging<P: PageBook, H: Host>(
     store: &mut Store<P>,
     host: &mut H,

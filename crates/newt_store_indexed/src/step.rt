@@ -27,7 +27,7 @@ pub(crate) enum RangeStep {
     Tagged(Masks),
 }
 
-// An entry goes from the first soup, and its graph is added to the second under this id.
+/// An entry goes from the first soup, and its graph is added to the second under this id.
 fn take_move(
     ranges: &mut Ranges,
     source: Sig,
@@ -50,7 +50,7 @@ fn take_move(
     }
 }
 
-// A soup gets a range after its others.
+/// A soup gets a range after its others.
 fn take_range(ranges: &mut Ranges, soup: Sig, step: RangeStep) -> Result<(), AllocError>
     ensures { OnOk result (ranges.new ≡ rows_declared soup step ranges.old) }
 {
@@ -62,7 +62,7 @@ fn take_range(ranges: &mut Ranges, soup: Sig, step: RangeStep) -> Result<(), All
     }
 }
 
-// A soup gets other masks.
+/// A soup gets other masks.
 fn take_masks(ranges: &mut Ranges, soup: Sig, step: RangeStep)
     ensures { ranges.new ≡ rows_tagged soup step ranges.old }
 {
@@ -74,7 +74,7 @@ fn take_masks(ranges: &mut Ranges, soup: Sig, step: RangeStep)
     }
 }
 
-// Makes of the ranges what the change is to them. After an error they are spent.
+/// Makes of the ranges what the change is to them. After an error they are spent.
 fn take_step(
     ranges: &mut Ranges,
     change: &Change,

@@ -1,4 +1,4 @@
-// Why a range is not read or replaced.
+//! Why a range is not read or replaced.
 ghost use Rattle.std.specs.Prelude.{◌≡◌};
 
 use newt_host::Failed;

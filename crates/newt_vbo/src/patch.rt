@@ -1,4 +1,4 @@
-// Bytes of an object are replaced.
+//! Bytes of an object are replaced.
 ghost use Rattle.std.specs.Prelude.{◌≡◌, ◌+◌, ◌<◌, ◌≤◌, true, false, length, Some, IsSome};
 ghost use Rattle.std.specs.Prelude.{OnOk, IsErrOf};
 ghost use Rattle.std.specs.FinSet as set;
@@ -16,7 +16,7 @@ use newt_host::Host;
 use newt_objects::Objects;
 use newt_pagebook::{Batch, Page, PageBook, Use};
 
-// A page with bytes of its part replaced, from a place on.
+/// A page with bytes of its part replaced, from a place on.
 fn patched(page: &Page, from: usize, bytes: &[u8]) -> Page
     requires { from + length bytes.now ≤ 500 }
     ensures { result ≡ overwritten page.now (12 + from) bytes.now }
@@ -27,7 +27,7 @@ fn patched(page: &Page, from: usize, bytes: &[u8]) -> Page
     page
 }
 
-// Puts a live page under its number, with bytes of its part replaced.
+/// Puts a live page under its number, with bytes of its part replaced.
 fn put_patched<P: PageBook, H: Host>(
     host: &mut H,
     book: &mut P,

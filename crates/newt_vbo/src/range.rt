@@ -1,4 +1,4 @@
-// Where the bytes of a range lie.
+//! Where the bytes of a range lie.
 ghost use Rattle.std.specs.Prelude.{◌≡◌, ◌+◌, ◌*◌, ◌/◌, ◌<◌, ◌≤◌, ◌^◌, IsSome, IfSome, OnOk, OnErr};
 ghost use Rattle.std.specs.Prelude.{IfErr};
 ghost use Rattle.newt_objects.specs.Held.{held};

@@ -1,4 +1,4 @@
-// Bytes of an object are read.
+//! Bytes of an object are read.
 ghost use Rattle.std.specs.Prelude.{IsTrue, ◌≡◌, ◌+◌, ◌≤◌, ◌++◌, true, length, Some, IsSome};
 ghost use Rattle.std.specs.Prelude.{IfSome, IfOk, OnOk, IsErrOf};
 ghost use Rattle.std.specs.FinSet as set;
@@ -15,7 +15,7 @@ use newt_objects::Objects;
 use newt_pagebook::{Page, PageBook, Use};
 use std::alloc::Global;
 
-// So many bytes of a page's part, from a place on.
+/// So many bytes of a page's part, from a place on.
 fn bytes_in(page: &Page, from: usize, count: usize) -> &[u8]
     requires { from + count ≤ 500 }
     ensures bytes { result.now ≡ bytes_from from count (page_data page.now) }
@@ -25,7 +25,7 @@ fn bytes_in(page: &Page, from: usize, count: usize) -> &[u8]
     &page[start..start + count]
 }
 
-// Appends the bytes of one piece.
+/// Appends the bytes of one piece.
 fn append_piece<P: PageBook, H: Host>(
     host: &mut H,
     book: &mut P,
