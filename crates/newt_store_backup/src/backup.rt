@@ -22,7 +22,7 @@ fn lies<H: Host>() -> BookFault
 }
 
 /// The backup of the store of a unit on which nothing is pending.
-pub fn backup_of<P: PageBook, H: Host>(
+pub(crate) fn backup_of<P: PageBook, H: Host>(
     alloc: Global,
     host: &mut H,
     unit: Unit,

@@ -12,7 +12,7 @@ use newt_store::Store;
 use std::alloc::{AllocError, Global};
 
 /// Whether the store of a directory and entries fits on a unit of so many blocks.
-pub fn fits_on(
+pub(crate) fn fits_on(
     alloc: Global,
     directory: &Directory,
     entries: &[FullEntry],
@@ -30,7 +30,7 @@ pub fn fits_on(
 /// Makes a unit's image that of the store of a directory and entries, as `read_backup` gives them.
 /// After want of memory nothing has happened; after a fault of the device nothing is said of the
 /// unit.
-pub fn restore_store<P: PageBook, H: Host>(
+pub(crate) fn restore_store<P: PageBook, H: Host>(
     alloc: Global,
     host: &mut H,
     unit: Unit,

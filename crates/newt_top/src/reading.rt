@@ -40,7 +40,7 @@ fn said<H: Host>(
 }
 
 /// Writes what is said of the device of the first name.
-pub fn run_reading<H: Host>(
+pub(crate) fn run_reading<H: Host>(
     alloc: Global,
     reading: Reading,
     names: &[String],

@@ -40,7 +40,12 @@ fn restore_input<H: Host>(alloc: Global, names: &[String], host: &mut H, input: 
 
 /// Reads the whole input, and then restores the store whose backup it is to the device of the first
 /// name. No device is attached before the input was read.
-pub fn run_restore<H: Host>(alloc: Global, names: &[String], host: &mut H, limit: usize) -> Status
+pub(crate) fn run_restore<H: Host>(
+    alloc: Global,
+    names: &[String],
+    host: &mut H,
+    limit: usize,
+) -> Status
     requires may { MayRun (map string_bytes names.now) (H.outside host.old) }
     ensures ran { IsTrue H.told → RanRestoring (map string_bytes names.now) limit result
         (H.outside host.old) (H.outside host.new) }
