@@ -7,3 +7,4 @@ pub mod Looks
 pub mod Found
 pub mod Faces
 pub mod Spots
+pub mod Effects

@@ -1,13 +1,15 @@
 //! A change of one store that is mounted, and what is read of one.
-ghost use Rattle.std.specs.Prelude.{◌≡◌, ◌*◌, ℕ, true, IsTrue};
+ghost use Rattle.std.specs.Prelude.{◌≡◌, ◌*◌, ℕ, true, IsTrue, IfOk};
 ghost use Rattle.newt_spec_store.specs.Store.{Store as Plain, entry_at};
 ghost use Rattle.newt_laws_answers.specs.There.{OnUnit};
 ghost use Rattle.newt_store_change.specs.Change.{pages_of_entry};
 ghost use Rattle.newt_store_change.specs.Entries.{ReadsEntry};
 ghost use Rattle.newt_engine_card.specs.Bounds.{FetchesAtMost, of_unit};
 ghost use Rattle.newt_engine_units.specs.Calls.{AreRead, Changes, Ended, Fetches, FetchesLarge};
+ghost use Rattle.newt_engine_units.specs.Effects.{answer_in, effect_of};
 ghost use Rattle.newt_engine_units.specs.Stands.{Stands, world_of, is_mounted};
 
+use crate::effects::{Effect, deed_of};
 use crate::units::Units;
 use newt_base::{Refusal, Sig, Uid};
 use newt_engine_card::Card;
@@ -35,6 +37,26 @@ impl<C: Card> Units<C> {
         match &mut self.slots[unit.0 as usize].card {
             Some(card) => card.apply(host, &change, minute),
             None => Err(StoreFault::Refused(Refusal::Notmounted)),
+        }
+    }
+
+    /// Makes such a change, and answers what it did.
+    pub fn alter<H: Host>(
+        &mut self,
+        host: &mut H,
+        unit: Unit,
+        change: Change,
+    ) -> Result<Effect, StoreFault>
+        requires stands { Stands C.place C.stands H.told self.old (H.outside host.old) }
+        requires mounted { is_mounted self.old unit ≡ true }
+        ensures changes { Changes C.reads C.place C.stands H.told unit change self.old self.new
+            (H.outside host.old) (H.outside host.new) (answer_in result) }
+        ensures effect { IfOk result (λ e. e ≡ effect_of unit change e.answer) }
+    {
+        let deed = deed_of(&change);
+        match self.change(host, unit, change) {
+            Ok(answer) => Ok(Effect { unit, deed, answer }),
+            Err(fault) => Err(fault),
         }
     }
 

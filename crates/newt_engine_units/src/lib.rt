@@ -10,6 +10,7 @@
 
 mod changes;
 mod defaults;
+mod effects;
 mod faces;
 mod lists;
 mod look;
@@ -18,4 +19,5 @@ mod resolve;
 mod stores;
 mod units;
 
+pub use effects::{Deed, Effect};
 pub use units::Units;
