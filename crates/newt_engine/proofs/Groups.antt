@@ -1,15 +1,21 @@
 -- The commands, told apart by the arms that took others.
-use Rattle.std.proofs.Common.{◌≡◌, refl, ap, sym, ◌∙◌, ℕ, List, Bool, true, false, not, ◌==◌}
-use Rattle.std.proofs.lemmas.Bool.{and_parts, eqb-true}
+use Rattle.std.proofs.Common.{◌≡◌, refl, ap, sym, ◌∙◌, ℕ, List, Bool, true, false, not, ◌==◌, ◌&&◌}
+use Rattle.std.proofs.lemmas.Bool.{and_parts, eq-eqb, eqb-true}
 use Rattle.newt_base.specs.Names.{is_name}
-use Rattle.newt_spec_store.specs.Keys.{Path}
-use Rattle.newt_spec_world.specs.declared.command.PartWord.{PartWord}
-use Rattle.newt_laws_world.specs.Worlds.{has_form, is_plain, parts_fit, sig_fits, tags_fit}
+use Rattle.newt_laws_world.specs.Worlds.{has_form, is_plain, sig_fits}
 use Rattle.newt_spec_world.specs.declared.command.Command.{Command}
 use Rattle.newt_spec_world.specs.declared.command.Command.TheVariants as command
 use Rattle.newt_laws_world.specs.Cursors.{uses_cursors}
-use Rattle.newt_engine.specs.Ends.{uses_device}
-use Rattle.newt_engine.specs.Groups.{is_between, is_shown, on_place}
+use Rattle.newt_laws_effects.specs.Tells.{is_of_stores}
+use Rattle.newt_base.specs.declared.Refusal.{Refusal}
+use Rattle.newt_spec_script.specs.Rows.{throws}
+use Rattle.newt_spec_world.specs.Reply.{Reply}
+use Rattle.newt_spec_world.specs.Step.{moves_away}
+use Rattle.newt_engine_units.specs.declared.effects.Effect.{Effect}
+use Rattle.newt_engine_commands.specs.Plans.{told_by}
+use Rattle.newt_engine.specs.Ends.{takes_memory, uses_device}
+use Rattle.newt_engine.specs.Bounds.{is_format}
+use Rattle.newt_engine.specs.Groups.{is_between, is_other, is_shown, on_place}
 
 -- the others are of watches and working copies
 pub no_other : (c : Command) → is_shown c ≡ false → uses_device c ≡ false → uses_cursors c ≡ false → ((t : _) → c ≡ command.Time t → ⊥) → (c ≡ command.Quit → ⊥) → ((u : _) → c ≡ command.Unmount u → ⊥) → (c ≡ command.Stores → ⊥)
@@ -37,41 +43,38 @@ no_other (command.Revert m) g d n time quit unmount stores default soups indexes
 no_other (command.Discard m) g d n time quit unmount stores default soups indexes tags info alias resolve = refl
 no_other _ g d n time quit unmount stores default soups indexes tags info alias resolve = cc
 
--- a command that uses no cursor and is none of these shows no graph and uses no device
-pub in_memory : (k : Command) → uses_cursors k ≡ false
-    → ((a : _) → k ≡ command.Nsof a → ⊥) → ((a : _) → k ≡ command.Lit a → ⊥) → ((a b c : _) → k ≡ command.Format a b c → ⊥)
-    → ((a : _) → k ≡ command.Mount a → ⊥) → ((a b : _) → k ≡ command.Soup a b → ⊥) → ((a b : _) → k ≡ command.Drop a b → ⊥)
-    → ((a b c : _) → k ≡ command.Index a b c → ⊥) → ((a b c : _) → k ≡ command.Unindex a b c → ⊥) → ((a b c d : _) → k ≡ command.SetTags a b c d → ⊥)
-    → ((a b c : _) → k ≡ command.SetInfo a b c → ⊥)
-    → ((a b c : _) → k ≡ command.Add a b c → ⊥) → ((a b c : _) → k ≡ command.Addx a b c → ⊥) → ((a b : _) → k ≡ command.Addu a b → ⊥)
-    → ((a b c : _) → k ≡ command.Get a b c → ⊥) → ((a b c : _) → k ≡ command.Getx a b c → ⊥) → ((a b c d e : _) → k ≡ command.Set a b c d e → ⊥)
-    → ((a b c d : _) → k ≡ command.Change a b c d → ⊥) → ((a b c : _) → k ≡ command.Remove a b c → ⊥) → ((a b c d e : _) → k ≡ command.Copy a b c d e → ⊥)
-    → ((a b c d e : _) → k ≡ command.Move a b c d e → ⊥) → ((a b c d e f : _) → k ≡ command.Vread a b c d e f → ⊥) → ((a b c d e f : _) → k ≡ command.Vwrite a b c d e f → ⊥)
-    → (is_shown k ≡ false) × (uses_device k ≡ false)
-unfolding uses_cursors
-in_memory (command.Nsof a) cursors nsof lit format mount soup drop index unindex settags setinfo add addx addu get getx set change remove copy move vread vwrite = absurd (nsof a refl)
-in_memory (command.Lit a) cursors nsof lit format mount soup drop index unindex settags setinfo add addx addu get getx set change remove copy move vread vwrite = absurd (lit a refl)
-in_memory (command.Format a b c) cursors nsof lit format mount soup drop index unindex settags setinfo add addx addu get getx set change remove copy move vread vwrite = absurd (format a b c refl)
-in_memory (command.Mount a) cursors nsof lit format mount soup drop index unindex settags setinfo add addx addu get getx set change remove copy move vread vwrite = absurd (mount a refl)
-in_memory (command.Soup a b) cursors nsof lit format mount soup drop index unindex settags setinfo add addx addu get getx set change remove copy move vread vwrite = absurd (soup a b refl)
-in_memory (command.Drop a b) cursors nsof lit format mount soup drop index unindex settags setinfo add addx addu get getx set change remove copy move vread vwrite = absurd (drop a b refl)
-in_memory (command.Index a b c) cursors nsof lit format mount soup drop index unindex settags setinfo add addx addu get getx set change remove copy move vread vwrite = absurd (index a b c refl)
-in_memory (command.Unindex a b c) cursors nsof lit format mount soup drop index unindex settags setinfo add addx addu get getx set change remove copy move vread vwrite = absurd (unindex a b c refl)
-in_memory (command.SetTags a b c d) cursors nsof lit format mount soup drop index unindex settags setinfo add addx addu get getx set change remove copy move vread vwrite = absurd (settags a b c d refl)
-in_memory (command.SetInfo a b c) cursors nsof lit format mount soup drop index unindex settags setinfo add addx addu get getx set change remove copy move vread vwrite = absurd (setinfo a b c refl)
-in_memory (command.Add a b c) cursors nsof lit format mount soup drop index unindex settags setinfo add addx addu get getx set change remove copy move vread vwrite = absurd (add a b c refl)
-in_memory (command.Addx a b c) cursors nsof lit format mount soup drop index unindex settags setinfo add addx addu get getx set change remove copy move vread vwrite = absurd (addx a b c refl)
-in_memory (command.Addu a b) cursors nsof lit format mount soup drop index unindex settags setinfo add addx addu get getx set change remove copy move vread vwrite = absurd (addu a b refl)
-in_memory (command.Get a b c) cursors nsof lit format mount soup drop index unindex settags setinfo add addx addu get getx set change remove copy move vread vwrite = absurd (get a b c refl)
-in_memory (command.Getx a b c) cursors nsof lit format mount soup drop index unindex settags setinfo add addx addu get getx set change remove copy move vread vwrite = absurd (getx a b c refl)
-in_memory (command.Set a b c d e) cursors nsof lit format mount soup drop index unindex settags setinfo add addx addu get getx set change remove copy move vread vwrite = absurd (set a b c d e refl)
-in_memory (command.Change a b c d) cursors nsof lit format mount soup drop index unindex settags setinfo add addx addu get getx set change remove copy move vread vwrite = absurd (change a b c d refl)
-in_memory (command.Remove a b c) cursors nsof lit format mount soup drop index unindex settags setinfo add addx addu get getx set change remove copy move vread vwrite = absurd (remove a b c refl)
-in_memory (command.Copy a b c d e) cursors nsof lit format mount soup drop index unindex settags setinfo add addx addu get getx set change remove copy move vread vwrite = absurd (copy a b c d e refl)
-in_memory (command.Move a b c d e) cursors nsof lit format mount soup drop index unindex settags setinfo add addx addu get getx set change remove copy move vread vwrite = absurd (move a b c d e refl)
-in_memory (command.Vread a b c d e f) cursors nsof lit format mount soup drop index unindex settags setinfo add addx addu get getx set change remove copy move vread vwrite = absurd (vread a b c d e f refl)
-in_memory (command.Vwrite a b c d e f) cursors nsof lit format mount soup drop index unindex settags setinfo add addx addu get getx set change remove copy move vread vwrite = absurd (vwrite a b c d e f refl)
-in_memory _ cursors nsof lit format mount soup drop index unindex settags setinfo add addx addu get getx set change remove copy move vread vwrite = (cc, cc)
+-- the others show no graph and no entry, and mount and format no store
+pub no_others : (k : Command) → ((a : _) → k ≡ command.Nsof a → ⊥) → ((a : _) → k ≡ command.Lit a → ⊥) → ((a b c : _) → k ≡ command.Format a b c → ⊥) → ((a : _) → k ≡ command.Mount a → ⊥)
+    → ((a b c : _) → k ≡ command.Get a b c → ⊥) → ((a b c : _) → k ≡ command.Getx a b c → ⊥) → ((a b c d e f : _) → k ≡ command.Vread a b c d e f → ⊥) → is_other k ≡ true
+no_others (command.Nsof a) nsof lit format mount get getx vread = absurd (nsof a refl)
+no_others (command.Lit a) nsof lit format mount get getx vread = absurd (lit a refl)
+no_others (command.Format a b c) nsof lit format mount get getx vread = absurd (format a b c refl)
+no_others (command.Mount a) nsof lit format mount get getx vread = absurd (mount a refl)
+no_others (command.Get a b c) nsof lit format mount get getx vread = absurd (get a b c refl)
+no_others (command.Getx a b c) nsof lit format mount get getx vread = absurd (getx a b c refl)
+no_others (command.Vread a b c d e f) nsof lit format mount get getx vread = absurd (vread a b c d e f refl)
+no_others _ nsof lit format mount get getx vread = refl
+
+-- such a command that uses no cursor and changes no store shows no graph and uses no device
+pub in_memory : (k : Command) → uses_cursors k ≡ false → is_other k ≡ true → is_of_stores k ≡ false → (is_shown k ≡ false) × (uses_device k ≡ false)
+unfolding uses_cursors is_of_stores
+in_memory (command.Nsof a) cursors other stores = (cc, cc)
+in_memory _ cursors other stores = (cc, cc)
+
+-- a command that changes a store takes memory, uses a device and formats none
+pub of_stores : (k : Command) → is_of_stores k ≡ true → (takes_memory k ≡ true) × (uses_device k ≡ true) × (is_format k ≡ false)
+unfolding is_of_stores
+of_stores (command.Soup a b) stores = (refl, refl, refl)
+of_stores _ stores = (cc, cc, cc)
+
+-- what it did is told by no refusal, and says of no unit that its device failed
+pub told_done : (k : Command) (x : Effect) (r : Refusal) → told_by k x ≡ Reply.refused r → ⊥
+told_done (command.Soup a b) x r h = cc
+told_done _ x r h = cc
+
+pub told_quiet : (k : Command) (x : Effect) (u : ℕ) → throws u (told_by k x) ≡ false
+told_quiet (command.Soup a b) x u = refl
+told_quiet _ x u = refl
 
 -- a command on cursors that is none of these is on their places
 pub on_places : (k : Command) → uses_cursors k ≡ true → ((a : _) → k ≡ command.Entry a → ⊥) → ((a : _) → k ≡ command.Next a → ⊥) → ((a : _) → k ≡ command.Prev a → ⊥) → ((a : _) → k ≡ command.Reset a → ⊥) → ((a : _) → k ≡ command.End a → ⊥) → ((a b : _) → k ≡ command.Moveby a b → ⊥) → ((a b c : _) → k ≡ command.Goto a b c → ⊥) → ((a b : _) → k ≡ command.Gotokey a b → ⊥) → on_place k ≡ true
@@ -101,18 +104,15 @@ pub format_form : (c : Command) (u : ℕ) (name : List ℕ) (sig : ℕ) → c �
 unfolding has_form
 format_form c u name sig is h = (and_parts (is_name name) (sig_fits sig) (ap has_form (sym is) ∙ h)).1
 
-pub index_form : (c : Command) (u : ℕ) (name : List ℕ) (parts : List PartWord) → c ≡ command.Index u name parts → has_form c ≡ true → parts_fit parts ≡ true
-unfolding has_form
-index_form c u name parts is h = ap has_form (sym is) ∙ h
-
-pub tags_form : (c : Command) (u : ℕ) (name : List ℕ) (path : Path) (symbols : List (List ℕ)) → c ≡ command.SetTags u name path symbols → has_form c ≡ true → tags_fit path symbols ≡ true
-unfolding has_form
-tags_form c u name path symbols is h = ap has_form (sym is) ∙ h
-
--- a move that is not to another unit is one within its own
-pub within_own : (c : Command) (u : ℕ) (name : List ℕ) (uid to : ℕ) (target : List ℕ) → c ≡ command.Move u name uid to target → is_between c ≡ false → c ≡ command.Move u name uid u target
-within_own c u name uid to target is within = is ∙ ap (λ n. command.Move u name uid n target) (sym (eqb-true u to (kept (u == to) (sym (ap is_between is) ∙ within))))
+-- a move that is not to another unit leaves none
+pub stays_there : (k : Command) → is_between k ≡ false → (u : ℕ) → moves_away k u ≡ false
+stays_there (command.Move t name uid to target) within u = go (t == u) refl
   where
     kept : (b : Bool) → not b ≡ false → b ≡ true
     kept true h = refl
     kept false h = sym h
+
+    go : (b : Bool) → (t == u) ≡ b → (b && not (to == u)) ≡ false
+    go true is = ap not (eq-eqb to u (sym (eqb-true t to (kept (t == to) within)) ∙ eqb-true t u is))
+    go false is = refl
+stays_there _ within u = refl

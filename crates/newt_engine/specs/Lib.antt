@@ -6,3 +6,4 @@ pub mod Standing
 pub mod Laws
 pub mod Kept
 pub mod Calls
+pub mod Words

@@ -3,14 +3,19 @@ ghost use Rattle.std.specs.Prelude.{◌≡◌, map};
 ghost use Rattle.newt_reply.specs.Said.{said, soup_row};
 ghost use Rattle.newt_spec_world.specs.Answer.{or_nil};
 ghost use Rattle.newt_spec_world.specs.Reply as plain;
+ghost use Rattle.newt_engine_units.specs.declared.effects.Effect.{Effect as Did};
+ghost use Rattle.newt_engine_commands.specs.Plans.{told_by};
 ghost use Rattle.newt_engine_cursors.specs.Replies.{shown_reply, side_reply};
 ghost use Rattle.newt_engine.specs.Handed.{HandsOn};
+ghost use Rattle.newt_engine.specs.Words.{in_words};
 
 use newt_base::{Name, Sig, Uid};
 use newt_engine_cursors::{Shown, Side};
+use newt_engine_units::Effect;
 use newt_graph::{Bytes, Graph};
 use newt_host::Unit;
 use newt_reply::{Alias, Reply, SoupRows, SpecRows, TagRow};
+use newt_script::Command;
 use newt_store_change::{Entry, StoreFault};
 use newt_tags::TagTable;
 
@@ -44,13 +49,49 @@ pub(crate) fn opened(found: Result<u8, StoreFault>) -> Result<Reply, StoreFault>
     }
 }
 
-/// The unit and the id of an entry that was added.
-pub(crate) fn added(found: Result<(Unit, u32), StoreFault>) -> Result<Reply, StoreFault>
-    ensures { HandsOn (λ x. plain.Reply.added x.0 x.1) found result }
+/// The words in which a command tells what it did to a store.
+#[derive(Clone, Copy)]
+pub(crate) enum Words {
+    /// That it was done.
+    Done,
+    /// The signature or the id that was answered.
+    Number,
+    /// The unit and the id.
+    Added,
+}
+
+/// In which words a command that changes a store tells what it did.
+pub(crate) fn words_of(command: &Command) -> Words
+    ensures { (effect : Did) → in_words result effect ≡ told_by command.now effect }
+{
+    match command {
+        Command::Soup(_, _)
+        | Command::Add(_, _, _)
+        | Command::Addx(_, _, _)
+        | Command::Copy(_, _, _, _, _)
+        | Command::Move(_, _, _, _, _) => Words::Number,
+        Command::Addu(_, _) => Words::Added,
+        _ => Words::Done,
+    }
+}
+
+/// What was done to a store, in these words.
+pub(crate) fn changed(words: Words, found: Result<Effect, StoreFault>) -> Result<Reply, StoreFault>
+    ensures { HandsOn (in_words words) found result }
 {
     match found {
-        Ok((unit, uid)) => Ok(Reply::Added(unit, Uid(uid))),
+        Ok(effect) => Ok(told(words, effect)),
         Err(fault) => Err(fault),
+    }
+}
+
+fn told(words: Words, effect: Effect) -> Reply
+    ensures { said result ≡ in_words words effect }
+{
+    match words {
+        Words::Done => Reply::Done,
+        Words::Number => Reply::Number(effect.answer),
+        Words::Added => Reply::Added(effect.unit, Uid(effect.answer)),
     }
 }
 

@@ -1,38 +1,20 @@
 -- Commands on the large binaries of an entry.
-use Rattle.std.proofs.Common.{◌≡◌, refl, ap, sym, ◌∙◌, subst, ℕ, List, Option, Some, None, replicate}
+use Rattle.std.proofs.Common.{◌≡◌, refl, ap, sym, ◌∙◌, ℕ, List, Option, Some, None, replicate}
 use Rattle.std.specs.Prelude.{Result, Ok, Err}
-use Rattle.newt_base.specs.Refusals.{first_of}
-use Rattle.newt_base.specs.declared.Refusal.{Refusal}
-use Rattle.newt_base.specs.declared.Refusal.TheVariants.{Entry as NoEntry, Path as NoPath}
+use Rattle.newt_base.specs.declared.Refusal.TheVariants.{Entry as NoEntry}
 use Rattle.newt_spec_graph.proofs.Lists.{none-some, some-same}
 use Rattle.newt_spec_store.specs.Keys.{Path}
 use Rattle.newt_spec_store.specs.Store.{Store, Soup, Entry, soup_named, entry_of}
-use Rattle.newt_spec_graph.specs.Larges.{large_at}
-use Rattle.newt_spec_world.specs.declared.command.Command.{Command}
 use Rattle.newt_spec_world.specs.declared.command.Command.TheVariants as command
 use Rattle.newt_spec_world.specs.Reply.{Reply}
 use Rattle.newt_spec_world.specs.World.{World}
-use Rattle.newt_spec_world.specs.Answer.{answer}
-use Rattle.newt_laws_answers.specs.Tests.{entry_checks}
 use Rattle.newt_laws_answers.specs.There.{OnUnit}
 use Rattle.newt_laws_answers.proofs.Entries.{no-entry}
-use Rattle.newt_laws_answers.proofs.Larges.{vread-done, vread-not-found, vread-refused, vwrite-no-path}
+use Rattle.newt_laws_answers.proofs.Larges.{vread-done, vread-not-found, vread-refused}
 use Rattle.newt_store_change.specs.declared.fault.StoreFault.{StoreFault}
 use Rattle.newt_store_change.specs.declared.fault.StoreFault.TheVariants.{Refused, Stop}
 use Rattle.newt_engine_units.specs.Answers.{Answers}
-use Rattle.newt_store_change.specs.Entries.{ReadsEntry, ReadsLarge}
-
--- ---- the entry is not there
-
-pub missing : {T : Type 0} (w v : World) (u blocks : ℕ) (s : Store) (name : List ℕ) (p : Soup) (uid : ℕ) → OnUnit w u blocks s → soup_named name s ≡ Some p → (c : Command) (reply : T → Reply)
-    → ((r : Refusal) → first_of (entry_checks w u name uid) ≡ Some r → answer w c ≡ (w, Reply.refused r)) → v ≡ w
-    → (fault : StoreFault) → ReadsEntry (entry_of uid p) (Err fault) → (result : Result T StoreFault) → result ≡ Err fault → Answers w v c reply result
-missing {T} w v u blocks s name p uid on named c reply refused same fault h result err = subst (λ r. Answers w v c reply r) (sym err) (go fault h)
-  where
-    go : (fault : StoreFault) → ReadsEntry (entry_of uid p) (Err fault) → Answers {T = T} w v c reply (Err fault)
-    go (Refused r) h = refused NoEntry (no-entry w u blocks s name p uid on named h.0)
-        ∙ ap {B = World × Reply} (λ q. (w, Reply.refused q)) (sym h.1) ∙ ap {B = World × Reply} (λ x. (x, Reply.refused r)) (sym same)
-    go (Stop stop) h = tt
+use Rattle.newt_store_change.specs.Entries.{ReadsLarge}
 
 -- ---- bytes are read
 
@@ -49,11 +31,3 @@ vread-answers w v u blocks s name p uid on named none same path at many result r
     go None gone (Err (Refused q)) r = vread-not-found w u name uid NoEntry (no-entry w u blocks s name p uid on named gone) path at many
         ∙ ap {B = World × Reply} (λ x. (w, Reply.refused x)) (some-same NoEntry q r) ∙ ap {B = World × Reply} (λ x. (x, Reply.refused q)) (sym same)
     go None gone (Err (Stop stop)) r = tt
-
--- ---- it is there
-
-module _ (w v : World) (u blocks : ℕ) (s : Store) (on : OnUnit w u blocks s) (none : w.cursors ≡ replicate 32 None) (name : List ℕ) (p : Soup) (named : soup_named name s ≡ Some p) (is : p.name ≡ name)
-    (uid : ℕ) (e : Entry) (found : entry_of uid p ≡ Some e) (path : Path) (at : ℕ) where
-  module _ (bytes : List ℕ) where
-    pub vwrite-nowhere : v ≡ w → large_at e.graph path ≡ None → Answers {T = Unit {0}} w v (command.Vwrite u name uid path at bytes) (λ _. Reply.done) (Err (Refused NoPath))
-    vwrite-nowhere same nowhere = vwrite-no-path w u blocks s name p uid on named e found path at nowhere bytes ∙ ap {B = World × Reply} (λ x. (x, Reply.refused NoPath)) (sym same)

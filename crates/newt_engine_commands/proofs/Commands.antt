@@ -1,5 +1,5 @@
 -- Commands are answered by what the cards do.
-use Rattle.std.proofs.Common.{◌≡◌, ap, sym, ◌∙◌, subst, ℕ, List, true, Option, Some, None, replicate, option_and_then, ◌==◌}
+use Rattle.std.proofs.Common.{◌≡◌, ap, sym, ◌∙◌, ℕ, List, true, Option, Some, None, replicate, option_and_then, ◌==◌}
 use Rattle.std.specs.Prelude.{Result, Ok, Err}
 use Rattle.newt_base.specs.Refusals.{first_of}
 use Rattle.newt_base.specs.declared.Refusal.{Refusal}
@@ -16,7 +16,6 @@ use Rattle.newt_base.specs.Names.{equal_text}
 use Rattle.newt_spec_store.specs.Valid.{well_formed, valid_entry, valid_soup}
 use Rattle.newt_laws_images.proofs.Stores.{is-store, is-soup}
 use Rattle.newt_laws_world.proofs.Soups.{found-good}
-use Rattle.newt_laws_answers.proofs.Copies.{copy-no-entry}
 use Rattle.newt_laws_answers.proofs.Entries.{no-entry, get-done, getx-done, get-refused, getx-refused, alias-done}
 use Rattle.newt_store_change.specs.declared.fault.StoreFault.{StoreFault}
 use Rattle.newt_store_change.specs.declared.fault.StoreFault.TheVariants.{Refused, Stop}
@@ -54,17 +53,6 @@ entry-fits s name p uid e ok named found =
 pub read-found : (sig uid : ℕ) (s : Store) (p : Soup) (x : Shown) (g : RawGraph) → g ≡ x.graph → soup_of sig s ≡ Some p → entry_said (Some x) ≡ entry_at sig uid s
     → entry_of uid p ≡ Some (record { uid = x.uid; time = x.time; graph = g })
 read-found sig uid s p x g is by h = sym (h ∙ ap (option_and_then (entry_of uid)) by) ∙ ap {A = RawGraph} {B = Option Entry} (λ y. Some (record { uid = x.uid; time = x.time; graph = y })) (sym is)
-
-module _ (w v : World) (u blocks : ℕ) (s : Store) (name : List ℕ) (p : Soup) (uid : ℕ) (on : OnUnit w u blocks s) (named : soup_named name s ≡ Some p) (none : w.cursors ≡ replicate 32 None)
-    (to other : ℕ) (t : Store) (target : List ℕ) (q : Soup) (there : OnUnit w to other t) (into : soup_named target t ≡ Some q) (is : q.name ≡ target) where
-  -- it is not there
-  pub copy-missing : {T : Type 0} (reply : T → Reply) → v ≡ w → (fault : StoreFault) → ReadsEntry (entry_of uid p) (Err fault) → (result : Result T StoreFault) → result ≡ Err fault
-      → Answers w v (command.Copy u name uid to target) reply result
-  copy-missing reply same fault h result err = subst (λ r. Answers w v (command.Copy u name uid to target) reply r) (sym err) (go fault h)
-    where
-      go : (fault : StoreFault) → ReadsEntry (entry_of uid p) (Err fault) → Answers w v (command.Copy u name uid to target) reply (Err fault)
-      go (Refused r) h = copy-no-entry w u blocks s name p uid on named to other t target q there into h.0 ∙ ap {B = World × Reply} (λ q. (w, Reply.refused q)) (sym h.1) ∙ ap {B = World × Reply} (λ x. (x, Reply.refused r)) (sym same)
-      go (Stop stop) h = tt
 
 -- ---- aliases
 

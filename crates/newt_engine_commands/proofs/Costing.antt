@@ -16,26 +16,23 @@ use Rattle.newt_laws_answers.specs.Bounds.{change_bytes, unless, most_programmed
 use Rattle.newt_laws_answers.specs.Fetched.{if_on, most_fetched, next_if_on, pages_there}
 use Rattle.newt_laws_answers.proofs.Answers.{entry-named}
 use Rattle.newt_laws_answers.proofs.Fetched.{first-pages, named-pages}
-use Rattle.newt_laws_answers.proofs.Tests.{add_tests, move_tests, moved_within}
-use Rattle.newt_laws_answers.proofs.Most.{move-to-most, move-from-most, within-most}
+use Rattle.newt_laws_answers.proofs.Tests.{add_tests}
+use Rattle.newt_laws_answers.proofs.Most.{move-to-most, move-from-most}
 use Rattle.newt_store_change.specs.declared.fault.StoreFault.{StoreFault}
 use Rattle.newt_engine_card.specs.Bounds.{Costs, CostsOn, FetchesAtMost, FetchesOn, FetchesWithin, LeftAlone, of_unit}
 use Rattle.newt_store_change.specs.Change.{pages_of_entry}
 use Rattle.newt_store_change.specs.Faults.{GoesOn}
 use Rattle.newt_engine_units.specs.Calls.{CostsOf}
-use Rattle.newt_engine_units.specs.Found.{HasSoup, HasEntry}
-use Rattle.newt_engine_units.proofs.Costs.{after-read, call-after-read, both-costs, none-fits, on-costs, on-few, on-within, read-few}
+use Rattle.newt_engine_units.specs.Found.{HasSoup}
+use Rattle.newt_engine_units.proofs.Costs.{after-read, call-after-read, both-costs, none-fits, on-costs, on-few, read-few}
 use Rattle.newt_engine_commands.proofs.Commands.{entry-fits}
-use Rattle.newt_engine_commands.proofs.Moves.{move-named, inside-named}
+use Rattle.newt_engine_commands.proofs.Moves.{move-named}
 use Rattle.newt_engine_commands.proofs.Said.{Spent}
 
 -- ---- what is fetched
 
 pub half : (a b : ℕ) → a ≤ b → 512 * a ≤ 1024 * b
 half a b h = omega (arith, h)
-
-pub half-more : (a b : ℕ) → a ≤ b → 512 * 0 + 512 * a ≤ 1024 * b
-half-more a b h = omega (arith, h)
 
 pub twice : (a b : ℕ) → a ≤ b → 512 * a + 512 * a ≤ 1024 * b
 twice a b h = omega (arith, h)
@@ -47,7 +44,7 @@ thrice a b h = omega (arith, h)
 abbrev pub its_pages : {w : World} {u : ℕ} {name : List ℕ} {sig : ℕ} → HasSoup w u name sig → ℕ → ℕ
 its_pages {sig = sig} h uid = pages_of_entry (entry_at sig uid h.store)
 
-its-pages : {w : World} {u : ℕ} {name : List ℕ} {sig : ℕ} (h : HasSoup w u name sig) (uid : ℕ) → its_pages h uid ≡ pages_of_entry (entry_in w u name uid)
+pub its-pages : {w : World} {u : ℕ} {name : List ℕ} {sig : ℕ} (h : HasSoup w u name sig) (uid : ℕ) → its_pages h uid ≡ pages_of_entry (entry_in w u name uid)
 its-pages {w} {u} {name} {sig} h uid = ap pages_of_entry (ap (option_and_then (entry_of uid)) h.by_sig ∙ sym (entry-named w u h.blocks h.store name h.soup uid h.on h.named))
 
 pub named-low : {w : World} {u : ℕ} {name : List ℕ} {sig : ℕ} (h : HasSoup w u name sig) (uid : ℕ) → its_pages h uid ≤ pages_there w u (if_on u u name uid)
@@ -86,26 +83,6 @@ removed_bytes s p e uid = change_bytes false s (change_soup p.name (remove_entry
 -- an entry of a soup is within the limits
 fits : {w : World} {u : ℕ} {name : List ℕ} {sig : ℕ} (h : HasSoup w u name sig) (uid : ℕ) (e : Entry) → entry_of uid h.soup ≡ Some e → valid_entry e ≡ true
 fits {name = name} h uid e found = entry-fits h.store name h.soup uid e h.formed h.named found
-
--- ---- one change of one store
-
-module _ {w : World} {u : ℕ} {name : List ℕ} {sig uid : ℕ} (x : HasEntry w u name sig uid) {T : Type 0} {result : Result T StoreFault} {o p : Outside} where
-  -- within one store
-  pub inside-costs : {target : List ℕ} {into : ℕ} (k : HasSoup w u target into)
-      → Spent u (unless (move_tests x.of.blocks w.minute x.of.soup.name uid k.soup.name x.entry.graph x.of.store k.soup)
-      (change_bytes true x.of.store (moved_within w.minute x.of.soup.name uid k.soup.name x.entry.graph x.of.store) (record { uid = k.soup.next_uid; time = w.minute; graph = x.entry.graph } ∷ []) (x.entry ∷ [])))
-      (512 * its_pages x.of uid + 512 * its_pages x.of uid) result o p
-      → CostsOf w (command.Move u name uid u target) result o p
-  inside-costs {target} {into} k spent = subst (λ c. CostsOf w c result o p) (move-named w u u name target sig into uid x.of k) (on-costs spent.programs most (λ means.
-      on-within (most_programmed w (command.Move u x.of.soup.name uid u k.soup.name)) (most_fetched w (command.Move u x.of.soup.name uid u k.soup.name)) spent.reads most few))
-    where
-      most : unless (move_tests x.of.blocks w.minute x.of.soup.name uid k.soup.name x.entry.graph x.of.store k.soup)
-          (change_bytes true x.of.store (moved_within w.minute x.of.soup.name uid k.soup.name x.entry.graph x.of.store) (record { uid = k.soup.next_uid; time = w.minute; graph = x.entry.graph } ∷ []) (x.entry ∷ []))
-          ≤ most_programmed w (command.Move u x.of.soup.name uid u k.soup.name) u
-      most = within-most w u x.of.blocks x.of.store x.of.soup.name x.of.soup uid x.of.on x.of.self_named k.soup.name k.soup (inside-named w u name target sig into uid x k) x.entry x.found
-
-      few : 512 * its_pages x.of uid + 512 * its_pages x.of uid ≤ most_fetched w (command.Move u x.of.soup.name uid u k.soup.name) u
-      few = twice _ _ (subst (λ n. its_pages x.of uid ≤ pages_there w u (if_on u u n uid ++ next_if_on w u u k.soup.name)) (sym x.of.name_is) (first-low x.of uid (next_if_on w u u k.soup.name)))
 
 -- ---- after the entry was read
 

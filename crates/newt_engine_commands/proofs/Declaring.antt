@@ -1,6 +1,6 @@
 -- Commands that declare, remove and show indexes, tags and info frames.
-use Rattle.std.proofs.Common.{◌≡◌, refl, ap, sym, ◌∙◌, subst, ℕ, List, [], ◌∷◌, Bool, true, false, IsTrue, Option, Some, None, map, find, cond, option_map, option_and_then, replicate, ◌==◌}
-use Rattle.std.specs.Prelude.{Result, Err}
+use Rattle.std.proofs.Common.{◌≡◌, refl, ap, sym, ◌∙◌, ℕ, List, [], ◌∷◌, Bool, true, false, IsTrue, Option, Some, map, find, cond, option_map, option_and_then, ◌==◌}
+use Rattle.std.specs.Prelude.{Err}
 use Rattle.newt_base.specs.Refusals.{first_of}
 use Rattle.newt_base.specs.declared.Refusal.{Refusal}
 use Rattle.newt_base.specs.declared.Refusal.TheVariants.{Index as BadIndex, Key as BadKey}
@@ -9,18 +9,14 @@ use Rattle.newt_host.specs.Outside.{Outside}
 use Rattle.newt_spec_graph.proofs.Lists.{some-same, none-some}
 use Rattle.newt_spec_store.specs.Keys.{IndexSpec}
 use Rattle.newt_spec_store.specs.Laid.{bare, bare_soup}
-use Rattle.newt_spec_store.specs.Store.{Store, Soup, TagTable, soup_named, soup_of}
-use Rattle.newt_spec_world.specs.declared.command.Command.TheVariants as command
+use Rattle.newt_spec_store.specs.Store.{Store, Soup, TagTable, soup_of}
 use Rattle.newt_spec_world.specs.declared.command.PartWord.{PartWord}
-use Rattle.newt_spec_world.specs.Reply.{Reply}
-use Rattle.newt_spec_world.specs.World.{World}
-use Rattle.newt_spec_world.specs.Answer.{answer}
 use Rattle.newt_laws_answers.specs.There.{OnUnit}
-use Rattle.newt_laws_answers.proofs.Declares.{index-exists, index-real}
 use Rattle.newt_store_change.specs.declared.fault.StoreFault.{StoreFault}
 use Rattle.newt_store_change.specs.declared.fault.StoreFault.TheVariants.{Refused, Stop}
 use Rattle.newt_engine_units.specs.declared.units.Units.{Units}
-use Rattle.newt_engine_units.specs.Answers.{Answers}
+use Rattle.newt_laws_effects.specs.Effects.{Resolved, passing}
+use Rattle.newt_engine_commands.specs.Plans.{IsFound}
 use Rattle.newt_engine_commands.specs.Declares.{has_parts, has_real, MayDeclare}
 use Rattle.newt_engine_units.specs.Stands.{card_at, world_of}
 use Rattle.newt_engine_units.proofs.Known.{on-known, card-known}
@@ -64,17 +60,13 @@ module _ {C : Type 0} {reads : List ℕ → Option Store} {place : C → ℕ} {s
 
 -- ---- declared
 
-module _ (w v : World) (u blocks : ℕ) (s : Store) (on : OnUnit w u blocks s) (none : w.cursors ≡ replicate 32 None) (name : List ℕ) (p : Soup) (named : soup_named name s ≡ Some p) (is : p.name ≡ name) where
-  module _ (parts : List PartWord) where
-    -- the parts may not be declared
-    pub index-fails : (T : Type 0) (fault : StoreFault) → MayDeclare {T = T} parts p (Err fault) → (result : Result (Unit {0}) StoreFault) → result ≡ Err fault → Answers w w (command.Index u name parts) (λ _. Reply.done) result
-    index-fails T fault h result err = subst (λ r. Answers w w (command.Index u name parts) (λ _. Reply.done) r) (sym err) (go fault h)
-      where
-        first : (a b : Bool) (r : Refusal) → has_parts parts p ≡ a → has_real parts ≡ b → first_of ((BadIndex, a) ∷ (BadKey, b) ∷ []) ≡ Some r → answer w (command.Index u name parts) ≡ (w, Reply.refused r)
-        first true b r x y k = index-exists w u blocks s name p on named parts x ∙ ap {B = World × Reply} (λ q. (w, Reply.refused q)) (some-same BadIndex r k)
-        first false true r x y k = index-real w u blocks s name p on named parts x y ∙ ap {B = World × Reply} (λ q. (w, Reply.refused q)) (some-same BadKey r k)
-        first false false r x y k = absurd (none-some r k)
-
-        go : (fault : StoreFault) → MayDeclare {T = T} parts p (Err fault) → Answers {T = Unit {0}} w w (command.Index u name parts) (λ _. Reply.done) (Err fault)
-        go (Refused r) h = first (has_parts parts p) (has_real parts) r refl refl h
-        go (Stop stop) h = tt
+-- the parts may not be declared
+pub parts-unfit : (T : Type 0) (parts : List PartWord) (p : Soup) (made : Resolved) (fault : StoreFault) → MayDeclare {T = T} parts p (Err fault)
+    → IsFound (passing (BadIndex, has_parts parts p) (passing (BadKey, has_real parts) made)) (Err fault)
+parts-unfit T parts p made (Refused r) h = go (has_parts parts p) (has_real parts) h
+  where
+    go : (a b : Bool) → first_of ((BadIndex, a) ∷ (BadKey, b) ∷ []) ≡ Some r → passing (BadIndex, a) (passing (BadKey, b) made) ≡ Err r
+    go true b k = ap {A = Refusal} {B = Resolved} (λ q. Err q) (some-same BadIndex r k)
+    go false true k = ap {A = Refusal} {B = Resolved} (λ q. Err q) (some-same BadKey r k)
+    go false false k = absurd (none-some r k)
+parts-unfit T parts p made (Stop stop) h = tt

@@ -6,4 +6,7 @@ pub mod Declaring
 pub mod Moves
 pub mod Replacing
 pub mod Said
+pub mod Rows
+pub mod Finding
+pub mod Naming
 pub mod Effects

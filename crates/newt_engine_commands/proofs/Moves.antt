@@ -1,24 +1,23 @@
 -- Entries that are moved.
-use Rattle.std.proofs.Common.{◌≡◌, refl, ap, sym, ◌∙◌, subst, ℕ, List, [], ◌∷◌, ◌++◌, ◌⊎◌, inl, inr, Bool, false, Option, Some, None, option_and_then, replicate}
-use Rattle.std.specs.Prelude.{Result, Ok, Err, is_some}
+use Rattle.std.proofs.Common.{◌≡◌, refl, ap, sym, ◌∙◌, subst, ℕ, List, [], ◌∷◌, ◌++◌, ◌⊎◌, inl, inr, Bool, Option, Some, None, option_and_then, replicate}
+use Rattle.std.specs.Prelude.{Ok, Err}
 use Rattle.newt_base.specs.Refusals.{Checks, first_of}
 use Rattle.newt_base.specs.declared.Refusal.{Refusal}
-use Rattle.newt_base.specs.declared.Refusal.TheVariants.{Entry as NoEntry}
 use Rattle.newt_host.specs.Moments.{Moment, Always, MayLeave}
 use Rattle.newt_host.proofs.Moments.{Always-append, Always-map, Always-last}
 use Rattle.newt_spec_graph.specs.Lists.{Among}
 use Rattle.newt_spec_graph.proofs.Lists.{among-right, some-same, none-some, both-ways}
 use Rattle.newt_laws_world.proofs.Units.{same-or-not, device-other}
-use Rattle.newt_spec_store.specs.Store.{Store, Entry, soup_named, entry_of, change_soup, add_entry, remove_entry, soup_of, entry_at}
+use Rattle.newt_spec_store.specs.Store.{Store, Entry, entry_of, change_soup, add_entry, remove_entry, entry_at}
 use Rattle.newt_spec_world.specs.declared.command.Command.{Command}
 use Rattle.newt_spec_world.specs.declared.command.Command.TheVariants as command
 use Rattle.newt_spec_world.specs.Reply.{Reply}
 use Rattle.newt_spec_world.specs.World.{World, Device, Media, blank, one, two, lost, device, store_of, store_on_unit, stores_of, stores_on, change_store, change_media, IsBlankOn}
 use Rattle.newt_laws_steps.specs.Answering.{Answering, ReadsOneOf}
 use Rattle.newt_spec_world.specs.Answer.{answer}
-use Rattle.newt_laws_answers.proofs.Tests.{add_tests, room_tests, move_tests, moved_within, with_added}
+use Rattle.newt_laws_answers.proofs.Tests.{add_tests, room_tests, with_added}
 use Rattle.newt_laws_answers.specs.There.{OnUnit}
-use Rattle.newt_laws_answers.proofs.Copies.{graph-passes, move-no-entry, move-done, move-refused, within-done, within-refused}
+use Rattle.newt_laws_answers.proofs.Copies.{graph-passes, move-no-entry, move-done, move-refused}
 use Rattle.newt_laws_answers.proofs.Units.{is-there, on-changed, on-other}
 use Rattle.newt_store_change.specs.declared.fault.StoreFault.{StoreFault}
 use Rattle.newt_store_change.specs.declared.fault.StoreFault.TheVariants.{Refused, Stop}
@@ -26,9 +25,9 @@ use Rattle.newt_engine_units.specs.Answers.{Answers}
 use Rattle.newt_store_change.specs.Entries.{ReadsEntry}
 use Rattle.newt_store_change.specs.Faults.{Does}
 use Rattle.newt_engine_units.specs.Breaks.{Meanwhile}
-use Rattle.newt_engine_units.specs.Found.{HasSoup, HasEntry}
+use Rattle.newt_engine_units.specs.Found.{HasSoup}
 use Rattle.newt_engine_units.proofs.Left.{left-after}
-use Rattle.newt_engine_units.proofs.Answering.{does-answers, makes}
+use Rattle.newt_engine_units.proofs.Answering.{makes}
 use Rattle.newt_engine_commands.proofs.Commands.{entry-fits}
 
 -- one unit has one store
@@ -50,15 +49,6 @@ move-missing w v u to name target sig into uid h k same (Refused r) x =
     ∙ ap {B = World × Reply} (λ q. (w, Reply.refused q)) (sym x.1) ∙ ap {B = World × Reply} (λ y. (y, Reply.refused r)) (sym same)
 move-missing w v u to name target sig into uid h k same (Stop stop) x = tt
 
-pub inside-missing : (w : World) (u : ℕ) (name target : List ℕ) (sig into uid : ℕ) (h : HasSoup w u name sig) → HasSoup w u target into → is_some (entry_at sig uid h.store) ≡ false
-    → answer w (command.Move u name uid u target) ≡ (w, Reply.refused NoEntry)
-inside-missing w u name target sig into uid h k gone =
-    move-no-entry w u h.blocks h.store name h.soup uid h.on h.named u k.blocks k.store target k.soup k.on k.named (go (entry_of uid h.soup) (sym (ap (λ p. is_some (option_and_then (entry_of uid) p)) h.by_sig) ∙ gone))
-  where
-    go : (e : Option Entry) → is_some e ≡ false → e ≡ None
-    go None x = refl
-    go (Some e) x = absurd (both-ways (sym x))
-
 -- a unit that has a store has that one
 one-there : (w : World) (u : ℕ) (s : Store) → store_on_unit w u ≡ Some s → stores_on w u ≡ s ∷ []
 one-there w u s h = go (device w u) h
@@ -72,47 +62,6 @@ one-there w u s h = go (device w u) h
     go : (o : Option Device) → option_and_then (λ (d : Device). store_of d.media) o ≡ Some s → elim o [ None ↦ [] | Some d ↦ stores_of d.media ] ≡ s ∷ []
     go None h = absurd (none-some s h)
     go (Some d) h = media d.media h
-
--- ---- within one store
-
-module _ (w : World) (u : ℕ) (name target : List ℕ) (sig into uid : ℕ) (x : HasEntry w u name sig uid) (k : HasSoup w u target into) where
-  abbrev h : HasSoup w u name sig
-  h = x.of
-
-  same-store : h.store ≡ k.store
-  same-store = (same-unit w u h.blocks k.blocks h.store k.store h.on k.on).1
-
-  pub inside-by-sig : soup_of into h.store ≡ Some k.soup
-  inside-by-sig = subst (λ s. soup_of into s ≡ Some k.soup) (sym same-store) k.by_sig
-
-  pub inside-named : soup_named k.soup.name h.store ≡ Some k.soup
-  inside-named = subst (λ s. soup_named k.soup.name s ≡ Some k.soup) (sym same-store) k.self_named
-
-  module _ (none : w.cursors ≡ replicate 32 None) where
-    abbrev inside : Store → Store
-    inside = moved_within w.minute h.soup.name uid k.soup.name x.entry.graph
-
-    abbrev inside_tests : Checks
-    inside_tests = move_tests h.blocks w.minute h.soup.name uid k.soup.name x.entry.graph h.store k.soup
-
-    abbrev inside_answer : World × Reply
-    inside_answer = answer w (command.Move u name uid u target)
-
-    named : answer w (command.Move u h.soup.name uid u k.soup.name) ≡ inside_answer
-    named = ap (answer w) (move-named w u u name target sig into uid h k)
-
-    inside-done : first_of inside_tests ≡ None → inside_answer ≡ (change_store w u inside, Reply.number k.soup.next_uid)
-    inside-done d = sym named ∙ within-done w u h.blocks h.store h.soup.name h.soup uid h.on h.self_named k.soup.name k.soup inside-named x.entry x.found d none
-
-    inside-refused : (r : Refusal) → first_of inside_tests ≡ Some r → inside_answer ≡ (w, Reply.refused r)
-    inside-refused r d = sym named ∙ within-refused w u h.blocks h.store h.soup.name h.soup uid h.on h.self_named k.soup.name k.soup inside-named x.entry x.found r d
-
-    pub inside-answers : (v : World) (result : Result ℕ StoreFault) → Does inside_tests (λ n. n ≡ k.soup.next_uid) w (change_store w u inside) v result → Answers w v (command.Move u name uid u target) (λ n. Reply.number n) result
-    inside-answers v result d = does-answers w v (change_store w u inside) (command.Move u name uid u target) (λ n. Reply.number n) inside_tests (λ n. n ≡ k.soup.next_uid)
-        (λ t n good. inside-done t ∙ ap {B = World × Reply} (λ m. (change_store w u inside, Reply.number m)) (sym good)) inside-refused result d
-
-    pub inside-makes : first_of inside_tests ≡ None → store_on_unit inside_answer.0 u ≡ Some (inside h.store)
-    inside-makes t = makes w u h.blocks h.store inside inside_answer (Reply.number k.soup.next_uid) h.on (inside-done t)
 
 -- ---- between two stores
 

@@ -9,9 +9,8 @@ use Rattle.newt_host.specs.Outside.{Outside, NoFault}
 use Rattle.newt_spec_graph.proofs.Lists.{both-ways}
 use Rattle.newt_spec_store.specs.Store.{Store}
 use Rattle.newt_spec_world.specs.World.{World, store_on_unit, change_store}
-use Rattle.newt_spec_world.specs.Answer.{answer, answered}
+use Rattle.newt_spec_world.specs.Answer.{answer}
 use Rattle.newt_spec_world.specs.Refused.{checks}
-use Rattle.newt_spec_world.specs.Reply.{Reply}
 use Rattle.newt_spec_world.specs.Step.{may_tear, moves_away, writes}
 use Rattle.newt_spec_world.specs.declared.command.Command.{Command}
 use Rattle.newt_laws_answers.specs.There.{OnUnit}
@@ -23,7 +22,6 @@ use Rattle.newt_store_change.specs.declared.change.Change.{Change}
 use Rattle.newt_store_change.specs.declared.fault.StoreFault.{StoreFault}
 use Rattle.newt_store_change.specs.declared.fault.StoreFault.TheVariants.{Refused, Stop}
 use Rattle.newt_engine_card.specs.Bounds.{CostsOn, FetchesOn}
-use Rattle.newt_engine_units.specs.Answers.{Answers}
 use Rattle.newt_engine_units.specs.Breaks.{AtDevice, Meanwhile}
 use Rattle.newt_engine_units.specs.Calls.{AreRead, BreaksIn, Changes}
 use Rattle.newt_engine_units.specs.Stands.{due_in, world_of}
@@ -43,26 +41,10 @@ does-as w v u blocks s on xs ys good fine f g same better is (Ok x) d = (sym sam
 does-as w v u blocks s on xs ys good fine f g same better is (Err (Refused refusal)) d = (sym same ∙ d.0, d.1)
 does-as w v u blocks s on xs ys good fine f g same better is (Err (Stop stop)) d = tt
 
--- a command that was done was not refused
-pub unrefused : {T : Type 0} (reply : T → Reply) (w v : World) (c : Command) (x : T) → ((r : Refusal) → reply x ≡ Reply.refused r → ⊥) → Answers w v c reply (Ok x) → first_of (checks w c) ≡ None
-unfolding answer
-unrefused reply w v c x never h = go (first_of (checks w c)) refl
-  where
-    go : (o : Option Refusal) → first_of (checks w c) ≡ o → first_of (checks w c) ≡ None
-    go None e = e
-    go (Some r) e = absurd (never r (sym (ap {A = World × Reply} (λ a. a.1) h) ∙ ap (λ (o : Option Refusal). (answered w c o).1) e))
-
 -- ---- where the device fails
 
 module _ {C : Type 0} {reads : List ℕ → Option Store} {place : C → ℕ} {standing : Bool → C → Outside → Type 0} {told : Bool} {u : ℕ} {change : Change} {later : Units C} {p : Outside}
     {result : Result ℕ StoreFault} (c : Command) where
-  pub change-breaks : {units : Units C} {o : Outside} → Changes reads place standing told u change units later o p result → (IsTrue told → may_tear (world_of reads units o) c u ≡ false → p.now ≡ o.now)
-      → IfErr result (AtDevice (BreaksIn reads place standing told c units later o p))
-  change-breaks {units} {o} e untorn = err-device-map _ _ result (λ n b. record {
-    breaks = b.1;
-    same = λ t tears sure store. untorn t (subst (λ k. may_tear (world_of reads units o) c k ≡ false) b.0 tears);
-  }) e.broke
-
   -- after a read
   pub after-breaks : {units mid : Units C} {o m : Outside} → AreRead reads place standing told units mid o m → NoFault o m → Changes reads place standing told u change mid later m p result
       → (IsTrue told → may_tear (world_of reads mid m) c u ≡ false → p.now ≡ m.now) → IfErr result (AtDevice (BreaksIn reads place standing told c units later o p))
@@ -110,15 +92,6 @@ module _ {C : Type 0} {reads : List ℕ → Option Store} {place : C → ℕ} {s
       go : (q : Option Refusal) → first_of tests ≡ q → IsSome (first_of tests)
       go None k = absurd (both-ways (sym untorn ∙ tears k))
       go (Some r) k = ap is_some k
-
-  -- the same by what is answered
-  pub said-untorn : (c : Command) {T : Type 0} (reply : T → Reply) (x : T) (good : T → Type 0) → writes (world_of reads units o) c u ≡ true → moves_away c u ≡ false → ((r : Refusal) → reply x ≡ Reply.refused r → ⊥) → good x
-      → ((r : Result T StoreFault) → Does tests good (world_of reads units o) (change_store (world_of reads units o) u made) (change_store (world_of reads units o) u made) r
-      → Answers (world_of reads units o) (change_store (world_of reads units o) u made) c reply r)
-      → may_tear (world_of reads units o) c u ≡ false → p.now ≡ o.now
-  said-untorn c reply x good written stays never fine answers untorn =
-      after-untorn (world_of reads units o) refl c written stays
-      (λ k. unrefused reply (world_of reads units o) (change_store (world_of reads units o) u made) c x never (answers (Ok x) (k, fine, refl))) untorn
 
   -- what it costs
   pub said-costs : Spent u most (bytes_fetched change s) result o p

@@ -1,3 +1,2 @@
-pub mod Calls
 pub mod Declares
-pub mod Done
+pub mod Plans

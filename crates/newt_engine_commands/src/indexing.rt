@@ -1,4 +1,4 @@
-//! Indexes: declared, removed and shown.
+//! Indexes: shown, and what declares one.
 ghost use Rattle.std.specs.Prelude.{◌≡◌, ℕ, true, Some, None, IfOk, IfErr, map, option_map};
 ghost use Rattle.std.specs.Prelude.{option_and_then};
 ghost use Rattle.newt_host.specs.Outside.{Outside};
@@ -12,60 +12,19 @@ ghost use Rattle.newt_laws_answers.specs.There.{OnUnit};
 ghost use Rattle.newt_engine_units.specs.Answers.{Answers};
 ghost use Rattle.newt_engine_commands.specs.Declares.{MayDeclare};
 ghost use Rattle.newt_store_change.specs.Faults.{NoDevice};
-ghost use Rattle.newt_engine_units.specs.Calls.{Obeys};
 ghost use Rattle.newt_engine_units.specs.Stands.{Eight, Stands, world_of, card_on};
 
 use crate::declarations::{copied_specs, has_paths, has_paths_of, new_spec};
-use crate::done::done;
 use crate::forms::has_real;
 use newt_base::{Name, Refusal, Sig};
 use newt_engine_card::Card;
 use newt_engine_units::Units;
-use newt_host::{Host, Unit};
+use newt_host::Unit;
 use newt_keys::IndexSpec;
-use newt_path::{Path, Paths};
+use newt_path::Path;
 use newt_reply::SpecRows;
-use newt_spec_world::{PartWord, Parts};
-use newt_store_change::{Change, StoreFault};
-
-/// Declares an index of a soup.
-pub fn index<C: Card, H: Host>(
-    units: &mut Units<C>,
-    host: &mut H,
-    unit: Unit,
-    name: &Name,
-    parts: &Parts,
-) -> Result<(), StoreFault>
-    requires stands { Stands C.place C.stands H.told units.old (H.outside host.old) }
-    requires form { parts_fit parts.now ≡ true }
-    ensures { Obeys C.reads C.place C.stands H.told (Command.Index unit name.now parts.now)
-        (λ _. Reply.done) units.old units.new (H.outside host.old) (H.outside host.new) result }
-{
-    let words = parts.list();
-    let soup = units.find_soup(unit, name)?;
-    let spec = spec_for(units, unit, soup, words)?;
-    done(units.change(host, unit, Change::AddIndex(soup, spec)))
-}
-
-/// Removes an index from a soup.
-pub fn unindex<C: Card, H: Host>(
-    units: &mut Units<C>,
-    host: &mut H,
-    unit: Unit,
-    name: &Name,
-    paths: Paths,
-) -> Result<(), StoreFault>
-    requires { Stands C.place C.stands H.told units.old (H.outside host.old) }
-    ensures { Obeys C.reads C.place C.stands H.told (Command.Unindex unit name.now paths)
-        (λ _. Reply.done)
-        units.old units.new (H.outside host.old) (H.outside host.new) result }
-{
-    let soup = units.find_soup(unit, name)?;
-    if !has_index(units, unit, soup, paths.list()) {
-        return Err(StoreFault::Refused(Refusal::Index));
-    }
-    done(units.change(host, unit, Change::DropIndex(soup, paths)))
-}
+use newt_spec_world::PartWord;
+use newt_store_change::StoreFault;
 
 /// The indexes of a soup, in order of declaration.
 pub fn indexes<C: Card>(units: &Units<C>, unit: Unit, name: &Name) -> Result<SpecRows, StoreFault>
@@ -95,7 +54,7 @@ fn specs<C: Card>(units: &Units<C>, unit: Unit, soup: Sig) -> Option<&[IndexSpec
 }
 
 /// Whether a soup that is there has an index of these paths.
-fn has_index<C: Card>(units: &Units<C>, unit: Unit, soup: Sig, paths: &[Path]) -> bool
+pub(crate) fn has_index<C: Card>(units: &Units<C>, unit: Unit, soup: Sig, paths: &[Path]) -> bool
     ensures { (outside : Outside) → Eight outside → Stands C.place C.stands true units.now outside
         → (blocks : ℕ) (s : Plain) (p : Soup)
         → OnUnit (world_of C.reads units.now outside) unit blocks s →
@@ -122,7 +81,7 @@ fn has_index_of<C: Card>(units: &Units<C>, unit: Unit, soup: Sig, parts: &[PartW
 
 /// The declaration of these parts for a soup that is there, or why there is none: it has an index
 /// of their paths, or a part has no type.
-fn spec_for<C: Card>(
+pub(crate) fn spec_for<C: Card>(
     units: &Units<C>,
     unit: Unit,
     soup: Sig,

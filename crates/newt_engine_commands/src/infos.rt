@@ -1,4 +1,4 @@
-//! Info frames: set and shown.
+//! Info frames: shown, and what sets one.
 ghost use Rattle.std.specs.Prelude.{◌≡◌, Some, None, IfErr, option_map, option_and_then};
 ghost use Rattle.std.specs.Prelude.{true};
 ghost use Rattle.newt_host.specs.Outside.{Outside};
@@ -10,19 +10,17 @@ ghost use Rattle.newt_spec_world.specs.declared.command.Command.{Command};
 ghost use Rattle.newt_engine_units.specs.Answers.{Answers};
 ghost use Rattle.newt_spec_store.specs.Store.{soup_of};
 ghost use Rattle.newt_store_change.specs.Faults.{NoDevice};
-ghost use Rattle.newt_engine_units.specs.Calls.{Obeys};
 ghost use Rattle.newt_engine_units.specs.Stands.{Eight, Stands, world_of, card_on};
 
-use crate::done::done;
 use newt_base::{Name, Sig};
 use newt_engine_card::Card;
 use newt_engine_units::Units;
 use newt_graph::{Graph, Ref};
-use newt_host::{Host, Unit};
-use newt_store_change::{Change, StoreFault};
+use newt_host::Unit;
+use newt_store_change::StoreFault;
 
 /// The info frame that a literal gives a soup; nil gives none.
-fn info_of(literal: Graph) -> Option<Graph>
+pub(crate) fn info_of(literal: Graph) -> Option<Graph>
     ensures { result ≡ info_from literal }
 {
     if is_nil(literal.root()) {
@@ -36,24 +34,6 @@ fn is_nil(value: Ref) -> bool
     ensures { result ≡ is_nil value }
 {
     matches!(value, Ref::Imm(2))
-}
-
-/// Gives a soup an info frame, or none where the literal is nil.
-pub fn set_info<C: Card, H: Host>(
-    units: &mut Units<C>,
-    host: &mut H,
-    unit: Unit,
-    name: &Name,
-    literal: Graph,
-) -> Result<(), StoreFault>
-    requires stands { Stands C.place C.stands H.told units.old (H.outside host.old) }
-    ensures { Obeys C.reads C.place C.stands H.told
-        (Command.SetInfo unit name.now literal) (λ _. Reply.done)
-        units.old units.new (H.outside host.old) (H.outside host.new) result }
-{
-    let soup = units.find_soup(unit, name)?;
-    let info = info_of(literal);
-    done(units.change(host, unit, Change::SetInfo(soup, info)))
 }
 
 /// The info frame of a soup, if it has one.

@@ -8,23 +8,19 @@
 //! getx, set, change, remove, copy, move within one store, alias, vread, vwrite.
 #![tactic(auto)]
 
-mod copies;
+mod changes;
 mod declarations;
-mod done;
 mod entries;
 mod forms;
 mod indexing;
 mod infos;
 mod larges;
-mod replaces;
-mod soups;
+mod plans;
 mod tagging;
 
-pub use copies::{copy, move_within};
-pub use entries::{add, add_to_default, alias, get, remove};
-pub use indexing::{index, indexes, unindex};
-pub use infos::{info, set_info};
-pub use larges::{vread, vwrite};
-pub use replaces::{change, set};
-pub use soups::{drop_soup, soup};
-pub use tagging::{set_tags, tags};
+pub use changes::{changes_stores, obey};
+pub use entries::{alias, get};
+pub use indexing::indexes;
+pub use infos::info;
+pub use larges::vread;
+pub use tagging::tags;

@@ -14,16 +14,15 @@ use Rattle.newt_engine_units.specs.Answers.{Answers}
 use Rattle.newt_engine_units.specs.Breaks.{AtDevice}
 use Rattle.newt_engine_units.specs.Calls.{BreaksIn}
 use Rattle.newt_engine_units.specs.Kept.{KeepsUnits}
-use Rattle.newt_engine_units.specs.Stands.{Eight, world_of}
-use Rattle.newt_engine_units.proofs.Broken.{none-devices}
+use Rattle.newt_engine_units.specs.Stands.{world_of}
 use Rattle.newt_engine_units.proofs.Keeping.{keeps-refl}
 use Rattle.newt_laws_steps.specs.StandsFor.{seen}
 use Rattle.newt_engine.specs.Ends.{takes_memory, uses_device}
 use Rattle.newt_engine.specs.Laws.{laws_of}
 use Rattle.newt_engine.proofs.Costing.{format_costs, still_costs}
-use Rattle.newt_engine.proofs.Forming.{format-fresh, memory-unformed}
-use Rattle.newt_engine.proofs.Groups.{format_form, in_memory, index_form, tags_form, within_own}
-use Rattle.newt_engine.proofs.Handed.{answered_on, err_on, goes_back, has_cause, moments_same, quiet, quiet_on, seen_in_memory, told_stands}
+use Rattle.newt_engine.proofs.Forming.{format-fresh}
+use Rattle.newt_engine.proofs.Groups.{format_form, no_others}
+use Rattle.newt_engine.proofs.Handed.{answered_on, err_on, goes_back, moments_same, quiet, quiet_on}
 use Rattle.newt_laws_world.specs.Settled.{moves_keys}
 use Rattle.newt_engine.proofs.Keeping.{idle_back}
 use Rattle.newt_engine.proofs.Obeying.{handed_obeyed}
@@ -81,12 +80,6 @@ returns-in-Lit g c =
 pub format-requires-clause-sig : goal.format-requires-clause-sig
 format-requires-clause-sig g c = format_form c.args.command _ _ _ c.in-Format.is c.requires.form
 
-pub index-requires-clause-form : goal.index-requires-clause-form
-index-requires-clause-form g c = index_form c.args.command _ _ _ c.in-Index.is c.requires.form
-
-pub set_tags-requires-clause-form : goal.set_tags-requires-clause-form
-set_tags-requires-clause-form g c = tags_form c.args.command _ _ _ _ c.in-SetTags.is c.requires.form
-
 pub returns-in-Format : goal.returns-in-Format
 returns-in-Format g c =
     let call = c.format.ensures in
@@ -117,91 +110,14 @@ returns-in-Format g c =
 pub returns-in-Mount : goal.returns-in-Mount
 returns-in-Mount g c = handed_obeyed c.mounted.ensures c.in-Mount.is refl refl refl (λ x r k. cc) (λ x u. refl) c.mount.ensures refl
 
-pub returns-in-Soup : goal.returns-in-Soup
-returns-in-Soup g c = handed_obeyed c.numbered.ensures c.in-Soup.is refl refl refl (λ x r k. cc) (λ x u. refl) c.soup.ensures refl
-
-pub returns-in-Drop : goal.returns-in-Drop
-returns-in-Drop g c = handed_obeyed c.done-in-Drop.ensures c.in-Drop.is refl refl refl (λ x r k. cc) (λ x u. refl) c.drop_soup.ensures refl
-
-pub returns-in-Index : goal.returns-in-Index
-returns-in-Index g c = handed_obeyed c.done-in-Index.ensures c.in-Index.is refl refl refl (λ x r k. cc) (λ x u. refl) c.index.ensures refl
-
-pub returns-in-Unindex : goal.returns-in-Unindex
-returns-in-Unindex g c = handed_obeyed c.done-in-Unindex.ensures c.in-Unindex.is refl refl refl (λ x r k. cc) (λ x u. refl) c.unindex.ensures refl
-
-pub returns-in-SetTags : goal.returns-in-SetTags
-returns-in-SetTags g c = handed_obeyed c.done-in-SetTags.ensures c.in-SetTags.is refl refl refl (λ x r k. cc) (λ x u. refl) c.set_tags.ensures refl
-
-pub returns-in-SetInfo : goal.returns-in-SetInfo
-returns-in-SetInfo g c = handed_obeyed c.done-in-SetInfo.ensures c.in-SetInfo.is refl refl refl (λ x r k. cc) (λ x u. refl) c.set_info.ensures refl
-
-pub returns-in-Add : goal.returns-in-Add
-returns-in-Add g c = handed_obeyed c.numbered-in-Add.ensures c.in-Add.is refl refl refl (λ x r k. cc) (λ x u. refl) c.add.ensures.obeyed refl
-
-pub returns-in-Addx : goal.returns-in-Addx
-returns-in-Addx g c = handed_obeyed c.numbered-in-Addx.ensures c.in-Addx.is refl refl refl (λ x r k. cc) (λ x u. refl) c.add-in-Addx.ensures.as_stream refl
-
-pub returns-in-Addu : goal.returns-in-Addu
-returns-in-Addu g c = handed_obeyed c.added.ensures c.in-Addu.is refl refl refl (λ x r k. cc) (λ x u. refl) c.add_to_default.ensures refl
-
 pub returns-in-Get : goal.returns-in-Get
 returns-in-Get g c = handed_obeyed c.timed.ensures c.in-Get.is refl refl refl (λ x r k. cc) (λ x u. refl) c.get.ensures.obeyed refl
 
 pub returns-in-Getx : goal.returns-in-Getx
 returns-in-Getx g c = handed_obeyed c.timed_nsof.ensures c.in-Getx.is refl refl refl (λ x r k. cc) (λ x u. refl) c.get-in-Getx.ensures.as_stream refl
 
-pub returns-in-Set : goal.returns-in-Set
-returns-in-Set g c = handed_obeyed c.done-in-Set.ensures c.in-Set.is refl refl refl (λ x r k. cc) (λ x u. refl) c.set.ensures refl
-
-pub returns-in-Change : goal.returns-in-Change
-returns-in-Change g c = handed_obeyed c.done-in-Change.ensures c.in-Change.is refl refl refl (λ x r k. cc) (λ x u. refl) c.change.ensures refl
-
-pub returns-in-Remove : goal.returns-in-Remove
-returns-in-Remove g c = handed_obeyed c.done-in-Remove.ensures c.in-Remove.is refl refl refl (λ x r k. cc) (λ x u. refl) c.remove.ensures refl
-
-pub returns-in-Copy : goal.returns-in-Copy
-returns-in-Copy g c = handed_obeyed c.numbered-in-Copy.ensures c.in-Copy.is refl refl refl (λ x r k. cc) (λ x u. refl) c.copy.ensures refl
-
-pub returns-in-Move : goal.returns-in-Move
-returns-in-Move g c = handed_obeyed c.numbered-in-Move.ensures (within_own c.args.command _ _ _ _ _ c.in-Move.is c.requires.within) refl refl refl (λ x r k. cc) (λ x u. refl) c.move_within.ensures refl
-
 pub returns-in-Vread : goal.returns-in-Vread
 returns-in-Vread g c = handed_obeyed c.hex.ensures c.in-Vread.is refl refl refl (λ x r k. cc) (λ x u. refl) c.vread.ensures refl
 
-pub returns-in-Vwrite : goal.returns-in-Vwrite
-returns-in-Vwrite g c = handed_obeyed c.done-in-Vwrite.ensures c.in-Vwrite.is refl refl refl (λ x r k. cc) (λ x u. refl) c.vwrite.ensures refl
-
-pub obey_in_memory-obeyed-requires : goal.obey_in_memory-obeyed-requires
-obey_in_memory-obeyed-requires g c =
-    let d = c.in_default in
-    let is = in_memory c.args.command c.requires.no_cursor d.not-Nsof d.not-Lit d.not-Format d.not-Mount d.not-Soup d.not-Drop d.not-Index d.not-Unindex d.not-SetTags d.not-SetInfo d.not-Add d.not-Addx d.not-Addu d.not-Get d.not-Getx d.not-Set d.not-Change d.not-Remove d.not-Copy d.not-Move d.not-Vread d.not-Vwrite in
-    record { not_shown = is.0; no_device = is.1; no_cursor = c.requires.no_cursor }
-
-pub returns-in_default : goal.returns-in_default
-returns-in_default g c =
-    let o = g.H.Host.outside c.args.host.now in
-    let eight : Eight o = record { eight = g.met.H.Host.eight c.args.host.now; none = g.met.H.Host.none c.args.host.now } in
-    let d = c.in_default in
-    let is = in_memory c.args.command c.requires.no_cursor d.not-Nsof d.not-Lit d.not-Format d.not-Mount d.not-Soup d.not-Drop d.not-Index d.not-Unindex d.not-SetTags d.not-SetInfo d.not-Add d.not-Addx d.not-Addu d.not-Get d.not-Getx d.not-Set d.not-Change d.not-Remove d.not-Copy d.not-Move d.not-Vread d.not-Vwrite in
-    let no_device = is.1 in
-    let call = c.obey_in_memory-obeyed.ensures in record {
-      stands = λ goes. call.stands g.H.Host.told o c.requires.stands;
-      answered = λ t. subst (λ x. Answers x (world_of g.C.Card.reads c.obey_in_memory-obeyed.new.self.units o) c.args.command said c.obey_in_memory-obeyed.result)
-          (sym (seen_in_memory g.C.Card.reads (world_of g.C.Card.reads c.args.self.now.units o) o.now c.args.command no_device)) (call.answered o eight (told_stands g.H.Host.told c.args.self.now.units o c.requires.stands t));
-      moments = λ t. quiet (laws_of g.met.C.Card.formed g.met.C.Card.plain g.met.C.Card.durable g.met.C.Card.banks g.met.C.Card.kept) g.H.Host.told c.args.self.now.units o eight c.requires.stands t c.args.command _;
-      desk = call.desk;
-      unrefused = λ t moves. absurd (moves_on_devices c.args.command moves no_device);
-      kept = λ idle. subst (λ x. KeepsUnits (looks_at c.args.command) c.args.self.now.units x) (sym (call.kept idle)) (keeps-refl c.args.self.now.units);
-      busy = λ moves. absurd (moves_on_devices c.args.command moves no_device);
-      costs = λ t. still_costs (λ u. alone-refl u _) (λ means. idle-fetches _ _ o);
-      fresh = λ t u is. absurd (both-ways (sym (memory-unformed c.args.command u no_device) ∙ is));
-      alone = OnDevices-refl o;
-      broke = none-devices _ _ call.device;
-      ends = record {
-        cause = has_cause _ _ _ (NoFault-refl o) call.device;
-        no_fault = λ goes. NoFault-refl o;
-        memory = call.ends;
-        device = λ uses_none. call.device;
-        quiet = call.quiet;
-      };
-    }
+pub obey_other-requires-clause-other : goal.obey_other-requires-clause-other
+obey_other-requires-clause-other g c = let d = c.in_default in no_others c.args.command d.not-Nsof d.not-Lit d.not-Format d.not-Mount d.not-Get d.not-Getx d.not-Vread
