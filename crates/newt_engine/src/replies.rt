@@ -85,7 +85,8 @@ pub(crate) fn changed(words: Words, found: Result<Effect, StoreFault>) -> Result
     }
 }
 
-fn told(words: Words, effect: Effect) -> Reply
+/// The reply that tells in these words what was done to a store.
+pub(crate) fn told(words: Words, effect: Effect) -> Reply
     ensures { said result ≡ in_words words effect }
 {
     match words {
