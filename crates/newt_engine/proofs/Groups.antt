@@ -1,6 +1,6 @@
 -- The commands, told apart by the arms that took others.
-use Rattle.std.proofs.Common.{◌≡◌, refl, ap, sym, ◌∙◌, ℕ, List, Bool, true, false, not, ◌==◌, ◌&&◌}
-use Rattle.std.proofs.lemmas.Bool.{and_parts, eq-eqb, eqb-true}
+use Rattle.std.proofs.Common.{◌≡◌, refl, ap, sym, ◌∙◌, ℕ, List, true, false}
+use Rattle.std.proofs.lemmas.Bool.{and_parts}
 use Rattle.newt_base.specs.Names.{is_name}
 use Rattle.newt_laws_world.specs.Worlds.{has_form, is_plain, sig_fits}
 use Rattle.newt_spec_world.specs.declared.command.Command.{Command}
@@ -10,12 +10,11 @@ use Rattle.newt_laws_effects.specs.Tells.{is_of_stores}
 use Rattle.newt_base.specs.declared.Refusal.{Refusal}
 use Rattle.newt_spec_script.specs.Rows.{throws}
 use Rattle.newt_spec_world.specs.Reply.{Reply}
-use Rattle.newt_spec_world.specs.Step.{moves_away}
 use Rattle.newt_engine_units.specs.declared.effects.Effect.{Effect}
-use Rattle.newt_engine_commands.specs.Plans.{told_by}
+use Rattle.newt_engine_commands.specs.Plans.{told_as}
 use Rattle.newt_engine.specs.Ends.{takes_memory, uses_device}
 use Rattle.newt_engine.specs.Bounds.{is_format}
-use Rattle.newt_engine.specs.Groups.{is_between, is_other, is_shown, on_place}
+use Rattle.newt_engine.specs.Groups.{is_other, is_shown, on_place}
 
 -- the others are of watches and working copies
 pub no_other : (c : Command) → is_shown c ≡ false → uses_device c ≡ false → uses_cursors c ≡ false → ((t : _) → c ≡ command.Time t → ⊥) → (c ≡ command.Quit → ⊥) → ((u : _) → c ≡ command.Unmount u → ⊥) → (c ≡ command.Stores → ⊥)
@@ -68,11 +67,11 @@ of_stores (command.Soup a b) stores = (refl, refl, refl)
 of_stores _ stores = (cc, cc, cc)
 
 -- what it did is told by no refusal, and says of no unit that its device failed
-pub told_done : (k : Command) (x : Effect) (r : Refusal) → told_by k x ≡ Reply.refused r → ⊥
+pub told_done : (k : Command) (x : Effect) (r : Refusal) → told_as k x ≡ Reply.refused r → ⊥
 told_done (command.Soup a b) x r h = cc
 told_done _ x r h = cc
 
-pub told_quiet : (k : Command) (x : Effect) (u : ℕ) → throws u (told_by k x) ≡ false
+pub told_quiet : (k : Command) (x : Effect) (u : ℕ) → throws u (told_as k x) ≡ false
 told_quiet (command.Soup a b) x u = refl
 told_quiet _ x u = refl
 
@@ -103,16 +102,3 @@ no_place _ place query all count which clone close = cc
 pub format_form : (c : Command) (u : ℕ) (name : List ℕ) (sig : ℕ) → c ≡ command.Format u name sig → has_form c ≡ true → sig_fits sig ≡ true
 unfolding has_form
 format_form c u name sig is h = (and_parts (is_name name) (sig_fits sig) (ap has_form (sym is) ∙ h)).1
-
--- a move that is not to another unit leaves none
-pub stays_there : (k : Command) → is_between k ≡ false → (u : ℕ) → moves_away k u ≡ false
-stays_there (command.Move t name uid to target) within u = go (t == u) refl
-  where
-    kept : (b : Bool) → not b ≡ false → b ≡ true
-    kept true h = refl
-    kept false h = sym h
-
-    go : (b : Bool) → (t == u) ≡ b → (b && not (to == u)) ≡ false
-    go true is = ap not (eq-eqb to u (sym (eqb-true t to (kept (t == to) within)) ∙ eqb-true t u is))
-    go false is = refl
-stays_there _ within u = refl

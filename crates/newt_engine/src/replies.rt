@@ -4,7 +4,7 @@ ghost use Rattle.newt_reply.specs.Said.{said, soup_row};
 ghost use Rattle.newt_spec_world.specs.Answer.{or_nil};
 ghost use Rattle.newt_spec_world.specs.Reply as plain;
 ghost use Rattle.newt_engine_units.specs.declared.effects.Effect.{Effect as Did};
-ghost use Rattle.newt_engine_commands.specs.Plans.{told_by};
+ghost use Rattle.newt_engine_commands.specs.Plans.{told_as};
 ghost use Rattle.newt_engine_cursors.specs.Replies.{shown_reply, side_reply};
 ghost use Rattle.newt_engine.specs.Handed.{HandsOn};
 ghost use Rattle.newt_engine.specs.Words.{in_words};
@@ -62,7 +62,7 @@ pub(crate) enum Words {
 
 /// In which words a command that changes a store tells what it did.
 pub(crate) fn words_of(command: &Command) -> Words
-    ensures { (effect : Did) → in_words result effect ≡ told_by command.now effect }
+    ensures { (effect : Did) → in_words result effect ≡ told_as command.now effect }
 {
     match command {
         Command::Soup(_, _)

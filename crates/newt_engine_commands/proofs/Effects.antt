@@ -53,7 +53,7 @@ use Rattle.newt_engine_units.specs.Effects.{answer_in, effect_of}
 use Rattle.newt_engine_units.specs.declared.effects.Effect.{Effect}
 use Rattle.newt_engine_units.specs.Stands.{due_in, world_of}
 use Rattle.newt_engine_units.specs.declared.units.Units.{Units}
-use Rattle.newt_engine_commands.specs.Plans.{CarriesOut, Did, IsFound, ResolvesTo, looked_up, told_by}
+use Rattle.newt_engine_commands.specs.Plans.{CarriesOut, Did, IsFound, ResolvesTo, looked_up, told_as}
 use Rattle.newt_engine_commands.proofs.Costing.{half}
 use Rattle.newt_engine_commands.proofs.Rows.{Row, same-low}
 use Rattle.newt_engine_commands.proofs.Said.{after-breaks, after-moments}
@@ -134,7 +134,7 @@ module _ {C : Type 0} {reads : List ℕ → Option Store} {place : C → ℕ} {s
   w = world_of reads mid m
 
   abbrev reply : ℕ → Reply
-  reply n = told_by c (effect_of u d n)
+  reply n = told_as c (effect_of u d n)
 
   -- the world is the same after the read
   there : IsTrue told → Resolves w c u d
@@ -198,10 +198,10 @@ module _ {C : Type 0} {reads : List ℕ → Option Store} {place : C → ℕ} {s
   pub effect-carries : (made : Result Effect StoreFault) → answer_in made ≡ result → IfOk made (λ x. x ≡ effect_of u d x.answer) → CarriesOut reads place standing told c units later o p made
   effect-carries made is effect = record { obeyed = again made is effect; did = λ t. done t made is effect }
     where
-      again : (made : Result Effect StoreFault) → answer_in made ≡ result → IfOk made (λ x. x ≡ effect_of u d x.answer) → Obeys reads place standing told c (told_by c) units later o p made
+      again : (made : Result Effect StoreFault) → answer_in made ≡ result → IfOk made (λ x. x ≡ effect_of u d x.answer) → Obeys reads place standing told c (told_as c) units later o p made
       again (Ok x) is effect = let b = subst (λ r. Obeys reads place standing told c reply units later o p r) (sym is) change-obeys in record {
         stands = b.stands;
-        answered = λ t. b.answered t ∙ ap (λ y. (world_of reads later p, told_by c y)) (sym effect);
+        answered = λ t. b.answered t ∙ ap (λ y. (world_of reads later p, told_as c y)) (sym effect);
         moments = b.moments;
         costs = λ t. costs-of (b.costs t) (λ goes. goes);
         alone = b.alone;
@@ -237,7 +237,7 @@ pub unresolved-carries : {C : Type 0} {reads : List ℕ → Option Store} {place
     → CarriesOut reads place stands told c units later o p result
 unresolved-carries {reads = reads} {place} {stands = stands} {told} {units} {later} {o} {p} at c of_stores fault r result h =
     subst (λ x. CarriesOut reads place stands told c units later o p x) (sym (is-err result fault h)) (record {
-      obeyed = read-obeys at c (told_by c) r.looks (λ t means j. low (p.fetched j) (o.fetched j) _ _ (r.fetches t j) (looked-few w c j)) (Err fault) (handed-ends (Err fault) (fault, refl, refl) r.ends)
+      obeyed = read-obeys at c (told_as c) r.looks (λ t means j. low (p.fetched j) (o.fetched j) _ _ (r.fetches t j) (looked-few w c j)) (Err fault) (handed-ends (Err fault) (fault, refl, refl) r.ends)
           (λ t. answered t fault (r.found t));
       did = λ t. tt;
     })
@@ -248,7 +248,7 @@ unresolved-carries {reads = reads} {place} {stands = stands} {told} {units} {lat
     low : (a b c d : ℕ) → a ≤ b + c → c ≤ d → a ≤ b + d
     low a b c d h k = omega (arith, h, k)
 
-    answered : IsTrue told → (fault : StoreFault) → IsFound (effects w c) (Err fault) → Answers {T = Effect} (seen reads w o.now c) (world_of reads later p) c (told_by c) (Err fault)
+    answered : IsTrue told → (fault : StoreFault) → IsFound (effects w c) (Err fault) → Answers {T = Effect} (seen reads w o.now c) (world_of reads later p) c (told_as c) (Err fault)
     answered t (Refused q) is = ap (λ x. answer x c) (unseen reads w o.now c of_stores) ∙ refused w c q (row-refusal w c (known-formed at t) of_stores ∙ ap (refusal w) is)
         ∙ ap {B = World × Reply} (λ x. (x, Reply.refused q)) (sym (r.looks.world t))
     answered t (Stop stop) is = tt

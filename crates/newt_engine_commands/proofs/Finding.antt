@@ -9,14 +9,14 @@ use Rattle.newt_base.specs.declared.Refusal.TheVariants.{Soup as NoSoup, Entry a
 use Rattle.newt_host.specs.Outside.{Outside}
 use Rattle.newt_host.proofs.Outside.{OnDevices-refl}
 use Rattle.newt_spec_graph.proofs.Lists.{none-some, some-same}
-use Rattle.newt_spec_store.specs.Store.{Entry, Soup, Store, entry_of, soup_named}
+use Rattle.newt_spec_store.specs.Store.{Entry, Soup, Store, entry_at, entry_of, soup_named}
 use Rattle.newt_spec_world.specs.World.{World, Device, device, store_if_mounted, default_unit}
 use Rattle.newt_spec_world.specs.declared.command.Command.{Command}
 use Rattle.newt_laws_answers.specs.There.{OnUnit}
 use Rattle.newt_laws_answers.specs.Tests.{unit_checks, soup_checks, entry_checks, both_checks}
 use Rattle.newt_laws_answers.proofs.Units.{is-mounted}
 use Rattle.newt_laws_effects.specs.Effects.{Resolved, both, effects, in_both, in_default, in_entry, in_soup, in_store, needs, one}
-use Rattle.newt_laws_effects.proofs.Found.{soup-found, store-found}
+use Rattle.newt_laws_effects.proofs.Found.{both-found, soup-found, store-found}
 use Rattle.newt_store_change.specs.Change.{pages_of_entry}
 use Rattle.newt_store_change.specs.Entries.{ReadsEntry}
 use Rattle.newt_store_change.specs.Faults.{IsRefusal, NoDevice, RefusesBy}
@@ -34,6 +34,8 @@ use Rattle.newt_engine_units.proofs.Known.{both-checks-are, checks-are, unit-che
 use Rattle.newt_engine_units.proofs.Obeying.{handed-ends, none-ends, none-only, none-refused}
 use Rattle.newt_engine_units.proofs.Settings.{Setting, has-soup, is-err, stand-told}
 use Rattle.newt_engine_commands.specs.Plans.{IsFound, Plan, ResolvesTo, looked_up}
+use Rattle.newt_store_change.specs.declared.entry.Entry.{Entry as Shown}
+use Rattle.newt_engine_commands.proofs.Commands.{read-found}
 use Rattle.newt_engine_commands.proofs.Costing.{its-pages, its_pages}
 
 -- ---- in a world
@@ -128,11 +130,6 @@ by-refusal : (resolved : Resolved) (checks : Checks) → ((r : Refusal) → firs
 by-refusal resolved checks lost (Refused r) h = lost r h
 by-refusal resolved checks lost (Stop stop) h = absurd h
 
--- the entry that was to be read is not there
-pub entry-unread : (resolved : Resolved) (o : Option Entry) (go : Entry → Resolved) → resolved ≡ needs NoEntry o go → (fault : StoreFault) → ReadsEntry o (Err fault) → IsFound resolved (Err fault)
-entry-unread resolved o go is (Refused r) h = is ∙ ap (λ x. needs NoEntry x go) h.0 ∙ ap {A = Refusal} {B = Resolved} (λ x. Err x) (sym h.1)
-entry-unread resolved o go is (Stop stop) h = tt
-
 -- a soup that is known is of a store that is mounted
 pub soup-mounted : {C : Type 0} (soups : C → Store) (slots : List (Slot C)) (u : ℕ) (name : List ℕ) (sig : ℕ) → known_soup soups slots u name ≡ Some sig → mounted_in slots u ≡ true
 soup-mounted {C} soups slots u name sig h = go (card_at slots u) h
@@ -148,21 +145,25 @@ module _ {C : Type 0} {reads : List ℕ → Option Store} {place : C → ℕ} {s
   abbrev w : World
   w = world_of reads units o
 
-  -- an entry was read
-  pub read-resolves : {later : Units C} {p : Outside} → AreRead reads place stands told units later o p → (result : Result Plan StoreFault) → IfOk result (λ plan. is_mounted later plan.0 ≡ true)
+  -- what was found, after a read
+  pub found-after : {later : Units C} {p : Outside} → AreRead reads place stands told units later o p → (result : Result Plan StoreFault) → IfOk result (λ plan. is_mounted units plan.0 ≡ true)
       → (IsTrue told → IsFound (effects w d) result) → (IsTrue told → FetchesAtMost (looked_up w d) o p) → Ended result o p → ResolvesTo reads place stands told c units later o p result
-  read-resolves {p = p} looks result mounted found fetches ends = record {
+  found-after {later} {p} looks result mounted found fetches ends = record {
     looks = looks;
-    mounted = mounted;
+    mounted = still result mounted;
     found = λ t. subst (λ x. IsFound (effects w x) result) (sym is) (found t);
     fetches = λ t. subst (λ x. FetchesAtMost (looked_up w x) o p) (sym is) (fetches t);
     ends = ends;
   }
+    where
+      still : (result : Result Plan StoreFault) → IfOk result (λ plan. is_mounted units plan.0 ≡ true) → IfOk result (λ plan. is_mounted later plan.0 ≡ true)
+      still (Ok plan) h = looks.marks plan.0 ∙ h
+      still (Err fault) h = tt
 
-  -- nothing was read
-  pub still-resolves : (result : Result Plan StoreFault) → IfOk result (λ plan. is_mounted units plan.0 ≡ true) → IfErr result (λ fault. NoDevice fault) → (IsTrue told → IsFound (effects w d) result)
+  -- where nothing was read
+  pub found-still : (result : Result Plan StoreFault) → IfOk result (λ plan. is_mounted units plan.0 ≡ true) → IfErr result (λ fault. NoDevice fault) → (IsTrue told → IsFound (effects w d) result)
       → ResolvesTo reads place stands told c units units o o result
-  still-resolves result mounted none found = read-resolves (record {
+  found-still result mounted none found = found-after (record {
     stand = at.stand;
     world = λ t. refl;
     marks = λ u. refl;
@@ -177,59 +178,90 @@ module _ {C : Type 0} {reads : List ℕ → Option Store} {place : C → ℕ} {s
       up : (a b : ℕ) → a ≤ a + b
       up a b = omega arith
 
-  -- a fault is handed on
-  pub fault-resolves : (fault : StoreFault) → NoDevice fault → (IsTrue told → IsFound (effects w d) (Err fault)) → (result : Result Plan StoreFault) → (e : StoreFault) × (result ≡ Err e) × (e ≡ fault)
-      → ResolvesTo reads place stands told c units units o o result
-  fault-resolves fault none found result p =
-      subst (λ r. ResolvesTo reads place stands told c units units o o r) (sym (is-err result fault p)) (still-resolves (Err fault) tt none found)
+  -- what is not there is refused
+  lost-still : (checks known : Checks) → (IsTrue told → known ≡ checks) → (IsTrue told → (r : Refusal) → first_of checks ≡ Some r → effects w d ≡ Err r) → (fault : StoreFault) → RefusesBy known fault
+      → ResolvesTo reads place stands told c units units o o (Err fault)
+  lost-still checks known same lost fault h = found-still (Err fault) tt (none-refused known fault h) (λ t. by-refusal (effects w d) known (λ r k. lost t r (sym (ap first_of (same t)) ∙ k)) fault h)
 
-  -- there is no store
-  pub unit-unfound : (u : ℕ) (go : Store → Resolved) → effects w d ≡ in_store w u go → (fault : StoreFault) → RefusesBy (known_unit units.slots.items u) fault
-      → (result : Result Plan StoreFault) → (e : StoreFault) × (result ≡ Err e) × (e ≡ fault) → ResolvesTo reads place stands told c units units o o result
-  unit-unfound u go row fault h = fault-resolves fault (none-refused (known_unit units.slots.items u) fault h)
-      (λ t. by-refusal (effects w d) (known_unit units.slots.items u) (λ r k. row ∙ unit-lost w u r go (sym (ap first_of (unit-checks-are at.laws units o at.eight (stand-told at t) u)) ∙ k)) fault h)
+  pub no-store : (u : ℕ) (go : Store → Resolved) → effects w d ≡ in_store w u go → (fault : StoreFault) → RefusesBy (known_unit units.slots.items u) fault → ResolvesTo reads place stands told c units units o o (Err fault)
+  no-store u go row = lost-still (unit_checks w u) (known_unit units.slots.items u) (λ t. unit-checks-are at.laws units o at.eight (stand-told at t) u) (λ t r k. row ∙ unit-lost w u r go k)
 
-  -- there is no soup
-  pub soup-unfound : (u : ℕ) (name : List ℕ) (go : Soup → Resolved) → (IsTrue told → effects w d ≡ in_soup w u name go) → (fault : StoreFault) → RefusesBy (known_checks soups units.slots.items u name) fault
-      → (result : Result Plan StoreFault) → (e : StoreFault) × (result ≡ Err e) × (e ≡ fault) → ResolvesTo reads place stands told c units units o o result
-  soup-unfound u name go row fault h = fault-resolves fault (none-refused (known_checks soups units.slots.items u name) fault h)
-      (λ t. by-refusal (effects w d) (known_checks soups units.slots.items u name) (λ r k. row t ∙ soup-lost w u r name go (sym (ap first_of (checks-are at.laws units o at.eight (stand-told at t) u name)) ∙ k)) fault h)
+  pub no-soup : (u : ℕ) (name : List ℕ) (go : Soup → Resolved) → (IsTrue told → effects w d ≡ in_soup w u name go) → (fault : StoreFault) → RefusesBy (known_checks soups units.slots.items u name) fault
+      → ResolvesTo reads place stands told c units units o o (Err fault)
+  no-soup u name go row =
+      lost-still (soup_checks w u name) (known_checks soups units.slots.items u name) (λ t. checks-are at.laws units o at.eight (stand-told at t) u name) (λ t r k. row t ∙ soup-lost w u r name go k)
 
-  -- one of two soups is not there
-  pub both-unfound : (u : ℕ) (name : List ℕ) (v : ℕ) (target : List ℕ) (go : Soup → Soup → Resolved) → effects w d ≡ in_both w u name v target go
-      → (fault : StoreFault) → RefusesBy (known_both soups units.slots.items u name v target) fault
-      → (result : Result Plan StoreFault) → (e : StoreFault) × (result ≡ Err e) × (e ≡ fault) → ResolvesTo reads place stands told c units units o o result
-  both-unfound u name v target go row fault h = fault-resolves fault (none-refused (known_both soups units.slots.items u name v target) fault h)
-      (λ t. by-refusal (effects w d) (known_both soups units.slots.items u name v target) (λ r k. row ∙ both-lost w u r name v target go (sym (ap first_of (both-checks-are at.laws units o at.eight (stand-told at t) u name v target)) ∙ k)) fault h)
+  pub not-both : (u : ℕ) (name : List ℕ) (v : ℕ) (target : List ℕ) (go : Soup → Soup → Resolved) → effects w d ≡ in_both w u name v target go
+      → (fault : StoreFault) → RefusesBy (known_both soups units.slots.items u name v target) fault → ResolvesTo reads place stands told c units units o o (Err fault)
+  not-both u name v target go row = lost-still (both_checks w u name v target) (known_both soups units.slots.items u name v target)
+      (λ t. both-checks-are at.laws units o at.eight (stand-told at t) u name v target) (λ t r k. row ∙ both-lost w u r name v target go k)
 
-  -- there is no entry
-  pub entry-unfound : (u : ℕ) (name : List ℕ) (uid : ℕ) (go : Soup → Entry → Resolved) → effects w d ≡ in_entry w u name uid go → (fault : StoreFault) → IsRefusal fault → (IsTrue told → RefusesBy (entry_checks w u name uid) fault)
-      → (result : Result Plan StoreFault) → (e : StoreFault) × (result ≡ Err e) × (e ≡ fault) → ResolvesTo reads place stands told c units units o o result
-  entry-unfound u name uid go row fault only h = fault-resolves fault (none-only fault only) (λ t. by-refusal (effects w d) (entry_checks w u name uid) (λ r k. row ∙ entry-lost w u r name uid go k) fault (h t))
+  pub no-entry : (u : ℕ) (name : List ℕ) (uid : ℕ) (go : Soup → Entry → Resolved) → effects w d ≡ in_entry w u name uid go → (fault : StoreFault) → IsRefusal fault → (IsTrue told → RefusesBy (entry_checks w u name uid) fault)
+      → ResolvesTo reads place stands told c units units o o (Err fault)
+  no-entry u name uid go row fault only h =
+      found-still (Err fault) tt (none-only fault only) (λ t. by-refusal (effects w d) (entry_checks w u name uid) (λ r k. row ∙ entry-lost w u r name uid go k) fault (h t))
 
-  -- the soup is there, and no entry is read
-  pub soup-then : (u : ℕ) (name : List ℕ) (sig : ℕ) (go : Soup → Resolved) → (IsTrue told → effects w d ≡ in_soup w u name go) → known_soup soups units.slots.items u name ≡ Some sig
-      → (result : Result Plan StoreFault) → IfOk result (λ plan. u ≡ plan.0) → IfErr result (λ fault. NoDevice fault) → ((t : IsTrue told) (h : HasSoup w u name sig) → IsFound (go h.soup) result)
-      → ResolvesTo reads place stands told c units units o o result
-  soup-then u name sig go row known result its none then = still-resolves result (there result its) none
-      (λ t. let h = has-soup at t u name sig known in subst (λ x. IsFound x result) (sym (row t ∙ soup-found w u name h.blocks h.store h.soup go h.on h.named)) (then t h))
-    where
-      there : (result : Result Plan StoreFault) → IfOk result (λ plan. u ≡ plan.0) → IfOk result (λ plan. is_mounted units plan.0 ≡ true)
-      there (Ok plan) its = subst (λ n. is_mounted units n ≡ true) its (soup-mounted soups units.slots.items u name sig known)
-      there (Err fault) its = tt
+  -- the soup is there
+  module _ (u : ℕ) (name : List ℕ) (sig : ℕ) (go : Soup → Resolved) (row : IsTrue told → effects w d ≡ in_soup w u name go) (known : known_soup soups units.slots.items u name ≡ Some sig) where
+    there : (result : Result Plan StoreFault) → IfOk result (λ plan. u ≡ plan.0) → IfOk result (λ plan. is_mounted units plan.0 ≡ true)
+    there (Ok plan) its = subst (λ n. is_mounted units n ≡ true) its (soup-mounted soups units.slots.items u name sig known)
+    there (Err fault) its = tt
 
-  -- or an end of the run is handed on
-  pub soup-fails : (u : ℕ) (name : List ℕ) (sig : ℕ) (go : Soup → Resolved) → (IsTrue told → effects w d ≡ in_soup w u name go) → known_soup soups units.slots.items u name ≡ Some sig
-      → (fault : StoreFault) → NoDevice fault → ((t : IsTrue told) (h : HasSoup w u name sig) → IsFound (go h.soup) (Err fault))
-      → (result : Result Plan StoreFault) → (e : StoreFault) × (result ≡ Err e) × (e ≡ fault) → ResolvesTo reads place stands told c units units o o result
-  soup-fails u name sig go row known fault none then result p =
-      subst (λ r. ResolvesTo reads place stands told c units units o o r) (sym (is-err result fault p)) (soup-then u name sig go row known (Err fault) tt none then)
+    by-soup : (result : Result Plan StoreFault) → ((t : IsTrue told) (h : HasSoup w u name sig) → IsFound (go h.soup) result) → IsTrue told → IsFound (effects w d) result
+    by-soup result then t = let h = has-soup at t u name sig known in subst (λ x. IsFound x result) (sym (row t ∙ soup-found w u name h.blocks h.store h.soup go h.on h.named)) (then t h)
 
-  -- a fault after a read is handed on
-  pub read-fails : {S : Type 0} {later : Units C} {p : Outside} → AreRead reads place stands told units later o p → (fault : StoreFault) → (IsTrue told → IsFound (effects w d) (Err fault)) → (IsTrue told → FetchesAtMost (looked_up w d) o p)
-      → Ended {T = S} (Err fault) o p → (result : Result Plan StoreFault) → (e : StoreFault) × (result ≡ Err e) × (e ≡ fault) → ResolvesTo reads place stands told c units later o p result
-  read-fails {later = later} {p} looks fault found fetches ends result h =
-      subst (λ r. ResolvesTo reads place stands told c units later o p r) (sym (is-err result fault h)) (read-resolves looks (Err fault) tt found fetches (handed-ends (Err fault) (fault, refl, refl) ends))
+    pub soup-then : (result : Result Plan StoreFault) → IfOk result (λ plan. u ≡ plan.0) → IfErr result (λ fault. NoDevice fault) → ((t : IsTrue told) (h : HasSoup w u name sig) → IsFound (go h.soup) result)
+        → ResolvesTo reads place stands told c units units o o result
+    soup-then result its none then = found-still result (there result its) none (by-soup result then)
+
+    pub soup-after : {later : Units C} {p : Outside} → AreRead reads place stands told units later o p → (result : Result Plan StoreFault) → IfOk result (λ plan. u ≡ plan.0)
+        → (IsTrue told → (h : HasSoup w u name sig) → FetchesAtMost (looked_up w d) o p) → Ended result o p → ((t : IsTrue told) (h : HasSoup w u name sig) → IsFound (go h.soup) result)
+        → ResolvesTo reads place stands told c units later o p result
+    soup-after looks result its fetches ends then = found-after looks result (there result its) (by-soup result then) (λ t. fetches t (has-soup at t u name sig known)) ends
+
+  -- both soups are there
+  module _ (u : ℕ) (name : List ℕ) (sig v : ℕ) (target : List ℕ) (into : ℕ) (go : Soup → Soup → Resolved) (row : effects w d ≡ in_both w u name v target go)
+      (known : (known_soup soups units.slots.items u name ≡ Some sig) × (known_soup soups units.slots.items v target ≡ Some into)) where
+    by-both : (result : Result Plan StoreFault) → ((t : IsTrue told) (h : HasSoup w u name sig) (k : HasSoup w v target into) → IsFound (go h.soup k.soup) result) → IsTrue told → IsFound (effects w d) result
+    by-both result then t = let h = has-soup at t u name sig known.0 in let k = has-soup at t v target into known.1 in
+        subst (λ x. IsFound x result) (sym (row ∙ both-found w u name h.blocks h.store h.soup v target k.blocks k.store k.soup go h.on h.named k.on k.named)) (then t h k)
+
+    pub both-then : (result : Result Plan StoreFault) → IfOk result (λ plan. u ≡ plan.0) → IfErr result (λ fault. NoDevice fault)
+        → ((t : IsTrue told) (h : HasSoup w u name sig) (k : HasSoup w v target into) → IsFound (go h.soup k.soup) result) → ResolvesTo reads place stands told c units units o o result
+    both-then result its none then = found-still result (there result its) none (by-both result then)
+      where
+        there : (result : Result Plan StoreFault) → IfOk result (λ plan. u ≡ plan.0) → IfOk result (λ plan. is_mounted units plan.0 ≡ true)
+        there (Ok plan) its = subst (λ n. is_mounted units n ≡ true) its (soup-mounted soups units.slots.items u name sig known.0)
+        there (Err fault) its = tt
+
+    pub both-after : {later : Units C} {p : Outside} → AreRead reads place stands told units later o p → (result : Result Plan StoreFault) → IfOk result (λ plan. v ≡ plan.0)
+        → (IsTrue told → (h : HasSoup w u name sig) → FetchesAtMost (looked_up w d) o p) → Ended result o p
+        → ((t : IsTrue told) (h : HasSoup w u name sig) (k : HasSoup w v target into) → IsFound (go h.soup k.soup) result) → ResolvesTo reads place stands told c units later o p result
+    both-after looks result its fetches ends then = found-after looks result (there result its) (by-both result then) (λ t. fetches t (has-soup at t u name sig known.0)) ends
+      where
+        there : (result : Result Plan StoreFault) → IfOk result (λ plan. v ≡ plan.0) → IfOk result (λ plan. is_mounted units plan.0 ≡ true)
+        there (Ok plan) its = subst (λ n. is_mounted units n ≡ true) its (soup-mounted soups units.slots.items v target into known.1)
+        there (Err fault) its = tt
+
+-- a fault is handed on
+pub handed-on : {C : Type 0} {reads : List ℕ → Option Store} {place : C → ℕ} {stands : Bool → C → Outside → Type 0} {told : Bool} {c : Command} {units later : Units C} {o p : Outside} {fault : StoreFault} (result : Result Plan StoreFault)
+    → (e : StoreFault) × (result ≡ Err e) × (e ≡ fault) → ResolvesTo reads place stands told c units later o p (Err fault) → ResolvesTo reads place stands told c units later o p result
+handed-on {reads = reads} {place} {stands} {told} {c} {units} {later} {o} {p} {fault} result h = subst (λ r. ResolvesTo reads place stands told c units later o p r) (sym (is-err result fault h))
+
+-- the same end of another call
+pub same-end : {S T : Type 0} (fault : StoreFault) {o p : Outside} → Ended {T = S} (Err fault) o p → Ended {T = T} (Err fault) o p
+same-end fault = handed-ends (Err fault) (fault, refl, refl)
+
+-- the entry that was read is found
+pub entry-read : {w : World} {u : ℕ} {name : List ℕ} {sig : ℕ} (h : HasSoup w u name sig) (uid : ℕ) (e : Shown) (go : Entry → Resolved) → ReadsEntry (entry_at sig uid h.store) (Ok e)
+    → needs NoEntry (entry_of uid h.soup) go ≡ go (record { uid = e.uid; time = e.time; graph = e.graph })
+entry-read {sig = sig} h uid e go read = ap (λ o. needs NoEntry o go) (read-found sig uid h.store h.soup e e.graph refl h.by_sig read)
+
+-- or is not there
+pub entry-unread : {w : World} {u : ℕ} {name : List ℕ} {sig : ℕ} (h : HasSoup w u name sig) (uid : ℕ) (go : Entry → Resolved) (fault : StoreFault) → ReadsEntry (entry_at sig uid h.store) (Err fault)
+    → IsFound (needs NoEntry (entry_of uid h.soup) go) (Err fault)
+entry-unread h uid go (Refused r) x = ap (λ o. needs NoEntry o go) (sym (ap (option_and_then (entry_of uid)) h.by_sig) ∙ x.0) ∙ ap {A = Refusal} {B = Resolved} (λ q. Err q) (sym x.1)
+entry-unread h uid go (Stop stop) x = tt
 
 -- what was read of an entry of a soup that is there, by the name of the soup
 pub named-fetches : {w : World} {u : ℕ} {name : List ℕ} {sig : ℕ} (h : HasSoup w u name sig) (uid : ℕ) (o p : Outside) → FetchesAtMost (of_unit u (512 * its_pages h uid)) o p

@@ -1,9 +1,9 @@
 -- Commands, told apart by the arms that took others, and what they name.
-use Rattle.std.proofs.Common.{◌≡◌, refl, ap, sym, ◌∙◌, ℕ, List, Bool, true, false, not, ◌==◌, ◌&&◌, [], ◌∷◌, Option, Some, None, option_and_then}
-use Rattle.std.specs.Prelude.{Ok, is_some, if◌then◌else◌}
+use Rattle.std.proofs.Common.{◌≡◌, refl, ap, sym, ◌∙◌, ℕ, List, Bool, true, false, not, ◌==◌, ◌&&◌, [], ◌∷◌, Option, Some, None, option_and_then, length, nat_lt}
+use Rattle.std.specs.Prelude.{Ok, is_none, is_some, if◌then◌else◌}
 use Rattle.std.proofs.lemmas.Bool.{eq-eqb, eqb-true}
 use Rattle.newt_spec_graph.proofs.Lists.{both-ways}
-use Rattle.newt_spec_store.specs.Keys.{Path}
+use Rattle.newt_spec_store.specs.Keys.{Path, has_paths}
 use Rattle.newt_spec_store.specs.Store.{Entry, Soup, entry_at, entry_of}
 use Rattle.newt_spec_world.specs.Step.{moves_away}
 use Rattle.newt_spec_world.specs.World.{World}
@@ -11,11 +11,41 @@ use Rattle.newt_spec_world.specs.declared.command.Command.{Command}
 use Rattle.newt_spec_world.specs.declared.command.Command.TheVariants as command
 use Rattle.newt_spec_world.specs.declared.command.PartWord.{PartWord}
 use Rattle.newt_laws_world.specs.Worlds.{has_form, parts_fit, tags_fit}
-use Rattle.newt_laws_effects.specs.Effects.{moves, one}
+use Rattle.newt_laws_effects.specs.Effects.{Resolved, moves, needs, one, passing}
+use Rattle.newt_base.specs.declared.Refusal.TheVariants.{Path as NoPath, Limit, Index as BadIndex, Key as BadKey}
+use Rattle.newt_graph.specs.Graph.{RawGraph}
+use Rattle.newt_graph.specs.Meeting.{normal_form}
+use Rattle.newt_spec_graph.specs.Larges.{large_at}
+use Rattle.newt_spec_graph.specs.Limits.{is_within}
+use Rattle.newt_spec_graph.specs.Slots.{put}
+use Rattle.newt_spec_world.specs.Changed.{graph_after_set, spec_of_words}
+use Rattle.newt_spec_world.specs.Refused.{on_some}
+use Rattle.newt_engine_commands.specs.Declares.{has_parts, has_real}
 use Rattle.newt_laws_effects.proofs.Found.{at}
 use Rattle.newt_laws_effects.specs.Tells.{is_of_stores}
 use Rattle.newt_store_change.specs.declared.change.Change.TheVariants as change
 use Rattle.newt_engine_units.specs.Found.{HasSoup}
+
+-- how commands go on with what was found
+abbrev pub index-then : ℕ → List PartWord → Soup → Resolved
+index-then u parts p = passing (BadIndex, has_parts parts p) (passing (BadKey, has_real parts) (one u (change.AddIndex p.sig (spec_of_words parts))))
+
+abbrev pub unindex-then : ℕ → List Path → Soup → Resolved
+unindex-then u paths p = passing (BadIndex, not (has_paths paths p.specs)) (one u (change.DropIndex p.sig paths))
+
+abbrev pub tags-then : ℕ → Path → List (List ℕ) → Soup → Resolved
+tags-then u path symbols p = passing (Limit, nat_lt 64 (length symbols)) (one u (change.SetTags p.sig (record { path = path; symbols = symbols })))
+
+-- the graph that a value was put into is past a limit
+abbrev pub past : Option RawGraph → Bool
+past o = on_some o (λ h. not (is_within (normal_form h)))
+
+abbrev pub set-then : ℕ → ℕ → Path → RawGraph → Soup → Entry → Resolved
+set-then u uid path value p e =
+    passing (NoPath, is_none (put e.graph path value)) (passing (Limit, past (put e.graph path value)) (one u (change.Replace p.sig uid (graph_after_set path value e.graph))))
+
+abbrev pub vwrite-then : ℕ → ℕ → Path → ℕ → List ℕ → Soup → Entry → Resolved
+vwrite-then u uid path from bytes p e = needs NoPath (large_at e.graph path) (λ node. one u (change.Patch p.sig uid node from bytes))
 
 -- the words of a command that is of its form
 pub index-form : (c : Command) (u : ℕ) (name : List ℕ) (parts : List PartWord) → c ≡ command.Index u name parts → has_form c ≡ true → parts_fit parts ≡ true
@@ -54,24 +84,24 @@ entry-there h uid is = go (entry_of uid h.soup) (sym (ap (λ p. is_some (option_
     go (Some e) k = (e, refl)
 
 -- there are no other commands that change stores
-pub no-store : (k : Command) → is_of_stores k ≡ true → ((a b : _) → k ≡ command.Soup a b → ⊥) → ((a b : _) → k ≡ command.Drop a b → ⊥) → ((a b c : _) → k ≡ command.Index a b c → ⊥) → ((a b c : _) → k ≡ command.Unindex a b c → ⊥)
+pub none-left : (k : Command) → is_of_stores k ≡ true → ((a b : _) → k ≡ command.Soup a b → ⊥) → ((a b : _) → k ≡ command.Drop a b → ⊥) → ((a b c : _) → k ≡ command.Index a b c → ⊥) → ((a b c : _) → k ≡ command.Unindex a b c → ⊥)
     → ((a b c d : _) → k ≡ command.SetTags a b c d → ⊥) → ((a b c : _) → k ≡ command.SetInfo a b c → ⊥) → ((a b c : _) → k ≡ command.Add a b c → ⊥) → ((a b c : _) → k ≡ command.Addx a b c → ⊥) → ((a b : _) → k ≡ command.Addu a b → ⊥)
     → ((a b c d e : _) → k ≡ command.Set a b c d e → ⊥) → ((a b c d : _) → k ≡ command.Change a b c d → ⊥) → ((a b c : _) → k ≡ command.Remove a b c → ⊥) → ((a b c d e : _) → k ≡ command.Copy a b c d e → ⊥)
     → ((a b c d e : _) → k ≡ command.Move a b c d e → ⊥) → ((a b c d e f : _) → k ≡ command.Vwrite a b c d e f → ⊥) → ⊥
 unfolding is_of_stores
-no-store (command.Soup a b) is soup drop index unindex settags setinfo add addx addu set change remove copy move vwrite = soup a b refl
-no-store (command.Drop a b) is soup drop index unindex settags setinfo add addx addu set change remove copy move vwrite = drop a b refl
-no-store (command.Index a b c) is soup drop index unindex settags setinfo add addx addu set change remove copy move vwrite = index a b c refl
-no-store (command.Unindex a b c) is soup drop index unindex settags setinfo add addx addu set change remove copy move vwrite = unindex a b c refl
-no-store (command.SetTags a b c d) is soup drop index unindex settags setinfo add addx addu set change remove copy move vwrite = settags a b c d refl
-no-store (command.SetInfo a b c) is soup drop index unindex settags setinfo add addx addu set change remove copy move vwrite = setinfo a b c refl
-no-store (command.Add a b c) is soup drop index unindex settags setinfo add addx addu set change remove copy move vwrite = add a b c refl
-no-store (command.Addx a b c) is soup drop index unindex settags setinfo add addx addu set change remove copy move vwrite = addx a b c refl
-no-store (command.Addu a b) is soup drop index unindex settags setinfo add addx addu set change remove copy move vwrite = addu a b refl
-no-store (command.Set a b c d e) is soup drop index unindex settags setinfo add addx addu set change remove copy move vwrite = set a b c d e refl
-no-store (command.Change a b c d) is soup drop index unindex settags setinfo add addx addu set change remove copy move vwrite = change a b c d refl
-no-store (command.Remove a b c) is soup drop index unindex settags setinfo add addx addu set change remove copy move vwrite = remove a b c refl
-no-store (command.Copy a b c d e) is soup drop index unindex settags setinfo add addx addu set change remove copy move vwrite = copy a b c d e refl
-no-store (command.Move a b c d e) is soup drop index unindex settags setinfo add addx addu set change remove copy move vwrite = move a b c d e refl
-no-store (command.Vwrite a b c d e f) is soup drop index unindex settags setinfo add addx addu set change remove copy move vwrite = vwrite a b c d e f refl
-no-store _ is soup drop index unindex settags setinfo add addx addu set change remove copy move vwrite = cc
+none-left (command.Soup a b) is soup drop index unindex settags setinfo add addx addu set change remove copy move vwrite = soup a b refl
+none-left (command.Drop a b) is soup drop index unindex settags setinfo add addx addu set change remove copy move vwrite = drop a b refl
+none-left (command.Index a b c) is soup drop index unindex settags setinfo add addx addu set change remove copy move vwrite = index a b c refl
+none-left (command.Unindex a b c) is soup drop index unindex settags setinfo add addx addu set change remove copy move vwrite = unindex a b c refl
+none-left (command.SetTags a b c d) is soup drop index unindex settags setinfo add addx addu set change remove copy move vwrite = settags a b c d refl
+none-left (command.SetInfo a b c) is soup drop index unindex settags setinfo add addx addu set change remove copy move vwrite = setinfo a b c refl
+none-left (command.Add a b c) is soup drop index unindex settags setinfo add addx addu set change remove copy move vwrite = add a b c refl
+none-left (command.Addx a b c) is soup drop index unindex settags setinfo add addx addu set change remove copy move vwrite = addx a b c refl
+none-left (command.Addu a b) is soup drop index unindex settags setinfo add addx addu set change remove copy move vwrite = addu a b refl
+none-left (command.Set a b c d e) is soup drop index unindex settags setinfo add addx addu set change remove copy move vwrite = set a b c d e refl
+none-left (command.Change a b c d) is soup drop index unindex settags setinfo add addx addu set change remove copy move vwrite = change a b c d refl
+none-left (command.Remove a b c) is soup drop index unindex settags setinfo add addx addu set change remove copy move vwrite = remove a b c refl
+none-left (command.Copy a b c d e) is soup drop index unindex settags setinfo add addx addu set change remove copy move vwrite = copy a b c d e refl
+none-left (command.Move a b c d e) is soup drop index unindex settags setinfo add addx addu set change remove copy move vwrite = move a b c d e refl
+none-left (command.Vwrite a b c d e f) is soup drop index unindex settags setinfo add addx addu set change remove copy move vwrite = vwrite a b c d e f refl
+none-left _ is soup drop index unindex settags setinfo add addx addu set change remove copy move vwrite = cc

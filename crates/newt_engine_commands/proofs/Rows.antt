@@ -37,7 +37,7 @@ use Rattle.newt_laws_effects.proofs.Found.{InBoth, at, by-name, by-sig, in-both,
 use Rattle.newt_engine_card.specs.Bounds.{of_unit}
 use Rattle.newt_engine_units.specs.Effects.{effect_of}
 use Rattle.newt_engine_units.proofs.Costs.{none-fits, of-unit-most, same-fits}
-use Rattle.newt_engine_commands.specs.Plans.{looked_up, told_by}
+use Rattle.newt_engine_commands.specs.Plans.{looked_up, told_as}
 use Rattle.newt_engine_commands.proofs.Costing.{half, thrice, twice}
 use Rattle.newt_engine_commands.proofs.Moves.{same-unit}
 
@@ -48,7 +48,7 @@ pub record Row (w : World) (c : Command) (e : Effect) : Type 0 where
   pub store : Store
   pub on : OnUnit w e.unit blocks store
   pub stays : (j : ℕ) → moves_away c j ≡ false
-  pub replied : fields w (changed w c) c ≡ told_by c (effect_of e.unit e.change (answer_of e.change store))
+  pub replied : fields w (changed w c) c ≡ told_as c (effect_of e.unit e.change (answer_of e.change store))
   pub few : means_entries c ≡ true → (j : ℕ) → looked_up w c j + of_unit e.unit (bytes_fetched e.change store) j ≤ most_fetched w c j
 
 -- one change is the one
@@ -84,7 +84,7 @@ module _ (w : World) (all : Every Wf w) (e : Effect) where
       })
 
   -- a command that tells nothing, and means no entries
-  done-row : (c : Command) (u blocks : ℕ) (s : Store) (d : Change) → OnUnit w u blocks s → ((j : ℕ) → moves_away c j ≡ false) → fields w (changed w c) c ≡ told_by c (effect_of u d (answer_of d s))
+  done-row : (c : Command) (u blocks : ℕ) (s : Store) (d : Change) → OnUnit w u blocks s → ((j : ℕ) → moves_away c j ≡ false) → fields w (changed w c) c ≡ told_as c (effect_of u d (answer_of d s))
       → (means_entries c ≡ true → (j : ℕ) → looked_up w c j + of_unit u (bytes_fetched d s) j ≤ most_fetched w c j) → only u d ≡ Ok (e ∷ []) → Row w c e
   done-row c u blocks s d on stays replied few is =
       subst (Row w c) (same-one (at u d) e is) (record { blocks = blocks; store = s; on = on; stays = stays; replied = replied; few = few })

@@ -39,14 +39,14 @@ looked_up w (command.Vwrite t s uid path at bytes) u =
 looked_up w c u = 0
 
 -- how a command tells what it did to the store of a unit
-abbrev pub told_by : Command → Effect → Reply
-told_by (command.Soup u s) e = Reply.number e.answer
-told_by (command.Add u s g) e = Reply.number e.answer
-told_by (command.Addx u s g) e = Reply.number e.answer
-told_by (command.Addu s g) e = Reply.added e.unit e.answer
-told_by (command.Copy u s uid v t) e = Reply.number e.answer
-told_by (command.Move u s uid v t) e = Reply.number e.answer
-told_by c e = Reply.done
+abbrev pub told_as : Command → Effect → Reply
+told_as (command.Soup u s) e = Reply.number e.answer
+told_as (command.Add u s g) e = Reply.number e.answer
+told_as (command.Addx u s g) e = Reply.number e.answer
+told_as (command.Addu s g) e = Reply.added e.unit e.answer
+told_as (command.Copy u s uid v t) e = Reply.number e.answer
+told_as (command.Move u s uid v t) e = Reply.number e.answer
+told_as c e = Reply.done
 
 -- An effect is what a command does to a world: it resolves to one change, the store is there that is
 -- changed, and this is the effect of the change.
@@ -74,6 +74,6 @@ module _ {C : Type 0} (reads : List ℕ → Option Store) (place : C → ℕ)
   -- A command is obeyed, and where it is carried out, the effect that is answered is what it does.
   pub record CarriesOut (told : Bool) (command : Command) (old new : Units C)
       (before after : Outside) (result : Result Effect StoreFault) : Type 0 where
-    pub obeyed : Obeys reads place standing told command (told_by command) old new before after
+    pub obeyed : Obeys reads place standing told command (told_as command) old new before after
         result
     pub did : IsTrue told → IfOk result (Did (world_of reads old before) command)

@@ -5,7 +5,8 @@
 //! world answers it that units and devices stand for, leaves units that stand for the world after
 //! it, programs no more than the command may, and at every moment a crash leaves each store as it
 //! was or as it is then: soup, drop, index, unindex, indexes, tags, info, add, addx, addu, get,
-//! getx, set, change, remove, copy, move within one store, alias, vread, vwrite.
+//! getx, set, change, remove, copy, move within one store, alias, vread, vwrite. One that changes a
+//! store resolves to one change, and answers the effect that it made.
 #![tactic(auto)]
 
 mod changes;

@@ -21,7 +21,7 @@ use Rattle.newt_laws_answers.proofs.Stores.{format-has-store, format-done, forma
 use Rattle.newt_store_change.specs.declared.fault.StoreFault.{StoreFault}
 use Rattle.newt_store_change.specs.declared.fault.StoreFault.TheVariants.{Refused, Stop}
 use Rattle.newt_base.specs.declared.Refusal.TheVariants.{Store as HasStore}
-use Rattle.newt_store_change.specs.Faults.{Does, RefusesBy, IsEnd}
+use Rattle.newt_store_change.specs.Faults.{RefusesBy, IsEnd}
 use Rattle.newt_engine_units.specs.Answers.{Answers}
 
 -- refused before anything is done
@@ -29,14 +29,6 @@ pub refuses : {T : Type 0} (w : World) (c : Command) (reply : T → Reply) (chec
     → (fault : StoreFault) → RefusesBy known fault → Answers w w c reply (Err fault)
 refuses w c reply checks known same refused (Refused r) h = refused r (sym (ap first_of same) ∙ h)
 refuses w c reply checks known same refused (Stop stop) h = absurd h
-
--- what is done to the world is what is answered
-pub does-answers : {T : Type 0} (w v after : World) (c : Command) (reply : T → Reply) (tests : Checks) (good : T → Type 0)
-    → (first_of tests ≡ None → (x : T) → good x → answer w c ≡ (after, reply x)) → ((r : Refusal) → first_of tests ≡ Some r → answer w c ≡ (w, Reply.refused r))
-    → (result : Result T StoreFault) → Does tests good w after v result → Answers w v c reply result
-does-answers w v after c reply tests good done refused (Ok x) d = done d.0 x d.1 ∙ ap {B = World × Reply} (λ y. (y, reply x)) (sym d.2)
-does-answers w v after c reply tests good done refused (Err (Refused r)) d = refused r d.0 ∙ ap {B = World × Reply} (λ y. (y, Reply.refused r)) (sym d.1)
-does-answers w v after c reply tests good done refused (Err (Stop stop)) d = tt
 
 -- the store of a unit after a change of it
 pub makes : (w : World) (u blocks : ℕ) (s : Store) (f : Store → Store) (a : World × Reply) (r : Reply) → OnUnit w u blocks s → a ≡ (change_store w u f, r) → store_on_unit a.0 u ≡ Some (f s)

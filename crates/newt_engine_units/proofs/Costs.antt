@@ -172,13 +172,6 @@ on-few most {unit} {n} {k} {o} {p} f less u room = go (same-or-not unit u)
         (f.fetched (room-for-less less (subst (λ j. IsOpenFor (most j) (image j o.now)) (sym is) room))))
     go (inr other) = more (p.fetched u) (o.fetched u) (of_unit unit k u) (f.unread u (λ e. other (sym e)))
 
-pub on-within : (most fetches : ℕ → ℕ) {unit n k : ℕ} {o p : Outside} → FetchesOn unit n k o p → n ≤ most unit → k ≤ fetches unit → FetchesWithin most fetches o p
-on-within most fetches {unit} {n} {k} {o} {p} f less few u room =
-    low (p.fetched u) (o.fetched u) (of_unit unit k u) (fetches u) (on-few most f less u room) (of-unit-most unit k fetches few u)
-  where
-    low : (a b c d : ℕ) → a ≤ b + c → c ≤ d → a ≤ b + d
-    low a b c d h k = omega (arith, h, k)
-
 -- a call after one that read, and did nothing
 pub call-after-read : (most reads fetches both : ℕ → ℕ) (o p q : Outside) → FetchesAtMost reads o p → p.now ≡ o.now → ((u : ℕ) → IsOpenFor (most u) (image u p.now) → q.fetched u ≤ p.fetched u + fetches u)
     → ((u : ℕ) → reads u + fetches u ≤ both u) → FetchesWithin most both o q

@@ -1,5 +1,5 @@
 -- What is known in memory stays where nothing is changed.
-use Rattle.std.proofs.Common.{◌≡◌, refl, ◌∙◌, ℕ, Option, List, Bool}
+use Rattle.std.proofs.Common.{refl, ◌∙◌, ℕ, Option, List, Bool}
 use Rattle.std.specs.Prelude.{Result}
 use Rattle.newt_host.specs.Outside.{Outside}
 use Rattle.newt_spec_store.specs.Store.{Store}

@@ -1,5 +1,5 @@
 -- What a command promises where nothing has changed, and after a call that read.
-use Rattle.std.proofs.Common.{◌≡◌, refl, ap, sym, ◌∙◌, subst, ℕ, List, Bool, true, IsTrue, Option, arith}
+use Rattle.std.proofs.Common.{◌≡◌, refl, ap, sym, ◌∙◌, subst, ℕ, List, Bool, true, IsTrue, Option}
 use Rattle.std.specs.Prelude.{Result, Ok, Err, IfErr}
 use Rattle.newt_base.specs.Refusals.{Checks}
 use Rattle.newt_host.specs.Moments.{changes}

@@ -1,5 +1,5 @@
 -- What a call on one unit makes of the world, and what a crash leaves on the way.
-use Rattle.std.proofs.Common.{◌≡◌, ◌≢◌, ◌&&◌, ◌==◌, refl, ap, sym, ◌∙◌, subst, ℕ, List, [], ◌++◌, ◌⊎◌, inl, inr, Bool, true, false, Option, Some, None, option_map, option_and_then, if◌then◌else◌}
+use Rattle.std.proofs.Common.{◌≡◌, ◌&&◌, ◌==◌, refl, ap, sym, ◌∙◌, subst, ℕ, List, [], ◌++◌, ◌⊎◌, inl, inr, Bool, true, false, Option, Some, None, option_map, option_and_then, if◌then◌else◌}
 use Rattle.std.specs.Prelude.{Result, Ok, Err, IsSome}
 use Rattle.std.proofs.lemmas.Bool.{eqb-true}
 use Rattle.newt_base.specs.Refusals.{Checks, first_of}

@@ -1,5 +1,4 @@
--- What a change did to the store of a unit, as cursors and watches are told of it. All of it is
--- this project's own.
+-- What a change did to the store of a unit. All of it is this project's own.
 use Rattle.std.specs.Prelude.{ℕ, Result, Ok, Err}
 use Rattle.newt_store_change.specs.declared.change.Change.{Change}
 use Rattle.newt_store_change.specs.declared.change.Change.TheVariants.{MakeSoup, DropSoup, Add}

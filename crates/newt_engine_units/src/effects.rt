@@ -6,7 +6,7 @@ use newt_base::{Sig, Uid};
 use newt_host::Unit;
 use newt_store_change::Change;
 
-/// What was done, as cursors and watches are told of it.
+/// What was done to a store, without the graphs and the bytes of the change.
 #[derive(Clone, Copy, PartialEq, Eq, Debug)]
 pub enum Deed {
     /// A soup was made, whose signature is the answer.
@@ -24,7 +24,7 @@ pub enum Deed {
     Changed(Sig, Uid),
     /// The soup has further declarations.
     Declared(Sig),
-    /// Nothing that any of them is told of.
+    /// A declaration of an index went, or the soup has another info frame.
     Other,
 }
 

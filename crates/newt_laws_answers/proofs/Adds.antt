@@ -1,9 +1,7 @@
 -- Entries that are added.
-use Rattle.std.proofs.Common.{◌≡◌, refl, ap, sym, ◌∙◌, ℕ, List, [], ◌∷◌, Bool, Option, Some, None, option_map, unwrap_or, not, nat_lt, ◌==◌, drop}
-use Rattle.std.specs.Option.{is_none}
+use Rattle.std.proofs.Common.{◌≡◌, refl, ap, ◌∙◌, ℕ, List, [], ◌∷◌, Bool, Option, Some, option_map, unwrap_or, not, nat_lt, ◌==◌}
 use Rattle.newt_base.specs.Refusals.{Checks, first_of}
-use Rattle.newt_base.specs.declared.Refusal.{Refusal}
-use Rattle.newt_base.specs.declared.Refusal.TheVariants.{Notmounted, Notframe, Size, Ids, Full}
+use Rattle.newt_base.specs.declared.Refusal.TheVariants.{Notframe, Size, Ids, Full}
 use Rattle.newt_graph.specs.Graph.{RawGraph}
 use Rattle.newt_spec_image.specs.Pages.{cap}
 use Rattle.newt_spec_graph.specs.Graph.{is_frame, object}
@@ -11,17 +9,14 @@ use Rattle.newt_spec_store.specs.Cost.{cost, skeleton_length}
 use Rattle.newt_spec_store.specs.Store.{Store, Soup, soup_named}
 use Rattle.newt_spec_world.specs.declared.command.Command.{Command}
 use Rattle.newt_spec_world.specs.declared.command.Command.TheVariants as command
-use Rattle.newt_spec_world.specs.World.{World, device, store_of, default_unit, mounted_store, soup_in}
-use Rattle.newt_spec_world.specs.Reply.{Reply}
+use Rattle.newt_spec_world.specs.World.{World, device, store_of, default_unit, soup_in}
 use Rattle.newt_spec_world.specs.Changed.{changed}
 use Rattle.newt_spec_world.specs.Refused.{checks, on_some, not_mounted, no_soup, no_more_ids, full}
-use Rattle.newt_spec_world.specs.Answer.{answer, new_uid}
-use Rattle.newt_laws_answers.specs.Tests.{soup_checks}
+use Rattle.newt_spec_world.specs.Answer.{new_uid}
 use Rattle.newt_laws_answers.proofs.Tests.{add_tests, room_tests, with_added}
-use Rattle.newt_laws_answers.proofs.Firsts.{first-true}
 use Rattle.newt_laws_answers.specs.There.{OnUnit}
 use Rattle.newt_laws_answers.proofs.Units.{on-changed, soup-named}
-use Rattle.newt_laws_answers.proofs.Answers.{refused, refused-early, all-pass, unit-passes, soup-passes, mounted-passes, full-is}
+use Rattle.newt_laws_answers.proofs.Answers.{refused, all-pass, soup-passes, mounted-passes, full-is}
 
 -- the tests of a graph, and more
 abbrev graph-tests : RawGraph → Checks → Checks
@@ -63,25 +58,3 @@ module _ (w : World) (u blocks : ℕ) (s : Store) (name : List ℕ) (p : Soup) (
       ∙ tests-are w u blocks s name p g h f (command.Addu name g) (ap (λ v. with_added w v name g) d)
 
 -- ---- refused before
-
-module _ (w : World) (u : ℕ) (name : List ℕ) (g : RawGraph) (r : Refusal) (h : first_of (soup_checks w u name) ≡ Some r) where
-  pub add-not-found : answer w (command.Add u name g) ≡ (w, Reply.refused r)
-  unfolding checks
-  add-not-found = refused-early w (command.Add u name g) (soup_checks w u name) (drop 3 (checks w (command.Add u name g))) r refl h
-
-  pub addx-not-found : answer w (command.Addx u name g) ≡ (w, Reply.refused r)
-  unfolding checks
-  addx-not-found = refused-early w (command.Addx u name g) (soup_checks w u name) (drop 3 (checks w (command.Addx u name g))) r refl h
-
--- no store is the default
-pub addu-no-default : (w : World) (name : List ℕ) (g : RawGraph) → mounted_store w (default_unit w) ≡ None → answer w (command.Addu name g) ≡ (w, Reply.refused Notmounted)
-unfolding checks
-addu-no-default w name g h = refused w (command.Addu name g) Notmounted (first-true Notmounted _ (drop 1 (checks w (command.Addu name g))) (ap is_none h))
-
--- the default store has no such soup
-pub addu-not-found : (w : World) (u blocks : ℕ) (s : Store) (name : List ℕ) (g : RawGraph) (r : Refusal) → default_unit w ≡ u → OnUnit w u blocks s → first_of (soup_checks w u name) ≡ Some r
-    → answer w (command.Addu name g) ≡ (w, Reply.refused r)
-unfolding checks
-addu-not-found w u blocks s name g r d h k =
-    refused-early w (command.Addu name g) (not_mounted w (default_unit w) ∷ no_soup w (default_unit w) name ∷ []) (drop 2 (checks w (command.Addu name g))) r refl
-    (ap (λ v. first_of (not_mounted w v ∷ no_soup w v name ∷ [])) d ∙ mounted-passes w u blocks s (no_soup w u name ∷ []) h ∙ sym (unit-passes w u blocks s (no_soup w u name ∷ []) h) ∙ k)

@@ -7,9 +7,9 @@ use Rattle.newt_store_change.specs.Change.{changed_by, refusals, most_bytes}
 use Rattle.newt_store_change.specs.declared.change.Change.{Change}
 use Rattle.newt_store_change.specs.declared.change.Change.TheVariants as change
 use Rattle.newt_laws_answers.specs.Bounds.{change_bytes, unless}
-use Rattle.newt_laws_answers.proofs.Tests.{add_tests, move_tests, moved_within}
-use Rattle.newt_laws_answers.proofs.Refusals.{add-tests, added, remove-tests, removed, move-tests, moved}
-use Rattle.newt_laws_answers.proofs.Programs.{add-bound, remove-bound, move-bound}
+use Rattle.newt_laws_answers.proofs.Tests.{add_tests}
+use Rattle.newt_laws_answers.proofs.Refusals.{add-tests, added, remove-tests, removed}
+use Rattle.newt_laws_answers.proofs.Programs.{add-bound, remove-bound}
 
 -- A change of a store at a minute, in other words: by these tests, as this change of the store, with so many bytes at most.
 pub record SaidAs (change : Change) (blocks now : ℕ) (s : Store) (tests : Checks) (made : Store → Store) (most : ℕ) : Type 0 where
@@ -28,13 +28,4 @@ module _ (blocks now sig : ℕ) (s : Store) (p : Soup) (found : soup_of sig s �
       tests_are = remove-tests blocks now sig s p found uid e here;
       made_is = removed blocks now sig s p found uid e here;
       most_is = remove-bound blocks now sig s p found uid e here;
-    }
-
-    pub move-said : (target : ℕ) (q : Soup) → soup_of target s ≡ Some q
-        → SaidAs (change.Move sig uid target) blocks now s (move_tests blocks now p.name uid q.name e.graph s q) (moved_within now p.name uid q.name e.graph)
-        (unless (move_tests blocks now p.name uid q.name e.graph s q) (change_bytes true s (moved_within now p.name uid q.name e.graph s) (record { uid = q.next_uid; time = now; graph = e.graph } ∷ []) (e ∷ [])))
-    move-said target q into = record {
-      tests_are = move-tests blocks now sig s p found uid e here target q into;
-      made_is = moved blocks now sig s p found uid e here target q into;
-      most_is = move-bound blocks now sig s p found uid e here target q into;
     }

@@ -19,10 +19,10 @@ use Rattle.newt_spec_world.specs.Changed.{changed, copy_to}
 use Rattle.newt_spec_world.specs.Refused.{checks, on_some, either, no_unit, not_mounted, no_soup, no_entry, full}
 use Rattle.newt_spec_world.specs.Answer.{answer, fields, new_uid}
 use Rattle.newt_laws_answers.specs.Tests.{both_checks}
-use Rattle.newt_laws_answers.proofs.Tests.{add_tests, move_tests, moved_within, room_tests, with_added}
+use Rattle.newt_laws_answers.proofs.Tests.{add_tests, moved_within, room_tests, with_added}
 use Rattle.newt_laws_answers.proofs.Firsts.{first-true, first-false, first-found}
 use Rattle.newt_laws_answers.specs.There.{OnUnit}
-use Rattle.newt_laws_answers.proofs.Units.{on-changed, on-other, is-mounted, soup-named, store-twice}
+use Rattle.newt_laws_answers.proofs.Units.{on-changed, on-other, is-mounted, soup-named}
 use Rattle.newt_laws_answers.proofs.Answers.{done, refused, entry-named, full-is}
 use Rattle.newt_laws_answers.proofs.Adds.{room-is, uid-is, ids-is}
 
@@ -44,10 +44,6 @@ graph-passes blocks now name e s p ok =
 -- ---- the tests of both soups
 
 module _ (w : World) (u : ℕ) (name : List ℕ) (uid v : ℕ) (target : List ℕ) (r : Refusal) (h : first_of (both_checks w u name v target) ≡ Some r) where
-  pub copy-not-found : answer w (command.Copy u name uid v target) ≡ (w, Reply.refused r)
-  unfolding checks
-  copy-not-found = refused w (command.Copy u name uid v target) r (first-found (both_checks w u name v target) (drop 3 (checks w (command.Copy u name uid v target))) r h)
-
   pub move-not-found : answer w (command.Move u name uid v target) ≡ (w, Reply.refused r)
   unfolding checks
   move-not-found = refused w (command.Move u name uid v target) r (first-found (both_checks w u name v target) (drop 3 (checks w (command.Move u name uid v target))) r h)
@@ -67,11 +63,6 @@ module _ (w : World) (u blocks : ℕ) (s : Store) (name : List ℕ) (p : Soup) (
 
   fails : (rest : Checks) → entry_of uid p ≡ None → first_of (no_entry w u name uid ∷ rest) ≡ Some NoEntry
   fails rest none = first-true NoEntry _ rest (ap is_none (entry-named w u blocks s name p uid h f ∙ none))
-
-  pub copy-no-entry : entry_of uid p ≡ None → answer w (command.Copy u name uid v target) ≡ (w, Reply.refused NoEntry)
-  unfolding checks
-  copy-no-entry none = refused w (command.Copy u name uid v target) NoEntry
-      (both-pass (drop 3 (checks w (command.Copy u name uid v target))) ∙ fails (drop 4 (checks w (command.Copy u name uid v target))) none)
 
   pub move-no-entry : entry_of uid p ≡ None → answer w (command.Move u name uid v target) ≡ (w, Reply.refused NoEntry)
   unfolding checks
@@ -144,11 +135,3 @@ module _ (w : World) (u blocks : ℕ) (s : Store) (name : List ℕ) (p : Soup) (
   full-within = ap (λ y. on_some (device y u) (λ d. on_some (store_of d.media) (λ s. nat_lt (cap d.blocks) (cost s)))) (moved w u blocks s name p uid h f u blocks s target q h g e here)
       ∙ full-is _ u blocks (moved_within w.minute name uid target e.graph s)
       (on-changed (with_added w u target e.graph) u blocks _ (change_soup name (remove_entry uid)) (on-changed w u blocks s (change_soup target (add_entry w.minute e.graph)) h))
-
-  pub within-refused : (r : Refusal) → first_of (move_tests blocks w.minute name uid target e.graph s q) ≡ Some r → answer w (command.Move u name uid u target) ≡ (w, Reply.refused r)
-  within-refused r x = refused w (command.Move u name uid u target) r (ids-first w u blocks s name p uid h f u blocks s target q h g e here _ full-within ∙ x)
-
-  pub within-done : first_of (move_tests blocks w.minute name uid target e.graph s q) ≡ None → w.cursors ≡ replicate 32 None
-      → answer w (command.Move u name uid u target) ≡ (change_store w u (moved_within w.minute name uid target e.graph), Reply.number q.next_uid)
-  within-done x none = move-ends w u blocks s name p uid h f u blocks s target q h g e here (ids-first w u blocks s name p uid h f u blocks s target q h g e here _ full-within ∙ x) none
-      ∙ ap {B = World × Reply} (λ y. (y, Reply.number q.next_uid)) (store-twice w u blocks s (change_soup name (remove_entry uid)) (change_soup target (add_entry w.minute e.graph)) h)

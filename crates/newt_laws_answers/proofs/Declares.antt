@@ -27,9 +27,9 @@ use Rattle.newt_spec_world.specs.Answer.{answer, fields, or_nil}
 use Rattle.newt_laws_answers.specs.Tests.{soup_checks}
 use Rattle.newt_laws_answers.proofs.Tests.{index_tests, tagged, tags_tests, info_tests, informed}
 use Rattle.newt_laws_answers.specs.There.{OnUnit}
-use Rattle.newt_laws_answers.proofs.Firsts.{first-true, first-false, first-found}
+use Rattle.newt_laws_answers.proofs.Firsts.{first-false}
 use Rattle.newt_laws_answers.proofs.Units.{on-changed, soup-named}
-use Rattle.newt_laws_answers.proofs.Answers.{done, refused, refused-early, all-pass, full-is}
+use Rattle.newt_laws_answers.proofs.Answers.{done, refused, all-pass, full-is}
 
 -- ---- an index is declared
 
@@ -49,9 +49,6 @@ module _ (w : World) (u : ℕ) (name : List ℕ) (parts : List PartWord) where
   unfolding checks
   index-table = refl
 
-  pub index-not-found : (r : Refusal) → first_of (soup_checks w u name) ≡ Some r → answer w (command.Index u name parts) ≡ (w, Reply.refused r)
-  index-not-found r h = refused w (command.Index u name parts) r (index-table ∙ first-found (soup_checks w u name) (drop 3 index-rows) r h)
-
 module _ (w : World) (u blocks : ℕ) (s : Store) (name : List ℕ) (p : Soup) (h : OnUnit w u blocks s) (f : soup_named name s ≡ Some p) where
   pub has-is : (paths : List Path) → has_index w u name paths ≡ has_paths paths p.specs
   has-is paths = ap (λ o. on_some o (λ (q : Soup). list_any (λ spec. same_paths (paths_of spec) paths) q.specs)) (soup-named w u blocks s name h ∙ f)
@@ -69,15 +66,9 @@ module _ (w : World) (u blocks : ℕ) (s : Store) (name : List ℕ) (p : Soup) (
     index-there : first_of (checks w (command.Index u name parts)) ≡ first_of (drop 3 (index-rows w u name parts))
     index-there = index-table w u name parts ∙ all-pass w u blocks s name p (drop 3 (index-rows w u name parts)) h f
 
-    pub index-exists : has_paths (paths_of_words parts) p.specs ≡ true → answer w (command.Index u name parts) ≡ (w, Reply.refused BadIndex)
-    index-exists there = refused w (command.Index u name parts) BadIndex (index-there ∙ first-true BadIndex _ (drop 4 (index-rows w u name parts)) (has-is (paths_of_words parts) ∙ there))
-
     module _ (new : has_paths (paths_of_words parts) p.specs ≡ false) where
       index-new : first_of (checks w (command.Index u name parts)) ≡ first_of (drop 4 (index-rows w u name parts))
       index-new = index-there ∙ first-false BadIndex _ (drop 4 (index-rows w u name parts)) (has-is (paths_of_words parts) ∙ new)
-
-      pub index-real : (real_part parts).1 ≡ true → answer w (command.Index u name parts) ≡ (w, Reply.refused BadKey)
-      index-real real = refused w (command.Index u name parts) BadKey (index-new ∙ first-true BadKey _ (drop 5 (index-rows w u name parts)) real)
 
       module _ (typed : (real_part parts).1 ≡ false) where
         pub index-checks : first_of (checks w (command.Index u name parts)) ≡ first_of (index_tests blocks name (spec_of_words parts) s p)
@@ -93,9 +84,6 @@ module _ (w : World) (u blocks : ℕ) (s : Store) (name : List ℕ) (p : Soup) (
     pub unindex-there : first_of (checks w (command.Unindex u name paths)) ≡ first_of (no_index w u name paths ∷ [])
     unfolding checks
     unindex-there = all-pass w u blocks s name p (no_index w u name paths ∷ []) h f
-
-    pub unindex-missing : has_paths paths p.specs ≡ false → answer w (command.Unindex u name paths) ≡ (w, Reply.refused BadIndex)
-    unindex-missing none = refused w (command.Unindex u name paths) BadIndex (unindex-there ∙ first-true BadIndex _ [] (ap not (has-is paths ∙ none)))
 
   -- ---- shown
 
@@ -117,10 +105,6 @@ module _ (w : World) (u blocks : ℕ) (s : Store) (name : List ℕ) (p : Soup) (
 -- ---- refused before
 
 module _ (w : World) (u : ℕ) (name : List ℕ) (r : Refusal) (h : first_of (soup_checks w u name) ≡ Some r) where
-  pub unindex-not-found : (paths : List Path) → answer w (command.Unindex u name paths) ≡ (w, Reply.refused r)
-  unfolding checks
-  unindex-not-found paths = refused-early w (command.Unindex u name paths) (soup_checks w u name) (drop 3 (checks w (command.Unindex u name paths))) r refl h
-
   pub indexes-not-found : answer w (command.Indexes u name) ≡ (w, Reply.refused r)
   unfolding checks
   indexes-not-found = refused w (command.Indexes u name) r h
@@ -143,15 +127,9 @@ module _ (w : World) (u : ℕ) (name : List ℕ) (path : Path) (symbols : List (
   unfolding checks
   tags-table = refl
 
-  pub set-tags-not-found : (r : Refusal) → first_of (soup_checks w u name) ≡ Some r → answer w (command.SetTags u name path symbols) ≡ (w, Reply.refused r)
-  set-tags-not-found r h = refused w (command.SetTags u name path symbols) r (tags-table ∙ first-found (soup_checks w u name) (drop 3 tags-rows) r h)
-
   module _ (blocks : ℕ) (s : Store) (p : Soup) (h : OnUnit w u blocks s) (f : soup_named name s ≡ Some p) where
     tags-there : first_of (checks w (command.SetTags u name path symbols)) ≡ first_of (drop 3 tags-rows)
     tags-there = tags-table ∙ all-pass w u blocks s name p (drop 3 tags-rows) h f
-
-    pub set-tags-many : nat_lt 64 (length symbols) ≡ true → answer w (command.SetTags u name path symbols) ≡ (w, Reply.refused Limit)
-    set-tags-many many = refused w (command.SetTags u name path symbols) Limit (tags-there ∙ first-true Limit _ (drop 4 tags-rows) many)
 
     tags-room : (full w u (command.SetTags u name path symbols)).1 ≡ nat_lt (cap blocks) (cost (tagged name (record { path = path; symbols = symbols }) s))
     unfolding changed
@@ -196,9 +174,6 @@ module _ (w : World) (u : ℕ) (name : List ℕ) (g : RawGraph) where
   info-table : first_of (checks w (command.SetInfo u name g)) ≡ first_of info-rows
   unfolding checks
   info-table = refl
-
-  pub set-info-not-found : (r : Refusal) → first_of (soup_checks w u name) ≡ Some r → answer w (command.SetInfo u name g) ≡ (w, Reply.refused r)
-  set-info-not-found r h = refused w (command.SetInfo u name g) r (info-table ∙ first-found (soup_checks w u name) (drop 3 info-rows) r h)
 
   module _ (blocks : ℕ) (s : Store) (p : Soup) (h : OnUnit w u blocks s) (f : soup_named name s ≡ Some p) where
     info-room : (full w u (command.SetInfo u name g)).1 ≡ nat_lt (cap blocks) (cost (informed name (info_from g) s))

@@ -60,10 +60,6 @@ module _ (w : World) (u : ℕ) (name : List ℕ) (uid : ℕ) (r : Refusal) (h : 
   unfolding checks
   getx-refused = refused w (command.Getx u name uid) r h
 
-  pub remove-refused : answer w (command.Remove u name uid) ≡ (w, Reply.refused r)
-  unfolding checks
-  remove-refused = refused w (command.Remove u name uid) r h
-
   pub alias-refused : answer w (command.Alias u name uid) ≡ (w, Reply.refused r)
   unfolding checks
   alias-refused = refused w (command.Alias u name uid) r h

@@ -19,7 +19,7 @@ use Rattle.newt_laws_answers.specs.Tests.{entry_checks}
 use Rattle.newt_laws_answers.proofs.Tests.{patch_tests}
 use Rattle.newt_store_change.specs.Entries.{large_checks}
 use Rattle.newt_laws_answers.specs.There.{OnUnit}
-use Rattle.newt_laws_answers.proofs.Firsts.{first-true, first-false}
+use Rattle.newt_laws_answers.proofs.Firsts.{first-false}
 use Rattle.newt_laws_answers.proofs.Answers.{done, refused, refused-early, entry-named}
 use Rattle.newt_laws_answers.proofs.Replaces.{there-passes}
 
@@ -29,10 +29,6 @@ module _ (w : World) (u : ℕ) (name : List ℕ) (uid : ℕ) (r : Refusal) (h : 
   pub vread-not-found : (many : ℕ) → answer w (command.Vread u name uid path at many) ≡ (w, Reply.refused r)
   unfolding checks
   vread-not-found many = refused-early w (command.Vread u name uid path at many) (entry_checks w u name uid) (drop 4 (checks w (command.Vread u name uid path at many))) r refl h
-
-  pub vwrite-not-found : (bytes : List ℕ) → answer w (command.Vwrite u name uid path at bytes) ≡ (w, Reply.refused r)
-  unfolding checks
-  vwrite-not-found bytes = refused-early w (command.Vwrite u name uid path at bytes) (entry_checks w u name uid) (drop 4 (checks w (command.Vwrite u name uid path at bytes))) r refl h
 
 -- ---- the entry is there
 
@@ -67,10 +63,6 @@ module _ (w : World) (u blocks : ℕ) (s : Store) (name : List ℕ) (p : Soup) (
   vwrite-tests : (bytes : List ℕ) → first_of (checks w (command.Vwrite u name uid path at bytes)) ≡ first_of (large_checks path (at + length bytes) (Some e))
   unfolding checks
   vwrite-tests bytes = there-passes w u blocks s name p uid h f e here (drop 4 (checks w (command.Vwrite u name uid path at bytes))) ∙ ap (λ o. first_of (tests (at + length bytes) o)) there
-
-  -- no large binary is reached
-  pub vwrite-no-path : large_at e.graph path ≡ None → (bytes : List ℕ) → answer w (command.Vwrite u name uid path at bytes) ≡ (w, Reply.refused NoPath)
-  vwrite-no-path none bytes = refused w (command.Vwrite u name uid path at bytes) NoPath (vwrite-tests bytes ∙ first-true NoPath _ (drop 1 (large_checks path (at + length bytes) (Some e))) (ap is_none none))
 
   -- the node of one is reached
   module _ (node : ℕ) (is : large_at e.graph path ≡ Some node) (bytes : List ℕ) where

@@ -20,11 +20,11 @@ use Rattle.newt_laws_world.specs.Cursors.{with_cursors, uses_cursors}
 use Rattle.newt_laws_world.proofs.Uncursored.{changed-apart, checks-apart}
 use Rattle.newt_laws_answers.specs.Bounds.{change_bytes, unless, listed, new_in, copied_in, touched, bytes_between, bytes_done, most_programmed}
 use Rattle.newt_laws_answers.specs.There.{OnUnit}
-use Rattle.newt_laws_answers.proofs.Tests.{add_tests, move_tests, moved_within, replaced, with_added}
+use Rattle.newt_laws_answers.proofs.Tests.{add_tests, replaced, with_added}
 use Rattle.newt_laws_answers.proofs.Units.{is-there, on-changed, on-other, soup-named}
 use Rattle.newt_laws_answers.proofs.Answers.{entry-named}
 use Rattle.newt_laws_answers.proofs.Replaces.{set-changed}
-use Rattle.newt_laws_answers.proofs.Copies.{graph-passes, moved, moved_world, ids-first, full-there, full-within}
+use Rattle.newt_laws_answers.proofs.Copies.{graph-passes, moved, moved_world, ids-first, full-there}
 
 -- the entries that are put and let go
 abbrev Touch : Type 0
@@ -123,21 +123,6 @@ module _ (w : World) (u blocks : ℕ) (s : Store) (name : List ℕ) (p : Soup) (
           (on-other w u v blocks s (change_soup target (add_entry w.minute e.graph)) (λ i. differ (sym i)) h)))
           (if-other {X = Touch} v u _ (cond (u == u) (Some ([], listed (entry_in w u name uid))) None) differ
           ∙ if-same {X = Touch} u (Some ([], listed (entry_in w u name uid))) None ∙ ap {B = Touch} (λ o. Some ([], listed o)) (there w u blocks s name p uid h f e here))
-
--- within one store
-module _ (w : World) (u blocks : ℕ) (s : Store) (name : List ℕ) (p : Soup) (uid : ℕ) (h : OnUnit w u blocks s) (f : soup_named name s ≡ Some p)
-    (target : List ℕ) (q : Soup) (g : soup_named target s ≡ Some q) (e : Entry) (here : entry_of uid p ≡ Some e) where
-  pub within-most : unless (move_tests blocks w.minute name uid target e.graph s q)
-      (change_bytes true s (moved_within w.minute name uid target e.graph s) (new_entry w q e.graph ∷ []) (e ∷ [])) ≤ most_programmed w (command.Move u name uid u target) u
-  within-most = most-between true w (command.Move u name uid u target) u blocks s (moved_within w.minute name uid target e.graph s) (new_entry w q e.graph ∷ []) (e ∷ [])
-      (move_tests blocks w.minute name uid target e.graph s q) (moved-bytes w u u u name target uid true (eq-eqb u u refl))
-      (ids-first w u blocks s name p uid h f u blocks s target q h g e here _ (full-within w u blocks s name p uid h f target q g e here)) h
-      (subst (λ x. OnUnit x u blocks (moved_within w.minute name uid target e.graph s)) (sym (moved w u blocks s name p uid h f u blocks s target q h g e here))
-      (on-changed (with_added w u target e.graph) u blocks _ (change_soup name (remove_entry uid)) (on-changed w u blocks s (change_soup target (add_entry w.minute e.graph)) h)))
-      (if-same {X = Touch} u (Some (copied_in w u target (entry_in w u name uid), cond (u == u) (listed (entry_in w u name uid)) [])) _
-      ∙ ap {B = Touch} (λ es. Some (copied_in w u target (entry_in w u name uid), es)) (if-same u (listed (entry_in w u name uid)) []
-      ∙ ap listed (there w u blocks s name p uid h f e here))
-      ∙ ap {B = Touch} (λ es. Some (es, e ∷ [])) (copied-is w u blocks s name p uid h f u blocks s target q h g e here))
 
 -- ---- cursors
 

@@ -1,17 +1,17 @@
 -- What each change programs at most, in the words of the tests and of the entries that come and go.
-use Rattle.std.proofs.Common.{◌≡◌, ℕ, ◌+◌, true, false, cond, List, [], ◌∷◌, Option, Some, option_map, sum_by, refl, ◌∙◌, ap, arith}
+use Rattle.std.proofs.Common.{◌≡◌, ℕ, ◌+◌, true, false, cond, List, [], ◌∷◌, Option, Some, sum_by, refl, ◌∙◌, ap, arith}
 use Rattle.std.specs.Option.{is_some}
 use Rattle.newt_base.specs.Refusals.{Checks, first_of}
 use Rattle.newt_base.specs.declared.Refusal.{Refusal}
 use Rattle.newt_graph.specs.Graph.{RawGraph}
 use Rattle.newt_laws_answers.specs.Bounds.{change_bytes, unless}
-use Rattle.newt_laws_answers.proofs.Tests.{add_tests, move_tests, moved_within}
+use Rattle.newt_laws_answers.proofs.Tests.{add_tests}
 use Rattle.newt_spec_store.specs.Cost.{entry_pages, pages_bytes}
 use Rattle.newt_spec_store.specs.Store.{Store as Plain, Soup, Entry, entry_of, change_soup, add_entry, remove_entry, soup_of, entry_at, next_uid_of}
 use Rattle.newt_store_change.specs.Change.{changed_by, refusals, refusal_of, entry_added, pages_if, pages_of_entry, pages_removed, pages_put, pages_gone, bytes_of, most_bytes, writes_directory}
 use Rattle.newt_store_change.specs.declared.change.Change.{Change}
 use Rattle.newt_store_change.specs.declared.change.Change.TheVariants as change
-use Rattle.newt_laws_answers.proofs.Refusals.{entry-there, add-tests, added, remove-tests, removed, move-tests, moved}
+use Rattle.newt_laws_answers.proofs.Refusals.{entry-there, add-tests, added, remove-tests, removed}
 
 -- the pages of one entry
 one : (e : Entry) → entry_pages e ≡ sum_by entry_pages (e ∷ [])
@@ -45,13 +45,3 @@ module _ (blocks now sig : ℕ) (s : Plain) (p : Soup) (found : soup_of sig s �
     pub remove-bound : most_bytes (change.Remove sig uid) blocks now s ≡ change_bytes false s (change_soup p.name (remove_entry uid) s) [] (e ∷ [])
     remove-bound = bound-is (change.Remove sig uid) blocks now s (change_soup p.name (remove_entry uid) s) [] [] (e ∷ [])
         (remove-tests blocks now sig s p found uid e here) (removed blocks now sig s p found uid e here) refl refl goes
-
-    module _ (target : ℕ) (q : Soup) (into : soup_of target s ≡ Some q) where
-      pub move-bound : most_bytes (change.Move sig uid target) blocks now s
-          ≡ unless (move_tests blocks now p.name uid q.name e.graph s q) (change_bytes true s (moved_within now p.name uid q.name e.graph s) (record { uid = q.next_uid; time = now; graph = e.graph } ∷ []) (e ∷ []))
-      move-bound = bound-is (change.Move sig uid target) blocks now s (moved_within now p.name uid q.name e.graph s) (move_tests blocks now p.name uid q.name e.graph s q)
-          (record { uid = q.next_uid; time = now; graph = e.graph } ∷ []) (e ∷ [])
-          (move-tests blocks now sig s p found uid e here target q into) (moved blocks now sig s p found uid e here target q into) refl
-          (ap (λ (o : Option Entry). pages_of_entry (option_map (λ (x : Entry). record { uid = next_uid_of (soup_of target s); time = now; graph = x.graph }) o)) (entry-there sig uid s p e found here)
-          ∙ ap (λ (o : Option Soup). entry_pages (record { uid = next_uid_of o; time = now; graph = e.graph })) into
-          ∙ one (record { uid = q.next_uid; time = now; graph = e.graph })) goes

@@ -137,6 +137,3 @@ module _ (blocks now sig : ℕ) (s : Plain) (p : Soup) (found : soup_of sig s �
         where
           later : Bool → Option Soup → Plain → Checks
           later none o t = (NoEntry, none) ∷ (Ids, has_no_ids o) ∷ (Full, nat_lt (cap blocks) (cost t)) ∷ []
-
-      pub moved-uid : answer_of (change.Move sig uid target) s ≡ q.next_uid
-      moved-uid = ap next_uid_of into

@@ -1,9 +1,8 @@
 -- Entries whose graph is replaced.
-use Rattle.std.proofs.Common.{◌≡◌, refl, ap, sym, ◌∙◌, ℕ, List, [], ◌∷◌, Bool, true, false, not, ◌&&◌, nat_lt, nat_le, Option, Some, None, option_and_then, unwrap_or, cond, find, drop, ◌==◌}
+use Rattle.std.proofs.Common.{◌≡◌, refl, ap, sym, ◌∙◌, ℕ, List, [], ◌∷◌, Bool, true, false, not, ◌&&◌, nat_lt, nat_le, Option, Some, option_and_then, unwrap_or, cond, find, drop, ◌==◌}
 use Rattle.std.specs.Option.{is_none}
 use Rattle.newt_base.specs.Names.{equal_text}
 use Rattle.newt_base.specs.Refusals.{Checks, first_of}
-use Rattle.newt_base.specs.declared.Refusal.{Refusal}
 use Rattle.newt_base.specs.declared.Refusal.TheVariants.{Notframe, Path as NoPath, Limit, Size, Full}
 use Rattle.newt_graph.specs.Graph.{RawGraph}
 use Rattle.newt_graph.specs.Meeting.{normal_form}
@@ -19,18 +18,15 @@ use Rattle.newt_spec_store.specs.Store.{Store, Soup, Entry, soup_named, entry_of
 use Rattle.newt_spec_world.specs.declared.command.Command.{Command}
 use Rattle.newt_spec_world.specs.declared.command.Command.TheVariants as command
 use Rattle.newt_spec_world.specs.World.{World, device, store_of, entry_in, change_store}
-use Rattle.newt_spec_world.specs.Reply.{Reply}
 use Rattle.newt_spec_world.specs.Changed.{changed, graph_after_set}
 use Rattle.newt_spec_world.specs.Refused.{checks, on_some, no_unit, not_mounted, no_soup, no_entry, full}
-use Rattle.newt_spec_world.specs.Answer.{answer}
 use Rattle.newt_laws_world.proofs.Frames.{set-frame, normal-frame}
 use Rattle.newt_laws_world.proofs.Rows.{and-left}
-use Rattle.newt_laws_answers.specs.Tests.{entry_checks}
 use Rattle.newt_laws_answers.proofs.Tests.{replaced, replace_tests}
 use Rattle.newt_laws_answers.specs.There.{OnUnit}
-use Rattle.newt_laws_answers.proofs.Firsts.{first-true, first-false}
+use Rattle.newt_laws_answers.proofs.Firsts.{first-false}
 use Rattle.newt_laws_answers.proofs.Units.{on-changed, store-alike}
-use Rattle.newt_laws_answers.proofs.Answers.{refused, refused-early, all-pass, entry-named, full-is}
+use Rattle.newt_laws_answers.proofs.Answers.{refused, all-pass, entry-named, full-is}
 use Rattle.newt_laws_answers.proofs.Entries.{entry-passes}
 
 -- ---- changes that agree on what is changed
@@ -52,15 +48,6 @@ entry-alike name uid f g s p e named here same =
     (ap {A = List Entry} {B = Soup} (λ es. record p { entries = es }) (first-alike (λ e. e.uid == uid) f g p.entries e here same)))
 
 -- ---- refused before
-
-module _ (w : World) (u : ℕ) (name : List ℕ) (uid : ℕ) (r : Refusal) (h : first_of (entry_checks w u name uid) ≡ Some r) where
-  pub change-not-found : (g : RawGraph) → answer w (command.Change u name uid g) ≡ (w, Reply.refused r)
-  unfolding checks
-  change-not-found g = refused-early w (command.Change u name uid g) (entry_checks w u name uid) (drop 4 (checks w (command.Change u name uid g))) r refl h
-
-  pub set-not-found : (path : Path) (g : RawGraph) → answer w (command.Set u name uid path g) ≡ (w, Reply.refused r)
-  unfolding checks
-  set-not-found path g = refused-early w (command.Set u name uid path g) (entry_checks w u name uid) (drop 4 (checks w (command.Set u name uid path g))) r refl h
 
 -- ---- the entry is there
 
@@ -100,18 +87,9 @@ module _ (w : World) (u blocks : ℕ) (s : Store) (name : List ℕ) (p : Soup) (
     unfolding checks
     set-tests = there-passes (drop 4 (checks w (command.Set u name uid path g))) ∙ ap (λ o. first_of (tests o)) there
 
-    -- no frame is reached
-    pub set-no-path : put e.graph path g ≡ None → answer w (command.Set u name uid path g) ≡ (w, Reply.refused NoPath)
-    set-no-path none = refused w (command.Set u name uid path g) NoPath (set-tests ∙ first-true NoPath _ (drop 1 (tests (Some e))) (ap is_none none))
-
     module _ (raw : RawGraph) (is : put e.graph path g ≡ Some raw) where
       path-passes : first_of (tests (Some e)) ≡ first_of (drop 1 (tests (Some e)))
       path-passes = first-false NoPath _ (drop 1 (tests (Some e))) (ap is_none is)
-
-      -- what would be the graph passes a limit
-      pub set-past-limits : is_within (normal_form raw) ≡ false → answer w (command.Set u name uid path g) ≡ (w, Reply.refused Limit)
-      set-past-limits past = refused w (command.Set u name uid path g) Limit (set-tests ∙ path-passes
-          ∙ first-true Limit _ (drop 2 (tests (Some e))) (ap (λ o. on_some o (λ x. not (is_within (normal_form x)))) is ∙ ap not past))
 
       module _ (new : RawGraph) (form : normal_form raw ≡ Some new) (within : within_limits new ≡ true) (ok : valid_entry e ≡ true) where
         after : graph_after_set path g e.graph ≡ new

@@ -1,5 +1,5 @@
 -- Soups that are made, shown and dropped.
-use Rattle.std.proofs.Common.{◌≡◌, refl, ap, ◌∙◌, ℕ, List, [], ◌∷◌, Bool, Some, None, replicate, map, length, nat_lt, nat_le, ◌==◌, drop}
+use Rattle.std.proofs.Common.{◌≡◌, ap, ◌∙◌, ℕ, List, [], ◌∷◌, Bool, Some, None, replicate, map, length, nat_lt, nat_le, ◌==◌}
 use Rattle.std.specs.Option.{is_some}
 use Rattle.newt_base.specs.Refusals.{first_of}
 use Rattle.newt_base.specs.declared.Refusal.{Refusal}
@@ -13,12 +13,12 @@ use Rattle.newt_spec_world.specs.Reply.{Reply}
 use Rattle.newt_spec_world.specs.Changed.{changed}
 use Rattle.newt_spec_world.specs.Refused.{checks, on_some, soup_limit, no_more_soups, soup_exists, full}
 use Rattle.newt_spec_world.specs.Answer.{answer, fields, or_nil}
-use Rattle.newt_laws_answers.specs.Tests.{soup_checks, unit_checks}
+use Rattle.newt_laws_answers.specs.Tests.{unit_checks}
 use Rattle.newt_laws_answers.specs.There.{OnUnit}
 use Rattle.newt_store_change.specs.Change.{refusals}
 use Rattle.newt_store_change.specs.declared.change.Change.TheVariants.{MakeSoup}
 use Rattle.newt_laws_answers.proofs.Units.{on-changed, is-mounted, soup-named}
-use Rattle.newt_laws_answers.proofs.Answers.{done, refused, refused-early, unit-passes, full-is}
+use Rattle.newt_laws_answers.proofs.Answers.{done, refused, unit-passes, full-is}
 
 module _ (w : World) (u blocks : ℕ) (s : Store) (name : List ℕ) (h : OnUnit w u blocks s) where
   exists-is : is_some (soup_in w u name) ≡ is_some (soup_named name s)
@@ -47,14 +47,6 @@ module _ (w : World) (u blocks : ℕ) (s : Store) (name : List ℕ) (h : OnUnit 
   soup-refused r k = refused w (command.Soup u name) r (soup-checks ∙ k)
 
 -- ---- refused before
-
-pub soup-not-mounted : (w : World) (u : ℕ) (name : List ℕ) (r : Refusal) → first_of (unit_checks w u) ≡ Some r → answer w (command.Soup u name) ≡ (w, Reply.refused r)
-unfolding checks
-soup-not-mounted w u name r h = refused-early w (command.Soup u name) (unit_checks w u) (drop 2 (checks w (command.Soup u name))) r refl h
-
-pub drop-not-found : (w : World) (u : ℕ) (name : List ℕ) (r : Refusal) → first_of (soup_checks w u name) ≡ Some r → answer w (command.Drop u name) ≡ (w, Reply.refused r)
-unfolding checks
-drop-not-found w u name r h = refused w (command.Drop u name) r h
 
 -- ---- shown
 

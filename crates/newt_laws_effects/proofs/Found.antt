@@ -172,10 +172,6 @@ both-found w u name blocks s p v target other t q go h f k g =
 pub passes : (r : Refusal) (b : Bool) (go : Resolved) → b ≡ false → passing (r, b) go ≡ go
 passes r b go e = ap (λ x. passing (r, x) go) e
 
-pub default-found : (w : World) (name : List ℕ) (s : Store) (p : Soup) (go : Soup → Resolved) → mounted_store w (default_unit w) ≡ Some s → soup_named name s ≡ Some p → in_default w name go ≡ go p
-default-found w name s p go h f =
-    ap (λ o. needs Notmounted o (λ s. needs NoSoup (soup_named name s) go)) h ∙ ap (λ o. needs NoSoup o go) f
-
 -- ---- a soup that is there
 
 module _ (w : World) (all : Every Wf w) (u : ℕ) (name : List ℕ) (blocks : ℕ) (s : Store) (p : Soup) (h : OnUnit w u blocks s) (f : soup_named name s ≡ Some p) where

@@ -51,7 +51,7 @@ use Rattle.newt_laws_effects.proofs.Bounding.{Touch, Programs, Puts, one-bytes, 
 use Rattle.newt_laws_effects.proofs.Bounding.{two-bytes, none-between, moved-puts, dropped-puts, dropped-touch}
 use Rattle.newt_laws_effects.proofs.Bounding.{new_entry, new-is, added-puts, before, removed-puts, removed-touch}
 use Rattle.newt_laws_effects.proofs.Bounding.{replaced-puts, replaced-touch}
-use Rattle.newt_laws_effects.proofs.Found.{at, by-name, by-sig, name-is, default-found, soup-found, ok-same, needed, passed, in-store, in-soup, in-default, in-entry, InBoth, in-both}
+use Rattle.newt_laws_effects.proofs.Found.{at, by-name, by-sig, name-is, ok-same, needed, passed, in-store, in-soup, in-default, in-entry, InBoth, in-both}
 
 -- ---- a soup that is there
 
@@ -509,19 +509,3 @@ pub row-tells : (w : World) (c : Command) (es : List Effect) → AllValid w → 
 row-tells w c es all e = rows-tell w c es (wf-from w all) e
 
 -- ---- what commands resolve to
-
-module _ (w : World) (u : ℕ) (name : List ℕ) (g : RawGraph) (blocks : ℕ) (s : Store) (p : Soup) (h : OnUnit w u blocks s) (f : soup_named name s ≡ Some p) where
-  pub add-resolves : effects w (command.Add u name g) ≡ Ok (at u (change.Add p.sig g) ∷ [])
-  unfolding effects
-  add-resolves = soup-found w u name blocks s p (λ p. only u (change.Add p.sig g)) h f
-
-  pub addx-resolves : effects w (command.Addx u name g) ≡ Ok (at u (change.Add p.sig g) ∷ [])
-  unfolding effects
-  addx-resolves = soup-found w u name blocks s p (λ p. only u (change.Add p.sig g)) h f
-
-pub addu-resolves : (w : World) (u : ℕ) (name : List ℕ) (g : RawGraph) (blocks : ℕ) (s : Store) (p : Soup) → default_unit w ≡ u → OnUnit w u blocks s → soup_named name s ≡ Some p
-    → effects w (command.Addu name g) ≡ Ok (at u (change.Add p.sig g) ∷ [])
-unfolding effects
-addu-resolves w u name g blocks s p d h f =
-    default-found w name s p (λ p. only (default_unit w) (change.Add p.sig g)) (ap (mounted_store w) d ∙ is-mounted w u blocks s h) f
-    ∙ ap {B = Resolved} (λ n. only n (change.Add p.sig g)) d
