@@ -37,7 +37,7 @@ use Rattle.newt_engine_units.proofs.Broken.{fails-after}
 use Rattle.newt_engine_units.proofs.Costs.{alone-refl}
 use Rattle.newt_engine_units.proofs.Known.{Laws}
 use Rattle.newt_engine_units.proofs.Obeying.{cause-after}
-use Rattle.newt_engine_commands.specs.Plans.{Did, told_by}
+use Rattle.newt_engine_commands.specs.Plans.{Did, told_as}
 use Rattle.newt_engine_cursors.specs.Fits.{DeskFits}
 use Rattle.newt_engine_cursors.specs.Reached.{in_reach, reach_done}
 use Rattle.newt_engine_cursors.proofs.Done.{done-after}
@@ -60,7 +60,7 @@ use Rattle.newt_engine.proofs.Settling.{apart_after, done_answers, done_changed,
 -- ---- commands that change a store
 
 -- one is told by a reply that leaves not all, and looks at no unit anew
-pub told_busy : (c : Command) (x : Effect) → is_of_stores c ≡ true → leaves_all c (told_by c x) ≡ false
+pub told_busy : (c : Command) (x : Effect) → is_of_stores c ≡ true → leaves_all c (told_as c x) ≡ false
 unfolding is_of_stores
 told_busy (command.Soup u s) x h = refl
 told_busy _ x h = cc

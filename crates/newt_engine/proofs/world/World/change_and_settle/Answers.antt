@@ -13,16 +13,13 @@ use Rattle.newt_engine.specs.Calls.{Obeyed}
 use Rattle.newt_engine.specs.Kept.{leaves_all}
 use Rattle.newt_engine.specs.Laws.{laws_of}
 use Rattle.newt_engine.specs.declared.world.World.{World as Engine}
-use Rattle.newt_engine.proofs.Groups.{of_stores, stays_there, told_done, told_quiet}
+use Rattle.newt_engine.proofs.Groups.{of_stores, told_done, told_quiet}
 use Rattle.newt_engine.proofs.Handed.{told_stands, unrefused_on}
 use Rattle.newt_engine.proofs.Obeying.{handed_obeyed}
 use Rattle.newt_engine.proofs.Serving.{served_fault}
 use Rattle.newt_engine.proofs.Settled.{did_reaches, row, seen_stores, served_settled, told_busy}
 use Rattle.newt_engine.proofs.Settling.{start-formed}
 use Rattle.newt_engine.proofs.world.World.change_and_settle.Goals as goal
-
-pub obey-requires-clause-within : goal.obey-requires-clause-within
-obey-requires-clause-within g c = stays_there c.args.command c.requires.within
 
 pub returns-in-Ok : goal.returns-in-Ok
 returns-in-Ok g c =
