@@ -39,16 +39,18 @@ use Rattle.newt_store_change.specs.declared.fault.StoreFault.{StoreFault}
 use Rattle.newt_pagebook.specs.Book.{IsOpenFor}
 use Rattle.newt_engine_card.specs.Bounds.{Costs, FetchesAtMost, of_unit}
 use Rattle.newt_engine_units.specs.Answers.{Answers}
-use Rattle.newt_engine_units.specs.Calls.{AreRead, Breaks, BreaksIn, Changes, CostsOf}
+use Rattle.newt_engine_units.specs.Calls.{AreRead, Breaks, Changes, CostsOf}
+use Rattle.newt_engine_units.specs.Effects.{effect_of}
 use Rattle.newt_engine_units.specs.Found.{HasSoup}
-use Rattle.newt_engine_units.specs.Breaks.{AtDevice, FailsAlone, Meanwhile}
+use Rattle.newt_engine_units.specs.Breaks.{FailsAlone, Meanwhile}
 use Rattle.newt_engine_units.specs.Stands.{due_in, world_of}
+use Rattle.newt_engine_units.specs.declared.effects.Effect.{Effect}
 use Rattle.newt_engine_units.specs.declared.units.Units.{Units}
 use Rattle.newt_engine_units.proofs.Costs.{alone-refl}
 use Rattle.newt_engine_units.proofs.Known.{Laws}
 use Rattle.newt_engine_units.proofs.Slots.{but-of}
 use Rattle.newt_engine_cursors.specs.Fits.{DeskFits}
-use Rattle.newt_engine_cursors.specs.Reached.{in_reach}
+use Rattle.newt_engine_cursors.specs.Reached.{in_reach, reach_done}
 use Rattle.newt_engine_commands.proofs.Costing.{Seen, first-costs, its_pages, whole-costs}
 use Rattle.newt_engine_commands.proofs.Moves.{WasAdded, added-makes, between-answers, between-fails, both-moments, first-moments, on-then, removed-makes, was-added}
 use Rattle.newt_engine_commands.proofs.Said.{after-untorn, dues-moments, said-costs, said-made, said-moments}
@@ -148,6 +150,10 @@ module _ {C : Type 0} {reads : List ℕ → Option Store} {place : C → ℕ} {s
 
     pub mid-there : mounted_store mid to ≡ Some (change_soup b.there.soup.name (add_entry units.minute entry.graph) b.there.store)
     mid-there = added-there w u to name target sig into uid b.from b.there refl entry b.found b.apart (b.begun.apart b.tells) mid n was
+
+    -- what was done reaches it
+    pub added-reach : (e : Effect) → e ≡ effect_of to (change.Add into entry.graph) n → reach_done (mounted_store mid e.unit) e ≡ on_entry b.there.store.sig into n
+    added-reach e is = ap (λ (x : Effect). reach_done (mounted_store mid x.unit) x) is ∙ ap (λ o. reach_done o (effect_of to (change.Add into entry.graph) n)) mid-there
 
     pub mid-apart : MountedApart mid
     mid-apart = added-apart w u to name target sig into uid b.from b.there refl entry b.found b.apart (b.begun.apart b.tells) mid n was

@@ -1,5 +1,5 @@
 -- A device that fails while the cursors are settled, after a command that is done: it is that of the unit that the command has written or mounted.
-use Rattle.std.proofs.Common.{arith, ◌≡◌, ◌≢◌, ◌⊎◌, inl, inr, refl, ap, sym, ◌∙◌, subst, ℕ, ◌+◌, zero, suc, List, [], ◌∷◌, Bool, true, false, not, ◌&&◌, ◌||◌, cond, IsTrue, Option, Some, None, option_map, option_and_then, is_none, replicate, ◌==◌}
+use Rattle.std.proofs.Common.{◌≡◌, ◌≢◌, ◌⊎◌, inl, inr, refl, ap, sym, ◌∙◌, subst, ℕ, ◌+◌, zero, suc, List, [], ◌∷◌, Bool, true, false, not, ◌&&◌, ◌||◌, cond, IsTrue, Option, Some, None, option_map, option_and_then, is_none, replicate, ◌==◌}
 use Rattle.std.proofs.lemmas.Bool.{eq-eqb, eqb-true, ne_eqb}
 use Rattle.std.specs.Prelude.{Result, Ok, Err, IfErr, filter_map, slice_get, unwrap_or}
 use Rattle.std.specs.List.{cons_option, enumerate_from}
@@ -21,13 +21,13 @@ use Rattle.newt_spec_world.specs.declared.command.Command.{Command}
 use Rattle.newt_spec_world.specs.declared.command.Command.TheVariants as command
 use Rattle.newt_laws_answers.specs.Fetched.{means_entries}
 use Rattle.newt_laws_answers.proofs.Worlds.{card_device}
-use Rattle.newt_laws_reach.specs.Reach.{Reach, reach, store_reach}
+use Rattle.newt_laws_reach.specs.Reach.{reach, store_reach}
+use Rattle.newt_laws_reach.proofs.Reaching.{still-nowhere}
 use Rattle.newt_laws_steps.specs.StandsFor.{seen, seen_on}
 use Rattle.newt_laws_world.specs.Cursors.{uses_cursors, with_cursors}
 use Rattle.newt_laws_world.specs.Settled.{MountedApart, moves_keys}
 use Rattle.newt_laws_world.proofs.Mounted.{units-from-apart}
 use Rattle.newt_laws_world.proofs.Units.{device-other, device-same, same-or-not}
-use Rattle.newt_engine_hits.specs.Present.{has_sig}
 use Rattle.newt_engine_cursors.specs.Reached.{in_reach}
 use Rattle.newt_engine_units.specs.declared.units.Units.{Units}
 use Rattle.newt_engine_units.specs.Breaks.{AtDevice, FailsAlone, Meanwhile}
@@ -120,6 +120,14 @@ mounted-own w t apart u h = go (store_on_unit w t) refl h
             (ap (option_and_then store_if_mounted) (device-same w t (λ d. record d { mounted = true })) ∙ on (device w t) s e) its.1 (sym its.2))
 
 -- ---- the unit that the command has written or looked at
+
+-- what reaches an entry moves keys
+reaching-moves : (w : plain_world.World) (c : Command) (o : Option Store) → in_reach (reach w c) o ≡ true → moves_keys c ≡ true
+reaching-moves w c o h = go (moves_keys c) refl
+  where
+    go : (b : Bool) → moves_keys c ≡ b → moves_keys c ≡ true
+    go true e = e
+    go false e = absurd (both-ways (sym (ap (λ r. in_reach r o) (still-nowhere w c e)) ∙ h))
 
 reaches-own : (w : plain_world.World) (c : Command) → MountedApart (changed w c) → moves_keys c ≡ true → (u : ℕ) → in_reach (reach w c) (mounted_store (changed w c) u) ≡ true → (writes w c u ≡ true) ⊎ (looks_at c ≡ Some u)
 unfolding reach moves_keys
@@ -254,7 +262,7 @@ known-off {reads = reads} laws units o e s none n d h = go (o.card n) (sym (at-d
 -- ---- the device of that unit fails
 
 module _ {C : Type 0} {reads : List ℕ → Option Store} {place : C → ℕ} {soups : C → Store} {stands : Bool → C → Outside → Type 0} (laws : Laws reads place soups stands) (told : Bool) {old : World C} {o : Outside}
-    (begun : IsStanding reads place stands told old o) (c : Command) (none : uses_cursors c ≡ false) (within : is_between c ≡ false) (moves : moves_keys c ≡ true) where
+    (begun : IsStanding reads place stands told old o) (c : Command) (none : uses_cursors c ≡ false) (within : is_between c ≡ false) where
   abbrev w : plain_world.World
   w = world_of reads old.units o
 
@@ -269,30 +277,33 @@ module _ {C : Type 0} {reads : List ℕ → Option Store} {place : C → ℕ} {s
     desk = desk;
     world = λ t. ap (λ ks. thrown_out (with_cursors ks (world_of reads new.units p)) u (λ _. lost)) desk ∙ ap (λ (x : plain_world.World). with_cursors old.desk x) (whole t);
     others = λ t n other. ap (changes n) looks.moment
-        ∙ (let k = beside-own sees c u n moves within (own t) other in (Always-last (way t)).beside n (sym (writes-seen reads w o.now c n) ∙ k.0) (moves-unformed c n moves) (λ looked. absurd (k.1 looked)));
+        ∙ (let k = beside-own sees c u n (moves t) within (own t) other in (Always-last (way t)).beside n (sym (writes-seen reads w o.now c n) ∙ k.0) (moves-unformed c n (moves t)) (λ looked. absurd (k.1 looked)));
     same = λ t tears sure store. ap (changes u) looks.moment ∙ its t tears sure (own t);
     failed = failed;
   }
     where
+      moves : IsTrue told → moves_keys c ≡ true
+      moves t = reaching-moves sees c (mounted_store (changed sees c) u) (reached t)
+
       own : IsTrue told → (writes sees c u ≡ true) ⊎ (looks_at c ≡ Some u)
-      own t = reaches-own sees c (apart t) moves u (reached t)
+      own t = reaches-own sees c (apart t) (moves t) u (reached t)
 
       only : IsTrue told → (n : ℕ) → looks_at c ≡ Some n → n ≡ u
       only t n looked = go (same-or-not n u)
         where
           go : (n ≡ u) ⊎ (n ≡ u → ⊥) → n ≡ u
           go (inl i) = i
-          go (inr other) = absurd ((beside-own sees c u n moves within (own t) other).1 looked)
+          go (inr other) = absurd ((beside-own sees c u n (moves t) within (own t) other).1 looked)
 
       off : IsTrue told → sees.default ≡ None → Off sees.units
       off t e = off-seen reads w o.now c (let s = standing-told begun t in known-off laws old.units o s.eight s.stand (sym (default-seen reads w o.now c) ∙ e))
 
       whole : IsTrue told → thrown_out (world_of reads new.units p) u (λ _. lost) ≡ thrown_out w u (λ _. lost)
       whole t = ap (λ (x : plain_world.World). thrown_out x u (λ _. lost)) (looks.world t ∙ row t)
-          ∙ ap (λ (x : plain_world.World). with_cursors (replicate 32 None) x) (own-alone sees c u moves within (own t) (off t) ∙ seen-alone reads w o.now c u (only t))
+          ∙ ap (λ (x : plain_world.World). with_cursors (replicate 32 None) x) (own-alone sees c u (moves t) within (own t) (off t) ∙ seen-alone reads w o.now c u (only t))
 
       its : IsTrue told → may_tear (with_cursors old.desk w) c u ≡ false → due_in old.units.slots.items u ≡ false → (writes sees c u ≡ true) ⊎ (looks_at c ≡ Some u) → changes u m.now ≡ changes u o.now
-      its t tears sure (inr looked) = (Always-last (way t)).beside u (unwritten w c u u looked) (moves-unformed c u moves) (λ _. sure)
+      its t tears sure (inr looked) = (Always-last (way t)).beside u (unwritten w c u u looked) (moves-unformed c u (moves t)) (λ _. sure)
       its t tears sure (inl written) = absurd (both-ways (sym tears ∙ tears-with old.desk w c none u ∙ torn))
         where
           is : sees ≡ w

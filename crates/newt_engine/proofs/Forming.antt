@@ -12,7 +12,6 @@ use Rattle.newt_spec_world.specs.Step.{is_format_of}
 use Rattle.newt_spec_world.specs.declared.command.Command.{Command}
 use Rattle.newt_spec_world.specs.declared.command.Command.TheVariants as command
 use Rattle.newt_laws_world.specs.Cursors.{uses_cursors}
-use Rattle.newt_laws_world.specs.Settled.{moves_keys}
 use Rattle.newt_store_change.specs.declared.fault.StoreFault.{StoreFault}
 use Rattle.newt_engine.specs.Bounds.{is_format}
 use Rattle.newt_engine.specs.Ends.{uses_device}
@@ -33,11 +32,6 @@ pub cursor-unformed : (c : Command) (u : ℕ) → uses_cursors c ≡ true → is
 unfolding uses_cursors
 cursor-unformed (command.Format unit name sig) u is = cc
 cursor-unformed _ u is = refl
-
-pub moving-unformed : (c : Command) (u : ℕ) → moves_keys c ≡ true → is_format_of c u ≡ false
-unfolding moves_keys
-moving-unformed (command.Format unit name sig) u is = cc
-moving-unformed _ u is = refl
 
 -- ---- a format
 

@@ -6,7 +6,7 @@ use Rattle.newt_laws_world.specs.Worlds.{has_form, is_plain, sig_fits}
 use Rattle.newt_spec_world.specs.declared.command.Command.{Command}
 use Rattle.newt_spec_world.specs.declared.command.Command.TheVariants as command
 use Rattle.newt_laws_world.specs.Cursors.{uses_cursors}
-use Rattle.newt_laws_effects.specs.Tells.{is_of_stores}
+use Rattle.newt_laws_effects.specs.Tells.{is_mount, is_of_stores}
 use Rattle.newt_base.specs.declared.Refusal.{Refusal}
 use Rattle.newt_spec_script.specs.Rows.{throws}
 use Rattle.newt_spec_world.specs.Reply.{Reply}
@@ -14,7 +14,7 @@ use Rattle.newt_engine_units.specs.declared.effects.Effect.{Effect}
 use Rattle.newt_engine_commands.specs.Plans.{told_as}
 use Rattle.newt_engine.specs.Ends.{takes_memory, uses_device}
 use Rattle.newt_engine.specs.Bounds.{is_format}
-use Rattle.newt_engine.specs.Groups.{is_other, is_shown, on_place}
+use Rattle.newt_engine.specs.Groups.{is_shown, on_place}
 
 -- the others are of watches and working copies
 pub no_other : (c : Command) → is_shown c ≡ false → uses_device c ≡ false → uses_cursors c ≡ false → ((t : _) → c ≡ command.Time t → ⊥) → (c ≡ command.Quit → ⊥) → ((u : _) → c ≡ command.Unmount u → ⊥) → (c ≡ command.Stores → ⊥)
@@ -42,23 +42,19 @@ no_other (command.Revert m) g d n time quit unmount stores default soups indexes
 no_other (command.Discard m) g d n time quit unmount stores default soups indexes tags info alias resolve = refl
 no_other _ g d n time quit unmount stores default soups indexes tags info alias resolve = cc
 
--- the others show no graph and no entry, and mount and format no store
-pub no_others : (k : Command) → ((a : _) → k ≡ command.Nsof a → ⊥) → ((a : _) → k ≡ command.Lit a → ⊥) → ((a b c : _) → k ≡ command.Format a b c → ⊥) → ((a : _) → k ≡ command.Mount a → ⊥)
-    → ((a b c : _) → k ≡ command.Get a b c → ⊥) → ((a b c : _) → k ≡ command.Getx a b c → ⊥) → ((a b c d e f : _) → k ≡ command.Vread a b c d e f → ⊥) → is_other k ≡ true
-no_others (command.Nsof a) nsof lit format mount get getx vread = absurd (nsof a refl)
-no_others (command.Lit a) nsof lit format mount get getx vread = absurd (lit a refl)
-no_others (command.Format a b c) nsof lit format mount get getx vread = absurd (format a b c refl)
-no_others (command.Mount a) nsof lit format mount get getx vread = absurd (mount a refl)
-no_others (command.Get a b c) nsof lit format mount get getx vread = absurd (get a b c refl)
-no_others (command.Getx a b c) nsof lit format mount get getx vread = absurd (getx a b c refl)
-no_others (command.Vread a b c d e f) nsof lit format mount get getx vread = absurd (vread a b c d e f refl)
-no_others _ nsof lit format mount get getx vread = refl
-
--- such a command that uses no cursor and changes no store shows no graph and uses no device
-pub in_memory : (k : Command) → uses_cursors k ≡ false → is_other k ≡ true → is_of_stores k ≡ false → (is_shown k ≡ false) × (uses_device k ≡ false)
+-- a command that uses no cursor, changes and mounts no store, and is none of these shows no graph and uses no device
+pub in_memory : (k : Command) → uses_cursors k ≡ false → is_of_stores k ≡ false → is_mount k ≡ false
+    → ((a : _) → k ≡ command.Nsof a → ⊥) → ((a : _) → k ≡ command.Lit a → ⊥) → ((a b c : _) → k ≡ command.Format a b c → ⊥)
+    → ((a b c : _) → k ≡ command.Get a b c → ⊥) → ((a b c : _) → k ≡ command.Getx a b c → ⊥) → ((a b c d e f : _) → k ≡ command.Vread a b c d e f → ⊥)
+    → (is_shown k ≡ false) × (uses_device k ≡ false)
 unfolding uses_cursors is_of_stores
-in_memory (command.Nsof a) cursors other stores = (cc, cc)
-in_memory _ cursors other stores = (cc, cc)
+in_memory (command.Nsof a) cursors stores mount nsof lit format get getx vread = absurd (nsof a refl)
+in_memory (command.Lit a) cursors stores mount nsof lit format get getx vread = absurd (lit a refl)
+in_memory (command.Format a b c) cursors stores mount nsof lit format get getx vread = absurd (format a b c refl)
+in_memory (command.Get a b c) cursors stores mount nsof lit format get getx vread = absurd (get a b c refl)
+in_memory (command.Getx a b c) cursors stores mount nsof lit format get getx vread = absurd (getx a b c refl)
+in_memory (command.Vread a b c d e f) cursors stores mount nsof lit format get getx vread = absurd (vread a b c d e f refl)
+in_memory _ cursors stores mount nsof lit format get getx vread = (cc, cc)
 
 -- a command that changes a store takes memory, uses a device and formats none
 pub of_stores : (k : Command) → is_of_stores k ≡ true → (takes_memory k ≡ true) × (uses_device k ≡ true) × (is_format k ≡ false)

@@ -107,16 +107,6 @@ module _ {T : Type 0} {made : T → plain.Reply} {found : Result T StoreFault} {
       go (Ok x) (Err g) s h = absurd s
       go (Err f) (Ok y) s h = absurd s
 
--- the same reply in other words
-pub hands_same : {T : Type 0} {made other : T → plain.Reply} (found : Result T StoreFault) (result : Result Reply StoreFault) → ((x : T) → made x ≡ other x) → HandsOn made found result → HandsOn other found result
-hands_same {T} {made} {other} found result same on = record { same = go found result on.same }
-  where
-    go : (f : Result T StoreFault) (r : Result Reply StoreFault) → IsHanded made f r → IsHanded other f r
-    go (Ok x) (Ok y) s = s ∙ same x
-    go (Err f) (Err g) s = s
-    go (Ok x) (Err g) s = absurd s
-    go (Err f) (Ok y) s = absurd s
-
 -- a command whose reply is no refusal was not refused
 pub unrefused_on : {T : Type 0} {made : T → plain.Reply} (w v : World) (c : Command) (found : Result T StoreFault) → ((x : T) (r : Refusal) → made x ≡ plain.Reply.refused r → ⊥) → Answers w v c made found
     → OnOk found (first_of (checks w c) ≡ None)

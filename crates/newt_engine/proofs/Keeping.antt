@@ -1,5 +1,5 @@
 -- What a refused command leaves, by what the call left that it asked.
-use Rattle.std.proofs.Common.{◌≡◌, refl, ap, sym, ◌∙◌, subst, Bool, true, false}
+use Rattle.std.proofs.Common.{◌≡◌, refl, ap, sym, ◌∙◌, subst, true, false}
 use Rattle.std.specs.Prelude.{Result, Ok, Err, IfErr, IfOk}
 use Rattle.newt_base.specs.declared.Refusal.{Refusal}
 use Rattle.newt_reply.specs.Said.{said}
@@ -7,8 +7,6 @@ use Rattle.newt_reply.specs.declared.reply.Reply.{Reply}
 use Rattle.newt_spec_graph.proofs.Lists.{both-ways}
 use Rattle.newt_spec_world.specs.Reply as plain
 use Rattle.newt_spec_world.specs.declared.command.Command.{Command}
-use Rattle.newt_spec_world.specs.declared.command.Command.TheVariants as command
-use Rattle.newt_laws_world.specs.Settled.{moves_keys}
 use Rattle.newt_store_change.specs.Faults.{IsEnd, IsRefused}
 use Rattle.newt_store_change.specs.declared.fault.StoreFault.{StoreFault}
 use Rattle.newt_store_change.specs.declared.fault.StoreFault.TheVariants.{Refused, Stop}
@@ -32,11 +30,6 @@ shows c (plain.Reply.refused r) never h = absurd (never r refl)
 shows c (plain.Reply.thrown u) never h = absurd (both-ways h)
 shows c _ never h = h
 
-hides : (c : Command) (reply : plain.Reply) → Never reply → shows_entry c ≡ false → leaves_all c reply ≡ false
-hides c (plain.Reply.refused r) never h = absurd (never r refl)
-hides c (plain.Reply.thrown u) never h = refl
-hides c _ never h = h
-
 -- what is shown of a cursor is none
 pub shown_never : (x : Shown) (r : Refusal) → shown_reply x ≡ plain.Reply.refused r → ⊥
 shown_never Nil r e = cc
@@ -47,13 +40,6 @@ pub side_never : (x : Side) (r : Refusal) → side_reply x ≡ plain.Reply.refus
 side_never at.Begin r e = cc
 side_never at.End r e = cc
 side_never at.Nil r e = cc
-
--- a command that moves keys shows no entry
-moves_hides : (c : Command) → moves_keys c ≡ true → shows_entry c ≡ false
-unfolding moves_keys
-moves_hides (command.Get u name uid) moves = absurd (both-ways moves)
-moves_hides (command.Getx u name uid) moves = absurd (both-ways moves)
-moves_hides _ moves = refl
 
 -- ---- a fault
 
@@ -92,16 +78,6 @@ module _ {T : Type 0} {made : T → plain.Reply} {found : Result T StoreFault} {
   -- a call that shows no entry was refused
   pub refused_back : {c d : Command} → c ≡ d → shows_entry d ≡ false → LeavesAll c result → IsRefused found
   refused_back {d = d} is other idle = idle_refused d found other (idle_back is idle)
-
-  -- a command that moves keys, and is answered, leaves not all
-  pub busy_on : (c : Command) → moves_keys c ≡ true → IfOk result (λ it. leaves_all c (said it) ≡ false)
-  busy_on c moves = go found result on.same
-    where
-      go : (f : Result T StoreFault) (r : Result Reply StoreFault) → IsHanded made f r → IfOk r (λ it. leaves_all c (said it) ≡ false)
-      go (Ok x) (Ok y) s = ap (leaves_all c) s ∙ hides c (made x) (never x) (moves_hides c moves)
-      go (Err f) (Err g) s = tt
-      go (Ok x) (Err g) s = tt
-      go (Err f) (Ok y) s = absurd s
 
 -- ---- the cursors are settled after it
 

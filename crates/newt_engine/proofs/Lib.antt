@@ -11,6 +11,7 @@ pub mod Starting
 pub mod Keeping
 pub mod Obeying
 pub mod Serving
+pub mod Settled
 pub mod Seeing
 pub mod Lifting
 pub mod Thrown

@@ -1,7 +1,6 @@
 -- What a call on the units answers, handed on as the reply to its command.
 use Rattle.std.proofs.Common.{arith, ◌≡◌, refl, ap, sym, ◌∙◌, subst, ℕ, ◌+◌, ◌≤◌, List, Bool, true, false, Option, Some, None}
-use Rattle.std.specs.Prelude.{Result, IfErr, OnOk}
-use Rattle.newt_base.specs.Refusals.{first_of}
+use Rattle.std.specs.Prelude.{Result, IfErr}
 use Rattle.newt_base.specs.declared.Refusal.{Refusal}
 use Rattle.newt_host.specs.Outside.{Outside}
 use Rattle.newt_host.proofs.Outside.{NoFault-refl}
@@ -9,7 +8,6 @@ use Rattle.newt_reply.specs.declared.reply.Reply.{Reply}
 use Rattle.newt_spec_graph.proofs.Lists.{both-ways}
 use Rattle.newt_spec_store.specs.Store.{Store}
 use Rattle.newt_spec_world.specs.declared.command.Command.{Command}
-use Rattle.newt_spec_world.specs.Refused.{checks}
 use Rattle.newt_spec_world.specs.Step.{is_format_of, looks_at}
 use Rattle.newt_spec_world.specs.Reply as plain
 use Rattle.newt_store_change.specs.declared.fault.StoreFault.{StoreFault}
@@ -43,8 +41,8 @@ use Rattle.newt_engine.specs.Handed.{HandsOn}
 use Rattle.newt_engine.specs.declared.world.World.{World}
 use Rattle.newt_engine.proofs.Costing.{costs_on}
 use Rattle.newt_engine.proofs.Forming.{other-unformed}
-use Rattle.newt_engine.proofs.Keeping.{busy_on, idle_back, refused_back}
-use Rattle.newt_engine.proofs.Handed.{answered_on, err_on, fetched_on, goes_back, has_cause, moments_same, ok_on, quiet_on, unrefused_on}
+use Rattle.newt_engine.proofs.Keeping.{idle_back, refused_back}
+use Rattle.newt_engine.proofs.Handed.{answered_on, err_on, fetched_on, goes_back, has_cause, moments_same, quiet_on}
 
 -- the command is one that may take memory and use a device
 pub handed_obeyed : {C : Type 0} {reads : List ℕ → Option Store} {place : C → ℕ} {standing : Bool → C → Outside → Type 0} {told : Bool} {T : Type 0} {made : T → plain.Reply} {found : Result T StoreFault}
@@ -55,14 +53,11 @@ handed_obeyed {reads = reads} {place} {standing} {told} {found = found} {result 
   answered = λ t. subst (λ x. Answers (seen reads (world_of reads old.units o) o.now x) (world_of reads new.units p) x said result) (sym is) (answered_on on _ _ refl (call.answered t));
   moments = λ t. moments_same reads _ _ _ _ c _ is (call.moments t);
   desk = desk;
-  unrefused = λ t moves. subst (λ x. OnOk result (first_of (checks (seen reads (world_of reads old.units o) o.now x) x) ≡ None)) (sym is)
-      (ok_on on _ (unrefused_on _ _ _ _ never (call.answered t)));
   costs = λ t. costs_on on is other (call.costs t);
   fresh = λ t u same. absurd (both-ways (sym (other-unformed _ u other) ∙ sym (ap (λ x. is_format_of x u) is) ∙ same));
   alone = call.alone;
   broke = subst (λ x. IfErr result (AtDevice (BreaksIn reads place standing told x old.units new.units o p))) (sym is) (err_on on _ call.broke);
   kept = λ idle. subst (λ (x : Command). KeepsUnits (looks_at x) old.units new.units) (sym is) (call.kept (idle_back on never is idle));
-  busy = λ moves. busy_on on never c moves;
   ends = record {
     cause = err_on on _ call.cause;
     no_fault = λ goes. call.no_fault (goes_back on goes);

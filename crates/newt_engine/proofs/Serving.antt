@@ -1,5 +1,5 @@
 -- A command that has failed, with the cursors as they were.
-use Rattle.std.proofs.Common.{◌≡◌, ◌⊎◌, ◌∙◌, Bool, refl, ap, sym, subst, ℕ, List, true, false, IsTrue, Option, inl, inr, ◌&&◌, not, is_none}
+use Rattle.std.proofs.Common.{◌≡◌, ◌⊎◌, ◌∙◌, Bool, refl, ap, sym, subst, ℕ, List, true, false, IsTrue, Option, inl, ◌&&◌, not, is_none}
 use Rattle.std.specs.Prelude.{Result, Ok, Err, IfErr}
 use Rattle.newt_base.specs.Refusals.{Checks, first_of}
 use Rattle.newt_host.specs.Moments.{Moment, Always, changes}
@@ -23,7 +23,7 @@ use Rattle.newt_laws_steps.specs.StandsFor.{seen}
 use Rattle.newt_store_change.specs.Faults.{GoesOn, IsEnd}
 use Rattle.newt_store_change.specs.declared.fault.StoreFault.{StoreFault}
 use Rattle.newt_engine_units.specs.Answers.{Answers}
-use Rattle.newt_engine_units.specs.Breaks.{AtDevice, FailsAlone, HasStoreToFormat, Meanwhile}
+use Rattle.newt_engine_units.specs.Breaks.{AtDevice, FailsAlone, Meanwhile}
 use Rattle.newt_engine_units.specs.Calls.{AreRead, BreaksIn, Ended, Obeys}
 use Rattle.newt_engine_units.proofs.Slots.{but-of}
 use Rattle.newt_engine_units.specs.Stands.{Eight, Stands, due_in, world_of}
@@ -33,7 +33,6 @@ use Rattle.newt_engine_units.proofs.Known.{Laws}
 use Rattle.newt_engine_units.proofs.Obeying.{end-answers, fault-goes, handed-ends}
 use Rattle.newt_engine_units.proofs.Settings.{is-err}
 use Rattle.newt_engine_cursors.specs.Fits.{DeskFits}
-use Rattle.newt_engine_cursors.specs.World.{world_with}
 use Rattle.newt_engine.specs.Bounds.{CommandCosts, is_format, most_settled}
 use Rattle.newt_engine.specs.Calls.{Fails, FailsHalfway, Obeyed, Served}
 use Rattle.newt_engine.specs.Ends.{takes_memory, uses_device}

@@ -1,5 +1,5 @@
 -- Commands of a world without cursors, and the cursors settled after them.
-use Rattle.std.proofs.Common.{◌≡◌, refl, ap, sym, ◌∙◌, subst, ℕ, ◌≤◌, List, Bool, true, false, IsTrue, Option, Some, None, ◌&&◌, is_none, inl, inr}
+use Rattle.std.proofs.Common.{◌≡◌, refl, ap, sym, ◌∙◌, subst, ℕ, ◌≤◌, List, Bool, true, false, IsTrue, Option, None, ◌&&◌, is_none, inl, inr}
 use Rattle.std.specs.Prelude.{Result, Ok, Err, IfErr, IfOk, OnOk}
 use Rattle.newt_base.specs.Refusals.{Checks, first_of}
 use Rattle.newt_base.specs.declared.Refusal.{Refusal}
@@ -17,9 +17,9 @@ use Rattle.newt_spec_world.specs.Step.{formats, is_format_of, looks_anew, writes
 use Rattle.newt_spec_world.specs.Reply as plain
 use Rattle.newt_spec_world.specs.Changed.{changed}
 use Rattle.newt_spec_world.specs.Refused.{checks}
-use Rattle.newt_spec_world.specs.World.{World, Device, mounted_store, settle}
+use Rattle.newt_spec_world.specs.World.{World, mounted_store, settle}
 use Rattle.newt_laws_world.specs.Settled.{IsSettled, MountedApart, moves_keys}
-use Rattle.newt_laws_world.specs.Worlds.{OnMedia, has_form}
+use Rattle.newt_laws_world.specs.Worlds.{has_form}
 use Rattle.newt_laws_world.proofs.Kept.{Every, Wf, all-false}
 use Rattle.newt_laws_world.proofs.Rows.{wf-row}
 use Rattle.newt_laws_world.proofs.Uncursored.{changed-apart, checks-apart}
@@ -50,32 +50,12 @@ use Rattle.newt_engine_cursors.specs.World.{world_with}
 use Rattle.newt_engine_cursors.proofs.Reaches.{reach-beside}
 use Rattle.newt_spec_script.specs.Rows.{throws}
 use Rattle.newt_engine.specs.Calls.{IsNotThrown}
-use Rattle.newt_engine.specs.Ends.{takes_memory, uses_device}
 use Rattle.newt_engine.specs.Laws.{units_kept}
 use Rattle.newt_engine.specs.Standing.{Standing, marks_with}
 use Rattle.newt_engine.proofs.Applying.{known-formed, standing-told}
 use Rattle.newt_engine.proofs.Looking.{seen-apart, seen-closed, seen-formed, seen-settled, seen-with}
 use Rattle.newt_engine.proofs.Reaching.{reached-meant}
 use Rattle.newt_engine.proofs.Refusing.{refused_stays}
-
--- ---- what settling needs
-
--- a command after which the cursors are settled uses a device
-pub moves_on_devices : (c : Command) → moves_keys c ≡ true → uses_device c ≡ false → ⊥
-unfolding moves_keys
-moves_on_devices (command.Mount _) h k = cc
-moves_on_devices _ h k = cc
-
--- a format moves no key
-pub moves_no_format : (u : ℕ) (name : List ℕ) (sig : ℕ) → moves_keys (command.Format u name sig) ≡ true → ⊥
-unfolding moves_keys
-moves_no_format u name sig h = cc
-
--- and takes memory
-pub moves_in_memory : (c : Command) → moves_keys c ≡ true → takes_memory c ≡ false → ⊥
-unfolding moves_keys
-moves_in_memory (command.Mount _) h k = cc
-moves_in_memory _ h k = cc
 
 -- ---- one command
 

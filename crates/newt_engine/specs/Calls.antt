@@ -1,6 +1,5 @@
 -- What the world promises of a command. All of it is this project's own.
-use Rattle.std.specs.Prelude.{◌≡◌, ◌≢◌, ◌⊎◌, ◌*◌, ℕ, ◌≤◌, Bool, true, false, IsTrue, List, Option, Some, None, Result, Ok, IfErr, IfOk, IsOk, OnErr, OnOk}
-use Rattle.newt_base.specs.Refusals.{first_of}
+use Rattle.std.specs.Prelude.{◌≡◌, ◌≢◌, ◌⊎◌, ◌*◌, ℕ, ◌≤◌, Bool, true, false, IsTrue, List, Option, Some, Result, Ok, IfErr, IfOk, IsOk, OnErr, OnOk}
 use Rattle.newt_base.specs.declared.Refusal.{Refusal}
 use Rattle.newt_host.specs.Moments.{Always, changes}
 use Rattle.newt_host.specs.Outside.{Outside, Broke, NoFault, OnDevices}
@@ -13,14 +12,13 @@ use Rattle.newt_spec_script.specs.Rows.{throws}
 use Rattle.newt_spec_store.specs.Store.{Store}
 use Rattle.newt_spec_world.specs.Answer.{answer}
 use Rattle.newt_spec_world.specs.Changed.{changed}
-use Rattle.newt_spec_world.specs.Refused.{checks}
 use Rattle.newt_spec_world.specs.Step.{is_accepted, is_format_of, looks_at, may_tear, moves_away, thrown_out, writes}
 use Rattle.newt_spec_world.specs.World as plain
 use Rattle.newt_spec_world.specs.World.{lost, mounted_store, settle}
 use Rattle.newt_spec_world.specs.declared.command.Command.{Command}
 use Rattle.newt_laws_answers.specs.Bounds.{most_programmed}
 use Rattle.newt_laws_answers.specs.Fetched.{means_entries, most_fetched}
-use Rattle.newt_laws_world.specs.Settled.{IsSettled, MountedApart, moves_keys}
+use Rattle.newt_laws_world.specs.Settled.{IsSettled, MountedApart}
 use Rattle.newt_laws_reach.specs.Reach.{Reach, entry_reached, is_of_one, settle_reached}
 use Rattle.newt_store_change.specs.Change.{pages_of_entry}
 use Rattle.newt_store_change.specs.Faults.{GoesOn, HasFaultCause, IsEnd, IsRefusal, NoDevice}
@@ -79,9 +77,6 @@ module _ {C : Type 0} (reads : List ℕ → Option Store) (place : C → ℕ)
         Always (Meanwhile reads (due_in old.units.slots.items) w command
         (answer (seen reads w before.now command) command).0 before.now) before.now after.now
     pub desk : new.desk ≡ old.desk
-    pub unrefused : IsTrue told → moves_keys command ≡ true → OnOk result
-        (first_of (checks (seen reads (world_of reads old.units before) before.now command) command)
-        ≡ None)
     pub costs : IsTrue told → let w = world_of reads old.units before in
         CommandCosts w command (most_fetched w command) result before after
     pub fresh : IsTrue told → FormatsFresh command result after
@@ -89,8 +84,6 @@ module _ {C : Type 0} (reads : List ℕ → Option Store) (place : C → ℕ)
     pub broke : IfErr result
         (AtDevice (BreaksIn reads place standing told command old.units new.units before after))
     pub kept : LeavesAll command result → KeepsUnits (looks_at command) old.units new.units
-    pub busy : moves_keys command ≡ true
-        → IfOk result (λ it. leaves_all command (said it) ≡ false)
     pub ends : CommandEnds command before after result
 
   -- A command that uses no device, by the world without cursors, whatever the devices hold: the

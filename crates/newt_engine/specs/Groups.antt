@@ -23,14 +23,3 @@ on_place _ = false
 abbrev pub is_between : Command → Bool
 is_between (command.Move unit soup uid to target) = not (unit == to)
 is_between _ = false
-
--- the command shows no graph and no entry, and mounts and formats no store
-abbrev pub is_other : Command → Bool
-is_other (command.Nsof _) = false
-is_other (command.Lit _) = false
-is_other (command.Format _ _ _) = false
-is_other (command.Mount _) = false
-is_other (command.Get _ _ _) = false
-is_other (command.Getx _ _ _) = false
-is_other (command.Vread _ _ _ _ _ _) = false
-is_other _ = true

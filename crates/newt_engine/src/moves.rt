@@ -1,20 +1,15 @@
 //! Entries that are moved to another store.
-ghost use Rattle.std.specs.Prelude.{◌≡◌, ◌≢◌, ℕ, List, Some, IsTrue, true};
-ghost use Rattle.newt_host.specs.Outside.{Outside};
-ghost use Rattle.newt_spec_store.specs.Store.{Store};
-ghost use Rattle.newt_spec_world.specs.World.{mounted_store};
+ghost use Rattle.std.specs.Prelude.{◌≡◌, ◌≢◌, ℕ, List, IsTrue, true};
 ghost use Rattle.newt_spec_world.specs.declared.command.Command.{Command};
 ghost use Rattle.newt_engine_units.specs.Found.{HasSoup};
-ghost use Rattle.newt_engine_units.specs.Stands.{Eight, Stands, is_mounted, world_of};
-ghost use Rattle.newt_engine_cursors.specs.declared.reach.Aim.TheVariants as of_aim;
+ghost use Rattle.newt_engine_units.specs.Stands.{is_mounted, world_of};
 ghost use Rattle.newt_engine.specs.Calls.{Served};
 ghost use Rattle.newt_engine.specs.Standing.{IsStanding};
 
 use crate::world::World;
 use newt_base::{Name, Sig, Uid};
 use newt_engine_card::Card;
-use newt_engine_cursors::Aim;
-use newt_engine_units::Units;
+use newt_engine_cursors::reach_of;
 use newt_host::{Host, Unit};
 use newt_reply::Reply;
 use newt_store_change::{Change, Entry, StoreFault};
@@ -64,23 +59,11 @@ impl<C: Card> World<C> {
             → Served C.reads C.place C.stands H.told (Command.Move unit name uid to target)
             self.old self.new (H.outside host.old) (H.outside host.new) result }
     {
-        let aim = aim_into(&self.units, to, into);
         let Entry { graph, .. } = self.units.read_entry(host, unit, soup, uid)?;
-        let added = self.units.change(host, to, Change::Add(into, graph))?;
-        let reply = self.settled(host, &aim, Reply::Number(added))?;
+        let added = self.units.alter(host, to, Change::Add(into, graph))?;
+        let reach = reach_of(&self.units, &added);
+        let reply = self.settled(host, &reach, Reply::Number(added.answer))?;
         self.units.change(host, unit, Change::Remove(soup, uid))?;
         Ok(reply)
-    }
-}
-
-/// The entry that a soup of the store on a unit gets.
-fn aim_into<C: Card>(units: &Units<C>, unit: Unit, soup: Sig) -> Aim
-    ensures { (outside : Outside) → Eight outside → Stands C.place C.stands true units.now outside
-        → (s : Store) → mounted_store (world_of C.reads units.now outside) unit ≡ Some s
-        → result ≡ of_aim.Next s.sig soup }
-{
-    match units.card(unit) {
-        Some(card) => Aim::Next(card.sig(), soup),
-        None => Aim::Nowhere,
     }
 }

@@ -75,33 +75,14 @@ pub(crate) fn words_of(command: &Command) -> Words
     }
 }
 
-/// What was done to a store, in these words.
-pub(crate) fn changed(words: Words, found: Result<Effect, StoreFault>) -> Result<Reply, StoreFault>
-    ensures { HandsOn (in_words words) found result }
-{
-    match found {
-        Ok(effect) => Ok(told(words, effect)),
-        Err(fault) => Err(fault),
-    }
-}
-
-fn told(words: Words, effect: Effect) -> Reply
+/// The reply that tells in these words what was done to a store.
+pub(crate) fn told(words: Words, effect: Effect) -> Reply
     ensures { said result ≡ in_words words effect }
 {
     match words {
         Words::Done => Reply::Done,
         Words::Number => Reply::Number(effect.answer),
         Words::Added => Reply::Added(effect.unit, Uid(effect.answer)),
-    }
-}
-
-/// The signature and the name of a store that was mounted.
-pub(crate) fn mounted(found: Result<(Sig, Name), StoreFault>) -> Result<Reply, StoreFault>
-    ensures { HandsOn (λ x. plain.Reply.store x.0 x.1) found result }
-{
-    match found {
-        Ok((sig, name)) => Ok(Reply::Store(sig, name)),
-        Err(fault) => Err(fault),
     }
 }
 

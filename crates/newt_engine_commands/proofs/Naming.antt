@@ -1,5 +1,5 @@
 -- Commands, told apart by the arms that took others, and what they name.
-use Rattle.std.proofs.Common.{◌≡◌, refl, ap, sym, ◌∙◌, ℕ, List, Bool, true, false, not, ◌==◌, ◌&&◌, [], ◌∷◌, Option, Some, None, option_and_then, length, nat_lt}
+use Rattle.std.proofs.Common.{◌≡◌, refl, ap, sym, ◌∙◌, ℕ, List, Bool, true, false, not, ◌==◌, ◌&&◌, ◌||◌, [], ◌∷◌, Option, Some, None, option_and_then, length, nat_lt}
 use Rattle.std.specs.Prelude.{Ok, is_none, is_some, if◌then◌else◌}
 use Rattle.std.proofs.lemmas.Bool.{eq-eqb, eqb-true}
 use Rattle.newt_spec_graph.proofs.Lists.{both-ways}
@@ -21,6 +21,7 @@ use Rattle.newt_spec_graph.specs.Slots.{put}
 use Rattle.newt_spec_world.specs.Changed.{graph_after_set, spec_of_words}
 use Rattle.newt_spec_world.specs.Refused.{on_some}
 use Rattle.newt_engine_commands.specs.Declares.{has_parts, has_real}
+use Rattle.newt_engine_commands.specs.Plans.{declares, names_entry}
 use Rattle.newt_laws_effects.proofs.Found.{at}
 use Rattle.newt_laws_effects.specs.Tells.{is_of_stores}
 use Rattle.newt_store_change.specs.declared.change.Change.TheVariants as change
@@ -83,25 +84,31 @@ entry-there h uid is = go (entry_of uid h.soup) (sym (ap (λ p. is_some (option_
     go None k = absurd (both-ways k)
     go (Some e) k = (e, refl)
 
--- there are no other commands that change stores
-pub none-left : (k : Command) → is_of_stores k ≡ true → ((a b : _) → k ≡ command.Soup a b → ⊥) → ((a b : _) → k ≡ command.Drop a b → ⊥) → ((a b c : _) → k ≡ command.Index a b c → ⊥) → ((a b c : _) → k ≡ command.Unindex a b c → ⊥)
-    → ((a b c d : _) → k ≡ command.SetTags a b c d → ⊥) → ((a b c : _) → k ≡ command.SetInfo a b c → ⊥) → ((a b c : _) → k ≡ command.Add a b c → ⊥) → ((a b c : _) → k ≡ command.Addx a b c → ⊥) → ((a b : _) → k ≡ command.Addu a b → ⊥)
-    → ((a b c d e : _) → k ≡ command.Set a b c d e → ⊥) → ((a b c d : _) → k ≡ command.Change a b c d → ⊥) → ((a b c : _) → k ≡ command.Remove a b c → ⊥) → ((a b c d e : _) → k ≡ command.Copy a b c d e → ⊥)
-    → ((a b c d e : _) → k ≡ command.Move a b c d e → ⊥) → ((a b c d e f : _) → k ≡ command.Vwrite a b c d e f → ⊥) → ⊥
+-- what is left of the commands that change stores
+pub none-made : (k : Command) → is_of_stores k ≡ true → ((a b : _) → k ≡ command.Soup a b → ⊥) → ((a b : _) → k ≡ command.Drop a b → ⊥) → ((a b c : _) → k ≡ command.Add a b c → ⊥) → ((a b c : _) → k ≡ command.Addx a b c → ⊥)
+    → ((a b : _) → k ≡ command.Addu a b → ⊥) → (declares k || names_entry k) ≡ true
 unfolding is_of_stores
-none-left (command.Soup a b) is soup drop index unindex settags setinfo add addx addu set change remove copy move vwrite = soup a b refl
-none-left (command.Drop a b) is soup drop index unindex settags setinfo add addx addu set change remove copy move vwrite = drop a b refl
-none-left (command.Index a b c) is soup drop index unindex settags setinfo add addx addu set change remove copy move vwrite = index a b c refl
-none-left (command.Unindex a b c) is soup drop index unindex settags setinfo add addx addu set change remove copy move vwrite = unindex a b c refl
-none-left (command.SetTags a b c d) is soup drop index unindex settags setinfo add addx addu set change remove copy move vwrite = settags a b c d refl
-none-left (command.SetInfo a b c) is soup drop index unindex settags setinfo add addx addu set change remove copy move vwrite = setinfo a b c refl
-none-left (command.Add a b c) is soup drop index unindex settags setinfo add addx addu set change remove copy move vwrite = add a b c refl
-none-left (command.Addx a b c) is soup drop index unindex settags setinfo add addx addu set change remove copy move vwrite = addx a b c refl
-none-left (command.Addu a b) is soup drop index unindex settags setinfo add addx addu set change remove copy move vwrite = addu a b refl
-none-left (command.Set a b c d e) is soup drop index unindex settags setinfo add addx addu set change remove copy move vwrite = set a b c d e refl
-none-left (command.Change a b c d) is soup drop index unindex settags setinfo add addx addu set change remove copy move vwrite = change a b c d refl
-none-left (command.Remove a b c) is soup drop index unindex settags setinfo add addx addu set change remove copy move vwrite = remove a b c refl
-none-left (command.Copy a b c d e) is soup drop index unindex settags setinfo add addx addu set change remove copy move vwrite = copy a b c d e refl
-none-left (command.Move a b c d e) is soup drop index unindex settags setinfo add addx addu set change remove copy move vwrite = move a b c d e refl
-none-left (command.Vwrite a b c d e f) is soup drop index unindex settags setinfo add addx addu set change remove copy move vwrite = vwrite a b c d e f refl
-none-left _ is soup drop index unindex settags setinfo add addx addu set change remove copy move vwrite = cc
+none-made (command.Soup a b) is soup drop add addx addu = absurd (soup a b refl)
+none-made (command.Drop a b) is soup drop add addx addu = absurd (drop a b refl)
+none-made (command.Add a b c) is soup drop add addx addu = absurd (add a b c refl)
+none-made (command.Addx a b c) is soup drop add addx addu = absurd (addx a b c refl)
+none-made (command.Addu a b) is soup drop add addx addu = absurd (addu a b refl)
+none-made _ is soup drop add addx addu = cc
+
+pub none-declared : (k : Command) → (declares k || names_entry k) ≡ true → ((a b c : _) → k ≡ command.Index a b c → ⊥) → ((a b c : _) → k ≡ command.Unindex a b c → ⊥) → ((a b c d : _) → k ≡ command.SetTags a b c d → ⊥)
+    → ((a b c : _) → k ≡ command.SetInfo a b c → ⊥) → names_entry k ≡ true
+none-declared (command.Index a b c) is index unindex tags info = absurd (index a b c refl)
+none-declared (command.Unindex a b c) is index unindex tags info = absurd (unindex a b c refl)
+none-declared (command.SetTags a b c d) is index unindex tags info = absurd (tags a b c d refl)
+none-declared (command.SetInfo a b c) is index unindex tags info = absurd (info a b c refl)
+none-declared _ is index unindex tags info = cc
+
+pub none-left : (k : Command) → names_entry k ≡ true → ((a b c d e : _) → k ≡ command.Set a b c d e → ⊥) → ((a b c d : _) → k ≡ command.Change a b c d → ⊥) → ((a b c : _) → k ≡ command.Remove a b c → ⊥)
+    → ((a b c d e : _) → k ≡ command.Copy a b c d e → ⊥) → ((a b c d e : _) → k ≡ command.Move a b c d e → ⊥) → ((a b c d e f : _) → k ≡ command.Vwrite a b c d e f → ⊥) → ⊥
+none-left (command.Set a b c d e) is set change remove copy move vwrite = set a b c d e refl
+none-left (command.Change a b c d) is set change remove copy move vwrite = change a b c d refl
+none-left (command.Remove a b c) is set change remove copy move vwrite = remove a b c refl
+none-left (command.Copy a b c d e) is set change remove copy move vwrite = copy a b c d e refl
+none-left (command.Move a b c d e) is set change remove copy move vwrite = move a b c d e refl
+none-left (command.Vwrite a b c d e f) is set change remove copy move vwrite = vwrite a b c d e f refl
+none-left _ is set change remove copy move vwrite = cc

@@ -1,5 +1,5 @@
 -- What a command resolves to, and what is made of it. All of it is this project's own.
-use Rattle.std.specs.Prelude.{◌≡◌, ◌*◌, ℕ, Bool, true, IsTrue, List, Option, Result, Ok, Err, IfOk}
+use Rattle.std.specs.Prelude.{◌≡◌, ◌*◌, ℕ, Bool, true, false, IsTrue, List, Option, Result, Ok, Err, IfOk}
 use Rattle.newt_host.specs.Outside.{Outside}
 use Rattle.newt_laws_answers.specs.There.{OnUnit}
 use Rattle.newt_laws_effects.specs.Effects.{Resolved, effects, one}
@@ -28,6 +28,24 @@ abbrev pub IsFound : Resolved → Result Plan StoreFault → Type 0
 IsFound resolved (Ok plan) = resolved ≡ one plan.0 plan.1
 IsFound resolved (Err (Refused refusal)) = resolved ≡ Err refusal
 IsFound resolved (Err (Stop stop)) = Unit {0}
+
+-- the command declares something of a soup, or its info frame
+abbrev pub declares : Command → Bool
+declares (command.Index u s parts) = true
+declares (command.Unindex u s paths) = true
+declares (command.SetTags u s path symbols) = true
+declares (command.SetInfo u s g) = true
+declares c = false
+
+-- the command names an entry, and changes a store
+abbrev pub names_entry : Command → Bool
+names_entry (command.Set u s uid path g) = true
+names_entry (command.Change u s uid g) = true
+names_entry (command.Remove u s uid) = true
+names_entry (command.Copy u s uid v t) = true
+names_entry (command.Move u s uid v t) = true
+names_entry (command.Vwrite u s uid path at bytes) = true
+names_entry c = false
 
 -- the bytes that are fetched of a unit before a command changes anything: where the change depends
 -- on the entry that is named, 512 for each of its pages

@@ -1,10 +1,10 @@
 //! What each command that changes a store resolves to: the change that is to be made.
-ghost use Rattle.std.specs.Prelude.{◌≡◌, ℕ, true, false};
+ghost use Rattle.std.specs.Prelude.{◌≡◌, ◌||◌, ℕ, true, false};
 ghost use Rattle.newt_laws_effects.specs.Tells.{is_of_stores};
 ghost use Rattle.newt_laws_world.specs.Worlds.{has_form};
 ghost use Rattle.newt_spec_world.specs.Step.{moves_away};
 ghost use Rattle.newt_engine_units.specs.Stands.{Stands};
-ghost use Rattle.newt_engine_commands.specs.Plans.{ResolvesTo};
+ghost use Rattle.newt_engine_commands.specs.Plans.{ResolvesTo, declares, names_entry};
 
 use crate::declarations::new_table;
 use crate::indexing::{has_index, spec_for};
@@ -44,6 +44,39 @@ pub(crate) fn resolve<C: Card, H: Host>(
             let soup = units.find_soup(unit, &name)?;
             Ok((unit, Change::DropSoup(soup)))
         }
+        Command::Add(unit, name, graph) => {
+            let soup = units.find_soup(unit, &name)?;
+            Ok((unit, Change::Add(soup, graph)))
+        }
+        Command::Addx(unit, name, graph) => {
+            let soup = units.find_soup(unit, &name)?;
+            Ok((unit, Change::Add(soup, graph)))
+        }
+        Command::Addu(name, graph) => {
+            let Some(unit) = units.default_unit() else {
+                return Err(StoreFault::Refused(Refusal::Notmounted));
+            };
+            let soup = units.find_soup(unit, &name)?;
+            Ok((unit, Change::Add(soup, graph)))
+        }
+        other => resolve_declaration(units, host, other),
+    }
+}
+
+/// The same of a command that declares something of a soup, or names an entry.
+fn resolve_declaration<C: Card, H: Host>(
+    units: &mut Units<C>,
+    host: &mut H,
+    command: Command,
+) -> Result<(Unit, Change), StoreFault>
+    requires stands { Stands C.place C.stands H.told units.old (H.outside host.old) }
+    requires form { has_form command ≡ true }
+    requires left { (declares command || names_entry command) ≡ true }
+    requires within { (unit : ℕ) → moves_away command unit ≡ false }
+    ensures { ResolvesTo C.reads C.place C.stands H.told command units.old units.new
+        (H.outside host.old) (H.outside host.new) result }
+{
+    match command {
         Command::Index(unit, name, parts) => {
             let soup = units.find_soup(unit, &name)?;
             let spec = spec_for(units, unit, soup, parts.list())?;
@@ -68,21 +101,23 @@ pub(crate) fn resolve<C: Card, H: Host>(
             let soup = units.find_soup(unit, &name)?;
             Ok((unit, Change::SetInfo(soup, info_of(literal))))
         }
-        Command::Add(unit, name, graph) => {
-            let soup = units.find_soup(unit, &name)?;
-            Ok((unit, Change::Add(soup, graph)))
-        }
-        Command::Addx(unit, name, graph) => {
-            let soup = units.find_soup(unit, &name)?;
-            Ok((unit, Change::Add(soup, graph)))
-        }
-        Command::Addu(name, graph) => {
-            let Some(unit) = units.default_unit() else {
-                return Err(StoreFault::Refused(Refusal::Notmounted));
-            };
-            let soup = units.find_soup(unit, &name)?;
-            Ok((unit, Change::Add(soup, graph)))
-        }
+        other => resolve_entry(units, host, other),
+    }
+}
+
+/// The same of a command that names an entry.
+fn resolve_entry<C: Card, H: Host>(
+    units: &mut Units<C>,
+    host: &mut H,
+    command: Command,
+) -> Result<(Unit, Change), StoreFault>
+    requires stands { Stands C.place C.stands H.told units.old (H.outside host.old) }
+    requires left { names_entry command ≡ true }
+    requires within { (unit : ℕ) → moves_away command unit ≡ false }
+    ensures { ResolvesTo C.reads C.place C.stands H.told command units.old units.new
+        (H.outside host.old) (H.outside host.new) result }
+{
+    match command {
         Command::Set(unit, name, uid, path, value) => {
             let soup = units.find_soup(unit, &name)?;
             let Entry { graph, .. } = units.read_entry(host, unit, soup, uid)?;

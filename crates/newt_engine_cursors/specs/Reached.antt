@@ -1,20 +1,16 @@
--- What a command reaches, as far as it is known before it, and after it.
+-- What is reached by what a command did to a store.
 use Rattle.std.specs.Prelude.{◌≡◌, ℕ, Bool, true, false, ◌&&◌, List, Option, Some, None, slice_get}
-use Rattle.newt_base.specs.Refusals.{first_of}
 use Rattle.newt_spec_query.specs.Cursor.{Cursor}
-use Rattle.newt_spec_world.specs.Answer.{answer}
-use Rattle.newt_spec_world.specs.Refused.{checks}
-use Rattle.newt_spec_world.specs.Reply.{Reply}
 use Rattle.newt_spec_store.specs.Store.{Store}
-use Rattle.newt_spec_world.specs.World.{World, flat, mounted_store}
-use Rattle.newt_spec_world.specs.declared.command.Command.{Command}
+use Rattle.newt_spec_world.specs.World.{World, flat}
 use Rattle.newt_query.specs.Filter.{asks_texts}
 use Rattle.newt_store_change.specs.Entries.{entry_said}
 use Rattle.newt_store_change.specs.declared.entry.Entry.{Entry}
+use Rattle.newt_engine_units.specs.declared.effects.Deed.{Deed}
+use Rattle.newt_engine_units.specs.declared.effects.Deed.TheVariants as deed
+use Rattle.newt_engine_units.specs.declared.effects.Effect.{Effect}
 use Rattle.newt_engine_hits.specs.Present.{entry_there, has_sig}
 use Rattle.newt_laws_reach.specs.Reach as plain
-use Rattle.newt_engine_cursors.specs.declared.reach.Aim.{Aim}
-use Rattle.newt_engine_cursors.specs.declared.reach.Aim.TheVariants as aim
 use Rattle.newt_engine_cursors.specs.declared.reach.Reach.{Reach}
 use Rattle.newt_engine_cursors.specs.declared.reach.Reach.TheVariants as code
 
@@ -32,29 +28,19 @@ in_reach (plain.on_store store) s = has_sig store s
 in_reach (plain.on_soup store soup) s = has_sig store s
 in_reach (plain.on_entry store soup uid) s = has_sig store s
 
--- the entry whose id is replied (this project's own)
-abbrev pub reached_new : ℕ → ℕ → Reply → plain.Reach
-reached_new store soup (Reply.number uid) = plain.on_entry store soup uid
-reached_new store soup (Reply.added u uid) = plain.on_entry store soup uid
-reached_new store soup reply = plain.nowhere
+-- what a deed reaches in a store of this signature, with the number that was answered: the entry that
+-- it made or changed, or the entries of the soup whose declarations grow (this project's own)
+abbrev pub deed_reach : ℕ → Deed → ℕ → plain.Reach
+deed_reach store (deed.Added soup) n = plain.on_entry store soup n
+deed_reach store (deed.Moved soup uid into) n = plain.on_entry store into n
+deed_reach store (deed.Changed soup uid) n = plain.on_entry store soup uid
+deed_reach store (deed.Declared soup) n = plain.on_soup store soup
+deed_reach store d n = plain.nowhere
 
--- the reply has this id of an entry that is new (a word of these definitions)
-abbrev pub IsNew : ℕ → Reply → Type 0
-IsNew uid (Reply.number n) = n ≡ uid
-IsNew uid (Reply.added u n) = n ≡ uid
-IsNew uid reply = ⊥
-
--- what is reached, by the world after the command and its reply (this project's own)
-abbrev pub reached_by : Aim → World → Reply → plain.Reach
-reached_by aim.Nowhere v reply = plain.nowhere
-reached_by (aim.Store u) v reply = plain.store_reach (mounted_store v u)
-reached_by (aim.Soup store soup) v reply = plain.on_soup store soup
-reached_by (aim.Entry store soup uid) v reply = plain.on_entry store soup uid
-reached_by (aim.Next store soup) v reply = reached_new store soup reply
-
--- a command that is not refused reaches what it aims at (this project's own)
-abbrev pub Aims : World → Command → Aim → Type 0
-Aims w c aim = first_of (checks w c) ≡ None → reached_by aim (answer w c).0 (answer w c).1 ≡ plain.reach w c
+-- what an effect reaches in the store that is mounted on its unit (this project's own)
+abbrev pub reach_done : Option Store → Effect → plain.Reach
+reach_done None e = plain.nowhere
+reach_done (Some s) e = deed_reach s.sig e.deed e.answer
 
 -- a cursor is open, stands on an entry that is reached, and its query asks for words or texts (this project's own)
 abbrev pub asks_reached : plain.Reach → Option Cursor → Bool

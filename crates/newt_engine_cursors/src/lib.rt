@@ -23,7 +23,7 @@ mod stepping;
 
 pub use commands::{clone_of, close, count, entry, which};
 pub use opening::{query, query_all};
-pub use reach::{Aim, Reach, aim_of, reach_by};
+pub use reach::{Reach, reach_of};
 pub use settling::settle_reached;
 pub use show::{Shown, Side};
 pub use stepping::{end, go_to, go_to_key, moveby, next, prev, reset};

@@ -11,7 +11,6 @@ use Rattle.newt_spec_world.specs.Reply.{Reply}
 use Rattle.newt_spec_world.specs.World.{World, mounted_store}
 use Rattle.newt_spec_world.specs.declared.command.Command.TheVariants as command
 use Rattle.newt_laws_world.specs.Cursors.{with_cursors}
-use Rattle.newt_laws_answers.proofs.Units.{is-mounted}
 use Rattle.newt_laws_reach.specs.Reach.{Reach, entry_reached, is_of_one, on_entry, settle_reached}
 use Rattle.newt_store_change.specs.Change.{pages_of_entry}
 use Rattle.newt_engine_card.specs.Bounds.{FetchesAtMost}
@@ -30,12 +29,11 @@ use Rattle.newt_engine_commands.proofs.Commands.{read-found}
 use Rattle.newt_engine_commands.proofs.Costing.{copy-few}
 use Rattle.newt_engine_commands.proofs.Moves.{move-missing}
 use Rattle.newt_engine_commands.proofs.Said.{after-breaks}
-use Rattle.newt_engine_cursors.specs.Reached.{in_reach, reached_by}
+use Rattle.newt_engine_cursors.specs.Reached.{in_reach, seen_reach}
 use Rattle.newt_engine_cursors.specs.World.{world_with}
-use Rattle.newt_engine_cursors.specs.declared.reach.Aim.{Aim}
 use Rattle.newt_engine.specs.Kept.{leaves_all}
 use Rattle.newt_engine.specs.Laws.{laws_of}
-use Rattle.newt_engine.proofs.Between.{Carried, added-costs, added-fails, added-moments, added-untorn, mid-apart, moved-answers, moved-costs, moved-moments, new_pages, removal-ends, settled-costs, source-fails, target-fails, with-moments}
+use Rattle.newt_engine.proofs.Between.{Carried, added-costs, added-fails, added-moments, added-reach, added-untorn, mid-apart, moved-answers, moved-costs, moved-moments, new_pages, removal-ends, settled-costs, source-fails, target-fails, with-moments}
 use Rattle.newt_engine.proofs.Costing.{unread_uses_cursor, walks_steps}
 use Rattle.newt_engine.proofs.Handed.{told_stands}
 use Rattle.newt_engine.proofs.Keeping.{end_idle}
@@ -82,7 +80,7 @@ returns-in_err-added g c name target both =
     let cmd = command.Move c.args.unit name c.args.uid c.args.to target in
     let none = move_no_cursor c.args.unit name c.args.uid c.args.to target in
     let read = c.in_ok-graph.ensures in
-    let first = c.in_err-added.ensures in
+    let first = c.in_err-added.ensures.changes in
     let ends = ends-after read.ends tt (ends-change first) in
     let entry : Entry = record { uid = c.in_ok-graph.field-0.uid; time = c.in_ok-graph.field-0.time; graph = c.in_ok-graph.field-0.graph } in
     let b : IsTrue g.H.Host.told → Carried g.C.Card.reads g.C.Card.place g.C.Card.soups g.C.Card.stands g.H.Host.told start.units c.read_entry.new.self start.desk (o c.args.host.now) (o c.read_entry.new.host)
@@ -98,7 +96,7 @@ returns-in_err-added g c name target both =
       looks = read.looks;
       few = read.fetches t (both t).0.blocks (both t).0.store (both t).0.on;
     } in
-    served_handed (laws g) g.H.Host.told start _ (o c.args.host.now) (o c.change.new.host) c.requires.stands (units_are g c.change.new.host) cmd none refl refl refl refl _ _
+    served_handed (laws g) g.H.Host.told start _ (o c.args.host.now) (o c.alter.new.host) c.requires.stands (units_are g c.alter.new.host) cmd none refl refl refl refl _ _
     (err_from_is_err_and c.from_residual-in_err-added.result c.from_residual-in_err-added.ensures.1)
     (record {
       stands = first.stands;
@@ -119,8 +117,8 @@ returns-in_err-reply g c name target both =
     let cmd = command.Move c.args.unit name c.args.uid c.args.to target in
     let none = move_no_cursor c.args.unit name c.args.uid c.args.to target in
     let read = c.in_ok-graph.ensures in
-    let first = c.in_ok-added.ensures in
-    let n = c.in_ok-added.added in
+    let first = c.in_ok-added.ensures.changes in
+    let n = c.in_ok-added.added.answer in
     let s = c.in_err-reply.ensures in
     let entry : Entry = record { uid = c.in_ok-graph.field-0.uid; time = c.in_ok-graph.field-0.time; graph = c.in_ok-graph.field-0.graph } in
     let b : IsTrue g.H.Host.told → Carried g.C.Card.reads g.C.Card.place g.C.Card.soups g.C.Card.stands g.H.Host.told start.units c.read_entry.new.self start.desk (o c.args.host.now) (o c.read_entry.new.host)
@@ -136,26 +134,25 @@ returns-in_err-reply g c name target both =
       looks = read.looks;
       few = read.fetches t (both t).0.blocks (both t).0.store (both t).0.on;
     } in
-    let x2 = world_of g.C.Card.reads c.change.new.self (o c.change.new.host) in
-    let aimed : (t : IsTrue g.H.Host.told) → reached_by c.aim_into-aim.result x2 (Reply.number n) ≡ on_entry (both t).1.store.sig c.args.into n = λ t.
-    ap (λ (a : Aim). reached_by a x2 (Reply.number n)) (c.aim_into-aim.ensures (o c.args.host.now) (units_are g c.args.host.now)
-    (told_stands g.H.Host.told start.units (o c.args.host.now) c.requires.stands.stand t) (both t).1.store
-    (is-mounted (world_of g.C.Card.reads start.units (o c.args.host.now)) c.args.to (both t).1.blocks (both t).1.store (both t).1.on)) in
-    let few : (t : IsTrue g.H.Host.told) → FetchesAtMost (λ u. 512 * new_pages (b t) first u) (o c.change.new.host) (o c.settled.new.host) = λ t.
-    subst (λ (r : Reach). is_of_one r ≡ true → FetchesAtMost (λ u. 512 * pages_of_entry (entry_reached r (mounted_store x2 u))) (o c.change.new.host) (o c.settled.new.host)) (aimed t) (s.fetches t) refl in
+    let x2 = world_of g.C.Card.reads c.alter.new.self (o c.alter.new.host) in
+    let reached : (t : IsTrue g.H.Host.told) → seen_reach c.reach_of-reach.result ≡ on_entry (both t).1.store.sig c.args.into n = λ t.
+    c.reach_of-reach.ensures (o c.alter.new.host) (units_are g c.alter.new.host) (told_stands g.H.Host.told c.alter.new.self (o c.alter.new.host) (first.stands tt) t)
+    ∙ added-reach (b t) first c.in_ok-added.added c.in_ok-added.ensures.effect in
+    let few : (t : IsTrue g.H.Host.told) → FetchesAtMost (λ u. 512 * new_pages (b t) first u) (o c.alter.new.host) (o c.settled.new.host) = λ t.
+    subst (λ (r : Reach). is_of_one r ≡ true → FetchesAtMost (λ u. 512 * pages_of_entry (entry_reached r (mounted_store x2 u))) (o c.alter.new.host) (o c.settled.new.host)) (reached t) (s.fetches t) refl in
     served_ended (laws g) g.H.Host.told start _ (o c.args.host.now) (o c.settled.new.host) c.requires.stands (units_are g c.settled.new.host) cmd none refl refl Shown _ _
     (err_from_is_err_and c.from_residual-in_err-reply.result c.from_residual-in_err-reply.ensures.1)
     (λ t. s.only) (λ goes. s.read.stand) s.desk (λ t. with-moments (b t) first (o c.settled.new.host).now s.read.moment) (λ t. settled-costs (b t) first s.read (few t))
     (ends-after read.ends tt (ends-after (ends-change first) tt s.ends))
-    (err-device-both {T = Shown} (λ v. FailsAlone (o c.change.new.host) (o c.settled.new.host) v × (c.settled.new.self.desk ≡ start.desk))
-    (λ v. IsTrue g.H.Host.told → in_reach (reached_by c.aim_into-aim.result x2 (Reply.number n)) (mounted_store x2 v) ≡ true)
+    (err-device-both {T = Shown} (λ v. FailsAlone (o c.alter.new.host) (o c.settled.new.host) v × (c.settled.new.self.desk ≡ start.desk))
+    (λ v. IsTrue g.H.Host.told → in_reach (seen_reach c.reach_of-reach.result) (mounted_store x2 v) ≡ true)
     (λ v. Fails g.C.Card.reads g.C.Card.place g.C.Card.stands g.H.Host.told cmd start c.settled.new.self (o c.args.host.now) (o c.settled.new.host) v
     ⊎ FailsHalfway g.C.Card.reads g.C.Card.place g.C.Card.stands g.H.Host.told cmd start c.settled.new.self (o c.args.host.now) (o c.settled.new.host) v) (Err c.in_err-reply.field-0.0)
     (λ v f reaches. inl (target-fails b first s.read f.1 v (fails-after read.looks.alone.cards (read.ends.no_fault tt) (fails-after first.alone.cards (first.no_fault tt) f.0))
-    (λ t. subst (λ (r : Reach). in_reach r (mounted_store x2 v) ≡ true) (aimed t) (reaches t))))
-    (err-device-both {T = Shown} (FailsAlone (o c.change.new.host) (o c.settled.new.host)) (λ v. c.settled.new.self.desk ≡ start.desk) (λ v. FailsAlone (o c.change.new.host) (o c.settled.new.host) v × (c.settled.new.self.desk ≡ start.desk))
+    (λ t. subst (λ (r : Reach). in_reach r (mounted_store x2 v) ≡ true) (reached t) (reaches t))))
+    (err-device-both {T = Shown} (FailsAlone (o c.alter.new.host) (o c.settled.new.host)) (λ v. c.settled.new.self.desk ≡ start.desk) (λ v. FailsAlone (o c.alter.new.host) (o c.settled.new.host) v × (c.settled.new.self.desk ≡ start.desk))
     (Err c.in_err-reply.field-0.0) (λ v f same. (f, same)) s.ends.failed s.kept)
-    (told-device {T = Shown} (IsTrue g.H.Host.told) (λ v. in_reach (reached_by c.aim_into-aim.result x2 (Reply.number n)) (mounted_store x2 v) ≡ true) (Err c.in_err-reply.field-0.0) s.own))
+    (told-device {T = Shown} (IsTrue g.H.Host.told) (λ v. in_reach (seen_reach c.reach_of-reach.result) (mounted_store x2 v) ≡ true) (Err c.in_err-reply.field-0.0) s.own))
     (λ idle. absurd (end_idle cmd _ s.only idle))
 
 pub returns-in_err-change : goal.returns-in_err-change
@@ -165,8 +162,8 @@ returns-in_err-change g c name target both =
     let cmd = command.Move c.args.unit name c.args.uid c.args.to target in
     let none = move_no_cursor c.args.unit name c.args.uid c.args.to target in
     let read = c.in_ok-graph.ensures in
-    let first = c.in_ok-added.ensures in
-    let n = c.in_ok-added.added in
+    let first = c.in_ok-added.ensures.changes in
+    let n = c.in_ok-added.added.answer in
     let s = c.in_ok-reply.ensures in
     let entry : Entry = record { uid = c.in_ok-graph.field-0.uid; time = c.in_ok-graph.field-0.time; graph = c.in_ok-graph.field-0.graph } in
     let b : IsTrue g.H.Host.told → Carried g.C.Card.reads g.C.Card.place g.C.Card.soups g.C.Card.stands g.H.Host.told start.units c.read_entry.new.self start.desk (o c.args.host.now) (o c.read_entry.new.host)
@@ -182,23 +179,22 @@ returns-in_err-change g c name target both =
       looks = read.looks;
       few = read.fetches t (both t).0.blocks (both t).0.store (both t).0.on;
     } in
-    let x2 = world_of g.C.Card.reads c.change.new.self (o c.change.new.host) in
-    let aimed : (t : IsTrue g.H.Host.told) → reached_by c.aim_into-aim.result x2 (Reply.number n) ≡ on_entry (both t).1.store.sig c.args.into n = λ t.
-    ap (λ (a : Aim). reached_by a x2 (Reply.number n)) (c.aim_into-aim.ensures (o c.args.host.now) (units_are g c.args.host.now)
-    (told_stands g.H.Host.told start.units (o c.args.host.now) c.requires.stands.stand t) (both t).1.store
-    (is-mounted (world_of g.C.Card.reads start.units (o c.args.host.now)) c.args.to (both t).1.blocks (both t).1.store (both t).1.on)) in
-    let few : (t : IsTrue g.H.Host.told) → FetchesAtMost (λ u. 512 * new_pages (b t) first u) (o c.change.new.host) (o c.settled.new.host) = λ t.
-    subst (λ (r : Reach). is_of_one r ≡ true → FetchesAtMost (λ u. 512 * pages_of_entry (entry_reached r (mounted_store x2 u))) (o c.change.new.host) (o c.settled.new.host)) (aimed t) (s.fetches t) refl in
+    let x2 = world_of g.C.Card.reads c.alter.new.self (o c.alter.new.host) in
+    let reached : (t : IsTrue g.H.Host.told) → seen_reach c.reach_of-reach.result ≡ on_entry (both t).1.store.sig c.args.into n = λ t.
+    c.reach_of-reach.ensures (o c.alter.new.host) (units_are g c.alter.new.host) (told_stands g.H.Host.told c.alter.new.self (o c.alter.new.host) (first.stands tt) t)
+    ∙ added-reach (b t) first c.in_ok-added.added c.in_ok-added.ensures.effect in
+    let few : (t : IsTrue g.H.Host.told) → FetchesAtMost (λ u. 512 * new_pages (b t) first u) (o c.alter.new.host) (o c.settled.new.host) = λ t.
+    subst (λ (r : Reach). is_of_one r ≡ true → FetchesAtMost (λ u. 512 * pages_of_entry (entry_reached r (mounted_store x2 u))) (o c.alter.new.host) (o c.settled.new.host)) (reached t) (s.fetches t) refl in
     let second = c.in_err-change.ensures in
-    served_ended (laws g) g.H.Host.told start _ (o c.args.host.now) (o c.change-2.new.host) c.requires.stands (units_are g c.change-2.new.host) cmd none refl refl ℕ _ _
+    served_ended (laws g) g.H.Host.told start _ (o c.args.host.now) (o c.change.new.host) c.requires.stands (units_are g c.change.new.host) cmd none refl refl ℕ _ _
     (err_from_is_err_and c.from_residual-in_err-change.result c.from_residual-in_err-change.ensures.1)
     (λ t. removal-ends (b t) first s.read (few t) second) second.stands s.desk (λ t. moved-moments (b t) first s.read (few t) second)
     (λ t. moved-costs (b t) first s.read (few t) second (λ goes. goes))
     (ends-after read.ends tt (ends-after (ends-change first) tt (ends-after s.ends tt (ends-change second))))
     (at-device-map _ _ c.in_err-change.field-0.0 (λ v k. inr (source-fails b first s.read s.desk v k.0 k.1
     (fails-after read.looks.alone.cards (read.ends.no_fault tt) (fails-after first.alone.cards (first.no_fault tt) (fails-after s.read.alone.cards (s.ends.no_fault tt) k.1.failed)))
-    (λ t. stores-formed (laws g) c.change.new.self (o c.change.new.host) (units_are g c.change.new.host) (told_stands g.H.Host.told c.change.new.self (o c.change.new.host) (first.stands tt) t))
-    (λ t. subst (λ (r : Reach). with_cursors c.settled.new.self.desk (world_of g.C.Card.reads c.settled.new.self.units (o c.settled.new.host)) ≡ settle_reached r (with_cursors start.desk x2)) (aimed t)
+    (λ t. stores-formed (laws g) c.alter.new.self (o c.alter.new.host) (units_are g c.alter.new.host) (told_stands g.H.Host.told c.alter.new.self (o c.alter.new.host) (first.stands tt) t))
+    (λ t. subst (λ (r : Reach). with_cursors c.settled.new.self.desk (world_of g.C.Card.reads c.settled.new.self.units (o c.settled.new.host)) ≡ settle_reached r (with_cursors start.desk x2)) (reached t)
     (s.settled t (mid-apart (b t) first))) c.requires.apart)) second.broke)
     (λ idle. record {
       units = keeps-append (read-keeps read.looks) (keeps-append (change-keeps first) (keeps-append (read-keeps s.read) (change-keeps second)));
@@ -212,8 +208,8 @@ returns g c name target both =
     let cmd = command.Move c.args.unit name c.args.uid c.args.to target in
     let none = move_no_cursor c.args.unit name c.args.uid c.args.to target in
     let read = c.in_ok-graph.ensures in
-    let first = c.in_ok-added.ensures in
-    let n = c.in_ok-added.added in
+    let first = c.in_ok-added.ensures.changes in
+    let n = c.in_ok-added.added.answer in
     let s = c.in_ok-reply.ensures in
     let entry : Entry = record { uid = c.in_ok-graph.field-0.uid; time = c.in_ok-graph.field-0.time; graph = c.in_ok-graph.field-0.graph } in
     let b : IsTrue g.H.Host.told → Carried g.C.Card.reads g.C.Card.place g.C.Card.soups g.C.Card.stands g.H.Host.told start.units c.read_entry.new.self start.desk (o c.args.host.now) (o c.read_entry.new.host)
@@ -229,28 +225,27 @@ returns g c name target both =
       looks = read.looks;
       few = read.fetches t (both t).0.blocks (both t).0.store (both t).0.on;
     } in
-    let x2 = world_of g.C.Card.reads c.change.new.self (o c.change.new.host) in
-    let aimed : (t : IsTrue g.H.Host.told) → reached_by c.aim_into-aim.result x2 (Reply.number n) ≡ on_entry (both t).1.store.sig c.args.into n = λ t.
-    ap (λ (a : Aim). reached_by a x2 (Reply.number n)) (c.aim_into-aim.ensures (o c.args.host.now) (units_are g c.args.host.now)
-    (told_stands g.H.Host.told start.units (o c.args.host.now) c.requires.stands.stand t) (both t).1.store
-    (is-mounted (world_of g.C.Card.reads start.units (o c.args.host.now)) c.args.to (both t).1.blocks (both t).1.store (both t).1.on)) in
-    let few : (t : IsTrue g.H.Host.told) → FetchesAtMost (λ u. 512 * new_pages (b t) first u) (o c.change.new.host) (o c.settled.new.host) = λ t.
-    subst (λ (r : Reach). is_of_one r ≡ true → FetchesAtMost (λ u. 512 * pages_of_entry (entry_reached r (mounted_store x2 u))) (o c.change.new.host) (o c.settled.new.host)) (aimed t) (s.fetches t) refl in
+    let x2 = world_of g.C.Card.reads c.alter.new.self (o c.alter.new.host) in
+    let reached : (t : IsTrue g.H.Host.told) → seen_reach c.reach_of-reach.result ≡ on_entry (both t).1.store.sig c.args.into n = λ t.
+    c.reach_of-reach.ensures (o c.alter.new.host) (units_are g c.alter.new.host) (told_stands g.H.Host.told c.alter.new.self (o c.alter.new.host) (first.stands tt) t)
+    ∙ added-reach (b t) first c.in_ok-added.added c.in_ok-added.ensures.effect in
+    let few : (t : IsTrue g.H.Host.told) → FetchesAtMost (λ u. 512 * new_pages (b t) first u) (o c.alter.new.host) (o c.settled.new.host) = λ t.
+    subst (λ (r : Reach). is_of_one r ≡ true → FetchesAtMost (λ u. 512 * pages_of_entry (entry_reached r (mounted_store x2 u))) (o c.alter.new.host) (o c.settled.new.host)) (reached t) (s.fetches t) refl in
     let second = c.in_ok-change.ensures in
     let ends = ends-ok {T = Shown} {y = c.in_ok-reply.reply} (ends-after read.ends tt (ends-after (ends-change first) tt (ends-after s.ends tt (ends-change second)))) in
     let w = world_of g.C.Card.reads start.units (o c.args.host.now) in
-    let v = world_with g.C.Card.reads c.change-2.new.self c.settled.new.self.desk (o c.change-2.new.host) in
+    let v = world_with g.C.Card.reads c.change.new.self c.settled.new.self.desk (o c.change.new.host) in
     let answers : IsTrue g.H.Host.told → Answers (with_cursors start.desk w) v cmd said (Ok c.in_ok-reply.reply) = λ t.
     moved-answers (b t) first s.read (few t) second
-    (stores-formed (laws g) c.change.new.self (o c.change.new.host) (units_are g c.change.new.host) (told_stands g.H.Host.told c.change.new.self (o c.change.new.host) (first.stands tt) t))
-    (stores-formed (laws g) c.change-2.new.self (o c.change-2.new.host) (units_are g c.change-2.new.host) (told_stands g.H.Host.told c.change-2.new.self (o c.change-2.new.host) (second.stands tt) t))
+    (stores-formed (laws g) c.alter.new.self (o c.alter.new.host) (units_are g c.alter.new.host) (told_stands g.H.Host.told c.alter.new.self (o c.alter.new.host) (first.stands tt) t))
+    (stores-formed (laws g) c.change.new.self (o c.change.new.host) (units_are g c.change.new.host) (told_stands g.H.Host.told c.change.new.self (o c.change.new.host) (second.stands tt) t))
     c.settled.new.self.desk
-    (subst (λ (r : Reach). with_cursors c.settled.new.self.desk (world_of g.C.Card.reads c.settled.new.self.units (o c.settled.new.host)) ≡ settle_reached r (with_cursors start.desk x2)) (aimed t)
+    (subst (λ (r : Reach). with_cursors c.settled.new.self.desk (world_of g.C.Card.reads c.settled.new.self.units (o c.settled.new.host)) ≡ settle_reached r (with_cursors start.desk x2)) (reached t)
     (s.settled t (mid-apart (b t) first)))
     ∙ ap {B = World × Reply} (λ r. (v, said r)) (sym s.same) in
     record {
-      stands = λ goes. stands_after g.H.Host.told c.change-2.new.self c.settled.new.self.desk (o c.change-2.new.host)
-          (second.stands tt) (units_are g c.change-2.new.host) s.desk (with_cursors start.desk w) cmd said (Ok c.in_ok-reply.reply) (λ t. (c.requires.stands.apart t, c.requires.stands.settled t)) answers goes;
+      stands = λ goes. stands_after g.H.Host.told c.change.new.self c.settled.new.self.desk (o c.change.new.host)
+          (second.stands tt) (units_are g c.change.new.host) s.desk (with_cursors start.desk w) cmd said (Ok c.in_ok-reply.reply) (λ t. (c.requires.stands.apart t, c.requires.stands.settled t)) answers goes;
       answered = answers;
       moments = λ t. moved-moments (b t) first s.read (few t) second;
       costs = λ t. moved-costs (b t) first s.read (few t) second (λ goes. tt);

@@ -1,5 +1,5 @@
 -- The units do it, or a graph is shown.
-use Rattle.std.proofs.Common.{◌≡◌, ap, refl, subst, sym, ◌∙◌, true}
+use Rattle.std.proofs.Common.{◌≡◌, ap, refl, subst, sym, ◌∙◌}
 use Rattle.newt_host.proofs.Outside.{NoFault-refl, OnDevices-refl}
 use Rattle.newt_engine_units.proofs.Costs.{alone-refl, idle-fetches}
 use Rattle.newt_reply.specs.Said.{said}
@@ -14,19 +14,18 @@ use Rattle.newt_engine_units.specs.Answers.{Answers}
 use Rattle.newt_engine_units.specs.Breaks.{AtDevice}
 use Rattle.newt_engine_units.specs.Calls.{BreaksIn}
 use Rattle.newt_engine_units.specs.Kept.{KeepsUnits}
-use Rattle.newt_engine_units.specs.Stands.{world_of}
+use Rattle.newt_engine_units.specs.Stands.{Eight, world_of}
+use Rattle.newt_engine_units.proofs.Broken.{none-devices}
 use Rattle.newt_engine_units.proofs.Keeping.{keeps-refl}
 use Rattle.newt_laws_steps.specs.StandsFor.{seen}
 use Rattle.newt_engine.specs.Ends.{takes_memory, uses_device}
 use Rattle.newt_engine.specs.Laws.{laws_of}
 use Rattle.newt_engine.proofs.Costing.{format_costs, still_costs}
-use Rattle.newt_engine.proofs.Forming.{format-fresh}
-use Rattle.newt_engine.proofs.Groups.{format_form, no_others}
-use Rattle.newt_engine.proofs.Handed.{answered_on, err_on, goes_back, moments_same, quiet, quiet_on}
-use Rattle.newt_laws_world.specs.Settled.{moves_keys}
+use Rattle.newt_engine.proofs.Forming.{format-fresh, memory-unformed}
+use Rattle.newt_engine.proofs.Groups.{format_form, in_memory}
+use Rattle.newt_engine.proofs.Handed.{answered_on, err_on, goes_back, has_cause, moments_same, quiet, quiet_on, seen_in_memory, told_stands}
 use Rattle.newt_engine.proofs.Keeping.{idle_back}
 use Rattle.newt_engine.proofs.Obeying.{handed_obeyed}
-use Rattle.newt_engine.proofs.Settling.{moves_no_format, moves_on_devices}
 use Rattle.newt_engine.proofs.world.World.obey.Goals as goal
 
 pub returns-in-Nsof : goal.returns-in-Nsof
@@ -37,9 +36,7 @@ returns-in-Nsof g c =
       answered = λ t. subst (λ x. answer (seen g.C.Card.reads w o.now x) x ≡ (w, said (reply.Nsof c.in-Nsof.graph))) (sym c.in-Nsof.is) (nsof-done w refl c.in-Nsof.graph);
       moments = λ t. quiet (laws_of g.met.C.Card.formed g.met.C.Card.plain g.met.C.Card.durable g.met.C.Card.banks g.met.C.Card.kept) g.H.Host.told c.args.self.now.units o (record { eight = g.met.H.Host.eight c.args.host.now; none = g.met.H.Host.none c.args.host.now }) c.requires.stands t c.args.command _;
       desk = refl;
-      unrefused = λ t moves. absurd (moves_on_devices _ moves (ap uses_device c.in-Nsof.is));
       kept = λ idle. keeps-refl c.args.self.now.units;
-      busy = λ moves. absurd (moves_on_devices _ moves (ap uses_device c.in-Nsof.is));
       costs = λ t. still_costs (λ u. alone-refl u _) (λ means. idle-fetches _ _ o);
       fresh = λ t u is. absurd (both-ways (sym (ap (λ x. is_format_of x u) c.in-Nsof.is) ∙ is));
       alone = OnDevices-refl o;
@@ -61,9 +58,7 @@ returns-in-Lit g c =
       answered = λ t. subst (λ x. answer (seen g.C.Card.reads w o.now x) x ≡ (w, said (reply.Literal c.in-Lit.graph))) (sym c.in-Lit.is) (lit-done w refl c.in-Lit.graph);
       moments = λ t. quiet (laws_of g.met.C.Card.formed g.met.C.Card.plain g.met.C.Card.durable g.met.C.Card.banks g.met.C.Card.kept) g.H.Host.told c.args.self.now.units o (record { eight = g.met.H.Host.eight c.args.host.now; none = g.met.H.Host.none c.args.host.now }) c.requires.stands t c.args.command _;
       desk = refl;
-      unrefused = λ t moves. absurd (moves_on_devices _ moves (ap uses_device c.in-Lit.is));
       kept = λ idle. keeps-refl c.args.self.now.units;
-      busy = λ moves. absurd (moves_on_devices _ moves (ap uses_device c.in-Lit.is));
       costs = λ t. still_costs (λ u. alone-refl u _) (λ means. idle-fetches _ _ o);
       fresh = λ t u is. absurd (both-ways (sym (ap (λ x. is_format_of x u) c.in-Lit.is) ∙ is));
       alone = OnDevices-refl o;
@@ -91,9 +86,7 @@ returns-in-Format g c =
       answered = λ t. subst (λ x. Answers (seen g.C.Card.reads w o.now x) (world_of g.C.Card.reads c.format.new.self p) x said c.done.result) (sym c.in-Format.is) (answered_on on _ _ refl (call.answered t));
       moments = λ t. moments_same g.C.Card.reads _ _ _ _ c.args.command _ c.in-Format.is (call.moments t);
       desk = refl;
-      unrefused = λ t moves. absurd (moves_no_format _ _ _ (subst (λ x. moves_keys x ≡ true) c.in-Format.is moves));
       kept = λ idle. subst (λ (x : Command). KeepsUnits (looks_at x) c.args.self.now.units c.format.new.self) (sym c.in-Format.is) (call.kept (idle_back on (λ x r k. cc) c.in-Format.is idle));
-      busy = λ moves. absurd (moves_no_format _ _ _ (subst (λ x. moves_keys x ≡ true) c.in-Format.is moves));
       costs = λ t. format_costs c.in-Format.is call.costs (λ goes. call.open_after t (goes_back on goes));
       fresh = λ t u is. format-fresh p on c.in-Format.is u is (call.fresh t);
       alone = call.ends.alone;
@@ -107,9 +100,6 @@ returns-in-Format g c =
       };
     }
 
-pub returns-in-Mount : goal.returns-in-Mount
-returns-in-Mount g c = handed_obeyed c.mounted.ensures c.in-Mount.is refl refl refl (λ x r k. cc) (λ x u. refl) c.mount.ensures refl
-
 pub returns-in-Get : goal.returns-in-Get
 returns-in-Get g c = handed_obeyed c.timed.ensures c.in-Get.is refl refl refl (λ x r k. cc) (λ x u. refl) c.get.ensures.obeyed refl
 
@@ -119,5 +109,35 @@ returns-in-Getx g c = handed_obeyed c.timed_nsof.ensures c.in-Getx.is refl refl 
 pub returns-in-Vread : goal.returns-in-Vread
 returns-in-Vread g c = handed_obeyed c.hex.ensures c.in-Vread.is refl refl refl (λ x r k. cc) (λ x u. refl) c.vread.ensures refl
 
-pub obey_other-requires-clause-other : goal.obey_other-requires-clause-other
-obey_other-requires-clause-other g c = let d = c.in_default in no_others c.args.command d.not-Nsof d.not-Lit d.not-Format d.not-Mount d.not-Get d.not-Getx d.not-Vread
+pub obey_in_memory-obeyed-requires : goal.obey_in_memory-obeyed-requires
+obey_in_memory-obeyed-requires g c =
+    let d = c.in_default in
+    let is = in_memory c.args.command c.requires.no_cursor c.requires.no_change c.requires.no_mount d.not-Nsof d.not-Lit d.not-Format d.not-Get d.not-Getx d.not-Vread in
+    record { not_shown = is.0; no_device = is.1; no_cursor = c.requires.no_cursor }
+
+pub returns-in_default : goal.returns-in_default
+returns-in_default g c =
+    let o = g.H.Host.outside c.args.host.now in
+    let eight : Eight o = record { eight = g.met.H.Host.eight c.args.host.now; none = g.met.H.Host.none c.args.host.now } in
+    let d = c.in_default in
+    let is = in_memory c.args.command c.requires.no_cursor c.requires.no_change c.requires.no_mount d.not-Nsof d.not-Lit d.not-Format d.not-Get d.not-Getx d.not-Vread in
+    let no_device = is.1 in
+    let call = c.obey_in_memory-obeyed.ensures in record {
+      stands = λ goes. call.stands g.H.Host.told o c.requires.stands;
+      answered = λ t. subst (λ x. Answers x (world_of g.C.Card.reads c.obey_in_memory-obeyed.new.self.units o) c.args.command said c.obey_in_memory-obeyed.result)
+          (sym (seen_in_memory g.C.Card.reads (world_of g.C.Card.reads c.args.self.now.units o) o.now c.args.command no_device)) (call.answered o eight (told_stands g.H.Host.told c.args.self.now.units o c.requires.stands t));
+      moments = λ t. quiet (laws_of g.met.C.Card.formed g.met.C.Card.plain g.met.C.Card.durable g.met.C.Card.banks g.met.C.Card.kept) g.H.Host.told c.args.self.now.units o eight c.requires.stands t c.args.command _;
+      desk = call.desk;
+      kept = λ idle. subst (λ x. KeepsUnits (looks_at c.args.command) c.args.self.now.units x) (sym (call.kept idle)) (keeps-refl c.args.self.now.units);
+      costs = λ t. still_costs (λ u. alone-refl u _) (λ means. idle-fetches _ _ o);
+      fresh = λ t u is. absurd (both-ways (sym (memory-unformed c.args.command u no_device) ∙ is));
+      alone = OnDevices-refl o;
+      broke = none-devices _ _ call.device;
+      ends = record {
+        cause = has_cause _ _ _ (NoFault-refl o) call.device;
+        no_fault = λ goes. NoFault-refl o;
+        memory = call.ends;
+        device = λ uses_none. call.device;
+        quiet = call.quiet;
+      };
+    }
