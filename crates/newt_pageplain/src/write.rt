@@ -43,8 +43,7 @@ fn write_all<H: Host>(draft: &mut Draft, host: &mut H, pages: &Kept) -> Result<(
         (H.outside host.old) (H.outside host.new) }
 {
     write_counts(draft, host, pages.len() as u16, 0)?;
-    write_pages(draft, host, pages)?;
-    Ok(())
+    write_pages(draft, host, pages)
 }
 
 /// Writes all pages as one record into the other bank, once the votes are mended.
