@@ -1,5 +1,4 @@
 use Rattle.std.proofs.Common.{◌≡◌, ◌≢◌, ◌≤◌, inl, inr, IsSome, ℕ, ◌+◌, ◌*◌, ◌-◌, replicate, List, length, take, drop, refl, arith, sym, ◌∙◌, ap, subst, Option, Some, None, MatchOption}
-use Rattle.newt_host.specs.Outside.{Spends}
 use Rattle.newt_host.specs.Moments.{Moment, image, changes}
 use Rattle.newt_host.proofs.Outside.{same_cards}
 use Rattle.newt_spec_image.specs.Records.{bank_size, chosen_bank, header, payloads_after, records, IsVersion}

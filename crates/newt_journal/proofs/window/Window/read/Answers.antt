@@ -1,4 +1,4 @@
-use Rattle.std.proofs.Common.{IsTrue, ◌≡◌, ◌≤◌, ◌+◌, ◌-◌, ◌<◌, min, ℕ, List, [], length, take, drop, arith, sym, ◌∙◌, ap, subst, length-drop, length-take}
+use Rattle.std.proofs.Common.{IsTrue, ◌≡◌, ◌+◌, ◌-◌, ℕ, [], length, take, drop, arith, ◌∙◌, ap, length-drop, length-take}
 use Rattle.std.proofs.lemmas.List.{drop_all}
 use borrow.Rule.Slice.PartMut.{post_of}
 use Rattle.newt_host.specs.Moments.{Moment, image}
