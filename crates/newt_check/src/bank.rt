@@ -92,9 +92,10 @@ fn unformed_record<H: Host>(
         (H.outside host.old) (H.outside host.new) }
 {
     let mut places = HashMap::new(alloc);
+    let mut window = journal.window();
     let mut at = journal.first();
-    while let Some(found) = journal.walk(host, at)? {
-        if !replay_record(alloc, journal, host, found, &mut places)? {
+    while let Some(found) = journal.walk_through(host, &mut window, at)? {
+        if !replay_record(alloc, journal, host, &mut window, found, &mut places)? {
             return Ok(Some(at));
         }
         at = found.next;

@@ -52,15 +52,15 @@ bank-ends blocks b bank start limit is begins ends = ends ∙ ap (λ n. n + bank
 pub wide-bank : (b : ℕ) → 13 ≤ b → 16 ≤ bank_size b
 wide-bank b enough = omega (arith, enough)
 
--- up to the search of its end, and up to a look after it
-pub most-found : (start limit size : ℕ) → limit ≡ start + size → 16 ≤ size → 3 + (16 + (limit - (start + 16))) ≤ 4 + size
-most-found start limit size ends wide = omega (arith, ends, wide)
+-- up to the search of its end, which has read up to a place, and up to a look after it
+pub most-found : (start limit size to : ℕ) → limit ≡ start + size → 16 ≤ size → to ≤ limit → 3 + (16 + (to - (start + 16))) ≤ 3 + size
+most-found start limit size to ends wide within = omega (arith, ends, wide, within)
 
-pub most-seen : (start limit size end : ℕ) → limit ≡ start + size → start + 16 ≤ end → end ≤ limit → 3 + (16 + ((end - (start + 16) + 1) + (limit - end))) ≤ 4 + size
-most-seen start limit size end ends low high = omega (arith, ends, low, high)
+pub most-seen : (start limit size to : ℕ) → limit ≡ start + size → start + 16 ≤ to → to ≤ limit → 3 + (16 + ((to - (start + 16)) + (limit - to))) ≤ 3 + size
+most-seen start limit size to ends low high = omega (arith, ends, low, high)
 
-pub most-read : (size : ℕ) → 16 ≤ size → 3 + 16 ≤ 4 + size
+pub most-read : (size : ℕ) → 16 ≤ size → 3 + 16 ≤ 3 + size
 most-read size wide = omega (arith, wide)
 
-pub most-voted : (size : ℕ) → 3 ≤ 4 + size
+pub most-voted : (size : ℕ) → 3 ≤ 3 + size
 most-voted size = omega arith

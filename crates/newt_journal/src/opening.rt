@@ -8,7 +8,7 @@ ghost use Rattle.newt_journal.specs.Calls.{MayHold, Reads, OpensJournal};
 
 use crate::choose::choose;
 use crate::scan::{find_end, is_blank, read_byte, read_version};
-use crate::{Bank, Journal, JournalFault};
+use crate::{Bank, Journal, JournalFault, Window};
 use newt_host::{BLOCK, Failed, Host, Unit};
 
 /// The bank that the votes of a unit choose.
@@ -41,7 +41,7 @@ impl Journal {
             (λ journal. IsSome (records (image unit (H.outside host.old).now))) }
         ensures not_store { IsErrOf result JournalFault.NotStore → IsTrue H.told
             → records (image unit (H.outside host.old).now) ≡ None }
-        ensures looks { OpensJournal unit (4 + bank_size ((H.outside host.old).blocks unit)) result
+        ensures looks { OpensJournal unit (3 + bank_size ((H.outside host.old).blocks unit)) result
             (H.outside host.old) (H.outside host.new) }
     {
         let blocks = host.blocks(unit);
@@ -53,10 +53,11 @@ impl Journal {
         let Some(version) = read_version(host, unit, start)? else {
             return Err(JournalFault::NotStore);
         };
-        let Some(end) = find_end(host, unit, start + 16, limit)? else {
+        let mut window = Window::new(start + 16);
+        let Some(end) = find_end(host, unit, &mut window, start + 16, limit)? else {
             return Err(JournalFault::NotStore);
         };
-        let blank = is_blank(host, unit, end, limit)?;
+        let blank = is_blank(host, unit, &mut window, end, limit)?;
         Ok(Journal {
             unit,
             blocks,

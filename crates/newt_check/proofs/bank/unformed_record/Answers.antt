@@ -22,6 +22,8 @@ loop-places-init g c =
     record {
       low = omega (arith, c.first-at.ensures.place);
       high = c.first-at.ensures.before_end;
+      forward = omega (arith, c.window-window.ensures.from, c.first-at.ensures.place);
+      window = record { within = omega (arith, c.window-window.ensures.reach, c.first-at.ensures.place, c.first-at.ensures.before_end); window = c.window-window.ensures.window g.H.Host.told j.unit o };
       looks = OnlyReads-refl j.unit o;
       no_fault = refl;
       place = λ tells. c.first-at.ensures.is_place g.H.Host.told o c.requires tells;
@@ -35,17 +37,23 @@ loop-places-init g c =
       row = λ tells. begun j c.first-at.result (image j.unit o.now) c.first-at.ensures.place;
     }
 
-pub walk-requires-clause-low : goal.walk-requires-clause-low
-walk-requires-clause-low g c = c.loop-places.invariant.low
+pub walk_through-requires-clause-low : goal.walk_through-requires-clause-low
+walk_through-requires-clause-low g c = c.loop-places.invariant.low
 
-pub walk-requires-clause-high : goal.walk-requires-clause-high
-walk-requires-clause-high g c = c.loop-places.invariant.high
+pub walk_through-requires-clause-high : goal.walk_through-requires-clause-high
+walk_through-requires-clause-high g c = c.loop-places.invariant.high
 
-pub walk-requires-clause-stands : goal.walk-requires-clause-stands
-walk-requires-clause-stands g c = let o = g.H.Host.outside in looks-stands g.H.Host.told c.args.journal.now (o c.args.host.now) (o c.loop-places.host) c.loop-places.invariant.looks c.requires
+pub walk_through-requires-clause-stands : goal.walk_through-requires-clause-stands
+walk_through-requires-clause-stands g c = let o = g.H.Host.outside in looks-stands g.H.Host.told c.args.journal.now (o c.args.host.now) (o c.loop-places.host) c.loop-places.invariant.looks c.requires
 
-pub walk-requires-clause-place : goal.walk-requires-clause-place
-walk-requires-clause-place g c = λ tells. subst (λ (l : List ℕ). IsPlace c.args.journal.now c.loop-places.at l) (sym (looks-image c.args.journal.now.unit (g.H.Host.outside c.args.host.now) (g.H.Host.outside c.loop-places.host) c.loop-places.invariant.looks)) (c.loop-places.invariant.place tells)
+pub walk_through-requires-clause-forward : goal.walk_through-requires-clause-forward
+walk_through-requires-clause-forward g c = c.loop-places.invariant.forward
+
+pub walk_through-requires-clause-window : goal.walk_through-requires-clause-window
+walk_through-requires-clause-window g c = c.loop-places.invariant.window
+
+pub walk_through-requires-clause-place : goal.walk_through-requires-clause-place
+walk_through-requires-clause-place g c = λ tells. subst (λ (l : List ℕ). IsPlace c.args.journal.now c.loop-places.at l) (sym (looks-image c.args.journal.now.unit (g.H.Host.outside c.args.host.now) (g.H.Host.outside c.loop-places.host) c.loop-places.invariant.looks)) (c.loop-places.invariant.place tells)
 
 pub replay_record-requires : goal.replay_record-requires
 replay_record-requires g c =
@@ -59,9 +67,11 @@ replay_record-requires g c =
           inside = omega arith;
           high = omega (arith, inside.1, inside.2);
         };
-        stands = looks-stands g.H.Host.told c.args.journal.now (o c.args.host.now) (o c.walk.new.host) (OnlyReads-append inv.looks (looks-read c.walk.ensures.reads)) c.requires;
+        stands = looks-stands g.H.Host.told c.args.journal.now (o c.args.host.now) (o c.walk_through.new.host) (OnlyReads-append inv.looks (looks-read c.walk_through.ensures.through.reads)) c.requires;
         table = inv.table;
       };
+      forward = omega (arith, c.walk_through.ensures.forward, inside.0);
+      window = record { within = c.in_ok-found.ensures.through.within; window = c.in_ok-found.ensures.through.window };
     }
 
 pub loop-places-smaller : goal.loop-places-smaller
@@ -78,12 +88,14 @@ loop-places-preserved g c =
     let e = c.in_ok-replay_record.ensures in
     let img : List ℕ = image u (o c.args.host.now).now in
     let low : image u (o c.loop-places.host).now ≡ img = looks-image u (o c.args.host.now) (o c.loop-places.host) inv.looks in
-    let walked : image u (o c.walk.new.host).now ≡ img = ap (λ (m : Moment). image u m) c.walk.ensures.reads.moment ∙ low in
+    let walked : image u (o c.walk_through.new.host).now ≡ img = ap (λ (m : Moment). image u m) c.walk_through.ensures.through.reads.moment ∙ low in
     record {
       low = omega (arith, inv.low, inside.0, inside.1);
       high = inside.2;
-      looks = OnlyReads-append (OnlyReads-append inv.looks (looks-read c.walk.ensures.reads)) c.replay_record.ensures.reads.looks;
-      no_fault = e.reads.no_fault tt ∙ c.in_ok-found.ensures.reads.faults.no_fault ∙ inv.no_fault;
+      forward = omega (arith, c.replay_record.ensures.forward, inside.0, inside.1);
+      window = c.in_ok-replay_record.ensures.window;
+      looks = OnlyReads-append (OnlyReads-append inv.looks (looks-read c.walk_through.ensures.through.reads)) c.replay_record.ensures.reads.looks;
+      no_fault = e.reads.no_fault tt ∙ c.in_ok-found.ensures.through.reads.faults.no_fault ∙ inv.no_fault;
       place = λ tells. subst (λ (l : List ℕ). IsPlace j f.next l) low (if_some _ c.in_ok-found.field-0 f c.in-Some.is (c.in_ok-found.ensures.finds.next tells));
       table = e.fills.table;
       some = λ tells.
@@ -94,7 +106,7 @@ loop-places-preserved g c =
           let found : payloads_from j c.loop-places.at img ≡ with_first (take f.len (drop f.at img)) (payloads_from j f.next img) =
           subst (λ (l : List ℕ). payloads_from j c.loop-places.at l ≡ with_first (take f.len (drop f.at l)) (payloads_from j f.next l)) low (at_some _ _ c.in_ok-found.field-0 f c.in-Some.is (c.in_ok-found.ensures.finds.told_of tells)) in
           let says : is_change (take f.len (drop f.at img)) ≡ true =
-          says-change img c.loop-places.places.entries c.replay_record.new.places.entries f (image u (o c.walk.new.host).now) walked ((e.replays tells).true_says c.if-not-branch.false) in
+          says-change img c.loop-places.places.entries c.replay_record.new.places.entries f (image u (o c.walk_through.new.host).now) walked ((e.replays tells).true_says c.if-not-branch.false) in
           inv.row tells ∙ walked-formed g.H.Host.told j (o c.args.host.now) (g.met.H.Host.sized c.args.host.now u tells) c.requires c.loop-places.at f inside.0 inside.1 inside.2 (inv.some tells).0 (inv.some tells).1 found says;
     }
 
@@ -108,11 +120,11 @@ returns-then-not-branch-clause-row g c tells =
     let e = c.in_ok-replay_record.ensures in
     let img : List ℕ = image u (o c.args.host.now).now in
     let low : image u (o c.loop-places.host).now ≡ img = looks-image u (o c.args.host.now) (o c.loop-places.host) inv.looks in
-    let walked : image u (o c.walk.new.host).now ≡ img = ap (λ (m : Moment). image u m) c.walk.ensures.reads.moment ∙ low in
+    let walked : image u (o c.walk_through.new.host).now ≡ img = ap (λ (m : Moment). image u m) c.walk_through.ensures.through.reads.moment ∙ low in
     let found : payloads_from j c.loop-places.at img ≡ with_first (take f.len (drop f.at img)) (payloads_from j f.next img) =
     subst (λ (l : List ℕ). payloads_from j c.loop-places.at l ≡ with_first (take f.len (drop f.at l)) (payloads_from j f.next l)) low (at_some _ _ c.in_ok-found.field-0 f c.in-Some.is (c.in_ok-found.ensures.finds.told_of tells)) in
     let says : is_change (take f.len (drop f.at img)) ≡ false =
-    says-none img f (image u (o c.walk.new.host).now) walked ((e.replays tells).false_says c.if-not-branch.true) in
+    says-none img f (image u (o c.walk_through.new.host).now) walked ((e.replays tells).false_says c.if-not-branch.true) in
     sym (inv.row tells ∙ walked-unformed j c.loop-places.at f img (inv.some tells).0 (inv.some tells).1 found says)
 
 pub returns-clause-row : goal.returns-clause-row
@@ -132,10 +144,10 @@ returns-in_err-found-clause-reads g c =
     let u = c.args.journal.now.unit in
     let inv = c.loop-places.invariant in
     record {
-      looks = OnlyReads-append inv.looks (looks-read c.walk.ensures.reads);
+      looks = OnlyReads-append inv.looks (looks-read c.walk_through.ensures.through.reads);
       no_other = search rules;
-      cause = λ bad. broke-over u u (o c.args.host.now) (o c.loop-places.host) (o c.walk.new.host) refl
-          inv.no_fault c.in_err-found.ensures.reads.faults.cause;
+      cause = λ bad. broke-over u u (o c.args.host.now) (o c.loop-places.host) (o c.walk_through.new.host) refl
+          inv.no_fault c.in_err-found.ensures.through.reads.faults.cause;
       no_fault = search rules;
     }
 
@@ -143,7 +155,7 @@ pub returns-in_err-replay_record-clause-reads : goal.returns-in_err-replay_recor
 returns-in_err-replay_record-clause-reads g c =
     let o = g.H.Host.outside in
     let u = c.args.journal.now.unit in
-    let before = OnlyReads-append c.loop-places.invariant.looks (looks-read c.walk.ensures.reads) in
+    let before = OnlyReads-append c.loop-places.invariant.looks (looks-read c.walk_through.ensures.through.reads) in
     let r = c.from_residual-in_err-replay_record.result in
     let e = c.in_err-replay_record.field-0.0 in
     let is = c.from_residual-in_err-replay_record.ensures in
@@ -151,28 +163,28 @@ returns-in_err-replay_record-clause-reads g c =
     record {
       looks = OnlyReads-append before c.replay_record.ensures.reads.looks;
       no_other = λ bad. reads.no_other (ap Err (same-err r e NotStore is.1 bad));
-      cause = λ bad. broke-over u u (o c.args.host.now) (o c.walk.new.host) (o c.replay_record.new.host)
-          refl (c.in_ok-found.ensures.reads.faults.no_fault ∙ c.loop-places.invariant.no_fault) (reads.cause (ap Err (same-err r e Device is.1 bad)));
+      cause = λ bad. broke-over u u (o c.args.host.now) (o c.walk_through.new.host) (o c.replay_record.new.host)
+          refl (c.in_ok-found.ensures.through.reads.faults.no_fault ∙ c.loop-places.invariant.no_fault) (reads.cause (ap Err (same-err r e Device is.1 bad)));
       no_fault = λ none. reads.no_fault (blames-as Bool r e is.1 none)
-          ∙ c.in_ok-found.ensures.reads.faults.no_fault ∙ c.loop-places.invariant.no_fault;
+          ∙ c.in_ok-found.ensures.through.reads.faults.no_fault ∙ c.loop-places.invariant.no_fault;
     }
 
 pub returns-then-not-branch-clause-reads : goal.returns-then-not-branch-clause-reads
 returns-then-not-branch-clause-reads g c =
     let inv = c.loop-places.invariant in
     record {
-      looks = OnlyReads-append (OnlyReads-append inv.looks (looks-read c.walk.ensures.reads))
+      looks = OnlyReads-append (OnlyReads-append inv.looks (looks-read c.walk_through.ensures.through.reads))
           c.replay_record.ensures.reads.looks;
       no_other = λ bad. absurd (not-err bad);
       cause = λ bad. absurd (not-err bad);
       no_fault = λ none. c.in_ok-replay_record.ensures.reads.no_fault tt
-          ∙ c.in_ok-found.ensures.reads.faults.no_fault ∙ inv.no_fault;
+          ∙ c.in_ok-found.ensures.through.reads.faults.no_fault ∙ inv.no_fault;
     }
 
 pub returns-clause-reads : goal.returns-clause-reads
 returns-clause-reads g c = record {
-  looks = OnlyReads-append c.loop-places.invariant.looks (looks-read c.walk.ensures.reads);
+  looks = OnlyReads-append c.loop-places.invariant.looks (looks-read c.walk_through.ensures.through.reads);
   no_other = λ bad. absurd (not-err bad);
   cause = λ bad. absurd (not-err bad);
-  no_fault = λ none. c.in_ok-found.ensures.reads.faults.no_fault ∙ c.loop-places.invariant.no_fault;
+  no_fault = λ none. c.in_ok-found.ensures.through.reads.faults.no_fault ∙ c.loop-places.invariant.no_fault;
 }

@@ -3,6 +3,7 @@ use Rattle.newt_host.specs.Moments.{image}
 use Rattle.newt_host.specs.Outside.{OnlyReads}
 use Rattle.newt_journal.specs.Bank.{limit_of}
 use Rattle.newt_journal.specs.Places.{first_place, payloads_from, IsPlace}
+use Rattle.newt_journal.specs.Windows.{IsReading, from_of}
 use Rattle.newt_pagelog.specs.Placed.{IsFilling}
 use Rattle.newt_spec_check.specs.Damage.{is_unformed}
 use Rattle.newt_check.specs.Gates.{first_from, unformed_in}
@@ -15,6 +16,8 @@ invariant-loop-places g l =
     record {
       low : first_place l.journal ≤ l.at;
       high : l.at ≤ l.journal.end;
+      forward : from_of l.window ≤ l.at;
+      window : IsReading g.H.Host.told l.journal l.window (outside l.host);
       looks : OnlyReads l.journal.unit (outside l.fn.host) (outside l.host);
       no_fault : (outside l.host).dev_faults l.journal.unit ≡ (outside l.fn.host).dev_faults l.journal.unit;
       place : IsTrue g.H.Host.told → IsPlace l.journal l.at img;

@@ -6,6 +6,7 @@ use Rattle.newt_host.specs.Outside.{OnlyReads}
 use Rattle.newt_spec_image.specs.Records.{and_then, records}
 use Rattle.newt_spec_image.specs.Pages.{pages_after}
 use Rattle.newt_journal.specs.Places.{first_place, payloads_from, IsPlace}
+use Rattle.newt_journal.specs.Windows.{IsReading, from_of}
 use Rattle.newt_pagelog.specs.Kept.{map_of}
 use Rattle.newt_pagelog.specs.Placed.{ArePlaced, lifted, page_from}
 use Rattle.newt_pagelog.proofs.places.replay.Given as goal
@@ -17,6 +18,8 @@ invariant-loop-places g l =
     record {
       low : first_place l.journal ≤ l.at;
       high : l.at ≤ l.journal.end;
+      forward : from_of l.window ≤ l.at;
+      window : IsReading g.H.Host.told l.journal l.window (outside l.host);
       looks : OnlyReads l.journal.unit (outside l.fn.host) (outside l.host);
       no_fault : (outside l.host).dev_faults l.journal.unit ≡ (outside l.fn.host).dev_faults l.journal.unit;
       place : IsTrue g.H.Host.told → IsPlace l.journal l.at img;

@@ -16,6 +16,8 @@ use Rattle.newt_pagelog.proofs.places.replay_deletes.Goals as goal
 
 pub loop-i-init : goal.loop-i-init
 loop-i-init g c = record {
+  forward = omega (arith, c.requires.forward);
+  window = c.requires.window;
   looks = OnlyReads-refl c.args.journal.now.unit (g.H.Host.outside c.args.host.now);
   no_fault = refl;
   unique = c.requires.replaying.table.unique;
@@ -86,6 +88,8 @@ loop-i-preserved g c =
     let updates = c.remove.ensures.updates.0 in
     let taken = if_some _ c.in_ok-number.field-0 n c.in-Some.is c.in_ok-number.ensures.taken in
     record {
+      forward = omega (arith, c.next_number.ensures.forward);
+      window = c.in_ok-number.ensures.window;
       looks = OnlyReads-append inv.looks c.next_number.ensures.reads.looks;
       no_fault = c.in_ok-number.ensures.reads.no_fault tt ∙ inv.no_fault;
       unique = c.remove.ensures.unique;

@@ -4,6 +4,7 @@ use Rattle.std.specs.HashMap as hash
 use Rattle.newt_host.specs.Moments.{image}
 use Rattle.newt_host.specs.Outside.{OnlyReads}
 use Rattle.newt_spec_image.specs.Pages.{puts_from, deletes_from}
+use Rattle.newt_journal.specs.Windows.{IsReading, from_of}
 use Rattle.newt_pagelog.specs.Placed.{Places, ArePlaced, Replayed}
 use Rattle.newt_pagelog.proofs.places.replay_deletes.Given as goal
 
@@ -13,6 +14,8 @@ invariant-loop-i g l =
     let img = image l.journal.unit (outside l.fn.host).now in
     let payload = take l.found.len (drop l.found.at img) in
     record {
+      forward : from_of l.window ≤ l.found.at + 4 + 516 * l.puts + 4 * l.i;
+      window : IsReading g.H.Host.told l.journal l.window (outside l.host);
       looks : OnlyReads l.journal.unit (outside l.fn.host) (outside l.host);
       no_fault : (outside l.host).dev_faults l.journal.unit ≡ (outside l.fn.host).dev_faults l.journal.unit;
       unique : hash.IsUnique nat_eq l.places;

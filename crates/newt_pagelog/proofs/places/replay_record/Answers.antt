@@ -29,7 +29,7 @@ returns-then-found-puts-clause-replays g c = λ tells. record {
       let len = c.args.found.len in
       let img = image u (o c.args.host.now).now in
       let payload = take len (drop at img) in
-      let second = c.from-deletes.ensures ∙ c.in_ok-read_short-2.ensures.short tells ∙ ap (λ (l : List ℕ). short_at (at + 2) l) (looks-image u (o c.args.host.now) (o c.read_short.new.host) (looks-read c.read_short.ensures.reads)) in
+      let second = c.from-deletes.ensures ∙ c.in_ok-read_short-2.ensures.short tells ∙ ap (λ (l : List ℕ). short_at (at + 2) l) (looks-image u (o c.args.host.now) (o c.read_short.new.host) (looks-read c.read_short.ensures.through.reads)) in
       let counts = counts-there img at len c.from-puts.result c.from-deletes.result (omega (arith, c.if-found-lt4.false)) (c.from-puts.ensures ∙ c.in_ok-read_short.ensures.short tells) second in
       let size = length-piece img at len (omega (arith, c.requires.replaying.within.high, held-inside g.H.Host.told c.args.journal.now (o c.args.host.now) c.requires.replaying.stands tells)) in
       bad-length payload (λ is. c.if-found-puts.true (sym size ∙ is ∙ (λ i. 4 + 516 * (sym counts.0 i) + 4 * (sym counts.1 i))));
@@ -42,8 +42,8 @@ replay_puts-requires-clause-count g c = λ tells.
     let at = c.args.found.at in
     let len = c.args.found.len in
     let img = image u (o c.args.host.now).now in
-    let first = looks-image u (o c.args.host.now) (o c.read_short.new.host) (looks-read c.read_short.ensures.reads) in
-    let both = looks-image u (o c.read_short.new.host) (o c.read_short-2.new.host) (looks-read c.read_short-2.ensures.reads) ∙ first in
+    let first = looks-image u (o c.args.host.now) (o c.read_short.new.host) (looks-read c.read_short.ensures.through.reads) in
+    let both = looks-image u (o c.read_short.new.host) (o c.read_short-2.new.host) (looks-read c.read_short-2.ensures.through.reads) ∙ first in
     let second = c.from-deletes.ensures ∙ c.in_ok-read_short-2.ensures.short tells ∙ ap (λ (l : List ℕ). short_at (at + 2) l) first in
     (counts-there img at len c.from-puts.result c.from-deletes.result (omega (arith, c.if-found-lt4.false)) (c.from-puts.ensures ∙ c.in_ok-read_short.ensures.short tells) second).0
     ∙ ap (λ (l : List ℕ). short_at 0 (take len (drop at l))) (sym both)
@@ -55,8 +55,8 @@ replay_deletes-requires-clause-counts g c = λ tells.
     let at = c.args.found.at in
     let len = c.args.found.len in
     let img = image u (o c.args.host.now).now in
-    let first = looks-image u (o c.args.host.now) (o c.read_short.new.host) (looks-read c.read_short.ensures.reads) in
-    let both = looks-image u (o c.read_short.new.host) (o c.read_short-2.new.host) (looks-read c.read_short-2.ensures.reads) ∙ first in
+    let first = looks-image u (o c.args.host.now) (o c.read_short.new.host) (looks-read c.read_short.ensures.through.reads) in
+    let both = looks-image u (o c.read_short.new.host) (o c.read_short-2.new.host) (looks-read c.read_short-2.ensures.through.reads) ∙ first in
     let all = looks-image u (o c.read_short-2.new.host) (o c.replay_puts.new.host) c.replay_puts.ensures.reads.looks ∙ both in
     let second = c.from-deletes.ensures ∙ c.in_ok-read_short-2.ensures.short tells ∙ ap (λ (l : List ℕ). short_at (at + 2) l) first in
     subst (λ (l : List ℕ). (c.from-puts.result ≡ short_at 0 (take len (drop at l))) × (c.from-deletes.result ≡ short_at 2 (take len (drop at l)))) (sym all)
@@ -73,8 +73,8 @@ returns-clause-replays g c = λ tells.
     let img : List ℕ = image u (o c.args.host.now).now in
     let mid : List ℕ = image u (o c.read_short-2.new.host).now in
     let last : List ℕ = image u (o c.replay_puts.new.host).now in
-    let first = looks-image u (o c.args.host.now) (o c.read_short.new.host) (looks-read c.read_short.ensures.reads) in
-    let both : mid ≡ img = looks-image u (o c.read_short.new.host) (o c.read_short-2.new.host) (looks-read c.read_short-2.ensures.reads) ∙ first in
+    let first = looks-image u (o c.args.host.now) (o c.read_short.new.host) (looks-read c.read_short.ensures.through.reads) in
+    let both : mid ≡ img = looks-image u (o c.read_short.new.host) (o c.read_short-2.new.host) (looks-read c.read_short-2.ensures.through.reads) ∙ first in
     let more : last ≡ mid = looks-image u (o c.read_short-2.new.host) (o c.replay_puts.new.host) c.replay_puts.ensures.reads.looks in
     let second = c.from-deletes.ensures ∙ c.in_ok-read_short-2.ensures.short tells ∙ ap (λ (l : List ℕ). short_at (at + 2) l) first in
     let counts = counts-there img at len c.from-puts.result c.from-deletes.result (omega (arith, c.if-found-lt4.false)) (c.from-puts.ensures ∙ c.in_ok-read_short.ensures.short tells) second in
@@ -100,8 +100,8 @@ returns-then-not-branch-clause-replays g c = λ tells. record {
       let u = c.args.journal.now.unit in
       let at = c.args.found.at in
       let len = c.args.found.len in
-      let first = looks-image u (o c.args.host.now) (o c.read_short.new.host) (looks-read c.read_short.ensures.reads) in
-      let both = looks-image u (o c.read_short.new.host) (o c.read_short-2.new.host) (looks-read c.read_short-2.ensures.reads) ∙ first in
+      let first = looks-image u (o c.args.host.now) (o c.read_short.new.host) (looks-read c.read_short.ensures.through.reads) in
+      let both = looks-image u (o c.read_short.new.host) (o c.read_short-2.new.host) (looks-read c.read_short-2.ensures.through.reads) ∙ first in
       no_change_in (take len (drop at (image u (o c.args.host.now).now)))
       (subst (λ (l : List ℕ). is_change (take len (drop at l)) ≡ false) both ((c.in_ok-replay_puts.ensures.replays tells).false_says c.if-not-branch.true));
 }
@@ -114,7 +114,7 @@ replay_puts-requires-clause-replaying g c =
     record {
       within = record { low = r.within.low; inside = omega (arith, c.if-found-puts.false); high = r.within.high };
       stands = looks-stands g.H.Host.told c.args.journal.now (o c.args.host.now) (o c.read_short-2.new.host)
-          (OnlyReads-append (looks-read c.read_short.ensures.reads) (looks-read c.read_short-2.ensures.reads)) r.stands;
+          (OnlyReads-append (looks-read c.read_short.ensures.through.reads) (looks-read c.read_short-2.ensures.through.reads)) r.stands;
       table = r.table;
     }
 
@@ -122,7 +122,7 @@ pub replay_deletes-requires-clause-replaying : goal.replay_deletes-requires-clau
 replay_deletes-requires-clause-replaying g c =
     let o = g.H.Host.outside in
     let r = c.requires.replaying in
-    let counts = OnlyReads-append (looks-read c.read_short.ensures.reads) (looks-read c.read_short-2.ensures.reads) in
+    let counts = OnlyReads-append (looks-read c.read_short.ensures.through.reads) (looks-read c.read_short-2.ensures.through.reads) in
     record {
       within = record { low = r.within.low; inside = omega (arith, c.if-found-puts.false); high = r.within.high };
       stands = looks-stands g.H.Host.told c.args.journal.now (o c.args.host.now) (o c.replay_puts.new.host)
@@ -149,23 +149,23 @@ returns-clause-reads g c =
     let a = o c.args.host.now in
     let mid = o c.read_short-2.new.host in
     let last = o c.replay_puts.new.host in
-    let counts = OnlyReads-append (looks-read c.read_short.ensures.reads) (looks-read c.read_short-2.ensures.reads) in
+    let counts = OnlyReads-append (looks-read c.read_short.ensures.through.reads) (looks-read c.read_short-2.ensures.through.reads) in
     let before = OnlyReads-append counts c.replay_puts.ensures.reads.looks in
     let e = c.replay_deletes.ensures.reads in
     record {
       looks = OnlyReads-append before e.looks;
       no_other = e.no_other;
       cause = λ bad. broke-over u u a last (o c.replay_deletes.new.host) refl
-          (c.in_ok-replay_puts.ensures.reads.no_fault tt ∙ c.in_ok-read_short-2.ensures.reads.faults.no_fault ∙ c.in_ok-read_short.ensures.reads.faults.no_fault) (e.cause bad);
+          (c.in_ok-replay_puts.ensures.reads.no_fault tt ∙ c.in_ok-read_short-2.ensures.through.reads.faults.no_fault ∙ c.in_ok-read_short.ensures.through.reads.faults.no_fault) (e.cause bad);
       no_fault = λ none. e.no_fault none ∙ c.in_ok-replay_puts.ensures.reads.no_fault tt
-          ∙ c.in_ok-read_short-2.ensures.reads.faults.no_fault ∙ c.in_ok-read_short.ensures.reads.faults.no_fault;
+          ∙ c.in_ok-read_short-2.ensures.through.reads.faults.no_fault ∙ c.in_ok-read_short.ensures.through.reads.faults.no_fault;
     }
 
 pub returns-in_err-replay_puts-clause-reads : goal.returns-in_err-replay_puts-clause-reads
 returns-in_err-replay_puts-clause-reads g c =
     let o = g.H.Host.outside in
     let u = c.args.journal.now.unit in
-    let counts = OnlyReads-append (looks-read c.read_short.ensures.reads) (looks-read c.read_short-2.ensures.reads) in
+    let counts = OnlyReads-append (looks-read c.read_short.ensures.through.reads) (looks-read c.read_short-2.ensures.through.reads) in
     let r = c.from_residual-in_err-replay_puts.result in
     let fault = c.in_err-replay_puts.field-0.0 in
     let is = c.from_residual-in_err-replay_puts.ensures in
@@ -174,8 +174,8 @@ returns-in_err-replay_puts-clause-reads g c =
       looks = OnlyReads-append counts c.replay_puts.ensures.reads.looks;
       no_other = λ bad. e.no_other (ap Err (same-err r fault NotStore is.1 bad));
       cause = λ bad. broke-over u u (o c.args.host.now) (o c.read_short-2.new.host) (o c.replay_puts.new.host) refl
-          (c.in_ok-read_short-2.ensures.reads.faults.no_fault ∙ c.in_ok-read_short.ensures.reads.faults.no_fault)
+          (c.in_ok-read_short-2.ensures.through.reads.faults.no_fault ∙ c.in_ok-read_short.ensures.through.reads.faults.no_fault)
           (e.cause (ap Err (same-err r fault Device is.1 bad)));
       no_fault = λ none. e.no_fault (blames-as Bool r fault is.1 none)
-          ∙ c.in_ok-read_short-2.ensures.reads.faults.no_fault ∙ c.in_ok-read_short.ensures.reads.faults.no_fault;
+          ∙ c.in_ok-read_short-2.ensures.through.reads.faults.no_fault ∙ c.in_ok-read_short.ensures.through.reads.faults.no_fault;
     }

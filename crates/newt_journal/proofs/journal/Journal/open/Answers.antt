@@ -1,5 +1,4 @@
 use Rattle.std.proofs.Common.{◌≡◌, ◌≢◌, ◌≤◌, inl, inr, IsSome, ℕ, ◌+◌, ◌*◌, ◌-◌, replicate, List, length, take, drop, refl, arith, sym, ◌∙◌, ap, subst, Option, Some, None, MatchOption}
-use Rattle.newt_host.specs.Outside.{Spends}
 use Rattle.newt_host.specs.Moments.{Moment, image, changes}
 use Rattle.newt_host.proofs.Outside.{same_cards}
 use Rattle.newt_spec_image.specs.Records.{bank_size, chosen_bank, header, payloads_after, records, IsVersion}
@@ -7,7 +6,8 @@ use Rattle.newt_journal.specs.Bank.{bank_number, start_of, limit_of}
 use Rattle.newt_journal.specs.Scan.{IsEnd, between}
 use Rattle.newt_journal.specs.declared.bank.Bank.{Bank}
 use Rattle.newt_journal.proofs.Opened.{has_blocks, holds-some, no_header, no_end, opened_later, at_none, at_some, of_some, closed_where, moved, moved_back}
-use Rattle.newt_journal.proofs.Adding.{Did, did-read, then}
+use Rattle.newt_journal.specs.Windows.{reach}
+use Rattle.newt_journal.proofs.Adding.{did-read, then}
 use Rattle.newt_journal.proofs.Opens.{opens-fault, opens-none, opens-one, bank-ends, wide-bank, most-found, most-read, most-seen, most-voted}
 use Rattle.newt_journal.proofs.journal.Journal.open.Goals as goal
 use Rattle.newt_journal.proofs.journal.Journal.open.Goals.{then-not-blank, else-not-blank}
@@ -84,52 +84,40 @@ returns-clause-store g c t =
 
 pub returns-in_err-bank-clause-looks : goal.returns-in_err-bank-clause-looks
 returns-in_err-bank-clause-looks g c =
-    opens-fault c.from_residual.result c.from_residual.ensures.1 (c.read_votes.ensures.reads.moment) (did-read c.read_votes.ensures.reads) (4 + bank_size ((g.H.Host.outside c.args.host.now).blocks c.args.unit)) (most-voted (bank_size ((g.H.Host.outside c.args.host.now).blocks c.args.unit))) refl c.in_err-bank.ensures.reads.faults.cause
+    opens-fault c.from_residual.result c.from_residual.ensures.1 (c.read_votes.ensures.reads.moment) (did-read c.read_votes.ensures.reads) (3 + bank_size ((g.H.Host.outside c.args.host.now).blocks c.args.unit)) (most-voted (bank_size ((g.H.Host.outside c.args.host.now).blocks c.args.unit))) refl c.in_err-bank.ensures.reads.faults.cause
 
 pub returns-in_default-clause-looks : goal.returns-in_default-clause-looks
 returns-in_default-clause-looks g c =
-    opens-none (c.read_votes.ensures.reads.moment) (did-read c.read_votes.ensures.reads) (4 + bank_size ((g.H.Host.outside c.args.host.now).blocks c.args.unit)) (most-voted (bank_size ((g.H.Host.outside c.args.host.now).blocks c.args.unit))) (c.in_ok-bank.ensures.reads.faults.no_fault)
+    opens-none (c.read_votes.ensures.reads.moment) (did-read c.read_votes.ensures.reads) (3 + bank_size ((g.H.Host.outside c.args.host.now).blocks c.args.unit)) (most-voted (bank_size ((g.H.Host.outside c.args.host.now).blocks c.args.unit))) (c.in_ok-bank.ensures.reads.faults.no_fault)
 
 pub returns-in_err-version-clause-looks : goal.returns-in_err-version-clause-looks
 returns-in_err-version-clause-looks g c =
     let wide = wide-bank ((g.H.Host.outside c.args.host.now).blocks c.args.unit) c.requires.may_hold.enough in
-    opens-fault c.from_residual-in_err-version.result c.from_residual-in_err-version.ensures.1 (c.read_version.ensures.reads.moment ∙ c.read_votes.ensures.reads.moment) (then (did-read c.read_votes.ensures.reads) (did-read c.read_version.ensures.reads)) (4 + bank_size ((g.H.Host.outside c.args.host.now).blocks c.args.unit)) (most-read (bank_size ((g.H.Host.outside c.args.host.now).blocks c.args.unit)) wide) (c.in_ok-bank.ensures.reads.faults.no_fault) c.in_err-version.ensures.reads.faults.cause
+    opens-fault c.from_residual-in_err-version.result c.from_residual-in_err-version.ensures.1 (c.read_version.ensures.reads.moment ∙ c.read_votes.ensures.reads.moment) (then (did-read c.read_votes.ensures.reads) (did-read c.read_version.ensures.reads)) (3 + bank_size ((g.H.Host.outside c.args.host.now).blocks c.args.unit)) (most-read (bank_size ((g.H.Host.outside c.args.host.now).blocks c.args.unit)) wide) (c.in_ok-bank.ensures.reads.faults.no_fault) c.in_err-version.ensures.reads.faults.cause
 
 pub returns-in_default-2-clause-looks : goal.returns-in_default-2-clause-looks
 returns-in_default-2-clause-looks g c =
     let wide = wide-bank ((g.H.Host.outside c.args.host.now).blocks c.args.unit) c.requires.may_hold.enough in
-    opens-none (c.read_version.ensures.reads.moment ∙ c.read_votes.ensures.reads.moment) (then (did-read c.read_votes.ensures.reads) (did-read c.read_version.ensures.reads)) (4 + bank_size ((g.H.Host.outside c.args.host.now).blocks c.args.unit)) (most-read (bank_size ((g.H.Host.outside c.args.host.now).blocks c.args.unit)) wide) (c.in_ok-version.ensures.reads.faults.no_fault ∙ c.in_ok-bank.ensures.reads.faults.no_fault)
+    opens-none (c.read_version.ensures.reads.moment ∙ c.read_votes.ensures.reads.moment) (then (did-read c.read_votes.ensures.reads) (did-read c.read_version.ensures.reads)) (3 + bank_size ((g.H.Host.outside c.args.host.now).blocks c.args.unit)) (most-read (bank_size ((g.H.Host.outside c.args.host.now).blocks c.args.unit)) wide) (c.in_ok-version.ensures.reads.faults.no_fault ∙ c.in_ok-bank.ensures.reads.faults.no_fault)
 
 pub returns-in_err-end-clause-looks : goal.returns-in_err-end-clause-looks
 returns-in_err-end-clause-looks g c =
     let wide = wide-bank ((g.H.Host.outside c.args.host.now).blocks c.args.unit) c.requires.may_hold.enough in
     let ends = bank-ends c.blocks-blocks.result ((g.H.Host.outside c.args.host.now).blocks c.args.unit) c.in-Some.bank c.start-start.result c.limit-limit.result c.blocks-blocks.ensures c.start-start.ensures c.limit-limit.ensures in
-    opens-fault c.from_residual-in_err-end.result c.from_residual-in_err-end.ensures.1 (c.find_end.ensures.reads.moment ∙ c.read_version.ensures.reads.moment ∙ c.read_votes.ensures.reads.moment) (then (did-read c.read_votes.ensures.reads) (then (did-read c.read_version.ensures.reads) (did-read c.find_end.ensures.reads))) (4 + bank_size ((g.H.Host.outside c.args.host.now).blocks c.args.unit)) (most-found c.start-start.result c.limit-limit.result (bank_size ((g.H.Host.outside c.args.host.now).blocks c.args.unit)) ends wide) (c.in_ok-version.ensures.reads.faults.no_fault ∙ c.in_ok-bank.ensures.reads.faults.no_fault) c.in_err-end.ensures.reads.faults.cause
+    opens-fault c.from_residual-in_err-end.result c.from_residual-in_err-end.ensures.1 (c.find_end.ensures.reads.moment ∙ c.read_version.ensures.reads.moment ∙ c.read_votes.ensures.reads.moment) (then (did-read c.read_votes.ensures.reads) (then (did-read c.read_version.ensures.reads) (did-read c.find_end.ensures.reads))) (3 + bank_size ((g.H.Host.outside c.args.host.now).blocks c.args.unit)) (most-found c.start-start.result c.limit-limit.result (bank_size ((g.H.Host.outside c.args.host.now).blocks c.args.unit)) (reach c.find_end.new.window) ends wide c.find_end.ensures.reach.1) (c.in_ok-version.ensures.reads.faults.no_fault ∙ c.in_ok-bank.ensures.reads.faults.no_fault) c.in_err-end.ensures.reads.faults.cause
 
 pub returns-in_default-3-clause-looks : goal.returns-in_default-3-clause-looks
 returns-in_default-3-clause-looks g c =
     let wide = wide-bank ((g.H.Host.outside c.args.host.now).blocks c.args.unit) c.requires.may_hold.enough in
     let ends = bank-ends c.blocks-blocks.result ((g.H.Host.outside c.args.host.now).blocks c.args.unit) c.in-Some.bank c.start-start.result c.limit-limit.result c.blocks-blocks.ensures c.start-start.ensures c.limit-limit.ensures in
-    opens-none (c.find_end.ensures.reads.moment ∙ c.read_version.ensures.reads.moment ∙ c.read_votes.ensures.reads.moment) (then (did-read c.read_votes.ensures.reads) (then (did-read c.read_version.ensures.reads) (did-read c.find_end.ensures.reads))) (4 + bank_size ((g.H.Host.outside c.args.host.now).blocks c.args.unit)) (most-found c.start-start.result c.limit-limit.result (bank_size ((g.H.Host.outside c.args.host.now).blocks c.args.unit)) ends wide) (c.in_ok-end.ensures.reads.faults.no_fault ∙ c.in_ok-version.ensures.reads.faults.no_fault ∙ c.in_ok-bank.ensures.reads.faults.no_fault)
+    opens-none (c.find_end.ensures.reads.moment ∙ c.read_version.ensures.reads.moment ∙ c.read_votes.ensures.reads.moment) (then (did-read c.read_votes.ensures.reads) (then (did-read c.read_version.ensures.reads) (did-read c.find_end.ensures.reads))) (3 + bank_size ((g.H.Host.outside c.args.host.now).blocks c.args.unit)) (most-found c.start-start.result c.limit-limit.result (bank_size ((g.H.Host.outside c.args.host.now).blocks c.args.unit)) (reach c.find_end.new.window) ends wide c.find_end.ensures.reach.1) (c.in_ok-end.ensures.reads.faults.no_fault ∙ c.in_ok-version.ensures.reads.faults.no_fault ∙ c.in_ok-bank.ensures.reads.faults.no_fault)
 
 pub returns-in_err-blank-clause-looks : goal.returns-in_err-blank-clause-looks
 returns-in_err-blank-clause-looks g c =
     let ends = bank-ends c.blocks-blocks.result ((g.H.Host.outside c.args.host.now).blocks c.args.unit) c.in-Some.bank c.start-start.result c.limit-limit.result c.blocks-blocks.ensures c.start-start.ensures c.limit-limit.ensures in
-    let bound = of_some (λ end. (c.start-start.result + 16 ≤ end) × (end ≤ c.limit-limit.result)) c.in-Some-3.is c.in_ok-end.ensures.bound in
-    let ended : Did c.args.unit 0 (c.in-Some-3.end - (c.start-start.result + 16) + 1) 0 0 (g.H.Host.outside c.read_version.new.host) (g.H.Host.outside c.find_end.new.host) = record {
-      alone = c.find_end.ensures.reads.alone;
-      costs = of_some (λ end. Spends c.args.unit 0 (end - (c.start-start.result + 16) + 1) (g.H.Host.outside c.read_version.new.host) (g.H.Host.outside c.find_end.new.host)) c.in-Some-3.is c.in_ok-end.ensures.found_costs;
-      wears = c.find_end.ensures.reads.wears;
-    } in
-    opens-fault c.from_residual-in_err-blank.result c.from_residual-in_err-blank.ensures.1 (c.is_blank.ensures.reads.moment ∙ c.find_end.ensures.reads.moment ∙ c.read_version.ensures.reads.moment ∙ c.read_votes.ensures.reads.moment) (then (did-read c.read_votes.ensures.reads) (then (did-read c.read_version.ensures.reads) (then ended (did-read c.is_blank.ensures.reads)))) (4 + bank_size ((g.H.Host.outside c.args.host.now).blocks c.args.unit)) (most-seen c.start-start.result c.limit-limit.result (bank_size ((g.H.Host.outside c.args.host.now).blocks c.args.unit)) c.in-Some-3.end ends bound.0 bound.1) (c.in_ok-end.ensures.reads.faults.no_fault ∙ c.in_ok-version.ensures.reads.faults.no_fault ∙ c.in_ok-bank.ensures.reads.faults.no_fault) c.in_err-blank.ensures.reads.faults.cause
+    opens-fault c.from_residual-in_err-blank.result c.from_residual-in_err-blank.ensures.1 (c.is_blank.ensures.reads.moment ∙ c.find_end.ensures.reads.moment ∙ c.read_version.ensures.reads.moment ∙ c.read_votes.ensures.reads.moment) (then (did-read c.read_votes.ensures.reads) (then (did-read c.read_version.ensures.reads) (then (did-read c.find_end.ensures.reads) (did-read c.is_blank.ensures.reads)))) (3 + bank_size ((g.H.Host.outside c.args.host.now).blocks c.args.unit)) (most-seen c.start-start.result c.limit-limit.result (bank_size ((g.H.Host.outside c.args.host.now).blocks c.args.unit)) (reach c.find_end.new.window) ends c.find_end.ensures.reach.0 c.find_end.ensures.reach.1) (c.in_ok-end.ensures.reads.faults.no_fault ∙ c.in_ok-version.ensures.reads.faults.no_fault ∙ c.in_ok-bank.ensures.reads.faults.no_fault) c.in_err-blank.ensures.reads.faults.cause
 
 pub returns-clause-looks : goal.returns-clause-looks
 returns-clause-looks g c =
     let ends = bank-ends c.blocks-blocks.result ((g.H.Host.outside c.args.host.now).blocks c.args.unit) c.in-Some.bank c.start-start.result c.limit-limit.result c.blocks-blocks.ensures c.start-start.ensures c.limit-limit.ensures in
-    let bound = of_some (λ end. (c.start-start.result + 16 ≤ end) × (end ≤ c.limit-limit.result)) c.in-Some-3.is c.in_ok-end.ensures.bound in
-    let ended : Did c.args.unit 0 (c.in-Some-3.end - (c.start-start.result + 16) + 1) 0 0 (g.H.Host.outside c.read_version.new.host) (g.H.Host.outside c.find_end.new.host) = record {
-      alone = c.find_end.ensures.reads.alone;
-      costs = of_some (λ end. Spends c.args.unit 0 (end - (c.start-start.result + 16) + 1) (g.H.Host.outside c.read_version.new.host) (g.H.Host.outside c.find_end.new.host)) c.in-Some-3.is c.in_ok-end.ensures.found_costs;
-      wears = c.find_end.ensures.reads.wears;
-    } in
-    opens-one (c.is_blank.ensures.reads.moment ∙ c.find_end.ensures.reads.moment ∙ c.read_version.ensures.reads.moment ∙ c.read_votes.ensures.reads.moment) (then (did-read c.read_votes.ensures.reads) (then (did-read c.read_version.ensures.reads) (then ended (did-read c.is_blank.ensures.reads)))) (4 + bank_size ((g.H.Host.outside c.args.host.now).blocks c.args.unit)) (most-seen c.start-start.result c.limit-limit.result (bank_size ((g.H.Host.outside c.args.host.now).blocks c.args.unit)) c.in-Some-3.end ends bound.0 bound.1) (c.in_ok-blank.ensures.reads.faults.no_fault ∙ c.in_ok-end.ensures.reads.faults.no_fault ∙ c.in_ok-version.ensures.reads.faults.no_fault ∙ c.in_ok-bank.ensures.reads.faults.no_fault)
+    opens-one (c.is_blank.ensures.reads.moment ∙ c.find_end.ensures.reads.moment ∙ c.read_version.ensures.reads.moment ∙ c.read_votes.ensures.reads.moment) (then (did-read c.read_votes.ensures.reads) (then (did-read c.read_version.ensures.reads) (then (did-read c.find_end.ensures.reads) (did-read c.is_blank.ensures.reads)))) (3 + bank_size ((g.H.Host.outside c.args.host.now).blocks c.args.unit)) (most-seen c.start-start.result c.limit-limit.result (bank_size ((g.H.Host.outside c.args.host.now).blocks c.args.unit)) (reach c.find_end.new.window) ends c.find_end.ensures.reach.0 c.find_end.ensures.reach.1) (c.in_ok-blank.ensures.reads.faults.no_fault ∙ c.in_ok-end.ensures.reads.faults.no_fault ∙ c.in_ok-version.ensures.reads.faults.no_fault ∙ c.in_ok-bank.ensures.reads.faults.no_fault)
