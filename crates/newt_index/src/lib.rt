@@ -8,6 +8,7 @@
 
 mod identity;
 mod key_bytes;
+mod numbered;
 mod search;
 mod slots;
 mod sorted;

@@ -101,7 +101,7 @@ impl Slots {
     {
         match &mut self.notes {
             IdSlots::OfIds(notes) => take_out(&mut self.keys, notes, uid),
-            IdSlots::Plain => take_plain(&mut self.keys, Slot::plain(self.alloc, uid)),
+            IdSlots::Plain => take_plain(&mut self.keys, Slot::plain(uid)),
             IdSlots::Lost => self.keys.retain(|slot, _key| slot.uid != uid),
         }
     }
@@ -112,7 +112,7 @@ impl Slots {
     {
         match &self.notes {
             IdSlots::OfIds(notes) => self.keys.get(notes.get(&uid)?),
-            IdSlots::Plain => self.keys.get(&Slot::plain(self.alloc, uid)),
+            IdSlots::Plain => self.keys.get(&Slot::plain(uid)),
             IdSlots::Lost => first_of(&self.keys, uid),
         }
     }
