@@ -1,5 +1,5 @@
 //! The bytes of a key, which the places that have them share.
-ghost use Rattle.std.specs.Prelude.{◌≡◌, ◌↔◌, [], IsTrue, nat_eq, IfOk, Some, refl};
+ghost use Rattle.std.specs.Prelude.{◌≡◌, [], nat_eq, IfOk, Some, refl};
 ghost use Rattle.std.specs.Ordering.{nat_cmp};
 ghost use Rattle.std.specs.Cmp.{partial_equiv_from_equiv};
 ghost use Rattle.std.specs.Cmp.Lexicographic.{pointwise, slice_cmp, texts_ties, texts_po};
@@ -42,16 +42,6 @@ impl KeyBytes {
         Ok(KeyBytes {
             shared: Some(shared),
         })
-    }
-
-    /// Whether there are none.
-    pub(crate) fn is_empty(&self) -> bool
-        ensures { IsTrue result ↔ self.now ≡ [] }
-    {
-        match &self.shared {
-            Some(bytes) => bytes.as_ref().is_empty(),
-            None => true,
-        }
     }
 
     /// The same bytes for one place more. It takes no memory.

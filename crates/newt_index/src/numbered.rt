@@ -1,5 +1,5 @@
 //! Bytes with a number by which they are compared first.
-ghost use Rattle.std.specs.Prelude.{◌≡◌, ◌<◌, ◌↔◌, [], IsTrue, get_or};
+ghost use Rattle.std.specs.Prelude.{◌≡◌, ◌<◌, get_or};
 ghost use Rattle.std.specs.Ordering.{nat_cmp};
 ghost use Rattle.std.specs.Cmp.Lexicographic.{slice_cmp};
 ghost use Rattle.newt_index.specs.Front.{front_of};
@@ -35,13 +35,6 @@ impl Numbered {
             front: front_of(&items),
             items,
         }
-    }
-
-    /// Whether there are none.
-    pub(crate) fn is_empty(&self) -> bool
-        ensures { IsTrue result ↔ self.now ≡ [] }
-    {
-        self.items.is_empty()
     }
 
     /// Compares them with others: by the numbers, and then byte by byte.

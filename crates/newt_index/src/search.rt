@@ -25,17 +25,6 @@ pub struct Probe {
 }
 
 impl Slot {
-    /// The slot of an id with no key bytes. It takes no memory.
-    pub(crate) fn plain(uid: u32) -> Slot
-        ensures bytes { result.bytes ≡ [] }
-        ensures uid { result.uid ≡ uid }
-    {
-        Slot {
-            bytes: KeyBytes::none(),
-            uid,
-        }
-    }
-
     /// An equal slot, which shares the key bytes. It takes no memory.
     pub(crate) fn copy(&self) -> Result<Slot, AllocError>
         ensures bytes { IfOk result (λ slot. slot.bytes ≡ self.now.bytes) }
@@ -72,11 +61,14 @@ impl Probe {
     }
 
     /// The probe of the empty key, for an index without a declaration. It takes no memory.
-    pub fn empty(_alloc: Global) -> Probe
+    pub fn empty() -> Probe
         ensures { IsProbeOf None [] result }
     {
         Probe {
-            slot: Slot::plain(0),
+            slot: Slot {
+                bytes: KeyBytes::none(),
+                uid: 0,
+            },
         }
     }
 }
