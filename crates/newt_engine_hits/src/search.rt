@@ -98,7 +98,7 @@ fn probe_of(alloc: Global, query: &Query, key: &Key) -> Result<Probe, AllocError
 {
     match index_of(query) {
         Some(spec) => Probe::new(alloc, key, spec),
-        None => Ok(Probe::empty(alloc)),
+        None => Ok(Probe::empty()),
     }
 }
 

@@ -23,7 +23,7 @@ use Rattle.newt_index.specs.declared.search.Slot.{Slot}
 use Rattle.newt_index.specs.Pairs.{key_at}
 use Rattle.newt_index.specs.Kept.{Entry, pair_of, slot_cmp}
 use Rattle.newt_index.specs.declared.slots.IdSlots.{IdSlots}
-use Rattle.newt_index.specs.declared.slots.IdSlots.TheVariants.{OfIds, Plain, Lost}
+use Rattle.newt_index.specs.declared.slots.IdSlots.TheVariants.{OfIds, Lost}
 use Rattle.newt_index.specs.Noted.{SlotsOfIds, bytes_at, IsNoted, AreNotes, ArePlain, AreNoted, HasNote}
 
 -- the key bytes of an id, if it is told of
@@ -257,7 +257,6 @@ IsPlain slot = slot.bytes ≡ []
 
 pub inserted : (notes : IdSlots) (slot : Slot) (key : Key) (es new : List Entry) → new ≡ insert_entry slot_cmp es slot key → HasNote notes slot → AreNoted notes es → AreNoted notes new
 inserted (OfIds notes) slot key es new n here was = subst (λ (l : List Entry). AreNotes notes l) (sym n) (one_noted notes slot key es here was)
-inserted Plain slot key es new n here was = subst ArePlain (sym n) (All-keys-insert_entry slot_cmp slot key IsPlain es was here)
 inserted Lost slot key es new n here was = tt
 
 -- ---- where all key bytes are empty
@@ -271,6 +270,9 @@ plain_tells [] all = All-nil (Tells plain_told)
 plain_tells (e ∷ es) all =
     All-cons (Tells plain_told) e es (ap (λ (bytes : List ℕ). Some bytes) (sym (All-head IsPlain e.0 (keys_of es) all))) (plain_tells es (All-tail IsPlain e.0 (keys_of es) all))
 
+pub plain_put : (slot : Slot) (key : Key) (es new : List Entry) → new ≡ insert_entry slot_cmp es slot key → slot.bytes ≡ [] → ArePlain es → ArePlain new
+plain_put slot key es new n here was = subst ArePlain (sym n) (All-keys-insert_entry slot_cmp slot key IsPlain es was here)
+
 pub plain_left : (slot : Slot) (es left : List Entry) → left ≡ remove_entry (is_at (slot_cmp slot)) es → ArePlain es → ArePlain left
 plain_left slot es left removed all = subst ArePlain (sym removed) (All-map-remove_entry (is_at (slot_cmp slot)) (λ (e : Entry). e.0) IsPlain es all)
 
@@ -279,5 +281,4 @@ plain_left slot es left removed all = subst ArePlain (sym removed) (All-map-remo
 pub left_noted : (notes : IdSlots) (slot : Slot) (es left : List Entry) → ((of_ids : SlotsOfIds) → notes ≡ OfIds of_ids → ⊥)
     → left ≡ remove_entry (is_at (slot_cmp slot)) es → AreNoted notes es → AreNoted notes left
 left_noted (OfIds of_ids) slot es left never removed was = absurd (never of_ids refl)
-left_noted Plain slot es left never removed was = plain_left slot es left removed was
 left_noted Lost slot es left never removed was = tt

@@ -7,3 +7,5 @@ pub mod Range
 pub mod Spots
 pub mod Noted
 pub mod Front
+pub mod Plain
+pub mod Held

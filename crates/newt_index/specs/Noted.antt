@@ -5,7 +5,7 @@ use Rattle.std.specs.BTreeMap as tree
 use Rattle.std.specs.Map.{keys_of}
 use Rattle.newt_index.specs.declared.search.Slot.{Slot}
 use Rattle.newt_index.specs.declared.slots.IdSlots.{IdSlots}
-use Rattle.newt_index.specs.declared.slots.IdSlots.TheVariants.{OfIds, Plain, Lost}
+use Rattle.newt_index.specs.declared.slots.IdSlots.TheVariants.{OfIds, Lost}
 use Rattle.newt_index.specs.Kept.{Entry}
 
 -- the slots by their ids (a word of these definitions)
@@ -33,11 +33,9 @@ ArePlain es = All (λ slot. slot.bytes ≡ []) (keys_of es)
 -- the slots of ids are found as these notes say, unless they are lost (this project's own)
 abbrev pub AreNoted : IdSlots → List Entry → Type 0
 AreNoted (OfIds notes) es = AreNotes notes es
-AreNoted Plain es = ArePlain es
 AreNoted Lost es = Unit {0}
 
 -- a slot is found so (this project's own)
 abbrev pub HasNote : IdSlots → Slot → Type 0
 HasNote (OfIds notes) slot = IsNoted notes slot
-HasNote Plain slot = slot.bytes ≡ []
 HasNote Lost slot = Unit {0}

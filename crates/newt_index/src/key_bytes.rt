@@ -1,97 +1,66 @@
-//! The bytes of a key, with a number by which they are compared first.
-ghost use Rattle.std.specs.Prelude.{◌≡◌, ◌<◌, ◌↔◌, [], IsTrue, get_or, nat_eq, IfOk, Some, refl};
+//! The bytes of a key, which the places that have them share.
+ghost use Rattle.std.specs.Prelude.{◌≡◌, [], nat_eq, IfOk, Some, refl};
 ghost use Rattle.std.specs.Ordering.{nat_cmp};
 ghost use Rattle.std.specs.Cmp.{partial_equiv_from_equiv};
 ghost use Rattle.std.specs.Cmp.Lexicographic.{pointwise, slice_cmp, texts_ties, texts_po};
 ghost use Rattle.std.specs.Cmp.Lexicographic.{nat_list_eq_equiv, nat_list_cmp_total};
-ghost use Rattle.newt_index.specs.Front.{front_of};
 
-use std::alloc::AllocError;
+use crate::numbered::{Numbered, compare};
+use std::alloc::{AllocError, Global};
 use std::cmp::Ordering;
 use std::marker::Model;
+use std::rc::Rc;
 
-/// The bytes of a key, and the number that the first eight of them are. Keys are compared by that
-/// number first, and byte by byte only where the numbers are equal.
+/// The bytes of a key. All places that have them share them; where there are none, they take no
+/// memory.
 #[derive(Drop)]
 pub(crate) struct KeyBytes {
-    front: u64,
-    items: Vec<u8>,
+    shared: Option<Rc<Numbered>>,
 }
 
 impl Model for KeyBytes {
-    ghost use Rattle.std.specs.Prelude.{◌≡◌, ◌<◌, ℕ, List, All};
-    ghost use Rattle.newt_index.specs.Front.{front_of};
+    ghost use Rattle.std.specs.Prelude.{List, [], ℕ, option_map, unwrap_or};
 
     ghost Value = { List ℕ };
 
-    ghost view = { λ k. k.items.items };
-
-    ghost invariant = { λ k. (k.front ≡ front_of k.items.items) × All (λ b. b < 256) k.items.items };
+    ghost view = { λ k. unwrap_or (option_map (λ bytes. bytes.value) k.shared) [] };
 }
 
 impl KeyBytes {
+    /// No bytes. They take no memory.
+    pub(crate) fn none() -> KeyBytes
+        ensures { result ≡ [] }
+    {
+        KeyBytes { shared: None }
+    }
+
     /// These bytes.
-    pub(crate) fn of(items: Vec<u8>) -> KeyBytes
-        ensures { result ≡ items.items }
+    pub(crate) fn of(alloc: Global, items: Vec<u8>) -> Result<KeyBytes, AllocError>
+        ensures { IfOk result (λ bytes. bytes ≡ items.items) }
     {
-        KeyBytes {
-            front: front_of(&items),
-            items,
-        }
-    }
-
-    /// Whether there are none.
-    pub(crate) fn is_empty(&self) -> bool
-        ensures { IsTrue result ↔ self.now ≡ [] }
-    {
-        self.items.is_empty()
-    }
-
-    /// Equal bytes.
-    pub(crate) fn copy(&self) -> Result<KeyBytes, AllocError>
-        ensures { IfOk result (λ copy. copy ≡ self.now) }
-    {
+        let shared = Rc::new(alloc, Numbered::of(items))?;
         Ok(KeyBytes {
-            front: self.front,
-            items: self.items.clone()?,
+            shared: Some(shared),
         })
     }
-}
 
-/// The byte at a place; 0 after the last.
-fn byte_at(bytes: &[u8], at: usize) -> u64
-    ensures byte { result ≡ get_or bytes.now at 0 }
-    ensures small { result < 256 }
-{
-    if at < bytes.len() {
-        u64::from(bytes[at])
-    } else {
-        0
+    /// The same bytes for one place more. It takes no memory.
+    pub(crate) fn share(&self) -> Result<KeyBytes, AllocError>
+        ensures { IfOk result (λ copy. copy ≡ self.now) }
+    {
+        match &self.shared {
+            Some(bytes) => Ok(KeyBytes {
+                shared: Some(bytes.clone()?),
+            }),
+            None => Ok(KeyBytes::none()),
+        }
     }
 }
 
-/// The number that the first eight bytes are, with zeros after the last.
-fn front_of(bytes: &[u8]) -> u64
-    ensures { result ≡ front_of bytes.now }
+fn are_equal(a: &[u8], b: &[u8]) -> bool
+    ensures { result ≡ pointwise nat_eq a.now b.now }
 {
-    let two = byte_at(bytes, 0) * 256 + byte_at(bytes, 1);
-    let four = (two * 256 + byte_at(bytes, 2)) * 256 + byte_at(bytes, 3);
-    let six = (four * 256 + byte_at(bytes, 4)) * 256 + byte_at(bytes, 5);
-    (six * 256 + byte_at(bytes, 6)) * 256 + byte_at(bytes, 7)
-}
-
-/// Compares bytes one by one. An index without a declaration has none, and nothing to compare.
-fn compare(a: &[u8], b: &[u8]) -> Ordering
-    ensures { result ≡ slice_cmp nat_cmp a.now b.now }
-{
-    if !a.is_empty() {
-        return a.cmp(&b);
-    }
-    if b.is_empty() {
-        Ordering::Equal
-    } else {
-        Ordering::Less
-    }
+    a == b
 }
 
 impl PartialEq for KeyBytes {
@@ -100,7 +69,15 @@ impl PartialEq for KeyBytes {
     ghost laws = { partial_equiv_from_equiv nat_list_eq_equiv };
 
     fn eq(&self, other: &KeyBytes) -> bool {
-        self.items.as_slice() == other.items.as_slice()
+        match (&self.shared, &other.shared) {
+            (Some(bytes), Some(others)) => are_equal(
+                bytes.as_ref().items(),
+                others.as_ref().items(),
+            ),
+            (Some(bytes), None) => are_equal(bytes.as_ref().items(), &[]),
+            (None, Some(others)) => are_equal(&[], others.as_ref().items()),
+            (None, None) => true,
+        }
     }
 }
 
@@ -128,10 +105,11 @@ impl Ord for KeyBytes {
     ghost matches_eq = { texts_ties };
 
     fn cmp(&self, other: &KeyBytes) -> Ordering {
-        match self.front.cmp(&other.front) {
-            Ordering::Less => Ordering::Less,
-            Ordering::Greater => Ordering::Greater,
-            Ordering::Equal => compare(&self.items, &other.items),
+        match (&self.shared, &other.shared) {
+            (Some(bytes), Some(others)) => bytes.as_ref().compared(others.as_ref()),
+            (Some(bytes), None) => compare(bytes.as_ref().items(), &[]),
+            (None, Some(others)) => compare(&[], others.as_ref().items()),
+            (None, None) => Ordering::Equal,
         }
     }
 }

@@ -25,24 +25,13 @@ pub struct Probe {
 }
 
 impl Slot {
-    /// The slot of an id with no key bytes. It takes no memory.
-    pub(crate) fn plain(alloc: Global, uid: u32) -> Slot
-        ensures bytes { result.bytes ≡ [] }
-        ensures uid { result.uid ≡ uid }
-    {
-        Slot {
-            bytes: KeyBytes::of(Vec::new(alloc)),
-            uid,
-        }
-    }
-
-    /// An equal slot.
+    /// An equal slot, which shares the key bytes. It takes no memory.
     pub(crate) fn copy(&self) -> Result<Slot, AllocError>
         ensures bytes { IfOk result (λ slot. slot.bytes ≡ self.now.bytes) }
         ensures uid { IfOk result (λ slot. slot.uid ≡ self.now.uid) }
     {
         Ok(Slot {
-            bytes: self.bytes.copy()?,
+            bytes: self.bytes.share()?,
             uid: self.uid,
         })
     }
@@ -65,18 +54,21 @@ impl Probe {
         let bytes = bytes_of_key(alloc, key, spec)?;
         Ok(Probe {
             slot: Slot {
-                bytes: KeyBytes::of(bytes),
+                bytes: KeyBytes::of(alloc, bytes)?,
                 uid: 0,
             },
         })
     }
 
     /// The probe of the empty key, for an index without a declaration. It takes no memory.
-    pub fn empty(alloc: Global) -> Probe
+    pub fn empty() -> Probe
         ensures { IsProbeOf None [] result }
     {
         Probe {
-            slot: Slot::plain(alloc, 0),
+            slot: Slot {
+                bytes: KeyBytes::none(),
+                uid: 0,
+            },
         }
     }
 }
@@ -94,11 +86,8 @@ pub(crate) fn slot_of(
     ensures fits { IfOk result (λ slot. slot.uid < 2 ^ 32) }
 {
     let bytes = match spec {
-        Some(spec) => bytes_of_key(alloc, key, spec)?,
-        None => Vec::new(alloc),
+        Some(spec) => KeyBytes::of(alloc, bytes_of_key(alloc, key, spec)?)?,
+        None => KeyBytes::none(),
     };
-    Ok(Slot {
-        bytes: KeyBytes::of(bytes),
-        uid: uid.0,
-    })
+    Ok(Slot { bytes, uid: uid.0 })
 }

@@ -5,7 +5,7 @@ ghost use Rattle.std.specs.BTreeMap.{insert_entry, is_at, IsUnchanged};
 ghost use Rattle.std.specs.Map.{remove_entry};
 ghost use Rattle.newt_index.specs.Pairs.{key_at};
 ghost use Rattle.newt_index.specs.Kept.{Entry, pair_of, slot_cmp};
-ghost use Rattle.newt_index.specs.Noted.{ArePlain, AreNotes, AreNoted, IsNoted, HasNote};
+ghost use Rattle.newt_index.specs.Noted.{AreNotes, AreNoted, IsNoted, HasNote};
 
 use crate::search::Slot;
 use newt_keys::Key;
@@ -18,8 +18,6 @@ use std::marker::Model;
 enum IdSlots {
     /// Each id's slot is noted.
     OfIds(BTreeMap<u32, Slot>),
-    /// All key bytes are empty, so an id's slot is made of it.
-    Plain,
     /// An id was given two slots: only a walk finds them.
     Lost,
 }
@@ -29,7 +27,6 @@ enum IdSlots {
 pub(crate) struct Slots {
     keys: BTreeMap<Slot, Key>,
     notes: IdSlots,
-    alloc: Global,
 }
 
 impl Model for Slots {
@@ -52,18 +49,6 @@ impl Slots {
         Slots {
             keys: BTreeMap::new(alloc),
             notes: IdSlots::OfIds(BTreeMap::new(alloc)),
-            alloc,
-        }
-    }
-
-    /// No slots, for keys without bytes, of whose ids nothing is noted. It takes no memory.
-    pub(crate) fn plain(alloc: Global) -> Slots
-        ensures { result ≡ [] }
-    {
-        Slots {
-            keys: BTreeMap::new(alloc),
-            notes: IdSlots::Plain,
-            alloc,
         }
     }
 
@@ -101,7 +86,6 @@ impl Slots {
     {
         match &mut self.notes {
             IdSlots::OfIds(notes) => take_out(&mut self.keys, notes, uid),
-            IdSlots::Plain => take_plain(&mut self.keys, Slot::plain(self.alloc, uid)),
             IdSlots::Lost => self.keys.retain(|slot, _key| slot.uid != uid),
         }
     }
@@ -112,14 +96,12 @@ impl Slots {
     {
         match &self.notes {
             IdSlots::OfIds(notes) => self.keys.get(notes.get(&uid)?),
-            IdSlots::Plain => self.keys.get(&Slot::plain(self.alloc, uid)),
             IdSlots::Lost => first_of(&self.keys, uid),
         }
     }
 }
 
-/// Notes a slot. Where another slot of its id is known, or the slots are no longer plain, all notes
-/// are given up.
+/// Notes a slot. Where another slot of its id is known, all notes are given up.
 fn note(notes: &mut IdSlots, slot: &Slot) -> Result<(), AllocError>
     ensures kept { (es : List Entry) → AreNoted notes.old es → AreNoted notes.new es }
     ensures noted { IfOk result (λ _. HasNote notes.new slot.now) }
@@ -127,11 +109,6 @@ fn note(notes: &mut IdSlots, slot: &Slot) -> Result<(), AllocError>
     match notes {
         IdSlots::OfIds(of_ids) => {
             if !note_of_id(of_ids, slot)? {
-                *notes = IdSlots::Lost;
-            }
-        }
-        IdSlots::Plain => {
-            if !slot.bytes.is_empty() {
                 *notes = IdSlots::Lost;
             }
         }
@@ -162,16 +139,6 @@ fn take_out(keys: &mut BTreeMap<Slot, Key>, notes: &mut BTreeMap<u32, Slot>, uid
     if let Some(slot) = notes.remove(&uid) {
         keys.remove(&slot);
     }
-}
-
-/// Takes the one key of an id out, where all key bytes are empty.
-fn take_plain(keys: &mut BTreeMap<Slot, Key>, slot: Slot)
-    requires plain { ArePlain keys.old.entries }
-    requires empty { slot.bytes ≡ [] }
-    ensures keys { keys.new.entries ≡ filter (λ e. not (e.0.uid == slot.uid)) keys.old.entries }
-    ensures plain { ArePlain keys.new.entries }
-{
-    keys.remove(&slot);
 }
 
 /// The first key of an id, found by a walk over all.

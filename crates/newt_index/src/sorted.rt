@@ -7,6 +7,7 @@ ghost use Rattle.newt_index.specs.Pairs.{IsSorted};
 ghost use Rattle.newt_index.specs.Pairs as pairs;
 ghost use Rattle.newt_index.specs.Kept.{IsProbeOf, shown, lent};
 
+use crate::plain::{Ids, NoKey, PlainSlot};
 use crate::search::{Probe, Slot, slot_of};
 use crate::slots::Slots;
 use newt_base::Uid;
@@ -20,20 +21,30 @@ use std::ops::Bound;
 #[derive(Drop)]
 pub struct Index {
     spec: Option<IndexSpec>,
-    slots: Slots,
+    held: Held,
     alloc: Global,
+}
+
+/// How the slots of an index are held.
+#[derive(Drop)]
+enum Held {
+    /// With their keys.
+    Keyed(Slots),
+    /// As ids alone, where there is no declaration.
+    Plain(Ids),
 }
 
 impl Model for Index {
     ghost use Rattle.std.specs.Prelude.{map};
     ghost use Rattle.newt_index.specs.Pairs.{Sorted};
-    ghost use Rattle.newt_index.specs.Kept.{pair_of, AreKept};
+    ghost use Rattle.newt_index.specs.Kept.{pair_of};
+    ghost use Rattle.newt_index.specs.Held.{entries_in, AreHeld};
 
     ghost Value = { Sorted };
 
-    ghost view = { λ i. record { spec = i.spec; pairs = map pair_of i.slots } };
+    ghost view = { λ i. record { spec = i.spec; pairs = map pair_of (entries_in i.held) } };
 
-    ghost invariant = { λ i. AreKept i.spec i.slots };
+    ghost invariant = { λ i. AreHeld i.spec i.held };
 }
 
 impl Index {
@@ -41,11 +52,11 @@ impl Index {
     pub fn new(alloc: Global, spec: Option<IndexSpec>) -> Index
         ensures { result ≡ record { spec = spec; pairs = [] } }
     {
-        let slots = match &spec {
-            Some(_) => Slots::new(alloc),
-            None => Slots::plain(alloc),
+        let held = match &spec {
+            Some(_) => Held::Keyed(Slots::new(alloc)),
+            None => Held::Plain(Ids::new(alloc)),
         };
-        Index { spec, slots, alloc }
+        Index { spec, held, alloc }
     }
 
     /// Adds a pair. Where it is there nothing changes.
@@ -56,7 +67,10 @@ impl Index {
         ensures err { IfErr result (λ _. self.new ≡ self.old) }
     {
         let slot = slot_of(self.alloc, &self.spec, &key, uid)?;
-        self.slots.insert(slot, key)?;
+        match &mut self.held {
+            Held::Keyed(slots) => slots.insert(slot, key)?,
+            Held::Plain(ids) => ids.insert(slot.uid)?,
+        }
         Ok(())
     }
 
@@ -68,7 +82,10 @@ impl Index {
         ensures err { IfErr result (λ _. self.new ≡ self.old) }
     {
         let slot = slot_of(self.alloc, &self.spec, key, uid)?;
-        self.slots.remove(&slot);
+        match &mut self.held {
+            Held::Keyed(slots) => slots.remove(&slot),
+            Held::Plain(ids) => ids.remove(slot.uid),
+        }
         Ok(())
     }
 
@@ -79,7 +96,10 @@ impl Index {
               self.old.pairs;
         } }
     {
-        self.slots.remove_id(uid.0);
+        match &mut self.held {
+            Held::Keyed(slots) => slots.remove_id(uid.0),
+            Held::Plain(ids) => ids.remove(uid.0),
+        }
     }
 
     /// The first pair.
@@ -87,7 +107,11 @@ impl Index {
         ensures found { option_map shown result ≡ first self.now.pairs }
         ensures sorted { IsSorted self.now }
     {
-        pair(self.slots.keys().iter().next())
+        let _count = self.len();
+        match &self.held {
+            Held::Keyed(slots) => pair(slots.keys().iter().next()),
+            Held::Plain(ids) => id_pair(ids.ids().iter().next(), ids.empty()),
+        }
     }
 
     /// The last pair.
@@ -95,7 +119,11 @@ impl Index {
         ensures found { option_map shown result ≡ last self.now.pairs }
         ensures sorted { IsSorted self.now }
     {
-        pair(self.slots.keys().iter().next_back())
+        let _count = self.len();
+        match &self.held {
+            Held::Keyed(slots) => pair(slots.keys().iter().next_back()),
+            Held::Plain(ids) => id_pair(ids.ids().iter().next_back(), ids.empty()),
+        }
     }
 
     /// The least pair after the probe's key with this id. The probe was made for a key of the
@@ -107,13 +135,27 @@ impl Index {
         ensures kept { probe.new ≡ probe.old }
         ensures sorted { IsSorted self.now }
     {
-        probe.slot.uid = uid.0;
-        pair(
-            self.slots
-                .keys()
-                .range((Bound::Excluded(&probe.slot), Bound::Unbounded))
-                .next(),
-        )
+        let _count = self.len();
+        match &self.held {
+            Held::Keyed(slots) => {
+                probe.slot.uid = uid.0;
+                pair(
+                    slots
+                        .keys()
+                        .range((Bound::Excluded(&probe.slot), Bound::Unbounded))
+                        .next(),
+                )
+            }
+            Held::Plain(ids) => {
+                let slot = PlainSlot::of(uid.0);
+                id_pair(
+                    ids.ids()
+                        .range((Bound::Excluded(&slot), Bound::Unbounded))
+                        .next(),
+                    ids.empty(),
+                )
+            }
+        }
     }
 
     /// The greatest pair before the probe's key with this id. The condition is the same.
@@ -124,13 +166,27 @@ impl Index {
         ensures kept { probe.new ≡ probe.old }
         ensures sorted { IsSorted self.now }
     {
-        probe.slot.uid = uid.0;
-        pair(
-            self.slots
-                .keys()
-                .range((Bound::Unbounded, Bound::Excluded(&probe.slot)))
-                .next_back(),
-        )
+        let _count = self.len();
+        match &self.held {
+            Held::Keyed(slots) => {
+                probe.slot.uid = uid.0;
+                pair(
+                    slots
+                        .keys()
+                        .range((Bound::Unbounded, Bound::Excluded(&probe.slot)))
+                        .next_back(),
+                )
+            }
+            Held::Plain(ids) => {
+                let slot = PlainSlot::of(uid.0);
+                id_pair(
+                    ids.ids()
+                        .range((Bound::Unbounded, Bound::Excluded(&slot)))
+                        .next_back(),
+                    ids.empty(),
+                )
+            }
+        }
     }
 
     /// The first pair whose key is not before the probe's. The condition is the same.
@@ -141,13 +197,27 @@ impl Index {
         ensures kept { probe.new ≡ probe.old }
         ensures sorted { IsSorted self.now }
     {
-        probe.slot.uid = 0;
-        pair(
-            self.slots
-                .keys()
-                .range((Bound::Included(&probe.slot), Bound::Unbounded))
-                .next(),
-        )
+        let _count = self.len();
+        match &self.held {
+            Held::Keyed(slots) => {
+                probe.slot.uid = 0;
+                pair(
+                    slots
+                        .keys()
+                        .range((Bound::Included(&probe.slot), Bound::Unbounded))
+                        .next(),
+                )
+            }
+            Held::Plain(ids) => {
+                let slot = PlainSlot::of(0);
+                id_pair(
+                    ids.ids()
+                        .range((Bound::Included(&slot), Bound::Unbounded))
+                        .next(),
+                    ids.empty(),
+                )
+            }
+        }
     }
 
     /// The last pair whose key is not after the probe's. The condition is the same.
@@ -158,20 +228,38 @@ impl Index {
         ensures kept { probe.new ≡ probe.old }
         ensures sorted { IsSorted self.now }
     {
-        probe.slot.uid = u32::MAX;
-        pair(
-            self.slots
-                .keys()
-                .range((Bound::Unbounded, Bound::Included(&probe.slot)))
-                .next_back(),
-        )
+        let _count = self.len();
+        match &self.held {
+            Held::Keyed(slots) => {
+                probe.slot.uid = u32::MAX;
+                pair(
+                    slots
+                        .keys()
+                        .range((Bound::Unbounded, Bound::Included(&probe.slot)))
+                        .next_back(),
+                )
+            }
+            Held::Plain(ids) => {
+                let slot = PlainSlot::of(u32::MAX);
+                id_pair(
+                    ids.ids()
+                        .range((Bound::Unbounded, Bound::Included(&slot)))
+                        .next_back(),
+                    ids.empty(),
+                )
+            }
+        }
     }
 
     /// The number of pairs.
     pub fn len(&self) -> usize
-        ensures { result ≡ length self.now.pairs }
+        ensures count { result ≡ length self.now.pairs }
+        ensures sorted { IsSorted self.now }
     {
-        self.slots.keys().len()
+        match &self.held {
+            Held::Keyed(slots) => slots.keys().len(),
+            Held::Plain(ids) => ids.ids().len(),
+        }
     }
 
     /// The declaration that was given to `new`.
@@ -179,8 +267,8 @@ impl Index {
         ensures spec { option_map (λ s. s.now) result ≡ self.now.spec }
         ensures sorted { IsSorted self.now }
     {
-        // Its contract tells that the map's keys rise, which the clause `sorted` is proved from.
-        let _count = self.slots.keys().len();
+        // Its contract tells that the pairs rise.
+        let _count = self.len();
         self.spec.as_ref()
     }
 
@@ -188,7 +276,10 @@ impl Index {
     pub fn key_of(&self, uid: Uid) -> Option<&Key>
         ensures { option_map (λ k. k.now) result ≡ key_at self.now.pairs uid }
     {
-        self.slots.key_of(uid.0)
+        match &self.held {
+            Held::Keyed(slots) => slots.key_of(uid.0),
+            Held::Plain(ids) => ids.key_of(uid.0),
+        }
     }
 
     /// The allocator that was given to `new`.
@@ -203,6 +294,17 @@ fn pair<'a>(found: Option<(&'a Slot, &'a Key)>) -> Option<(&'a Key, Uid)>
 {
     match found {
         Some((slot, key)) => Some((key, Uid(slot.uid))),
+        None => None,
+    }
+}
+
+/// The key and the id of a pair that a walk over ids found.
+fn id_pair<'a>(found: Option<(&'a PlainSlot, &'a NoKey)>, empty: &'a Key) -> Option<(&'a Key, Uid)>
+    requires { empty.now ≡ [] }
+    ensures { option_map shown result ≡ option_map lent found.entry }
+{
+    match found {
+        Some((slot, key)) => Some((key.lent(empty), Uid(slot.id()))),
         None => None,
     }
 }

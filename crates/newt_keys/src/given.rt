@@ -92,7 +92,7 @@ fn given_parts(
     ensures are { IfOk result (λ found. IfSome found (λ parts. AreParts (declared_all spec.now)
         (said_all parts.items))) }
 {
-    let mut parts = Vec::new(alloc);
+    let mut parts = Vec::with_capacity(alloc, spec.len())?;
     let mut left = spec;
     let mut given = values;
     while let [part, rest @ ..] = left {

@@ -28,7 +28,7 @@ fn parts_of(alloc: Global, graph: &Graph, spec: &[IndexPart]) -> Result<Vec<Part
         (declared_all spec.now)) }
     ensures are { IfOk result (λ parts. AreParts (declared_all spec.now) (said_all parts.items)) }
 {
-    let mut parts = Vec::new(alloc);
+    let mut parts = Vec::with_capacity(alloc, spec.len())?;
     let mut left = spec;
     while let [part, rest @ ..] = left {
         let value = value_at(graph, &part.path);

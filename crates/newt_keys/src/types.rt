@@ -232,7 +232,7 @@ impl Key {
 fn copied_key(alloc: Global, parts: &[Part]) -> Result<Vec<Part>, AllocError>
     ensures { IfOk result (λ copies. copies.items ≡ parts.now) }
 {
-    let mut copies = Vec::new(alloc);
+    let mut copies = Vec::with_capacity(alloc, parts.len())?;
     for part in parts {
         copies.push(part.copy()?)?;
     }

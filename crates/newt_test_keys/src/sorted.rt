@@ -257,7 +257,7 @@ fn adds_and_removes(alloc: Global, index: &mut Index) -> Result<bool, AllocError
     requires { index.old.spec ≡ None }
 {
     index.add(Key::empty(alloc), Uid(7))?;
-    let around = around_seven(index, &mut Probe::empty(alloc));
+    let around = around_seven(index, &mut Probe::empty());
     let there = index.key_of(Uid(7)).is_some();
     index.remove(&Key::empty(alloc), Uid(7))?;
     let gone = index.key_of(Uid(7)).is_none() && index.len() == 0;

@@ -17,7 +17,7 @@ fn probe(
     spec: Option<&IndexSpec>,
 ) -> Result<Option<Probe>, AllocError> {
     let Some(spec) = spec else {
-        return Ok(Some(Probe::empty(alloc)));
+        return Ok(Some(Probe::empty()));
     };
     match key_of(alloc, graph, spec)? {
         Some(key) => Ok(Some(Probe::new(alloc, &key, spec)?)),

@@ -1,4 +1,4 @@
-use Rattle.std.proofs.Common.{rules, ◌≡◌, ℕ, List, Option, Some, None, sym, ◌∙◌, ap}
+use Rattle.std.proofs.Common.{rules, ◌≡◌, Some, None, sym, ◌∙◌, ap}
 use Rattle.newt_index.proofs.Notes.{written, bytes_found}
 use Rattle.newt_index.proofs.slots.note_of_id.Goals as goal
 

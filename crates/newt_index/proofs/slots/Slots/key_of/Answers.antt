@@ -1,9 +1,9 @@
-use Rattle.std.proofs.Common.{ℕ, List, Some, map, option_map, sym, ◌∙◌, ap, subst}
+use Rattle.std.proofs.Common.{ℕ, List, map, option_map, sym, ◌∙◌, ap, subst}
 use Rattle.newt_index.specs.declared.slots.IdSlots.{IdSlots}
 use Rattle.newt_index.specs.Pairs.{key_at}
 use Rattle.newt_index.specs.Kept.{Entry, pair_of}
-use Rattle.newt_index.specs.Noted.{AreNoted, AreNotes, ArePlain, bytes_at}
-use Rattle.newt_index.proofs.Notes.{key_noted, no_key_noted, noted_slot, bytes_found, plain_told, plain_tells}
+use Rattle.newt_index.specs.Noted.{AreNoted, AreNotes, bytes_at}
+use Rattle.newt_index.proofs.Notes.{key_noted, no_key_noted, noted_slot, bytes_found}
 use Rattle.newt_index.proofs.slots.Slots.key_of.Goals as goal
 
 pub returns-in_err-get-in-OfIds : goal.returns-in_err-get-in-OfIds
@@ -23,13 +23,4 @@ returns-in_ok-get-in-OfIds c =
     c.get-in-OfIds.ensures.value
     ∙ key_noted (bytes_at c.in-OfIds.notes) slot es are.each known.1
     ∙ ap (λ (uid : ℕ). key_at (map pair_of es) uid) known.0
-    ∙ ap (λ (l : List Entry). key_at (map pair_of l) c.args.uid) c.self.view_is
-
-pub returns-in-Plain : goal.returns-in-Plain
-returns-in-Plain c =
-    let es = c.self.inside.keys.entries in
-    let are : ArePlain es = subst (λ (notes : IdSlots). AreNoted notes es) c.in-Plain.is c.self.invariant in
-    c.get-in-Plain.ensures.value
-    ∙ key_noted plain_told c.plain.result es (plain_tells es are) (ap (λ (bytes : List ℕ). Some bytes) (sym c.plain.ensures.bytes))
-    ∙ ap (λ (uid : ℕ). key_at (map pair_of es) uid) c.plain.ensures.uid
     ∙ ap (λ (l : List Entry). key_at (map pair_of l) c.args.uid) c.self.view_is

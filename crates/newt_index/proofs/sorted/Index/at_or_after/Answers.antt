@@ -1,14 +1,23 @@
-use Rattle.std.proofs.Common.{◌∙◌, refl}
-use Rattle.newt_index.proofs.Change.{sorted_seen}
-use Rattle.newt_index.proofs.Walk.{lent_holds, at_seen}
+use Rattle.std.proofs.Common.{sym, ◌∙◌, ap, refl}
+use Rattle.newt_index.specs.declared.search.Slot.{Slot}
+use Rattle.newt_index.specs.Pairs.{Sorted}
+use Rattle.newt_index.specs.Held.{entries_in}
+use Rattle.newt_index.proofs.Walk.{at_seen}
+use Rattle.newt_index.proofs.Held.{held_holds, undeclared, probe_plain}
 use Rattle.newt_index.proofs.sorted.Index.at_or_after.Goals as goal
 
-pub returns-clause-found : goal.returns-clause-found
-returns-clause-found c key probe =
+pub returns-in-Keyed-clause-found : goal.returns-in-Keyed-clause-found
+returns-in-Keyed-clause-found c key probe =
     c.pair.ensures
     ∙ at_seen c.args.self.now c.args.probe.now c.self.inside.spec c.keys.result.now.entries c.range.result c.next.new.self
     (record { bytes = c.probe.inside.slot.bytes; uid = 0 }) key c.next.result
-    (lent_holds c.args.self.now c.self.inside.spec c.self.inside.slots c.keys.result.now.entries c.keys.ensures c.self.view_is c.self.invariant) c.probe.view_is probe refl (c.range.ensures.between tt) c.next.ensures.steps
+    (held_holds c.args.self.now c.self.inside.spec c.self.inside.held c.keys.result.now.entries (c.keys.ensures ∙ ap entries_in (sym c.in-Keyed.is)) c.self.view_is c.self.invariant)
+    c.probe.view_is probe refl (c.range.ensures.between tt) c.next.ensures.steps
 
-pub returns-clause-sorted : goal.returns-clause-sorted
-returns-clause-sorted c = sorted_seen c.args.self.now c.self.inside.spec c.keys.result.now.entries (lent_holds c.args.self.now c.self.inside.spec c.self.inside.slots c.keys.result.now.entries c.keys.ensures c.self.view_is c.self.invariant) c.range.ensures.ordered
+pub returns-in-Plain-clause-found : goal.returns-in-Plain-clause-found
+returns-in-Plain-clause-found c key probe =
+    c.id_pair.ensures
+    ∙ at_seen c.args.self.now c.args.probe.now c.self.inside.spec c.ids.result.now.entries c.range-in-Plain.result c.next-in-Plain.new.self
+    c.of-slot.result key c.next-in-Plain.result
+    (held_holds c.args.self.now c.self.inside.spec c.self.inside.held c.ids.result.now.entries (c.ids.ensures ∙ ap entries_in (sym c.in-Plain.is)) c.self.view_is c.self.invariant)
+    (ap (λ (s : Slot). s.bytes) c.of-slot.ensures ∙ probe_plain c.args.self.now c.self.inside.spec key c.args.probe.now (ap (λ (v : Sorted). v.spec) c.self.view_is) (undeclared c.self.inside.spec c.self.inside.held c.in-Plain.ids c.in-Plain.is c.self.invariant) probe) probe (ap (λ (s : Slot). s.uid) c.of-slot.ensures) (c.range-in-Plain.ensures.between tt) c.next-in-Plain.ensures.steps

@@ -3,7 +3,7 @@ use Rattle.std.specs.declared.cmp.Ordering.TheVariants.{Less, Greater}
 use Rattle.std.specs.Ordering.{nat_cmp}
 use Rattle.std.specs.Cmp.Lexicographic.{slice_cmp}
 use Rattle.newt_index.proofs.Fronts.{fronts_decide}
-use Rattle.newt_index.proofs.key_bytes.KeyBytesOrd.cmp.Goals as goal
+use Rattle.newt_index.proofs.numbered.Numbered.compared.Goals as goal
 
 pub returns-in-Less : goal.returns-in-Less
 returns-in-Less c =
