@@ -27,10 +27,10 @@ use Rattle.newt_laws_answers.specs.Bounds.{most_programmed}
 use Rattle.newt_laws_answers.specs.Fetched.{if_on, most_fetched, next_if_on, pages_there}
 use Rattle.newt_laws_answers.proofs.Fetched.{first-pages, named-pages}
 use Rattle.newt_laws_steps.specs.StandsFor.{seen, seen_on}
-use Rattle.newt_store_change.specs.Change.{answer_of, bytes_fetched, bytes_of, changed_by, most_bytes, pages_of_entry, refusals}
-use Rattle.newt_store_change.specs.Change.{refusal_of}
+use Rattle.newt_spec_change.specs.Change.{answer_of, bytes_fetched, bytes_of, changed_by, most_bytes, pages_of_entry, refusals}
+use Rattle.newt_spec_change.specs.Change.{refusal_of}
 use Rattle.newt_store_change.specs.Faults.{Does}
-use Rattle.newt_store_change.specs.declared.change.Change.{Change}
+use Rattle.newt_spec_change.specs.declared.change.Change.{Change}
 use Rattle.newt_store_change.specs.declared.fault.StoreFault.{StoreFault}
 use Rattle.newt_store_change.specs.declared.fault.StoreFault.TheVariants.{Refused, Stop}
 use Rattle.newt_laws_effects.specs.Effects.{effects}

@@ -24,7 +24,7 @@ use Rattle.newt_engine_commands.specs.Declares.{has_parts, has_real}
 use Rattle.newt_engine_commands.specs.Plans.{declares, names_entry}
 use Rattle.newt_laws_effects.proofs.Found.{at}
 use Rattle.newt_laws_effects.specs.Tells.{is_of_stores}
-use Rattle.newt_store_change.specs.declared.change.Change.TheVariants as change
+use Rattle.newt_spec_change.specs.declared.change.Change.TheVariants as change
 use Rattle.newt_engine_units.specs.Found.{HasSoup}
 
 -- how commands go on with what was found

@@ -11,9 +11,9 @@ use Rattle.newt_spec_world.specs.Reply.{Reply}
 use Rattle.newt_spec_world.specs.World.{World, Device, change_store, device, mounted_store, settle, store_if_mounted, store_of}
 use Rattle.newt_spec_world.specs.declared.command.Command.{Command}
 use Rattle.newt_spec_world.specs.declared.command.Command.TheVariants as command
-use Rattle.newt_store_change.specs.Change.{answer_of, changed_by, changed_soup, dropped_soup, moved_entry}
-use Rattle.newt_store_change.specs.declared.change.Change.{Change}
-use Rattle.newt_store_change.specs.declared.change.Change.TheVariants.{MakeSoup, DropSoup, Add, Remove, Move, Replace, Patch, AddIndex, DropIndex, SetTags, SetInfo}
+use Rattle.newt_spec_change.specs.Change.{answer_of, changed_by, changed_soup, dropped_soup, moved_entry}
+use Rattle.newt_spec_change.specs.declared.change.Change.{Change}
+use Rattle.newt_spec_change.specs.declared.change.Change.TheVariants.{MakeSoup, DropSoup, Add, Remove, Move, Replace, Patch, AddIndex, DropIndex, SetTags, SetInfo}
 use Rattle.newt_laws_world.proofs.Kept.{Every, Wf}
 use Rattle.newt_laws_world.proofs.Units.{device-same}
 use Rattle.newt_laws_answers.proofs.Units.{is-mounted, on-changed}
