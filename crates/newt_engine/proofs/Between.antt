@@ -32,9 +32,9 @@ use Rattle.newt_laws_answers.proofs.Changes.{add-said, remove-said}
 use Rattle.newt_laws_answers.proofs.Refusals.{added-uid}
 use Rattle.newt_laws_answers.proofs.Tests.{add_tests, with_added}
 use Rattle.newt_laws_reach.specs.Reach.{entry_reached, on_entry, reach, settle_reached}
-use Rattle.newt_store_change.specs.Change.{pages_of_entry}
+use Rattle.newt_spec_change.specs.Change.{pages_of_entry}
 use Rattle.newt_store_change.specs.Faults.{GoesOn, IsEnd}
-use Rattle.newt_store_change.specs.declared.change.Change.TheVariants as change
+use Rattle.newt_spec_change.specs.declared.change.Change.TheVariants as change
 use Rattle.newt_store_change.specs.declared.fault.StoreFault.{StoreFault}
 use Rattle.newt_pagebook.specs.Book.{IsOpenFor}
 use Rattle.newt_engine_card.specs.Bounds.{Costs, FetchesAtMost, of_unit}

@@ -21,7 +21,7 @@ use Rattle.newt_laws_answers.specs.Fetched.{if_on, meant, means_entries, next_if
 use Rattle.newt_laws_answers.proofs.Fetched.{last-pages, named-pages}
 use Rattle.newt_laws_answers.proofs.Sigs.{soup-of-sig}
 use Rattle.newt_laws_reach.specs.Reach.{Reach, entry_reached, in_soup, in_store, is_of_one, on_entry, on_soup, reach}
-use Rattle.newt_store_change.specs.Change.{pages_of_entry}
+use Rattle.newt_spec_change.specs.Change.{pages_of_entry}
 
 -- ---- the soup of a name keeps its signature
 

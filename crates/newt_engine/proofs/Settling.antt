@@ -36,7 +36,7 @@ use Rattle.newt_laws_answers.specs.Fetched.{meant, means_entries, pages_there}
 use Rattle.newt_laws_answers.proofs.Apart.{answer-beside, answer-still}
 use Rattle.newt_laws_reach.specs.Reach.{Reach, entry_reached, reach, settle_reached}
 use Rattle.newt_laws_reach.proofs.Reaching.{row-reached}
-use Rattle.newt_store_change.specs.Change.{pages_of_entry}
+use Rattle.newt_spec_change.specs.Change.{pages_of_entry}
 use Rattle.newt_store_change.specs.declared.fault.StoreFault.{StoreFault}
 use Rattle.newt_store_change.specs.declared.fault.StoreFault.TheVariants.{Refused, Stop as Ends}
 use Rattle.newt_engine_units.specs.declared.units.Units.{Units}

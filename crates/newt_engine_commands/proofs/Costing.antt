@@ -20,7 +20,7 @@ use Rattle.newt_laws_answers.proofs.Tests.{add_tests, move_tests, moved_within}
 use Rattle.newt_laws_answers.proofs.Most.{move-to-most, move-from-most, within-most}
 use Rattle.newt_store_change.specs.declared.fault.StoreFault.{StoreFault}
 use Rattle.newt_engine_card.specs.Bounds.{Costs, CostsOn, FetchesAtMost, FetchesOn, FetchesWithin, LeftAlone, of_unit}
-use Rattle.newt_store_change.specs.Change.{pages_of_entry}
+use Rattle.newt_spec_change.specs.Change.{pages_of_entry}
 use Rattle.newt_store_change.specs.Faults.{GoesOn}
 use Rattle.newt_engine_units.specs.Calls.{CostsOf}
 use Rattle.newt_engine_units.specs.Found.{HasSoup, HasEntry}

@@ -26,10 +26,10 @@ use Rattle.newt_laws_answers.specs.Bounds.{most_programmed}
 use Rattle.newt_laws_answers.specs.Fetched.{means_entries, most_fetched}
 use Rattle.newt_laws_answers.specs.There.{OnUnit}
 use Rattle.newt_laws_steps.specs.StandsFor.{seen}
-use Rattle.newt_store_change.specs.Change.{answer_of, bytes_fetched, bytes_of, changed_by, most_bytes, refusals}
-use Rattle.newt_store_change.specs.Change.{refusal_of}
+use Rattle.newt_spec_change.specs.Change.{answer_of, bytes_fetched, bytes_of, changed_by, most_bytes, refusals}
+use Rattle.newt_spec_change.specs.Change.{refusal_of}
 use Rattle.newt_store_change.specs.Faults.{Does}
-use Rattle.newt_store_change.specs.declared.change.Change.{Change}
+use Rattle.newt_spec_change.specs.declared.change.Change.{Change}
 use Rattle.newt_store_change.specs.declared.fault.StoreFault.{StoreFault}
 use Rattle.newt_store_change.specs.declared.fault.StoreFault.TheVariants.{Refused, Stop}
 use Rattle.newt_laws_effects.specs.Effects as resolving

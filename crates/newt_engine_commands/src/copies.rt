@@ -10,7 +10,8 @@ use newt_base::{Name, Refusal, Sig, Uid};
 use newt_engine_card::Card;
 use newt_engine_units::Units;
 use newt_host::{Host, Unit};
-use newt_store_change::{Change, Entry, StoreFault};
+use newt_spec_change::Change;
+use newt_store_change::{Entry, StoreFault};
 
 /// Adds the graph of an entry to another soup, at the present minute, and answers the new id.
 pub fn copy<C: Card, H: Host>(

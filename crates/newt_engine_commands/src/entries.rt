@@ -14,7 +14,8 @@ use newt_engine_card::Card;
 use newt_engine_units::Units;
 use newt_graph::Graph;
 use newt_host::{Host, Unit};
-use newt_store_change::{Change, Entry, StoreFault};
+use newt_spec_change::Change;
+use newt_store_change::{Entry, StoreFault};
 
 /// Adds an entry to a soup, at the present minute, and answers its id.
 pub fn add<C: Card, H: Host>(

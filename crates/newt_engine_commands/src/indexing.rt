@@ -26,7 +26,8 @@ use newt_keys::IndexSpec;
 use newt_path::{Path, Paths};
 use newt_reply::SpecRows;
 use newt_spec_world::{PartWord, Parts};
-use newt_store_change::{Change, StoreFault};
+use newt_spec_change::Change;
+use newt_store_change::StoreFault;
 
 /// Declares an index of a soup.
 pub fn index<C: Card, H: Host>(

@@ -19,7 +19,8 @@ use newt_engine_card::Card;
 use newt_engine_units::Units;
 use newt_graph::{Graph, Ref};
 use newt_host::{Host, Unit};
-use newt_store_change::{Change, StoreFault};
+use newt_spec_change::Change;
+use newt_store_change::StoreFault;
 
 /// The info frame that a literal gives a soup; nil gives none.
 fn info_of(literal: Graph) -> Option<Graph>

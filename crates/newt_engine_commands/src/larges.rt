@@ -11,7 +11,8 @@ use newt_engine_units::Units;
 use newt_graph::Bytes;
 use newt_host::{Host, Unit};
 use newt_path::{Path, large_at};
-use newt_store_change::{Change, Entry, StoreFault};
+use newt_spec_change::Change;
+use newt_store_change::{Entry, StoreFault};
 
 /// So many bytes of the large binary that a path of an entry's graph reaches, from a place on.
 /// Places and lengths are in bytes. Of the device the entry's record and the range alone are read.

@@ -11,7 +11,8 @@ use newt_engine_units::Units;
 use newt_graph::Graph;
 use newt_host::{Host, Unit};
 use newt_path::{Path, set_at};
-use newt_store_change::{Change, Entry, StoreFault};
+use newt_spec_change::Change;
+use newt_store_change::{Entry, StoreFault};
 
 /// Puts a value at a path of an entry's graph, at the present minute. The frame that the path
 /// reaches is changed where it stands.

@@ -9,7 +9,8 @@ use newt_base::Name;
 use newt_engine_card::Card;
 use newt_engine_units::Units;
 use newt_host::{Host, Unit};
-use newt_store_change::{Change, StoreFault};
+use newt_spec_change::Change;
+use newt_store_change::StoreFault;
 
 /// Makes a soup, and answers its signature.
 pub fn soup<C: Card, H: Host>(

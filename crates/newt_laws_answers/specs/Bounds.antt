@@ -10,7 +10,7 @@ use Rattle.newt_spec_world.specs.declared.command.Command.{Command}
 use Rattle.newt_spec_world.specs.declared.command.Command.TheVariants as command
 use Rattle.newt_spec_world.specs.Changed.{changed}
 use Rattle.newt_spec_world.specs.Refused.{checks}
-use Rattle.newt_store_change.specs.Change.{pages_if}
+use Rattle.newt_spec_change.specs.Change.{pages_if}
 
 -- The bytes of the batch that makes store b of store a. It puts the pages of b's directory, if that
 -- is written, and of the entries that are put. It deletes the pages of a's directory, if that is

@@ -11,10 +11,10 @@ use Rattle.newt_spec_store.specs.Store.{change_entry, change_first, next_uid_of,
 use Rattle.newt_spec_world.specs.Changed.{changed}
 use Rattle.newt_spec_world.specs.World.{World, change_store, mounted_store, store_on_unit, entry_in, soup_in}
 use Rattle.newt_spec_world.specs.declared.command.Command.{Command}
-use Rattle.newt_store_change.specs.Change.{bytes_of, changed_by, entry_added, pages_of_entry, pages_put}
-use Rattle.newt_store_change.specs.Change.{pages_gone, pages_removed, pages_if, pages_of_soup, writes_directory}
-use Rattle.newt_store_change.specs.declared.change.Change.{Change}
-use Rattle.newt_store_change.specs.declared.change.Change.TheVariants as change
+use Rattle.newt_spec_change.specs.Change.{bytes_of, changed_by, entry_added, pages_of_entry, pages_put}
+use Rattle.newt_spec_change.specs.Change.{pages_gone, pages_removed, pages_if, pages_of_soup, writes_directory}
+use Rattle.newt_spec_change.specs.declared.change.Change.{Change}
+use Rattle.newt_spec_change.specs.declared.change.Change.TheVariants as change
 use Rattle.newt_laws_world.proofs.Kept.{Every, Wf}
 use Rattle.newt_laws_world.proofs.Settled.{find-passes}
 use Rattle.newt_laws_answers.proofs.Answers.{entry-named}

@@ -15,9 +15,9 @@ use Rattle.newt_spec_world.specs.Changed.{info_from, spec_of_words}
 use Rattle.newt_spec_world.specs.Refused.{checks, no_unit, not_mounted, no_soup, no_entry, real_part, on_some, either}
 use Rattle.newt_spec_world.specs.declared.command.Command.{Command}
 use Rattle.newt_spec_world.specs.declared.command.Command.TheVariants as command
-use Rattle.newt_store_change.specs.Change.{refusals}
-use Rattle.newt_store_change.specs.declared.change.Change.{Change}
-use Rattle.newt_store_change.specs.declared.change.Change.TheVariants as change
+use Rattle.newt_spec_change.specs.Change.{refusals}
+use Rattle.newt_spec_change.specs.declared.change.Change.{Change}
+use Rattle.newt_spec_change.specs.declared.change.Change.TheVariants as change
 use Rattle.newt_laws_world.proofs.Kept.{Every, Wf}
 use Rattle.newt_spec_graph.proofs.Lists.{both-ways, some-same}
 use Rattle.newt_laws_answers.proofs.Adds.{add-checks, addx-checks, addu-checks}

@@ -27,9 +27,9 @@ use Rattle.newt_spec_store.specs.Keys.{has_paths}
 use Rattle.newt_base.specs.declared.Refusal.TheVariants.{Index as BadIndex, Limit, Path as NoPath}
 use Rattle.newt_graph.specs.Meeting.{normal_form}
 use Rattle.newt_spec_graph.specs.Limits.{is_within}
-use Rattle.newt_store_change.specs.Change.{changed_by}
-use Rattle.newt_store_change.specs.declared.change.Change.{Change}
-use Rattle.newt_store_change.specs.declared.change.Change.TheVariants as change
+use Rattle.newt_spec_change.specs.Change.{changed_by}
+use Rattle.newt_spec_change.specs.declared.change.Change.{Change}
+use Rattle.newt_spec_change.specs.declared.change.Change.TheVariants as change
 use Rattle.newt_laws_world.proofs.Fewer.{wf-from}
 use Rattle.newt_laws_world.proofs.Kept.{Every, Wf}
 use Rattle.newt_laws_world.specs.Settled.{moves_keys}
@@ -45,7 +45,7 @@ use Rattle.newt_laws_effects.specs.Effects.{Effect, Resolved, effects, needs, pa
 use Rattle.newt_laws_effects.specs.Derived.{applied, notes_by, notes_of, of_soup, of_store, on_store_of, entry_note, add_note, reach_by, reach_of, or_reach, moves_of}
 use Rattle.newt_laws_effects.specs.Tells.{Tells, is_of_stores}
 use Rattle.newt_spec_world.specs.World.{store_on_unit, entry_in}
-use Rattle.newt_store_change.specs.Change.{writes_directory}
+use Rattle.newt_spec_change.specs.Change.{writes_directory}
 use Rattle.newt_laws_answers.specs.Bounds.{bytes_between, bytes_done, new_in, listed, copied_in, entries_of}
 use Rattle.newt_laws_effects.proofs.Bounding.{Touch, Programs, Puts, one-bytes, bare-bytes, patch-bytes, by-unit}
 use Rattle.newt_laws_effects.proofs.Bounding.{two-bytes, none-between, moved-puts, dropped-puts, dropped-touch}

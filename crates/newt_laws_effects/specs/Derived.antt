@@ -8,9 +8,9 @@ use Rattle.newt_notify.specs.declared.note.Kind.TheVariants as kind
 use Rattle.newt_spec_store.specs.Store.{Soup, Store, soup_of, next_uid_of}
 use Rattle.newt_spec_whole.specs.Events.{Event, soup_event}
 use Rattle.newt_spec_world.specs.World.{World, Device, change_store, device, mounted_store, store_of}
-use Rattle.newt_store_change.specs.Change.{changed_by, refusals, bytes_of}
-use Rattle.newt_store_change.specs.declared.change.Change.{Change}
-use Rattle.newt_store_change.specs.declared.change.Change.TheVariants.{MakeSoup, DropSoup, Add, Remove, Move, Replace, Patch, AddIndex, SetTags}
+use Rattle.newt_spec_change.specs.Change.{changed_by, refusals, bytes_of}
+use Rattle.newt_spec_change.specs.declared.change.Change.{Change}
+use Rattle.newt_spec_change.specs.declared.change.Change.TheVariants.{MakeSoup, DropSoup, Add, Remove, Move, Replace, Patch, AddIndex, SetTags}
 use Rattle.newt_laws_answers.specs.Bounds.{unless}
 use Rattle.newt_laws_reach.specs.Reach.{Reach, nowhere, on_soup, on_entry}
 use Rattle.newt_laws_effects.specs.Effects.{Effect, Resolved}

@@ -18,8 +18,8 @@ use Rattle.newt_spec_world.specs.Changed.{graph_after_set, spec_of_words, info_f
 use Rattle.newt_spec_world.specs.Refused.{Check, real_part, on_some}
 use Rattle.newt_spec_world.specs.declared.command.Command.{Command}
 use Rattle.newt_spec_world.specs.declared.command.Command.TheVariants as command
-use Rattle.newt_store_change.specs.declared.change.Change.{Change}
-use Rattle.newt_store_change.specs.declared.change.Change.TheVariants as change
+use Rattle.newt_spec_change.specs.declared.change.Change.{Change}
+use Rattle.newt_spec_change.specs.declared.change.Change.TheVariants as change
 
 -- a change of the store of a unit (this project's own)
 pub record Effect : Type 0 where

@@ -24,7 +24,7 @@ use Rattle.newt_engine_commands.proofs.Effects.{after-obeys, known-formed, none-
 use Rattle.newt_laws_effects.proofs.Found.{both-found}
 use Rattle.newt_laws_effects.specs.Effects.{effects, needs, one as only}
 use Rattle.newt_laws_effects.specs.Tells.{is_of_stores}
-use Rattle.newt_store_change.specs.declared.change.Change.TheVariants as change
+use Rattle.newt_spec_change.specs.declared.change.Change.TheVariants as change
 use Rattle.newt_spec_world.specs.Answer.{fields}
 use Rattle.std.proofs.Common.{◌*◌}
 use Rattle.std.proofs.Common.{ap}

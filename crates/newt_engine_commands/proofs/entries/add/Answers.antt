@@ -7,8 +7,8 @@ use Rattle.newt_engine_units.specs.Stands.{Stands, world_of}
 use Rattle.newt_graph.specs.Graph.{RawGraph}
 use Rattle.newt_spec_world.specs.Answer.{new_uid, fields}
 use Rattle.newt_spec_world.specs.Reply.{Reply}
-use Rattle.newt_store_change.specs.declared.change.Change.{Change}
-use Rattle.newt_store_change.specs.declared.change.Change.TheVariants as change
+use Rattle.newt_spec_change.specs.declared.change.Change.{Change}
+use Rattle.newt_spec_change.specs.declared.change.Change.TheVariants as change
 use Rattle.newt_laws_effects.specs.Tells.{is_of_stores}
 use Rattle.newt_laws_effects.proofs.Telling.{add-resolves, addx-resolves, addu-resolves}
 use Rattle.newt_spec_world.specs.declared.command.Command.TheVariants as command

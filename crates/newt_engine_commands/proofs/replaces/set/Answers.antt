@@ -35,7 +35,7 @@ use Rattle.newt_engine_commands.proofs.Effects.{after-obeys, done-obeys, known-f
 use Rattle.newt_laws_effects.proofs.Found.{entry-found, passes}
 use Rattle.newt_laws_effects.specs.Effects.{effects, Resolved, passing, one as only}
 use Rattle.newt_laws_effects.specs.Tells.{is_of_stores}
-use Rattle.newt_store_change.specs.declared.change.Change.TheVariants as change
+use Rattle.newt_spec_change.specs.declared.change.Change.TheVariants as change
 use Rattle.newt_spec_world.specs.Answer.{fields}
 use Rattle.std.proofs.Common.{◌*◌}
 use Rattle.newt_engine_commands.proofs.replaces.set.Given.{Over}

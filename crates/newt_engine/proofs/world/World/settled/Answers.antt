@@ -3,7 +3,7 @@ use Rattle.std.proofs.Common.{◌≡◌, ◌*◌, refl, subst, true, IsTrue}
 use Rattle.newt_laws_reach.specs.Reach.{Reach, entry_reached, is_of_one, settle_reached}
 use Rattle.newt_reply.specs.Said.{said}
 use Rattle.newt_spec_world.specs.World.{mounted_store}
-use Rattle.newt_store_change.specs.Change.{pages_of_entry}
+use Rattle.newt_spec_change.specs.Change.{pages_of_entry}
 use Rattle.newt_engine_card.specs.Bounds.{FetchesAtMost}
 use Rattle.newt_engine_units.specs.Breaks.{AtStop}
 use Rattle.newt_engine_cursors.specs.Reached.{in_reach, reached_by, seen_reach}
