@@ -25,8 +25,8 @@ use newt_host::{Host, Unit};
 use newt_keys::IndexSpec;
 use newt_path::{Path, Paths};
 use newt_reply::SpecRows;
-use newt_spec_world::{PartWord, Parts};
 use newt_spec_change::Change;
+use newt_spec_world::{PartWord, Parts};
 use newt_store_change::StoreFault;
 
 /// Declares an index of a soup.

@@ -17,8 +17,8 @@ use newt_engine_card::Card;
 use newt_engine_units::Units;
 use newt_host::{Host, Unit};
 use newt_path::Path;
-use newt_spec_world::Syms;
 use newt_spec_change::Change;
+use newt_spec_world::Syms;
 use newt_store_change::StoreFault;
 use newt_tags::TagTable;
 
