@@ -11,7 +11,7 @@ use Rattle.newt_spec_world.specs.declared.command.Command.{Command}
 use Rattle.newt_spec_world.specs.declared.command.Command.TheVariants as command
 use Rattle.newt_spec_world.specs.declared.command.PartWord.{PartWord}
 use Rattle.newt_laws_world.specs.Worlds.{has_form, parts_fit, tags_fit}
-use Rattle.newt_laws_effects.specs.Effects.{Resolved, moves, needs, one, passing}
+use Rattle.newt_spec_world.specs.Effects.{Resolved, moves, needs, one, passing}
 use Rattle.newt_base.specs.declared.Refusal.TheVariants.{Path as NoPath, Limit, Index as BadIndex, Key as BadKey}
 use Rattle.newt_graph.specs.Graph.{RawGraph}
 use Rattle.newt_graph.specs.Meeting.{normal_form}

@@ -2,7 +2,7 @@
 use Rattle.std.specs.Prelude.{◌≡◌, ◌*◌, ℕ, Bool, true, false, IsTrue, List, Option, Result, Ok, Err, IfOk}
 use Rattle.newt_host.specs.Outside.{Outside}
 use Rattle.newt_laws_answers.specs.There.{OnUnit}
-use Rattle.newt_laws_effects.specs.Effects.{Resolved, effects, one}
+use Rattle.newt_spec_world.specs.Effects.{Resolved, effects, one}
 use Rattle.newt_spec_store.specs.Store.{Store}
 use Rattle.newt_spec_world.specs.Reply.{Reply}
 use Rattle.newt_spec_world.specs.World.{World, entry_in}

@@ -22,8 +22,8 @@ use newt_graph::Bytes;
 use newt_host::Host;
 use newt_objects_commit::patch_object;
 use newt_pagebook::PageBook;
-use newt_store_catalog::{Catalog, read_row};
 use newt_spec_change::Change;
+use newt_store_catalog::{Catalog, read_row};
 use newt_store_change::StoreFault;
 use std::alloc::Global;
 

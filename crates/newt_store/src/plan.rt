@@ -33,8 +33,8 @@ use newt_objects::Objects;
 use newt_objects_commit::{NewEntry, NewLarge};
 use newt_pagebook::{PageBook, Stop};
 use newt_soupdir::SoupRow;
-use newt_store_catalog::{Catalog, read_whole};
 use newt_spec_change::Change;
+use newt_store_catalog::{Catalog, read_whole};
 use newt_store_change::StoreFault;
 use std::alloc::{AllocError, Global};
 

@@ -32,8 +32,8 @@ use newt_host::{Host, Unit};
 use newt_pagebook::{BookFault, PageBook, Stop};
 use newt_path::Path;
 use newt_soupdir::Directory;
-use newt_store_catalog::{Catalog, Gatherer, Nothing, open_catalog, read_whole};
 use newt_spec_change::Change;
+use newt_store_catalog::{Catalog, Gatherer, Nothing, open_catalog, read_whole};
 use newt_store_change::{Entry, StoreFault};
 use std::alloc::{AllocError, Global};
 

@@ -17,8 +17,8 @@ use newt_base::{Sig, Uid};
 use newt_host::Host;
 use newt_keys::IndexSpec;
 use newt_pagebook::{PageBook, Stop};
-use newt_store::Store;
 use newt_spec_change::Change;
+use newt_store::Store;
 use newt_tags::TagTable;
 
 /// The graph of an entry that is moved. Where it is not there the change is refused, and nothing is
