@@ -1,6 +1,6 @@
 -- A device that fails while the cursors are settled, after a command that is done: it is that of the unit that the command has written or mounted.
-use Rattle.std.proofs.Common.{◌≡◌, ◌≢◌, ◌⊎◌, inl, inr, refl, ap, sym, ◌∙◌, subst, ℕ, ◌+◌, zero, suc, List, [], ◌∷◌, Bool, true, false, not, ◌&&◌, ◌||◌, cond, IsTrue, Option, Some, None, option_map, option_and_then, is_none, replicate, ◌==◌}
-use Rattle.std.proofs.lemmas.Bool.{eq-eqb, eqb-true, ne_eqb}
+use Rattle.std.proofs.Common.{◌≡◌, ◌≢◌, ◌⊎◌, inl, inr, refl, ap, sym, ◌∙◌, subst, ℕ, ◌+◌, zero, suc, List, [], ◌∷◌, Bool, true, false, not, ◌&&◌, cond, IsTrue, Option, Some, None, option_map, option_and_then, is_none, replicate}
+use Rattle.std.proofs.lemmas.Bool.{eq-eqb}
 use Rattle.std.specs.Prelude.{Result, Ok, Err, IfErr, filter_map, slice_get, unwrap_or}
 use Rattle.std.specs.List.{cons_option, enumerate_from}
 use Rattle.newt_base.specs.Refusals.{first_of}

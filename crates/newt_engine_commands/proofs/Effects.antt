@@ -1,6 +1,6 @@
 -- A command is obeyed by making the one change that it resolves to.
-use Rattle.std.proofs.Common.{arith, ◌≡◌, refl, ap, sym, ◌∙◌, subst, ℕ, ◌+◌, ◌==◌, ◌||◌, ◌&&◌, ◌≤◌, not, Bool, true}
-use Rattle.std.proofs.Common.{false, cond, IsTrue, List, [], ◌∷◌, Option, Some, None, replicate, is_none}
+use Rattle.std.proofs.Common.{arith, ◌≡◌, refl, ap, sym, ◌∙◌, subst, ℕ, ◌+◌, ◌||◌, ◌&&◌, ◌≤◌, not, Bool, true}
+use Rattle.std.proofs.Common.{false, IsTrue, List, [], ◌∷◌, Option, Some, None, replicate, is_none}
 use Rattle.std.specs.Prelude.{Result, Ok, Err, IfOk, IsSome, is_some, if◌then◌else◌}
 use Rattle.std.proofs.lemmas.Bool.{eq-eqb}
 use Rattle.newt_base.specs.Refusals.{first_of}
@@ -10,7 +10,7 @@ use Rattle.newt_host.specs.Outside.{NoFault, Outside}
 use Rattle.newt_host.proofs.Outside.{NoFault-append, OnDevices-append}
 use Rattle.newt_spec_graph.proofs.Lists.{both-ways, none-some, some-same}
 use Rattle.newt_spec_store.specs.Store.{Store}
-use Rattle.newt_spec_world.specs.World.{World, Device, lost, change_store, entry_in, mounted_store, store_on_unit}
+use Rattle.newt_spec_world.specs.World.{World, Device, lost, change_store, entry_in, store_on_unit}
 use Rattle.newt_spec_world.specs.Answer.{answer, fields}
 use Rattle.newt_spec_world.specs.Changed.{changed}
 use Rattle.newt_spec_world.specs.First.{media_of}
@@ -22,12 +22,12 @@ use Rattle.newt_spec_world.specs.declared.command.Command.TheVariants as command
 use Rattle.newt_laws_world.proofs.Kept.{Every, Wf}
 use Rattle.newt_laws_world.specs.Worlds.{OnMedia}
 use Rattle.newt_laws_answers.proofs.Answers.{done, refused}
-use Rattle.newt_laws_answers.proofs.Units.{is-mounted, is-there, on-changed}
+use Rattle.newt_laws_answers.proofs.Units.{is-there, on-changed}
 use Rattle.newt_laws_answers.specs.Bounds.{most_of, most_programmed}
 use Rattle.newt_laws_answers.specs.Fetched.{if_on, most_fetched, next_if_on, pages_there}
 use Rattle.newt_laws_answers.proofs.Fetched.{first-pages, named-pages}
 use Rattle.newt_laws_steps.specs.StandsFor.{seen, seen_on}
-use Rattle.newt_spec_change.specs.Change.{answer_of, bytes_fetched, bytes_of, changed_by, most_bytes, pages_of_entry, refusals}
+use Rattle.newt_spec_change.specs.Change.{answer_of, bytes_fetched, changed_by, most_bytes, pages_of_entry, refusals}
 use Rattle.newt_spec_change.specs.Change.{refusal_of}
 use Rattle.newt_store_change.specs.Faults.{Does}
 use Rattle.newt_spec_change.specs.declared.change.Change.{Change}

@@ -1,6 +1,5 @@
 -- What a command reaches is what is reached by what it did.
-use Rattle.std.proofs.Common.{◌≡◌, refl, ap, sym, ◌∙◌, ℕ, List, [], ◌∷◌, Bool, true, false, Option, Some, None, option_map, option_and_then}
-use Rattle.std.specs.Prelude.{Ok}
+use Rattle.std.proofs.Common.{◌≡◌, refl, ap, sym, ◌∙◌, ℕ, List, [], true, false, Option, Some, None, option_map, option_and_then}
 use Rattle.newt_base.specs.Refusals.{first_of}
 use Rattle.newt_spec_graph.proofs.Lists.{both-ways}
 use Rattle.newt_spec_store.specs.Store.{Store}
