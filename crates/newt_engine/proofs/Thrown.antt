@@ -27,9 +27,8 @@ use Rattle.newt_laws_steps.specs.Meant.{MountedSure, meant_by, over, over_device
 use Rattle.newt_laws_steps.specs.StandsFor.{Holds, IsKept, Marks, StandsFor, Turned, known, seen, seen_on}
 use Rattle.newt_laws_steps.proofs.Held.{stands-left, stands-sure}
 use Rattle.newt_laws_steps.proofs.Kept.{Device-kept, Goes-on, row-kept, stores-by, unsure-by}
-use Rattle.newt_laws_steps.proofs.Meant.{device-m, known-over}
+use Rattle.newt_laws_steps.proofs.Meant.{device-m, known-over, store-m}
 use Rattle.newt_laws_steps.proofs.MeantAnswer.{answer-m}
-use Rattle.newt_laws_steps.proofs.Meant.{device-m, store-m}
 use Rattle.newt_laws_steps.proofs.MeantRows.{first-m}
 use Rattle.newt_laws_steps.proofs.Stepping.{accepted}
 use Rattle.newt_laws_steps.proofs.StoodFor.{known-stands, thrown-stands}

@@ -8,7 +8,7 @@ use Rattle.newt_host.proofs.Moments.{Always-append, Always-map, Always-last}
 use Rattle.newt_spec_graph.specs.Lists.{Among}
 use Rattle.newt_spec_graph.proofs.Lists.{among-right, some-same, none-some, both-ways}
 use Rattle.newt_laws_world.proofs.Units.{same-or-not, device-other}
-use Rattle.newt_spec_store.specs.Store.{Store, Entry, entry_of, change_soup, add_entry, remove_entry, entry_at}
+use Rattle.newt_spec_store.specs.Store.{Store, Entry, entry_of, change_soup, add_entry, remove_entry, entry_at, soup_named}
 use Rattle.newt_spec_world.specs.declared.command.Command.{Command}
 use Rattle.newt_spec_world.specs.declared.command.Command.TheVariants as command
 use Rattle.newt_spec_world.specs.Reply.{Reply}
