@@ -27,7 +27,7 @@ use Rattle.newt_laws_world.specs.Cursors.{uses_cursors, with_cursors}
 use Rattle.newt_laws_world.specs.Settled.{IsSettled, MountedApart, moves_keys}
 use Rattle.newt_laws_world.specs.Worlds.{has_form}
 use Rattle.newt_laws_world.proofs.Kept.{Every, Wf}
-use Rattle.newt_store_change.specs.Change.{pages_of_entry}
+use Rattle.newt_spec_change.specs.Change.{pages_of_entry}
 use Rattle.newt_store_change.specs.declared.fault.StoreFault.{StoreFault}
 use Rattle.newt_engine_units.specs.Answers.{Answers}
 use Rattle.newt_engine_units.specs.Breaks.{FailsAlone, Meanwhile}

@@ -12,7 +12,8 @@ use newt_engine_card::Card;
 use newt_engine_cursors::reach_of;
 use newt_host::{Host, Unit};
 use newt_reply::Reply;
-use newt_store_change::{Change, Entry, StoreFault};
+use newt_spec_change::Change;
+use newt_store_change::{Entry, StoreFault};
 
 impl<C: Card> World<C> {
     /// Moves an entry to a soup of another store. A fault is the command's refusal, or the end of

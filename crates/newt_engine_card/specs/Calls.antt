@@ -13,10 +13,10 @@ use Rattle.newt_pagebook.specs.declared.book.Stop.TheVariants.{Memory}
 use Rattle.newt_spec_store.specs.Cost.{cost}
 use Rattle.newt_spec_store.specs.Keys.{Path}
 use Rattle.newt_spec_store.specs.Store.{Store, entry_at, new_store}
-use Rattle.newt_store_change.specs.Change.{changed_by, answer_of, refusals, most_bytes, bytes_fetched, pages_of_entry}
+use Rattle.newt_spec_change.specs.Change.{changed_by, answer_of, refusals, most_bytes, bytes_fetched, pages_of_entry}
 use Rattle.newt_store_change.specs.Entries.{ReadsLarge, entry_said, large_fetches}
 use Rattle.newt_store_change.specs.Faults.{Does, GoesOn, FaultsAt, IsRefused}
-use Rattle.newt_store_change.specs.declared.change.Change.{Change}
+use Rattle.newt_spec_change.specs.declared.change.Change.{Change}
 use Rattle.newt_store_change.specs.declared.entry.Entry.{Entry}
 use Rattle.newt_store_change.specs.declared.fault.StoreFault.{StoreFault}
 use Rattle.newt_engine_card.specs.Cards.{LeavesEither, OthersSame}

@@ -20,7 +20,8 @@ use newt_index::Index;
 use newt_keys::IndexSpec;
 use newt_pagebook::{BookFault, Stop};
 use newt_path::Path;
-use newt_store_change::{Change, Entry, StoreFault};
+use newt_spec_change::Change;
+use newt_store_change::{Entry, StoreFault};
 use newt_tags::TagTable;
 use std::alloc::Global;
 

@@ -15,7 +15,7 @@ use Rattle.newt_laws_answers.specs.There.{OnUnit}
 use Rattle.newt_store_change.specs.declared.fault.StoreFault.{StoreFault}
 use Rattle.newt_store_change.specs.declared.fault.StoreFault.TheVariants.{Refused, Stop}
 use Rattle.newt_engine_units.specs.declared.units.Units.{Units}
-use Rattle.newt_laws_effects.specs.Effects.{Resolved, passing}
+use Rattle.newt_spec_world.specs.Effects.{Resolved, passing}
 use Rattle.newt_engine_commands.specs.Plans.{IsFound}
 use Rattle.newt_engine_commands.specs.Declares.{has_parts, has_real, MayDeclare}
 use Rattle.newt_engine_units.specs.Stands.{card_at, world_of}

@@ -1,6 +1,6 @@
 -- A command is obeyed by making the one change that it resolves to.
-use Rattle.std.proofs.Common.{arith, ◌≡◌, refl, ap, sym, ◌∙◌, subst, ℕ, ◌+◌, ◌==◌, ◌||◌, ◌&&◌, ◌≤◌, not, Bool, true}
-use Rattle.std.proofs.Common.{false, cond, IsTrue, List, [], ◌∷◌, Option, Some, None, replicate, is_none}
+use Rattle.std.proofs.Common.{arith, ◌≡◌, refl, ap, sym, ◌∙◌, subst, ℕ, ◌+◌, ◌||◌, ◌&&◌, ◌≤◌, not, Bool, true}
+use Rattle.std.proofs.Common.{false, IsTrue, List, [], ◌∷◌, Option, Some, None, replicate, is_none}
 use Rattle.std.specs.Prelude.{Result, Ok, Err, IfOk, IsSome, is_some, if◌then◌else◌}
 use Rattle.std.proofs.lemmas.Bool.{eq-eqb}
 use Rattle.newt_base.specs.Refusals.{first_of}
@@ -10,7 +10,7 @@ use Rattle.newt_host.specs.Outside.{NoFault, Outside}
 use Rattle.newt_host.proofs.Outside.{NoFault-append, OnDevices-append}
 use Rattle.newt_spec_graph.proofs.Lists.{both-ways, none-some, some-same}
 use Rattle.newt_spec_store.specs.Store.{Store}
-use Rattle.newt_spec_world.specs.World.{World, Device, lost, change_store, entry_in, mounted_store, store_on_unit}
+use Rattle.newt_spec_world.specs.World.{World, Device, lost, change_store, entry_in, store_on_unit}
 use Rattle.newt_spec_world.specs.Answer.{answer, fields}
 use Rattle.newt_spec_world.specs.Changed.{changed}
 use Rattle.newt_spec_world.specs.First.{media_of}
@@ -22,22 +22,22 @@ use Rattle.newt_spec_world.specs.declared.command.Command.TheVariants as command
 use Rattle.newt_laws_world.proofs.Kept.{Every, Wf}
 use Rattle.newt_laws_world.specs.Worlds.{OnMedia}
 use Rattle.newt_laws_answers.proofs.Answers.{done, refused}
-use Rattle.newt_laws_answers.proofs.Units.{is-mounted, is-there, on-changed}
-use Rattle.newt_laws_answers.specs.Bounds.{most_programmed}
+use Rattle.newt_laws_answers.proofs.Units.{is-there, on-changed}
+use Rattle.newt_laws_answers.specs.Bounds.{most_of, most_programmed}
 use Rattle.newt_laws_answers.specs.Fetched.{if_on, most_fetched, next_if_on, pages_there}
 use Rattle.newt_laws_answers.proofs.Fetched.{first-pages, named-pages}
 use Rattle.newt_laws_steps.specs.StandsFor.{seen, seen_on}
-use Rattle.newt_store_change.specs.Change.{answer_of, bytes_fetched, bytes_of, changed_by, most_bytes, pages_of_entry, refusals}
-use Rattle.newt_store_change.specs.Change.{refusal_of}
+use Rattle.newt_spec_change.specs.Change.{answer_of, bytes_fetched, changed_by, most_bytes, pages_of_entry, refusals}
+use Rattle.newt_spec_change.specs.Change.{refusal_of}
 use Rattle.newt_store_change.specs.Faults.{Does}
-use Rattle.newt_store_change.specs.declared.change.Change.{Change}
+use Rattle.newt_spec_change.specs.declared.change.Change.{Change}
 use Rattle.newt_store_change.specs.declared.fault.StoreFault.{StoreFault}
 use Rattle.newt_store_change.specs.declared.fault.StoreFault.TheVariants.{Refused, Stop}
-use Rattle.newt_laws_effects.specs.Effects.{effects}
+use Rattle.newt_spec_world.specs.Effects.{effects}
+use Rattle.newt_spec_world.specs.Derived.{made, refusal, writes_of}
 use Rattle.newt_laws_effects.proofs.Found.{at}
-use Rattle.newt_laws_effects.specs.Derived.{most_of, of_store, refusal}
 use Rattle.newt_laws_effects.specs.Tells.{Tells, is_of_stores}
-use Rattle.newt_laws_effects.proofs.Most.{row-most}
+use Rattle.newt_laws_effects.proofs.Most.{one-most}
 use Rattle.newt_laws_effects.proofs.Refusing.{one-refusal, row-refusal}
 use Rattle.newt_laws_effects.proofs.Telling.{rows-tell}
 use Rattle.newt_engine_units.proofs.Costs.{after-read, call-after-read, costs-of, of-unit-most, on-costs, on-few}
@@ -78,7 +78,7 @@ module _ (w : World) (c : Command) (u : ℕ) (d : Change) (r : Resolves w c u d)
   world-is = tells.world_is r.of_stores
 
   pub written : writes w c u ≡ true
-  written = tells.writes_are u ∙ ap (λ b. b || false) (eq-eqb u u refl)
+  written = ap (λ x. writes_of (made x) u) r.is ∙ ap (λ b. b || false) (eq-eqb u u refl)
 
   pub answer-is : w.cursors ≡ replicate 32 None → refusal_of d r.row.blocks w.minute r.row.store ≡ None
       → answer w c ≡ (change_store w u (changed_by d w.minute), fields w (changed w c) c)
@@ -87,23 +87,11 @@ module _ (w : World) (c : Command) (u : ℕ) (d : Change) (r : Resolves w c u d)
 
   -- it programs no more than the command may
   pub most-is : most_bytes d r.row.blocks w.minute r.row.store ≤ most_programmed w c u
-  unfolding most_bytes
-  most-is = low (most_bytes d r.row.blocks w.minute r.row.store) (most_programmed w c u) (row-most w c u r.formed ∙ ap (λ x. most_of w x u) r.is ∙ same)
+  unfolding most_programmed
+  most-is = low _ _ (ap (λ x. most_of w x u) r.is ∙ one-most w u r.row.blocks r.row.store d r.row.on)
     where
       low : (a b : ℕ) → b ≡ a → a ≤ b
       low a b e = omega (arith, e)
-
-      bytes : ℕ
-      bytes = bytes_of d w.minute r.row.store
-
-      plus : (n : ℕ) → n + 0 ≡ n
-      plus n = omega arith
-
-      same : most_of w (Ok (at u d ∷ [])) u ≡ most_bytes d r.row.blocks w.minute r.row.store
-      same =
-          ap (λ o. cond (is_some o) 0 (cond (u == u) (of_store (mounted_store w u) 0 (λ s. bytes_of d w.minute s)) 0 + 0)) (one-refusal w u r.row.blocks r.row.store d r.row.on)
-          ∙ ap (λ (n : ℕ). cond (is_some (refusal_of d r.row.blocks w.minute r.row.store)) 0 n)
-          ((λ i. cond (eq-eqb u u refl i) (of_store (is-mounted w u r.row.blocks r.row.store r.row.on i) 0 (λ s. bytes_of d w.minute s)) 0 + 0) ∙ plus bytes)
 
 -- ---- of a call
 

@@ -15,9 +15,9 @@ use Rattle.newt_spec_world.specs.declared.command.Command.{Command}
 use Rattle.newt_laws_answers.specs.There.{OnUnit}
 use Rattle.newt_laws_answers.specs.Tests.{unit_checks, soup_checks, entry_checks, both_checks}
 use Rattle.newt_laws_answers.proofs.Units.{is-mounted}
-use Rattle.newt_laws_effects.specs.Effects.{Resolved, both, effects, in_both, in_default, in_entry, in_soup, in_store, needs, one}
+use Rattle.newt_spec_world.specs.Effects.{Resolved, both, effects, in_both, in_default, in_entry, in_soup, in_store, needs, one}
 use Rattle.newt_laws_effects.proofs.Found.{both-found, soup-found, store-found}
-use Rattle.newt_store_change.specs.Change.{pages_of_entry}
+use Rattle.newt_spec_change.specs.Change.{pages_of_entry}
 use Rattle.newt_store_change.specs.Entries.{ReadsEntry}
 use Rattle.newt_store_change.specs.Faults.{IsRefusal, NoDevice, RefusesBy}
 use Rattle.newt_store_change.specs.declared.fault.StoreFault.{StoreFault}

@@ -11,7 +11,7 @@ use Rattle.newt_spec_world.specs.declared.command.Command.{Command}
 use Rattle.newt_spec_world.specs.declared.command.Command.TheVariants as command
 use Rattle.newt_spec_world.specs.declared.command.PartWord.{PartWord}
 use Rattle.newt_laws_world.specs.Worlds.{has_form, parts_fit, tags_fit}
-use Rattle.newt_laws_effects.specs.Effects.{Resolved, moves, needs, one, passing}
+use Rattle.newt_spec_world.specs.Effects.{Resolved, moves, needs, one, passing}
 use Rattle.newt_base.specs.declared.Refusal.TheVariants.{Path as NoPath, Limit, Index as BadIndex, Key as BadKey}
 use Rattle.newt_graph.specs.Graph.{RawGraph}
 use Rattle.newt_graph.specs.Meeting.{normal_form}
@@ -24,7 +24,7 @@ use Rattle.newt_engine_commands.specs.Declares.{has_parts, has_real}
 use Rattle.newt_engine_commands.specs.Plans.{declares, names_entry}
 use Rattle.newt_laws_effects.proofs.Found.{at}
 use Rattle.newt_laws_effects.specs.Tells.{is_of_stores}
-use Rattle.newt_store_change.specs.declared.change.Change.TheVariants as change
+use Rattle.newt_spec_change.specs.declared.change.Change.TheVariants as change
 use Rattle.newt_engine_units.specs.Found.{HasSoup}
 
 -- how commands go on with what was found

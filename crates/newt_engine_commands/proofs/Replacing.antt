@@ -6,7 +6,7 @@ use Rattle.newt_graph.specs.Graph.{RawGraph, IsGraph}
 use Rattle.newt_graph.specs.Meeting.{normal_form}
 use Rattle.newt_spec_graph.specs.Limits.{is_within}
 use Rattle.newt_spec_world.specs.Refused.{on_some}
-use Rattle.newt_laws_effects.specs.Effects.{Resolved, passing}
+use Rattle.newt_spec_world.specs.Effects.{Resolved, passing}
 use Rattle.newt_engine_commands.specs.Plans.{IsFound}
 use Rattle.newt_path.specs.Put.{IsFormOf, PassesALimit}
 use Rattle.newt_path.specs.declared.fault.SetFault.{SetFault}

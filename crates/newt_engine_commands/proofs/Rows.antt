@@ -28,10 +28,10 @@ use Rattle.newt_laws_answers.proofs.Refusals.{added-uid}
 use Rattle.newt_laws_answers.proofs.Units.{is-mounted}
 use Rattle.newt_laws_answers.specs.Fetched.{if_on, means_entries, most_fetched, next_if_on, pages_there}
 use Rattle.newt_laws_answers.specs.There.{OnUnit}
-use Rattle.newt_store_change.specs.Change.{answer_of, bytes_fetched, pages_of_entry}
-use Rattle.newt_store_change.specs.declared.change.Change.{Change}
-use Rattle.newt_store_change.specs.declared.change.Change.TheVariants as change
-use Rattle.newt_laws_effects.specs.Effects.{Effect, Resolved, effects, moves, needs, passing, one as only}
+use Rattle.newt_spec_change.specs.Change.{answer_of, bytes_fetched, pages_of_entry}
+use Rattle.newt_spec_change.specs.declared.change.Change.{Change}
+use Rattle.newt_spec_change.specs.declared.change.Change.TheVariants as change
+use Rattle.newt_spec_world.specs.Effects.{Effect, Resolved, effects, moves, needs, passing, one as only}
 use Rattle.newt_laws_effects.specs.Tells.{is_of_stores}
 use Rattle.newt_laws_effects.proofs.Found.{InBoth, at, by-name, by-sig, in-both, in-default, in-entry, in-soup, in-store, needed, passed}
 use Rattle.newt_engine_card.specs.Bounds.{of_unit}

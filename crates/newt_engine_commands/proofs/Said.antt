@@ -16,9 +16,9 @@ use Rattle.newt_spec_world.specs.declared.command.Command.{Command}
 use Rattle.newt_laws_answers.specs.There.{OnUnit}
 use Rattle.newt_laws_answers.proofs.Changes.{SaidAs}
 use Rattle.newt_laws_answers.proofs.Units.{store-alike}
-use Rattle.newt_store_change.specs.Change.{bytes_fetched, changed_by, answer_of, refusals}
+use Rattle.newt_spec_change.specs.Change.{bytes_fetched, changed_by, answer_of, refusals}
 use Rattle.newt_store_change.specs.Faults.{Does}
-use Rattle.newt_store_change.specs.declared.change.Change.{Change}
+use Rattle.newt_spec_change.specs.declared.change.Change.{Change}
 use Rattle.newt_store_change.specs.declared.fault.StoreFault.{StoreFault}
 use Rattle.newt_store_change.specs.declared.fault.StoreFault.TheVariants.{Refused, Stop}
 use Rattle.newt_engine_card.specs.Bounds.{CostsOn, FetchesOn}

@@ -2,14 +2,14 @@
 use Rattle.std.specs.Prelude.{◌≡◌, ◌*◌, ℕ, Bool, true, false, IsTrue, List, Option, Result, Ok, Err, IfOk}
 use Rattle.newt_host.specs.Outside.{Outside}
 use Rattle.newt_laws_answers.specs.There.{OnUnit}
-use Rattle.newt_laws_effects.specs.Effects.{Resolved, effects, one}
+use Rattle.newt_spec_world.specs.Effects.{Resolved, effects, one}
 use Rattle.newt_spec_store.specs.Store.{Store}
 use Rattle.newt_spec_world.specs.Reply.{Reply}
 use Rattle.newt_spec_world.specs.World.{World, entry_in}
 use Rattle.newt_spec_world.specs.declared.command.Command.{Command}
 use Rattle.newt_spec_world.specs.declared.command.Command.TheVariants as command
-use Rattle.newt_store_change.specs.Change.{answer_of, pages_of_entry}
-use Rattle.newt_store_change.specs.declared.change.Change.{Change}
+use Rattle.newt_spec_change.specs.Change.{answer_of, pages_of_entry}
+use Rattle.newt_spec_change.specs.declared.change.Change.{Change}
 use Rattle.newt_store_change.specs.declared.fault.StoreFault.{StoreFault}
 use Rattle.newt_store_change.specs.declared.fault.StoreFault.TheVariants.{Refused, Stop}
 use Rattle.newt_engine_card.specs.Bounds.{FetchesAtMost, of_unit}

@@ -14,8 +14,9 @@ use newt_engine_card::Card;
 use newt_engine_units::Units;
 use newt_host::{Host, Unit};
 use newt_path::{large_at, set_at};
+use newt_spec_change::Change;
 use newt_spec_world::Command;
-use newt_store_change::{Change, Entry, StoreFault};
+use newt_store_change::{Entry, StoreFault};
 
 /// The most symbols of a tags declaration.
 const MOST_TAGS: usize = 64;

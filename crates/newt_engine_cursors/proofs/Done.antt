@@ -1,9 +1,8 @@
 -- What a command reaches is what is reached by what it did.
-use Rattle.std.proofs.Common.{◌≡◌, refl, ap, sym, ◌∙◌, ℕ, List, [], ◌∷◌, Bool, true, false, Option, Some, None, option_map, option_and_then}
-use Rattle.std.specs.Prelude.{Ok}
+use Rattle.std.proofs.Common.{◌≡◌, refl, ap, sym, ◌∙◌, ℕ, List, [], true, false, Option, Some, None, option_map, option_and_then}
 use Rattle.newt_base.specs.Refusals.{first_of}
 use Rattle.newt_spec_graph.proofs.Lists.{both-ways}
-use Rattle.newt_spec_store.specs.Store.{Entry, Store, Soup, entry_at, soup_of}
+use Rattle.newt_spec_store.specs.Store.{Store}
 use Rattle.newt_spec_world.specs.Answer.{answer, fields, or_nil}
 use Rattle.newt_spec_world.specs.Changed.{changed}
 use Rattle.newt_spec_world.specs.Refused.{checks}
@@ -11,17 +10,18 @@ use Rattle.newt_spec_world.specs.Reply.{Reply}
 use Rattle.newt_spec_world.specs.World.{World, Device, change_store, device, mounted_store, settle, store_if_mounted, store_of}
 use Rattle.newt_spec_world.specs.declared.command.Command.{Command}
 use Rattle.newt_spec_world.specs.declared.command.Command.TheVariants as command
-use Rattle.newt_store_change.specs.Change.{answer_of, changed_by, changed_soup, dropped_soup, moved_entry}
-use Rattle.newt_store_change.specs.declared.change.Change.{Change}
-use Rattle.newt_store_change.specs.declared.change.Change.TheVariants.{MakeSoup, DropSoup, Add, Remove, Move, Replace, Patch, AddIndex, DropIndex, SetTags, SetInfo}
+use Rattle.newt_spec_change.specs.Change.{answer_of, changed_by}
+use Rattle.newt_spec_change.specs.declared.change.Change.{Change}
+use Rattle.newt_spec_change.specs.declared.change.Change.TheVariants.{MakeSoup, DropSoup, Add, Remove, Move, Replace, Patch, AddIndex, DropIndex, SetTags, SetInfo}
 use Rattle.newt_laws_world.proofs.Kept.{Every, Wf}
 use Rattle.newt_laws_world.proofs.Units.{device-same}
 use Rattle.newt_laws_answers.proofs.Units.{is-mounted, on-changed}
 use Rattle.newt_laws_answers.specs.There.{OnUnit}
-use Rattle.newt_laws_reach.specs.Reach.{Reach, nowhere, on_entry, on_soup, on_store, reach, store_reach}
-use Rattle.newt_laws_effects.specs.Effects.{effects, one}
-use Rattle.newt_laws_effects.specs.Derived.{of_store, or_reach, reach_by}
+use Rattle.newt_laws_reach.specs.Reach.{Reach, nowhere, on_entry, on_soup, on_store, or_reach, reach, reach_by, store_reach}
+use Rattle.newt_spec_world.specs.Effects.{effects, one}
+use Rattle.newt_spec_world.specs.Derived.{of_store}
 use Rattle.newt_laws_effects.specs.Tells.{is_mount, is_of_stores}
+use Rattle.newt_laws_effects.proofs.Making.{sig-kept}
 use Rattle.newt_laws_effects.proofs.Telling.{rows-tell}
 use Rattle.newt_engine_units.specs.Effects.{deed_of, effect_of}
 use Rattle.newt_engine_cursors.specs.Reached.{deed_reach, reach_done}
@@ -52,32 +52,6 @@ pub done-reaches : (w : World) (c : Command) (u : ℕ) (d : Change) (s : Store) 
 done-reaches w c u d s all is mounted plain = (rows-tell w c _ all is).reach_is plain
     ∙ ap (λ o. or_reach (of_store o nowhere (λ t. reach_by t d)) nowhere) mounted ∙ alone (reach_by s d) ∙ deed-reaches d s
 
--- its store keeps its signature
-soup-sig : (o : Option Soup) (f : Soup → Soup) (s : Store) → (changed_soup o f s).sig ≡ s.sig
-soup-sig None f s = refl
-soup-sig (Some p) f s = refl
-
-dropped-sig : (o : Option Soup) (s : Store) → (dropped_soup o s).sig ≡ s.sig
-dropped-sig None s = refl
-dropped-sig (Some p) s = refl
-
-moved-sig : (e : Option Entry) (source target : Option Soup) (now : ℕ) (s : Store) → (moved_entry e source target now s).sig ≡ s.sig
-moved-sig None source target now s = refl
-moved-sig (Some e) source target now s = soup-sig source _ _ ∙ soup-sig target _ s
-
-same-sig : (d : Change) (now : ℕ) (s : Store) → (changed_by d now s).sig ≡ s.sig
-same-sig (MakeSoup name) now s = refl
-same-sig (DropSoup sig) now s = dropped-sig (soup_of sig s) s
-same-sig (Add sig g) now s = soup-sig (soup_of sig s) _ s
-same-sig (Remove sig uid) now s = soup-sig (soup_of sig s) _ s
-same-sig (Move source uid target) now s = moved-sig (entry_at source uid s) (soup_of source s) (soup_of target s) now s
-same-sig (Replace sig uid g) now s = soup-sig (soup_of sig s) _ s
-same-sig (Patch sig uid node at bytes) now s = soup-sig (soup_of sig s) _ s
-same-sig (AddIndex sig spec) now s = soup-sig (soup_of sig s) _ s
-same-sig (DropIndex sig paths) now s = soup-sig (soup_of sig s) _ s
-same-sig (SetTags sig table) now s = soup-sig (soup_of sig s) _ s
-same-sig (SetInfo sig info) now s = soup-sig (soup_of sig s) _ s
-
 unmounted : (c : Command) → is_of_stores c ≡ true → is_mount c ≡ false
 unfolding is_of_stores
 unmounted (command.Mount u) h = absurd (both-ways h)
@@ -89,7 +63,7 @@ pub done-after : (w : World) (c : Command) (u blocks : ℕ) (d : Change) (s : St
 done-after w c u blocks d s all stores is on =
     ap (λ (v : World). reach_done (mounted_store v u) (effect_of u d (answer_of d s))) ((rows-tell w c _ all is).world_is stores)
     ∙ ap (λ o. reach_done o (effect_of u d (answer_of d s))) (is-mounted (change_store w u (changed_by d w.minute)) u blocks (changed_by d w.minute s) (on-changed w u blocks s (changed_by d w.minute) on))
-    ∙ ap (λ n. deed_reach n (deed_of d) (answer_of d s)) (same-sig d w.minute s)
+    ∙ ap (λ n. deed_reach n (deed_of d) (answer_of d s)) (sig-kept d w.minute s)
     ∙ sym (done-reaches w c u d s all is (is-mounted w u blocks s on) (unmounted c stores))
 
 -- ---- a mount

@@ -17,7 +17,7 @@ use Rattle.newt_laws_world.specs.Settled.{MountedApart}
 use Rattle.newt_tags.specs.Masks.{number}
 use Rattle.newt_cursor.specs.Desk.{is_on, keyed, stands_on}
 use Rattle.newt_laws_reach.specs.Reach.{Reach, entry_reached, is_reached, nowhere, on_entry, on_soup, on_store, reach, reaches, settle_reached, settle_where}
-use Rattle.newt_store_change.specs.Change.{pages_of_entry}
+use Rattle.newt_spec_change.specs.Change.{pages_of_entry}
 use Rattle.newt_engine_hits.specs.Present.{Present, entry_in_store, has_sig, identity, keyed_in, present_in}
 use Rattle.newt_engine_cursors.specs.Keyed.{given, key_now, key_where, stands_on as standing}
 use Rattle.newt_query.specs.Filter.{asks_texts}

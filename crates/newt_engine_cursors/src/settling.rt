@@ -14,7 +14,7 @@ ghost use Rattle.newt_spec_world.specs.World.{change_at, flat, mounted_store};
 ghost use Rattle.newt_laws_reach.specs.Reach.{entry_reached, is_of_one, is_reached, on_entry};
 ghost use Rattle.newt_laws_reach.specs.Reach.{reaches, settle_reached, settle_where};
 ghost use Rattle.newt_laws_world.specs.Settled.{MountedApart};
-ghost use Rattle.newt_store_change.specs.Change.{pages_of_entry};
+ghost use Rattle.newt_spec_change.specs.Change.{pages_of_entry};
 ghost use Rattle.newt_engine_card.specs.Bounds.{FetchesAtMost};
 ghost use Rattle.newt_engine_units.specs.Breaks.{AtStop};
 ghost use Rattle.newt_engine_units.specs.Stands.{Eight, Stands, world_of};

@@ -22,7 +22,7 @@ use Rattle.newt_laws_hits.proofs.Origins.{same-looked-up}
 use Rattle.newt_query.specs.Kept.{kept_key}
 use Rattle.newt_query.proofs.Keeping.{kept-is}
 use Rattle.newt_engine_hits.specs.Searched.{located_in}
-use Rattle.newt_store_change.specs.Change.{pages_of_entry}
+use Rattle.newt_spec_change.specs.Change.{pages_of_entry}
 use Rattle.newt_store_change.specs.Entries.{entry_said, plain_entry}
 use Rattle.newt_store_change.specs.declared.entry.Entry as code
 use Rattle.newt_engine_card.specs.Bounds.{FetchesAtMost, of_unit}

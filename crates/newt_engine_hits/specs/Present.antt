@@ -8,7 +8,7 @@ use Rattle.newt_spec_query.specs.Cursor.{same_identity}
 use Rattle.newt_spec_world.specs.World.{World, hits_of, mounted, mounted_stores}
 use Rattle.newt_spec_world.specs.Answer.{spot_of}
 use Rattle.newt_query.specs.Kept.{kept_key}
-use Rattle.newt_store_change.specs.Change.{pages_of_entry}
+use Rattle.newt_spec_change.specs.Change.{pages_of_entry}
 use Rattle.newt_store_change.specs.Entries.{plain_entry}
 use Rattle.newt_engine_card.specs.Bounds.{of_unit}
 use Rattle.newt_engine_hits.specs.declared.present.Present as found

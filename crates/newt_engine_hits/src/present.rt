@@ -19,7 +19,7 @@ ghost use Rattle.newt_engine_card.specs.Bounds.{FetchesAtMost, of_unit};
 ghost use Rattle.newt_engine_units.specs.Breaks.{AtStop};
 ghost use Rattle.newt_engine_units.specs.Faces.{faces_of};
 ghost use Rattle.newt_engine_units.specs.Stands.{Eight, Stands, world_of};
-ghost use Rattle.newt_store_change.specs.Change.{pages_of_entry};
+ghost use Rattle.newt_spec_change.specs.Change.{pages_of_entry};
 ghost use Rattle.newt_store_change.specs.Entries.{entry_said};
 ghost use Rattle.newt_engine_hits.specs.Present.{IsCarried, IsPresent, entry_in_store};
 ghost use Rattle.newt_engine_hits.specs.Present.{entry_there, fetched_there, has_sig, identity};

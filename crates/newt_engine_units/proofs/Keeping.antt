@@ -3,7 +3,7 @@ use Rattle.std.proofs.Common.{refl, ◌∙◌, ℕ, Option, List, Bool}
 use Rattle.std.specs.Prelude.{Result}
 use Rattle.newt_host.specs.Outside.{Outside}
 use Rattle.newt_spec_store.specs.Store.{Store}
-use Rattle.newt_store_change.specs.declared.change.Change.{Change}
+use Rattle.newt_spec_change.specs.declared.change.Change.{Change}
 use Rattle.newt_store_change.specs.declared.fault.StoreFault.{StoreFault}
 use Rattle.newt_engine_units.specs.Calls.{AreRead, Changes}
 use Rattle.newt_engine_units.specs.Kept.{KeepsUnits}

@@ -15,7 +15,7 @@ use Rattle.newt_spec_world.specs.Step.{thrown_out}
 use Rattle.newt_spec_world.specs.World.{World, lost}
 use Rattle.newt_laws_steps.specs.StandsFor.{seen}
 use Rattle.newt_laws_answers.specs.Fetched.{means_entries, most_fetched}
-use Rattle.newt_store_change.specs.declared.change.Change.{Change}
+use Rattle.newt_spec_change.specs.declared.change.Change.{Change}
 use Rattle.newt_store_change.specs.Faults.{GoesOn, HasFaultCause, IsEnd, IsRefusal, NoDevice, RefusesBy, set_fault}
 use Rattle.newt_store_change.specs.declared.fault.StoreFault.{StoreFault}
 use Rattle.newt_store_change.specs.declared.fault.StoreFault.TheVariants.{Refused, Stop}

@@ -21,10 +21,10 @@ use Rattle.newt_spec_world.specs.Answer.{answer}
 use Rattle.newt_laws_answers.specs.Tests.{formatted}
 use Rattle.newt_laws_answers.specs.There.{OnUnit}
 use Rattle.newt_laws_steps.specs.StandsFor.{seen}
-use Rattle.newt_store_change.specs.Change.{changed_by, answer_of, refusals, refusal_of, most_bytes, bytes_fetched, pages_of_entry}
+use Rattle.newt_spec_change.specs.Change.{changed_by, answer_of, refusals, refusal_of, most_bytes, bytes_fetched, pages_of_entry}
 use Rattle.newt_store_change.specs.Entries.{ReadsLarge, entry_said, large_fetches}
 use Rattle.newt_store_change.specs.Faults.{Does, GoesOn, HasFaultCause, IsEnd}
-use Rattle.newt_store_change.specs.declared.change.Change.{Change}
+use Rattle.newt_spec_change.specs.declared.change.Change.{Change}
 use Rattle.newt_store_change.specs.declared.entry.Entry.{Entry}
 use Rattle.newt_store_change.specs.declared.fault.StoreFault.{StoreFault}
 use Rattle.newt_store_change.specs.declared.fault.StoreFault.TheVariants.{Stop as Ends}

@@ -1,10 +1,10 @@
 -- What a change did to the store of a unit. All of it is this project's own.
 use Rattle.std.specs.Prelude.{ℕ, Result, Ok, Err}
-use Rattle.newt_store_change.specs.declared.change.Change.{Change}
-use Rattle.newt_store_change.specs.declared.change.Change.TheVariants.{MakeSoup, DropSoup, Add}
-use Rattle.newt_store_change.specs.declared.change.Change.TheVariants.{Remove, Move, Replace, Patch}
-use Rattle.newt_store_change.specs.declared.change.Change.TheVariants.{AddIndex, DropIndex, SetTags}
-use Rattle.newt_store_change.specs.declared.change.Change.TheVariants.{SetInfo}
+use Rattle.newt_spec_change.specs.declared.change.Change.{Change}
+use Rattle.newt_spec_change.specs.declared.change.Change.TheVariants.{MakeSoup, DropSoup, Add}
+use Rattle.newt_spec_change.specs.declared.change.Change.TheVariants.{Remove, Move, Replace, Patch}
+use Rattle.newt_spec_change.specs.declared.change.Change.TheVariants.{AddIndex, DropIndex, SetTags}
+use Rattle.newt_spec_change.specs.declared.change.Change.TheVariants.{SetInfo}
 use Rattle.newt_store_change.specs.declared.fault.StoreFault.{StoreFault}
 use Rattle.newt_engine_units.specs.declared.effects.Deed.{Deed}
 use Rattle.newt_engine_units.specs.declared.effects.Deed.TheVariants as deed

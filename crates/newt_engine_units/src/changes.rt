@@ -2,7 +2,7 @@
 ghost use Rattle.std.specs.Prelude.{◌≡◌, ◌*◌, ℕ, true, IsTrue, IfOk};
 ghost use Rattle.newt_spec_store.specs.Store.{Store as Plain, entry_at};
 ghost use Rattle.newt_laws_answers.specs.There.{OnUnit};
-ghost use Rattle.newt_store_change.specs.Change.{pages_of_entry};
+ghost use Rattle.newt_spec_change.specs.Change.{pages_of_entry};
 ghost use Rattle.newt_store_change.specs.Entries.{ReadsEntry};
 ghost use Rattle.newt_engine_card.specs.Bounds.{FetchesAtMost, of_unit};
 ghost use Rattle.newt_engine_units.specs.Calls.{AreRead, Changes, Ended, Fetches, FetchesLarge};
@@ -17,7 +17,8 @@ use newt_graph::Bytes;
 use newt_host::{Host, Unit};
 use newt_pagebook::Stop;
 use newt_path::Path;
-use newt_store_change::{Change, Entry, StoreFault};
+use newt_spec_change::Change;
+use newt_store_change::{Entry, StoreFault};
 
 impl<C: Card> Units<C> {
     /// Makes a change of a store that is mounted, at the present minute, and answers the new id or

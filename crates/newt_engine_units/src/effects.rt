@@ -4,7 +4,7 @@ ghost use Rattle.newt_engine_units.specs.Effects.{deed_of};
 
 use newt_base::{Sig, Uid};
 use newt_host::Unit;
-use newt_store_change::Change;
+use newt_spec_change::Change;
 
 /// What was done to a store, without the graphs and the bytes of the change.
 #[derive(Clone, Copy, PartialEq, Eq, Debug)]

@@ -26,6 +26,7 @@ use Rattle.newt_spec_world.specs.Answer.{answer, answered, fields, or_nil}
 use Rattle.newt_spec_world.specs.Changed.{changed}
 use Rattle.newt_spec_world.specs.Refused.{checks, full, on_some}
 use Rattle.newt_spec_world.specs.Reply as replies
+use Rattle.newt_spec_world.specs.Effects.{effects}
 use Rattle.newt_spec_world.specs.Step.{Step, found, halfway, plain as answers, thrown, world_thrown}
 use Rattle.newt_spec_world.specs.World.{World, change_at, settle}
 use Rattle.newt_spec_world.specs.declared.command.Command.{Command}
@@ -161,6 +162,7 @@ module _ {C : Type 0} {reads : List ℕ → Option Store} {place : C → ℕ} {s
 
   -- and so is each image
   same-room : IsTrue told → (x n : ℕ) → IsOpenFor n (image x o.now) → IsOpenFor n (image x p.now)
+  unfolding effects
   same-room t x n room = subst (λ c. IsOpenFor n (bytes_after c)) (sym (a.beside t x refl refl (λ k. cc))) room
 
   module _ (n : ℕ) (turn : IsTrue told → (rest : List Command) × (asked_in_turn (known_whole reads old o) (command.Save n) ≡ command.Get u s uid ∷ rest)) where

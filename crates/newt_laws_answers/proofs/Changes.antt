@@ -3,9 +3,9 @@ use Rattle.std.proofs.Common.{◌≡◌, ℕ, true, false, [], ◌∷◌, Some}
 use Rattle.newt_base.specs.Refusals.{Checks, first_of}
 use Rattle.newt_graph.specs.Graph.{RawGraph}
 use Rattle.newt_spec_store.specs.Store.{Store, Soup, Entry, entry_of, change_soup, add_entry, remove_entry, soup_of}
-use Rattle.newt_store_change.specs.Change.{changed_by, refusals, most_bytes}
-use Rattle.newt_store_change.specs.declared.change.Change.{Change}
-use Rattle.newt_store_change.specs.declared.change.Change.TheVariants as change
+use Rattle.newt_spec_change.specs.Change.{changed_by, refusals, most_bytes}
+use Rattle.newt_spec_change.specs.declared.change.Change.{Change}
+use Rattle.newt_spec_change.specs.declared.change.Change.TheVariants as change
 use Rattle.newt_laws_answers.specs.Bounds.{change_bytes, unless}
 use Rattle.newt_laws_answers.proofs.Tests.{add_tests}
 use Rattle.newt_laws_answers.proofs.Refusals.{add-tests, added, remove-tests, removed}

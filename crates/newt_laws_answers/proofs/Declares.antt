@@ -1,6 +1,6 @@
 -- Indexes and tags: declared, removed and shown.
 use Rattle.newt_spec_query.specs.Spec.{is_nil}
-use Rattle.newt_store_change.specs.Change.{is_bad_info, is_large_info}
+use Rattle.newt_spec_change.specs.Change.{is_bad_info, is_large_info}
 use Rattle.newt_spec_store.specs.Valid.{is_no_large}
 use Rattle.newt_spec_nsof.specs.Flat.{flat, value_text, word_text}
 use Rattle.newt_spec_graph.specs.Graph.{is_frame, object}

@@ -7,7 +7,7 @@ use Rattle.newt_spec_query.specs.Cursor.{Cursor}
 use Rattle.newt_spec_world.specs.World.{World, default_unit, entry_in}
 use Rattle.newt_spec_world.specs.declared.command.Command.{Command}
 use Rattle.newt_laws_world.specs.Cursors.{with_cursors}
-use Rattle.newt_store_change.specs.Change.{pages_of_entry}
+use Rattle.newt_spec_change.specs.Change.{pages_of_entry}
 use Rattle.newt_laws_answers.specs.Fetched.{Meant, named, next, next_in_default, all_on_unit, entries_meant, if_on, next_if_on, meant, pages_there}
 
 -- one entry

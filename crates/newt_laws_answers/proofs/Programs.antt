@@ -8,9 +8,9 @@ use Rattle.newt_laws_answers.specs.Bounds.{change_bytes, unless}
 use Rattle.newt_laws_answers.proofs.Tests.{add_tests}
 use Rattle.newt_spec_store.specs.Cost.{entry_pages, pages_bytes}
 use Rattle.newt_spec_store.specs.Store.{Store as Plain, Soup, Entry, entry_of, change_soup, add_entry, remove_entry, soup_of, entry_at, next_uid_of}
-use Rattle.newt_store_change.specs.Change.{changed_by, refusals, refusal_of, entry_added, pages_if, pages_of_entry, pages_removed, pages_put, pages_gone, bytes_of, most_bytes, writes_directory}
-use Rattle.newt_store_change.specs.declared.change.Change.{Change}
-use Rattle.newt_store_change.specs.declared.change.Change.TheVariants as change
+use Rattle.newt_spec_change.specs.Change.{changed_by, refusals, refusal_of, entry_added, pages_if, pages_of_entry, pages_removed, pages_put, pages_gone, bytes_of, most_bytes, writes_directory}
+use Rattle.newt_spec_change.specs.declared.change.Change.{Change}
+use Rattle.newt_spec_change.specs.declared.change.Change.TheVariants as change
 use Rattle.newt_laws_answers.proofs.Refusals.{entry-there, add-tests, added, remove-tests, removed}
 
 -- the pages of one entry

@@ -18,8 +18,8 @@ use Rattle.newt_spec_graph.specs.Larges.{bytes_of_large}
 use Rattle.newt_spec_world.specs.Changed.{patch_node, patched_at}
 use Rattle.newt_spec_store.specs.Store.{Store as Plain, Soup, Entry, TagTable, entry_of, change_soup, change_entry, drop_soup, add_entry, remove_entry, soup_of, entry_at, next_uid_of, with_index, without_index, with_graph, with_tags, with_info}
 use Rattle.newt_spec_store.specs.StoreOf.{with_bytes}
-use Rattle.newt_store_change.specs.Change.{changed_by, answer_of, refusals, changed_soup, dropped_soup, moved_entry, bytes_in, with_patch, patched_entry, large_in_entry, ends_past, has_no_ids, is_too_large, is_bad_info, is_large_info, specs_of}
-use Rattle.newt_store_change.specs.declared.change.Change.TheVariants as change
+use Rattle.newt_spec_change.specs.Change.{changed_by, answer_of, refusals, changed_soup, dropped_soup, moved_entry, bytes_in, with_patch, patched_entry, large_in_entry, ends_past, has_no_ids, is_too_large, is_bad_info, is_large_info, specs_of}
+use Rattle.newt_spec_change.specs.declared.change.Change.TheVariants as change
 
 -- the entry of a soup that is there
 pub entry-there : (sig uid : ℕ) (s : Plain) (p : Soup) (e : Entry) → soup_of sig s ≡ Some p → entry_of uid p ≡ Some e → entry_at sig uid s ≡ Some e

@@ -15,8 +15,8 @@ use Rattle.newt_spec_world.specs.Refused.{checks, on_some, soup_limit, no_more_s
 use Rattle.newt_spec_world.specs.Answer.{answer, fields, or_nil}
 use Rattle.newt_laws_answers.specs.Tests.{unit_checks}
 use Rattle.newt_laws_answers.specs.There.{OnUnit}
-use Rattle.newt_store_change.specs.Change.{refusals}
-use Rattle.newt_store_change.specs.declared.change.Change.TheVariants.{MakeSoup}
+use Rattle.newt_spec_change.specs.Change.{refusals}
+use Rattle.newt_spec_change.specs.declared.change.Change.TheVariants.{MakeSoup}
 use Rattle.newt_laws_answers.proofs.Units.{on-changed, is-mounted, soup-named}
 use Rattle.newt_laws_answers.proofs.Answers.{done, refused, unit-passes, full-is}
 

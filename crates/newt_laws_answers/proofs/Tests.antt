@@ -9,7 +9,7 @@ use Rattle.newt_spec_graph.specs.Larges.{bytes_of_large}
 use Rattle.newt_spec_store.specs.Cost.{cost, skeleton_length}
 use Rattle.newt_spec_store.specs.Keys.{IndexSpec, paths_of, has_paths}
 use Rattle.newt_spec_store.specs.Store.{Store, Soup, Entry, TagTable, change_soup, change_entry, add_entry, remove_entry, with_index, with_graph, with_tags, with_info}
-use Rattle.newt_store_change.specs.Change.{is_bad_info, is_large_info}
+use Rattle.newt_spec_change.specs.Change.{is_bad_info, is_large_info}
 use Rattle.newt_spec_world.specs.World.{World, change_store}
 use Rattle.newt_spec_world.specs.Changed.{patched_at}
 

@@ -6,12 +6,12 @@ use Rattle.newt_base.specs.declared.Refusal.TheVariants.{Unit as NoUnit, Notmoun
 use Rattle.newt_spec_graph.proofs.Lists.{none-some, some-same}
 use Rattle.newt_spec_store.specs.Store.{Entry, Soup, Store, soup_named, soup_of, entry_of}
 use Rattle.newt_spec_world.specs.World.{World, Device, Media, blank, one, two, lost, default_unit, device, store_of, store_if_mounted, mounted_store, soup_in}
-use Rattle.newt_store_change.specs.declared.change.Change.{Change}
+use Rattle.newt_spec_change.specs.declared.change.Change.{Change}
 use Rattle.newt_laws_world.proofs.Kept.{Every, Wf}
 use Rattle.newt_laws_answers.proofs.Sigs.{named-name, soup-of-sig}
 use Rattle.newt_laws_answers.proofs.Units.{soup-named}
 use Rattle.newt_laws_answers.specs.There.{OnUnit}
-use Rattle.newt_laws_effects.specs.Effects.{Effect, Resolved, needs, passing, in_store, in_soup, in_entry, in_default, both, in_both}
+use Rattle.newt_spec_world.specs.Effects.{Effect, Resolved, needs, passing, in_store, in_soup, in_entry, in_default, both, in_both}
 
 -- an effect
 abbrev pub at : ℕ → Change → Effect

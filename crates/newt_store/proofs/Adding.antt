@@ -38,11 +38,11 @@ use Rattle.newt_objects_commit.specs.declared.batch.NewEntry.{NewEntry}
 use Rattle.newt_objects_commit.specs.Names.{names_of, AreSoundNames}
 use Rattle.newt_objects_commit.specs.Places.{place_of, AreSoundPlaces}
 use Rattle.newt_store_catalog.specs.declared.catalog.Catalog.{Catalog}
-use Rattle.newt_store_change.specs.declared.change.Change.TheVariants.{Add}
+use Rattle.newt_spec_change.specs.declared.change.Change.TheVariants.{Add}
 use Rattle.newt_store.specs.declared.next.Next.{Next}
 use Rattle.newt_store.specs.declared.next.Gone.{Gone}
 use Rattle.newt_store.specs.declared.next.Gone.TheVariants.{Nothing}
-use Rattle.newt_store_change.specs.Change.{first_checks, is_too_large, has_no_ids, changed_soup, pages_of_entry}
+use Rattle.newt_spec_change.specs.Change.{first_checks, is_too_large, has_no_ids, changed_soup, pages_of_entry}
 use Rattle.newt_store.specs.Next.{directory_after, written_bytes, Goes, HasIdLeft, IsNew, LosesNames, IsGoing, Turns, IsAdding, IsPlanOf, goes_pages, replaced_pages}
 use Rattle.newt_store_catalog.specs.Stands.{Describes}
 use Rattle.newt_store.proofs.Found.{soup-same, soup-some, emptied-some}

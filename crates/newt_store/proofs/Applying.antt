@@ -23,9 +23,9 @@ use Rattle.newt_objects_commit.specs.Batch.{new_pages}
 use Rattle.newt_objects_commit.specs.Names.{names_of}
 use Rattle.newt_objects_commit.specs.Places.{place_of}
 use Rattle.newt_store_catalog.specs.declared.catalog.Catalog.{Catalog}
-use Rattle.newt_store_change.specs.declared.change.Change.{Change}
-use Rattle.newt_store_change.specs.declared.change.Change.TheVariants.{MakeSoup, DropSoup, Add, Remove, Move, Replace, Patch, AddIndex, DropIndex, SetTags, SetInfo}
-use Rattle.newt_store_change.specs.Change.{pages_if, changed_by, first_checks, full_check, refusal_of, dropped_soup, changed_soup, pages_put, pages_gone, is_patch, bytes_of, most_bytes}
+use Rattle.newt_spec_change.specs.declared.change.Change.{Change}
+use Rattle.newt_spec_change.specs.declared.change.Change.TheVariants.{MakeSoup, DropSoup, Add, Remove, Move, Replace, Patch, AddIndex, DropIndex, SetTags, SetInfo}
+use Rattle.newt_spec_change.specs.Change.{pages_if, changed_by, first_checks, full_check, refusal_of, dropped_soup, changed_soup, pages_put, pages_gone, is_patch, bytes_of, most_bytes}
 use Rattle.newt_store.specs.declared.next.Next.{Next}
 use Rattle.newt_store.specs.Next.{IsEitherStore, IsPlanOf, goes_pages, replaced_pages, turn_bytes}
 use Rattle.newt_store_catalog.specs.Readable.{readable}

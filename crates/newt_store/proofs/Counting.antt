@@ -20,7 +20,7 @@ use Rattle.newt_laws_images.proofs.Stores.{IsSoup, is-store, is-soup}
 use Rattle.newt_laws_changes.specs.Written.{Names}
 use Rattle.newt_laws_changes.proofs.Soups.{found-good, rising-length}
 use Rattle.newt_soupdir.specs.declared.rows.Directory.{Directory}
-use Rattle.newt_store_change.specs.Change.{uids_in}
+use Rattle.newt_spec_change.specs.Change.{uids_in}
 use Rattle.newt_store_catalog.specs.Stands.{Describes}
 use Rattle.newt_store.proofs.Entries.{has-entry}
 use Rattle.newt_store.proofs.Sums.{same_number, other-way}

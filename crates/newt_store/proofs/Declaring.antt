@@ -32,9 +32,9 @@ use Rattle.newt_laws_changes.proofs.Soups.{with-soup, with-index, without-index,
 use Rattle.newt_objects_commit.specs.Names.{names_of}
 use Rattle.newt_objects_commit.specs.Places.{place_of}
 use Rattle.newt_store_catalog.specs.declared.catalog.Catalog.{Catalog}
-use Rattle.newt_store_change.specs.declared.change.Change.TheVariants.{AddIndex, DropIndex, SetTags, SetInfo}
+use Rattle.newt_spec_change.specs.declared.change.Change.TheVariants.{AddIndex, DropIndex, SetTags, SetInfo}
 use Rattle.newt_store.specs.declared.next.Gone.TheVariants.{Nothing}
-use Rattle.newt_store_change.specs.Change.{first_checks, changed_soup, specs_of, is_bad_info, is_large_info}
+use Rattle.newt_spec_change.specs.Change.{first_checks, changed_soup, specs_of, is_bad_info, is_large_info}
 use Rattle.newt_store.specs.Next.{Turns, IsPlanOf}
 use Rattle.newt_store_catalog.specs.Stands.{Describes}
 use Rattle.newt_store.proofs.Found.{emptied-some, soup-same, soup-some}

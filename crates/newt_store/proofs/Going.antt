@@ -35,7 +35,7 @@ use Rattle.newt_store_catalog.specs.declared.catalog.Catalog.{Catalog}
 use Rattle.newt_store.specs.declared.next.Gone.{Gone}
 use Rattle.newt_store.specs.declared.next.Gone.TheVariants.{Nothing, OneEntry, AllOf}
 use Rattle.newt_store.specs.declared.next.Next.{Next}
-use Rattle.newt_store_change.specs.Change.{pages_if, pages_of_entry, pages_of_soup}
+use Rattle.newt_spec_change.specs.Change.{pages_if, pages_of_entry, pages_of_soup}
 use Rattle.newt_store.specs.Next.{Goes, IsFree, IsNextOf, Turns, directory_after, goes_pages, replaced_pages, names_replaced, all_gone, next_bytes, turn_bytes, written_bytes}
 use Rattle.newt_store_catalog.specs.Stands.{StandsFor}
 use Rattle.newt_store.proofs.Carrying.{AreGone, no-object}

@@ -46,7 +46,7 @@ use Rattle.newt_nsof_flat.proofs.Streams.{reads_graphs}
 use Rattle.newt_objects_commit.specs.Commit.{AreKept}
 use Rattle.newt_objects_commit.specs.Names.{names_of}
 use Rattle.newt_objects_commit.specs.Places.{place_of}
-use Rattle.newt_store_change.specs.Change.{bytes_in, large_in_entry}
+use Rattle.newt_spec_change.specs.Change.{bytes_in, large_in_entry}
 use Rattle.newt_store_change.specs.Entries.{ReadsLarge, large_checks, large_fetches, large_part}
 use Rattle.newt_store_change.specs.declared.fault.StoreFault.{StoreFault}
 use Rattle.newt_store_change.specs.declared.fault.StoreFault.TheVariants.{Refused, Stop}

@@ -58,8 +58,8 @@ use Rattle.newt_store_change.specs.declared.fault.StoreFault.{StoreFault}
 use Rattle.newt_store_change.specs.declared.fault.StoreFault.TheVariants.{Refused, Stop}
 use Rattle.newt_objects_commit.proofs.Committing.{blocks-are}
 use Rattle.newt_store_catalog.specs.declared.catalog.Catalog.{Catalog}
-use Rattle.newt_store_change.specs.declared.change.Change.TheVariants.{Patch}
-use Rattle.newt_store_change.specs.Change.{changed_by, changed_soup, bytes_in, large_of, large_in_entry, patched_entry, ends_past, first_checks, refusal_of, pages_of_entry, most_bytes}
+use Rattle.newt_spec_change.specs.declared.change.Change.TheVariants.{Patch}
+use Rattle.newt_spec_change.specs.Change.{changed_by, changed_soup, bytes_in, large_of, large_in_entry, patched_entry, ends_past, first_checks, refusal_of, pages_of_entry, most_bytes}
 use Rattle.newt_store.specs.Patch.{IsLargeOf, record_pages}
 use Rattle.newt_store_catalog.specs.Stands.{Describes, StandsFor}
 use Rattle.newt_store_change.specs.Faults.{GoesOn, RefusesWith}

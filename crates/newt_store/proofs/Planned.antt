@@ -28,8 +28,8 @@ use Rattle.newt_laws_changes.proofs.Formed.{dropped_formed, made_formed}
 use Rattle.newt_objects_commit.specs.Names.{names_of}
 use Rattle.newt_objects_commit.specs.Places.{place_of}
 use Rattle.newt_store_catalog.specs.declared.catalog.Catalog.{Catalog}
-use Rattle.newt_store_change.specs.declared.change.Change.TheVariants.{MakeSoup, DropSoup, Remove}
-use Rattle.newt_store_change.specs.Change.{first_checks, dropped_soup, changed_soup}
+use Rattle.newt_spec_change.specs.declared.change.Change.TheVariants.{MakeSoup, DropSoup, Remove}
+use Rattle.newt_spec_change.specs.Change.{first_checks, dropped_soup, changed_soup}
 use Rattle.newt_store.specs.Next.{IsNextOf, IsPlanOf, Turns, directory_after}
 use Rattle.newt_store_catalog.specs.Stands.{Describes}
 use Rattle.newt_store.proofs.Found.{named-some, soup-some, as-many, next-same, placed-entry, entry-placed}

@@ -26,9 +26,9 @@ use Rattle.newt_spec_image.specs.Objects.{Objects}
 use Rattle.newt_spec_image.specs.Pages.{Change as PageChange}
 use Rattle.newt_spec_image.specs.Records.{bank_blocks}
 use Rattle.newt_spec_store.specs.Valid.{well_formed}
-use Rattle.newt_store_change.specs.Change.{changed_by, answer_of, first_checks, refusal_of, most_bytes}
+use Rattle.newt_spec_change.specs.Change.{changed_by, answer_of, first_checks, refusal_of, most_bytes}
 use Rattle.newt_store_change.specs.Faults.{FaultsAt, GoesOn, IsRefused, RefusesWith}
-use Rattle.newt_store_change.specs.declared.change.Change.{Change}
+use Rattle.newt_spec_change.specs.declared.change.Change.{Change}
 use Rattle.newt_store_change.specs.declared.fault.StoreFault.{StoreFault}
 use Rattle.newt_store_change.specs.declared.fault.StoreFault.TheVariants.{Stop as Ends}
 use Rattle.newt_store_catalog.specs.Stands.{Describes, IsSound, StandsFor}

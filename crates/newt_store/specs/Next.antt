@@ -21,8 +21,8 @@ use Rattle.newt_base.specs.Refusals.{first_of}
 use Rattle.newt_pagebook.specs.declared.book.Stop.TheVariants.{Memory, Device}
 use Rattle.newt_store_change.specs.declared.fault.StoreFault.{StoreFault}
 use Rattle.newt_store_change.specs.declared.fault.StoreFault.TheVariants.{Refused, Stop}
-use Rattle.newt_store_change.specs.declared.change.Change.{Change}
-use Rattle.newt_store_change.specs.Change.{changed_by, answer_of, first_checks, entry_added, pages_if, pages_of_entry, pages_of_soup, pages_removed, writes_directory}
+use Rattle.newt_spec_change.specs.declared.change.Change.{Change}
+use Rattle.newt_spec_change.specs.Change.{changed_by, answer_of, first_checks, entry_added, pages_if, pages_of_entry, pages_of_soup, pages_removed, writes_directory}
 use Rattle.newt_objects_commit.specs.Commit.{Fit}
 use Rattle.newt_objects_commit.specs.Batch.{AreWritten, HasIds, directory_over, directory_puts, large_ids, new_pages, over_pages, all_pages_held, put_or}
 use Rattle.newt_objects_commit.specs.Names.{names_of}

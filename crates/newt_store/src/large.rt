@@ -10,7 +10,7 @@ ghost use Rattle.newt_objects.specs.Held.{held};
 ghost use Rattle.newt_spec_image.specs.Objects.{pages_for};
 ghost use Rattle.newt_spec_store.specs.Cost.{range_pages};
 ghost use Rattle.newt_spec_store.specs.Store.{entry_at};
-ghost use Rattle.newt_store_change.specs.Change.{pages_of_entry};
+ghost use Rattle.newt_spec_change.specs.Change.{pages_of_entry};
 ghost use Rattle.newt_store_change.specs.Entries.{ReadsLarge, large_checks, large_fetches};
 ghost use Rattle.newt_store_catalog.specs.Calls.{CanRead, ForObject};
 ghost use Rattle.newt_store.specs.Calls.{AreOpen, FindsObject, ForStore, ReadsObjects};

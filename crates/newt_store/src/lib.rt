@@ -20,5 +20,6 @@ mod plan;
 mod store;
 
 pub use newt_path::Paths;
-pub use newt_store_change::{Change, Entry, StoreFault};
+pub use newt_spec_change::Change;
+use newt_store_change::{Entry, StoreFault};
 pub use store::Store;

@@ -11,7 +11,7 @@ ghost use Rattle.newt_objects.specs.Held.{held};
 ghost use Rattle.newt_spec_store.specs.Store.{Store as PlainStore, entry_at};
 ghost use Rattle.newt_spec_store.specs.OfImage.{blocks_of};
 ghost use Rattle.newt_store_catalog.specs.Stands.{StandsFor};
-ghost use Rattle.newt_store_change.specs.Change.{first_checks, pages_of_entry, most_bytes};
+ghost use Rattle.newt_spec_change.specs.Change.{first_checks, pages_of_entry, most_bytes};
 ghost use Rattle.newt_store.specs.Calls.{AreOpen, FindsObject, ForStore, MakesChange};
 ghost use Rattle.newt_store.specs.Calls.{ReadsObjects};
 ghost use Rattle.newt_store.specs.Patch.{IsLargeOf, record_pages};
@@ -22,8 +22,9 @@ use newt_graph::Bytes;
 use newt_host::Host;
 use newt_objects_commit::patch_object;
 use newt_pagebook::PageBook;
+use newt_spec_change::Change;
 use newt_store_catalog::{Catalog, read_row};
-use newt_store_change::{Change, StoreFault};
+use newt_store_change::StoreFault;
 use std::alloc::Global;
 
 /// The row of the large binary with this node, if there is one.

@@ -11,8 +11,8 @@ ghost use Rattle.newt_spec_store.specs.Image.{entry_bytes, larges as larges_in};
 ghost use Rattle.newt_spec_store.specs.Store.{entry_at};
 ghost use Rattle.newt_spec_store.specs.Valid.{well_formed, valid_entry};
 ghost use Rattle.newt_soupdir.specs.Bare.{bare_store};
-ghost use Rattle.newt_store_change.specs.Change.{first_checks, entry_fetched, is_patch};
-ghost use Rattle.newt_store_change.specs.Change.{pages_of_entry, is_too_large as too_large};
+ghost use Rattle.newt_spec_change.specs.Change.{first_checks, entry_fetched, is_patch};
+ghost use Rattle.newt_spec_change.specs.Change.{pages_of_entry, is_too_large as too_large};
 ghost use Rattle.newt_objects_commit.specs.Batch.{AreOnce, large_ids};
 ghost use Rattle.newt_store.specs.Next.{HasIdLeft, IsNextOf, IsPlanOf, IsAdding, IsEntryOf};
 ghost use Rattle.newt_store.specs.Next.{IsNoDevice, written_entry};
@@ -33,8 +33,9 @@ use newt_objects::Objects;
 use newt_objects_commit::{NewEntry, NewLarge};
 use newt_pagebook::{PageBook, Stop};
 use newt_soupdir::SoupRow;
+use newt_spec_change::Change;
 use newt_store_catalog::{Catalog, read_whole};
-use newt_store_change::{Change, StoreFault};
+use newt_store_change::StoreFault;
 use std::alloc::{AllocError, Global};
 
 /// The last next entry id: the soup has no further id to give.

@@ -8,8 +8,8 @@ ghost use Rattle.newt_pagebook.specs.Book.{IsFresh, IsOpenFor};
 ghost use Rattle.newt_spec_store.specs.Store.{Store as PlainStore, soup_of, entry_at, count_in};
 ghost use Rattle.newt_spec_store.specs.Store.{new_store};
 ghost use Rattle.newt_spec_store.specs.OfImage.{blocks_of};
-ghost use Rattle.newt_store_change.specs.Change.{uids_in, entry_fetched, pages_of_entry};
-ghost use Rattle.newt_store_change.specs.Change.{most_bytes};
+ghost use Rattle.newt_spec_change.specs.Change.{uids_in, entry_fetched, pages_of_entry};
+ghost use Rattle.newt_spec_change.specs.Change.{most_bytes};
 ghost use Rattle.newt_store_change.specs.Entries.{ReadsLarge, entry_said, large_fetches};
 ghost use Rattle.newt_store_change.specs.Entries.{plain_entry};
 ghost use Rattle.newt_store_catalog.specs.Reading.{ReadEnds};
@@ -32,8 +32,9 @@ use newt_host::{Host, Unit};
 use newt_pagebook::{BookFault, PageBook, Stop};
 use newt_path::Path;
 use newt_soupdir::Directory;
+use newt_spec_change::Change;
 use newt_store_catalog::{Catalog, Gatherer, Nothing, open_catalog, read_whole};
-use newt_store_change::{Change, Entry, StoreFault};
+use newt_store_change::{Entry, StoreFault};
 use std::alloc::{AllocError, Global};
 
 /// A store on one unit. It stands for one plain store, which its unit's image is read as, until a

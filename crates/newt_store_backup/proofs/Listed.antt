@@ -6,7 +6,7 @@ use Rattle.newt_spec_store.specs.Image.{all_entries}
 use Rattle.newt_spec_store.specs.Store.{Entry, Soup, Store, entry_of, entry_at, soup_of}
 use Rattle.newt_spec_store.specs.Valid.{well_formed}
 use Rattle.newt_laws_images.proofs.Chosen.{there-soup, there-entry, soup-good}
-use Rattle.newt_store_change.specs.Change.{uids_in}
+use Rattle.newt_spec_change.specs.Change.{uids_in}
 use Rattle.newt_store_backup.specs.Listed.{entry_row, entries_listed, soups_listed}
 
 -- the entries of a soup that are found by their ids

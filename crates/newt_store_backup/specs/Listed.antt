@@ -1,7 +1,7 @@
 -- The entries of a store, soup by soup and id by id. Words of these definitions.
 use Rattle.std.specs.Prelude.{ℕ, List, [], ◌∷◌, ◌++◌, Option, Some, None}
 use Rattle.newt_spec_store.specs.Store.{Entry, Store, entry_at, soup_of}
-use Rattle.newt_store_change.specs.Change.{uids_in}
+use Rattle.newt_spec_change.specs.Change.{uids_in}
 
 -- an entry that was read, with its soup's signature; none where it is not there
 abbrev pub entry_row : ℕ → Option Entry → List (ℕ × Entry)

@@ -5,7 +5,7 @@ ghost use Rattle.newt_spec_store.specs.Image.{all_entries};
 ghost use Rattle.newt_spec_store.specs.Store.{entry_at, soup_of};
 ghost use Rattle.newt_store.specs.Calls.{ForShown, IsOpen, Reads, catalog_of, unit_of};
 ghost use Rattle.newt_store_catalog.specs.Reading.{ReadEnds};
-ghost use Rattle.newt_store_change.specs.Change.{uids_in};
+ghost use Rattle.newt_spec_change.specs.Change.{uids_in};
 ghost use Rattle.newt_store_backup.specs.Listed.{entries_listed, entry_row, soups_listed};
 
 use newt_backup::FullEntry;

@@ -1,14 +1,12 @@
-//! A change of one store, as all layers from the commands down to the flash hand it on.
+//! Why a change of one store was not made, and an entry that is read.
 //!
-//! It stands on the definitions of the plain store (`newt_spec_store`). `specs/Change` says of each
-//! change what it makes of a plain store, what it answers, what it is refused for and in which
-//! order, and what it costs; `specs/Faults` says what a call promises that makes one.
+//! It stands on the changes of the plain store (`newt_spec_change`) and on the page book, whose
+//! stops it hands on. `specs/Faults` says what a call promises that makes a change, `specs/Entries`
+//! what one promises that reads an entry or bytes of its large binaries.
 #![tactic(auto)]
 
-mod change;
 mod entry;
 mod fault;
 
-pub use change::Change;
 pub use entry::Entry;
 pub use fault::StoreFault;

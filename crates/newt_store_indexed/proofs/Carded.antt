@@ -9,9 +9,9 @@ use Rattle.newt_spec_store.specs.OfImage.{blocks_of}
 use Rattle.newt_spec_store.specs.Store.{Store as Plain}
 use Rattle.newt_index_ranges.specs.Stands.{AreRangesOf}
 use Rattle.newt_index_ranges.specs.declared.rows.SoupRanges.{SoupRanges}
-use Rattle.newt_store_change.specs.Change.{changed_by, answer_of, refusal_of, refusals, most_bytes, bytes_fetched}
+use Rattle.newt_spec_change.specs.Change.{changed_by, answer_of, refusal_of, refusals, most_bytes, bytes_fetched}
 use Rattle.newt_store_change.specs.Faults.{Does, GoesOn, IsRefused}
-use Rattle.newt_store_change.specs.declared.change.Change.{Change}
+use Rattle.newt_spec_change.specs.declared.change.Change.{Change}
 use Rattle.newt_store_change.specs.declared.fault.StoreFault.{StoreFault}
 use Rattle.newt_store_change.specs.declared.fault.StoreFault.TheVariants.{Refused, Stop}
 use Rattle.newt_store_catalog.specs.Readable.{readable}

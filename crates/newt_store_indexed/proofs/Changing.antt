@@ -15,12 +15,12 @@ use Rattle.newt_store_change.specs.declared.fault.StoreFault.{StoreFault}
 use Rattle.newt_store_change.specs.declared.fault.StoreFault.TheVariants.{Stop}
 use Rattle.newt_spec_store.specs.OfImage.{blocks_of}
 use Rattle.newt_spec_store.specs.Store.{Store as PlainStore}
-use Rattle.newt_store_change.specs.Change.{changed_by, refusal_of, most_bytes}
+use Rattle.newt_spec_change.specs.Change.{changed_by, refusal_of, most_bytes}
 use Rattle.newt_store_catalog.specs.Stands.{StandsFor}
 use Rattle.newt_store_change.specs.Faults.{IsRefused, RefusesWith}
 use Rattle.newt_store.specs.Stands.{IsBeforeOrChanged}
 use Rattle.newt_store_catalog.specs.declared.catalog.Catalog.{Catalog}
-use Rattle.newt_store_change.specs.declared.change.Change.{Change}
+use Rattle.newt_spec_change.specs.declared.change.Change.{Change}
 use Rattle.newt_store_catalog.specs.Readable.{readable}
 use Rattle.newt_store_catalog.proofs.Opening.{same-image}
 use Rattle.newt_store.proofs.Reading.{read-back}

@@ -1,11 +1,11 @@
 -- The end of a list of ids, and the first of it.
 use Rattle.std.proofs.Common.{◌≡◌, ℕ, ◌+◌, ◌-◌, ◌<◌, ◌≤◌, List, [], ◌∷◌, length, take, drop, get_or, refl, sym, ◌∙◌, ap, arith}
 use Rattle.std.proofs.lemmas.Grind.{common_steps}
-use Rattle.newt_store_change.specs.Change.{pages_of_entry}
+use Rattle.newt_spec_change.specs.Change.{pages_of_entry}
 use Rattle.newt_spec_store.specs.Store.{Store, entry_at}
 use Rattle.newt_graph.specs.Graph.{RawGraph}
 use Rattle.newt_store_indexed.specs.Filling.{with_read, with_all}
-use Rattle.newt_store_change.specs.Change.{pages_listed}
+use Rattle.newt_spec_change.specs.Change.{pages_listed}
 
 pub with-none : {T : Type 0} (add : ℕ → RawGraph → T → T) (sig : ℕ) (s : Store) (us : List ℕ) (v : T) → length us < 1 → with_all add sig s us v ≡ v
 with-none add sig s [] v low = refl

@@ -3,7 +3,7 @@ use Rattle.std.proofs.Common.{◌≡◌, ℕ, ◌<◌, true, List, [], ◌∷◌
 use Rattle.std.specs.Option.{option_and_then}
 use Rattle.std.specs.Prelude.{Result, Ok, Err, IfOk}
 use Rattle.newt_pagebook.specs.declared.book.Stop.{Stop}
-use Rattle.newt_store_change.specs.declared.change.Change.TheVariants as change
+use Rattle.newt_spec_change.specs.declared.change.Change.TheVariants as change
 use Rattle.newt_spec_graph.specs.Lists.{Each, Pairs}
 use Rattle.newt_spec_graph.proofs.Lists.{each-from}
 use Rattle.newt_spec_store.specs.Keys.{IndexSpec}
@@ -15,7 +15,7 @@ use Rattle.newt_index_ranges.specs.Masks.{Masks, IsMasks, no_masks, with_mask}
 use Rattle.newt_index_ranges.specs.Rows.{no_pairs, with_entry}
 use Rattle.newt_index_ranges.specs.Stands.{Graphs, graphs_of, IsRange}
 use Rattle.newt_index_ranges.proofs.Standing.{AreGraphsWith, range_none, range_added, same_graphs, is_no_masks, mask_added, masks_of_same}
-use Rattle.newt_store_change.specs.Change.{uids_in}
+use Rattle.newt_spec_change.specs.Change.{uids_in}
 use Rattle.newt_store_indexed.specs.Filling.{with_read, with_all}
 use Rattle.newt_store_indexed.specs.Steps.{IsDeclaring, IsTagging, IsStepOf}
 use Rattle.newt_store_indexed.specs.declared.step.RangeStep.{RangeStep}

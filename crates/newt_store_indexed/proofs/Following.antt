@@ -22,9 +22,9 @@ use Rattle.newt_index_ranges.specs.Stands.{AreRangesOf, AreRanges, graphs_of}
 use Rattle.newt_index_ranges.proofs.Laws as laws
 use Rattle.newt_index_ranges.proofs.Patched.{IsPatch, patched_ranges}
 use Rattle.newt_index_ranges.proofs.Seen.{filled-like}
-use Rattle.newt_store_change.specs.Change.{changed_by, answer_of, refusals, refusal_of, full_check, changed_soup, dropped_soup, moved_entry, large_of, patched_entry, has_no_ids}
-use Rattle.newt_store_change.specs.declared.change.Change.{Change}
-use Rattle.newt_store_change.specs.declared.change.Change.TheVariants as change
+use Rattle.newt_spec_change.specs.Change.{changed_by, answer_of, refusals, refusal_of, full_check, changed_soup, dropped_soup, moved_entry, large_of, patched_entry, has_no_ids}
+use Rattle.newt_spec_change.specs.declared.change.Change.{Change}
+use Rattle.newt_spec_change.specs.declared.change.Change.TheVariants as change
 use Rattle.newt_store_indexed.specs.Steps.{IsStepOf, IsDeclaring, IsTagging, rows_after}
 use Rattle.newt_store_indexed.specs.declared.step.RangeStep.{RangeStep}
 use Rattle.newt_store_indexed.specs.declared.step.RangeStep.TheVariants as step

@@ -10,7 +10,7 @@ use Rattle.newt_spec_store.specs.Valid.{well_formed}
 use Rattle.newt_laws_images.proofs.Assembled.{map-among}
 use Rattle.newt_laws_images.proofs.Chosen.{soup-there, soup-good, there-entry, find-passes}
 use Rattle.newt_index_ranges.specs.Stands.{Graphs}
-use Rattle.newt_store_change.specs.Change.{uids_in}
+use Rattle.newt_spec_change.specs.Change.{uids_in}
 
 -- the graphs that are told, by signature and id
 abbrev pub Told : Type 0

@@ -12,12 +12,12 @@ use Rattle.newt_spec_store.specs.Store.{Store as Plain}
 use Rattle.newt_index_ranges.specs.Stands.{AreRangesOf}
 use Rattle.newt_index_ranges.specs.declared.rows.SoupRanges.{SoupRanges}
 use Rattle.newt_store.proofs.Reading.{read-back}
-use Rattle.newt_store_change.specs.Change.{changed_by, refusals, refusal_of}
+use Rattle.newt_spec_change.specs.Change.{changed_by, refusals, refusal_of}
 use Rattle.newt_store_catalog.specs.Readable.{readable}
 use Rattle.newt_store_catalog.specs.Stands.{StandsFor}
 use Rattle.newt_store.specs.Stands.{IsBeforeOrChanged}
 use Rattle.newt_store_catalog.specs.declared.catalog.Catalog.{Catalog}
-use Rattle.newt_store_change.specs.declared.change.Change.{Change}
+use Rattle.newt_spec_change.specs.declared.change.Change.{Change}
 use Rattle.newt_engine_card.specs.Cards.{LeavesEither}
 use Rattle.newt_store_indexed.specs.Stands.{StandsForOne}
 

@@ -6,8 +6,8 @@ use Rattle.newt_index_ranges.specs.declared.rows.SoupRanges.{SoupRanges}
 use Rattle.newt_index_ranges.specs.Masks.{Masks, IsMasks}
 use Rattle.newt_index_ranges.specs.Rows.{no_ranges, entry_kept, entry_forgotten, entry_renewed, with_range, without_range, with_masks, change_ranges, drop_ranges}
 use Rattle.newt_index_ranges.specs.Stands.{graphs_of, IsRange}
-use Rattle.newt_store_change.specs.declared.change.Change.{Change}
-use Rattle.newt_store_change.specs.declared.change.Change.TheVariants.{MakeSoup, DropSoup, Add, Remove, Move, Replace, Patch, AddIndex, DropIndex, SetTags, SetInfo}
+use Rattle.newt_spec_change.specs.declared.change.Change.{Change}
+use Rattle.newt_spec_change.specs.declared.change.Change.TheVariants.{MakeSoup, DropSoup, Add, Remove, Move, Replace, Patch, AddIndex, DropIndex, SetTags, SetInfo}
 use Rattle.newt_store_indexed.specs.declared.step.RangeStep.{RangeStep}
 use Rattle.newt_store_indexed.specs.declared.step.RangeStep.TheVariants.{Moved, Declared, Tagged}
 

@@ -5,10 +5,10 @@ ghost use Rattle.newt_store_catalog.specs.Reading.{ReadEnds};
 ghost use Rattle.newt_spec_store.specs.Store.{Store as PlainStore, soup_of, entry_at};
 ghost use Rattle.newt_index_ranges.specs.Masks.{no_masks, with_mask};
 ghost use Rattle.newt_index_ranges.specs.Rows.{no_pairs, with_entry};
-ghost use Rattle.newt_store_change.specs.Change.{uids_in, pages_of_entry};
+ghost use Rattle.newt_spec_change.specs.Change.{uids_in, pages_of_entry};
 ghost use Rattle.newt_store.specs.Calls.{IsOpen, Reads, Shows, unit_of};
 ghost use Rattle.newt_store_indexed.specs.Filling.{with_read, with_all};
-ghost use Rattle.newt_store_change.specs.Change.{pages_listed};
+ghost use Rattle.newt_spec_change.specs.Change.{pages_listed};
 
 use newt_base::{Sig, Uid};
 use newt_graph::Graph;

@@ -4,11 +4,11 @@ ghost use Rattle.newt_host.specs.Outside.{Spends};
 ghost use Rattle.newt_store_catalog.specs.Reading.{ReadEnds};
 ghost use Rattle.newt_spec_store.specs.Store.{Store as PlainStore, Entry as PlainEntry, soup_of};
 ghost use Rattle.newt_spec_store.specs.Store.{entry_at};
-ghost use Rattle.newt_store_change.specs.Change.{uids_in, pages_of_entry};
+ghost use Rattle.newt_spec_change.specs.Change.{uids_in, pages_of_entry};
 ghost use Rattle.newt_store.specs.Calls.{IsOpen, Reads, Shows, unit_of};
-ghost use Rattle.newt_store_change.specs.Change.{pages_listed};
+ghost use Rattle.newt_spec_change.specs.Change.{pages_listed};
 ghost use Rattle.newt_store_indexed.specs.Steps.{IsStepOf, IsDeclaring, IsTagging};
-ghost use Rattle.newt_store_change.specs.Change.{pages_read};
+ghost use Rattle.newt_spec_change.specs.Change.{pages_read};
 ghost use Rattle.newt_store_indexed.specs.declared.step.RangeStep.TheVariants as step;
 
 use crate::fill::{filled_masks, filled_range};
@@ -17,8 +17,8 @@ use newt_base::{Sig, Uid};
 use newt_host::Host;
 use newt_keys::IndexSpec;
 use newt_pagebook::{PageBook, Stop};
+use newt_spec_change::Change;
 use newt_store::Store;
-use newt_store_change::Change;
 use newt_tags::TagTable;
 
 /// The graph of an entry that is moved. Where it is not there the change is refused, and nothing is

@@ -10,7 +10,8 @@ use newt_graph::Graph;
 use newt_index::Index;
 use newt_index_ranges::{Masks, Ranges};
 use newt_pagebook::Stop;
-use newt_store_change::{Change, StoreFault};
+use newt_spec_change::Change;
+use newt_store_change::StoreFault;
 use std::alloc::AllocError;
 
 /// What was read of the store before a change, for what the change is to the ranges beside what it

@@ -3,7 +3,7 @@
 use newt_base::{Sig, Uid};
 use newt_graph::Graph;
 use newt_lit_read::read_literal;
-use newt_store_change::Change;
+use newt_spec_change::Change;
 use std::alloc::Global;
 use std::test::Fail;
 

@@ -9,7 +9,7 @@ use newt_engine_card::Card;
 use newt_host::Host;
 use newt_memhost::MemHost;
 use newt_pagebook::{LEAST_BLOCKS, MOST_BLOCKS, PageBook};
-use newt_store_change::Change;
+use newt_spec_change::Change;
 use newt_store_indexed::IndexedStore;
 use std::alloc::Global;
 use std::test::Fail;

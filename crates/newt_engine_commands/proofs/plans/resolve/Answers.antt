@@ -6,8 +6,8 @@ use Rattle.newt_base.specs.declared.Refusal.TheVariants.{Notmounted, Soup as NoS
 use Rattle.newt_spec_store.specs.Store.{Soup, soup_named}
 use Rattle.newt_spec_world.specs.World.{mounted_store}
 use Rattle.newt_spec_world.specs.declared.command.Command.TheVariants as command
-use Rattle.newt_store_change.specs.declared.change.Change.TheVariants as change
-use Rattle.newt_laws_effects.specs.Effects.{Resolved, effects, in_default, in_soup, needs, one as only}
+use Rattle.newt_spec_change.specs.declared.change.Change.TheVariants as change
+use Rattle.newt_spec_world.specs.Effects.{Resolved, effects, in_default, in_soup, needs, one as only}
 use Rattle.newt_laws_effects.proofs.Found.{store-found}
 use Rattle.newt_engine_units.specs.Stands.{Stands, world_of}
 use Rattle.newt_engine_units.proofs.Settings.{Setting, unit-there}

@@ -7,8 +7,8 @@ use Rattle.newt_spec_store.specs.Keys.{IndexSpec, has_paths}
 use Rattle.newt_spec_store.specs.Store.{TagTable}
 use Rattle.newt_spec_world.specs.Changed.{info_from, spec_of_words}
 use Rattle.newt_laws_world.specs.Worlds.{parts_fit, tags_fit}
-use Rattle.newt_store_change.specs.declared.change.Change.TheVariants as change
-use Rattle.newt_laws_effects.specs.Effects.{Resolved, effects, in_default, passing, one as only}
+use Rattle.newt_spec_change.specs.declared.change.Change.TheVariants as change
+use Rattle.newt_spec_world.specs.Effects.{Resolved, effects, in_default, passing, one as only}
 use Rattle.newt_laws_effects.proofs.Found.{passes}
 use Rattle.newt_engine_units.specs.Stands.{Stands}
 use Rattle.newt_engine_units.proofs.Settings.{Setting, stand-told}

@@ -12,8 +12,8 @@ use Rattle.newt_spec_store.specs.Store.{entry_of}
 use Rattle.newt_spec_world.specs.Changed.{graph_after_set}
 use Rattle.newt_laws_images.proofs.Within.{graph-within}
 use Rattle.newt_store_change.specs.Faults.{set_fault}
-use Rattle.newt_store_change.specs.declared.change.Change.TheVariants as change
-use Rattle.newt_laws_effects.specs.Effects.{Resolved, effects, in_default, moves, needs, passing, one as only}
+use Rattle.newt_spec_change.specs.declared.change.Change.TheVariants as change
+use Rattle.newt_spec_world.specs.Effects.{Resolved, effects, in_default, moves, needs, passing, one as only}
 use Rattle.newt_laws_effects.proofs.Found.{entry-found, passes}
 use Rattle.newt_engine_units.specs.Stands.{Stands, world_of}
 use Rattle.newt_engine_units.proofs.Obeying.{ends-after, ends-ok, none-ends, none-put}

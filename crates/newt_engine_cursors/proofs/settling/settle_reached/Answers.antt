@@ -5,7 +5,7 @@ use Rattle.newt_host.proofs.Outside.{NoFault-refl}
 use Rattle.newt_spec_world.specs.World.{mounted_store}
 use Rattle.newt_laws_reach.specs.Reach.{Reach, entry_reached, is_of_one, settle_reached}
 use Rattle.newt_laws_reach.proofs.Reaching.{nowhere-stays}
-use Rattle.newt_store_change.specs.Change.{pages_of_entry}
+use Rattle.newt_spec_change.specs.Change.{pages_of_entry}
 use Rattle.newt_engine_units.specs.Stands.{world_of}
 use Rattle.newt_engine_hits.proofs.Reading.{not-read}
 use Rattle.newt_engine_units.specs.Breaks.{AtStop}

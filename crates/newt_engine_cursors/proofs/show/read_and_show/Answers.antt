@@ -5,7 +5,7 @@ use Rattle.newt_host.proofs.Outside.{NoFault-refl}
 use Rattle.newt_engine_hits.proofs.Reading.{asked-read, end-read, is-read, not-read}
 use Rattle.newt_spec_graph.proofs.Lists.{some-same, none-some}
 use Rattle.newt_spec_store.specs.Cost.{entry_pages}
-use Rattle.newt_store_change.specs.Change.{pages_of_entry}
+use Rattle.newt_spec_change.specs.Change.{pages_of_entry}
 use Rattle.newt_store_change.specs.Entries.{entry_said, plain_entry}
 use Rattle.newt_store_change.specs.declared.entry.Entry.{Entry}
 use Rattle.newt_engine_card.specs.Bounds.{FetchesAtMost, of_unit}

@@ -6,7 +6,7 @@ use Rattle.newt_soupdir.specs.Bare.{bare_store}
 use Rattle.newt_spec_store.specs.Store.{soup_of, change_soup_of, with_info}
 use Rattle.newt_soupdir.specs.declared.rows.Directory.{Directory}
 use Rattle.newt_laws_changes.proofs.Soups.{with-info}
-use Rattle.newt_store_change.specs.Change.{is_bad_info, is_large_info}
+use Rattle.newt_spec_change.specs.Change.{is_bad_info, is_large_info}
 use Rattle.newt_store.proofs.Declaring.{sets-info, info-valid, formed-declared, info-no-soup, info-bad, info-large, info-planned}
 use Rattle.newt_store.proofs.Planned.{seen-some, next-plain}
 use Rattle.newt_store.specs.declared.next.Gone.TheVariants.{Nothing}

@@ -9,10 +9,10 @@ use Rattle.newt_entries.specs.declared.row.LargeAt.{LargeAt}
 use Rattle.newt_soupdir.specs.Bare.{bare_store}
 use Rattle.newt_spec_store.specs.Store.{soup_of, entry_at}
 use Rattle.newt_store_change.specs.declared.fault.StoreFault.TheVariants.{Stop}
-use Rattle.newt_store_change.specs.Change.{first_checks}
+use Rattle.newt_spec_change.specs.Change.{first_checks}
 use Rattle.newt_store.specs.Patch.{record_pages}
 use Rattle.newt_store_change.specs.Faults.{RefusesWith}
-use Rattle.newt_store_change.specs.declared.change.Change.TheVariants.{Patch}
+use Rattle.newt_spec_change.specs.declared.change.Change.TheVariants.{Patch}
 use Rattle.newt_store.proofs.Applying.{from-err}
 use Rattle.newt_store.proofs.Planned.{reads-nothing, seen-some}
 use Rattle.newt_store.proofs.Patching.{record-bytes, record-at, record-costs, is-large, no-path, patch-no-soup, patch-no-entry, patch-no-path}

@@ -19,9 +19,9 @@ use Rattle.newt_spec_store.specs.OfImage.{blocks_of}
 use Rattle.newt_objects_commit.specs.Commit.{AreKept}
 use Rattle.newt_spec_store.specs.Cost.{patch_bytes}
 use Rattle.newt_objects_commit.specs.Patch.{IsBeforeOrPatched}
-use Rattle.newt_store_change.specs.declared.change.Change.TheVariants.{Patch}
+use Rattle.newt_spec_change.specs.declared.change.Change.TheVariants.{Patch}
 use Rattle.newt_spec_store.specs.Store.{Store as PlainStore, entry_at}
-use Rattle.newt_store_change.specs.Change.{changed_by, refusal_of, pages_of_entry, most_bytes}
+use Rattle.newt_spec_change.specs.Change.{changed_by, refusal_of, pages_of_entry, most_bytes}
 use Rattle.newt_store.specs.Patch.{IsLargeOf}
 use Rattle.newt_store_catalog.specs.Stands.{StandsFor}
 use Rattle.newt_store_change.specs.Faults.{RefusesWith}

@@ -4,8 +4,8 @@ use Rattle.newt_host.proofs.Outside.{NoFault-refl}
 use Rattle.newt_store_catalog.proofs.Exits.{reads-none}
 use Rattle.newt_store.proofs.Ends.{ends-none}
 use Rattle.newt_base.specs.Refusals.{first_of}
-use Rattle.newt_store_change.specs.declared.change.Change.{Change}
-use Rattle.newt_store_change.specs.Change.{first_checks, entry_fetched, pages_of_entry}
+use Rattle.newt_spec_change.specs.declared.change.Change.{Change}
+use Rattle.newt_spec_change.specs.Change.{first_checks, entry_fetched, pages_of_entry}
 use Rattle.newt_store.specs.Next.{IsPlanOf}
 use Rattle.newt_store_change.specs.Faults.{RefusesWith}
 use Rattle.newt_store.proofs.Planned.{reads-nothing}

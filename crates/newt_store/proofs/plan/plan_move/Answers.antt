@@ -12,9 +12,9 @@ use Rattle.newt_objects_commit.specs.Names.{names_of}
 use Rattle.newt_store_change.specs.declared.fault.StoreFault.TheVariants.{Stop}
 use Rattle.newt_objects_commit.specs.Places.{place_of}
 use Rattle.newt_store.specs.declared.next.Gone.TheVariants.{OneEntry}
-use Rattle.newt_store_change.specs.Change.{first_checks, pages_of_entry}
+use Rattle.newt_spec_change.specs.Change.{first_checks, pages_of_entry}
 use Rattle.newt_store_change.specs.Faults.{RefusesWith}
-use Rattle.newt_store_change.specs.declared.change.Change.TheVariants.{Move}
+use Rattle.newt_spec_change.specs.declared.change.Change.TheVariants.{Move}
 use Rattle.newt_store.proofs.Unanswered.{no-value, by-error}
 use Rattle.newt_store.specs.Next.{IsAdding}
 use Rattle.newt_store.proofs.Planned.{reads-nothing, seen-some}

@@ -1,7 +1,7 @@
 use Rattle.std.proofs.Common.{refl, map}
 use Rattle.newt_host.proofs.Outside.{NoFault-append}
 use Rattle.newt_spec_store.specs.Store.{soup_of}
-use Rattle.newt_store_change.specs.Change.{uids_in}
+use Rattle.newt_spec_change.specs.Change.{uids_in}
 use Rattle.newt_entries.specs.Full.{told}
 use Rattle.newt_store_catalog.proofs.Exits.{read-after, read-fails}
 use Rattle.newt_store.proofs.Readings.{shows-on, reads-more}

@@ -3,9 +3,9 @@ use Rattle.newt_host.specs.Outside.{Spends}
 use Rattle.newt_host.proofs.Outside.{NoFault-append}
 use Rattle.newt_store_catalog.proofs.Exits.{read-after, read-fails}
 use Rattle.newt_spec_store.specs.Store.{entry_at}
-use Rattle.newt_store_change.specs.Change.{pages_of_entry}
+use Rattle.newt_spec_change.specs.Change.{pages_of_entry}
 use Rattle.newt_store_indexed.specs.Filling.{with_all}
-use Rattle.newt_store_change.specs.Change.{pages_listed}
+use Rattle.newt_spec_change.specs.Change.{pages_listed}
 use Rattle.newt_store_indexed.proofs.Ends.{with-none, pages-none, after, pages-first, with-first, sum-next, sum-below}
 use Rattle.newt_store.proofs.Readings.{shows-on, reads-more, spends-on, fetches-more}
 use Rattle.newt_store_indexed.proofs.fill.fill_all.Goals as goal

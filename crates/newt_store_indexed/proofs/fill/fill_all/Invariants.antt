@@ -3,7 +3,7 @@ use Rattle.newt_host.specs.Outside.{NoFault, Spends}
 use Rattle.newt_spec_store.specs.Store.{Store as PlainStore}
 use Rattle.newt_store.specs.Calls.{Shows, Reads}
 use Rattle.newt_store_indexed.specs.Filling.{with_all}
-use Rattle.newt_store_change.specs.Change.{pages_listed}
+use Rattle.newt_spec_change.specs.Change.{pages_listed}
 use Rattle.newt_store_indexed.proofs.fill.fill_all.Given as goal
 
 abbrev pub invariant-loop-left : goal.invariant-loop-left

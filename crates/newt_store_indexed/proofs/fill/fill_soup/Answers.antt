@@ -3,7 +3,7 @@ use Rattle.std.specs.Prelude.{OnOk}
 use Rattle.newt_host.specs.Moments.{image}
 use Rattle.newt_host.specs.Outside.{Spends}
 use Rattle.newt_store_indexed.specs.Filling.{with_all}
-use Rattle.newt_store_change.specs.Change.{pages_listed}
+use Rattle.newt_spec_change.specs.Change.{pages_listed}
 use Rattle.newt_store_indexed.proofs.fill.fill_soup.Goals as goal
 
 pub returns-clause-filled : goal.returns-clause-filled

@@ -1,7 +1,7 @@
 use Rattle.std.proofs.Common.{◌∙◌, ap}
 use Rattle.newt_spec_store.specs.Store.{TagTable, soup_of}
 use Rattle.newt_index_ranges.specs.Masks.{Masks, no_masks, with_mask}
-use Rattle.newt_store_change.specs.Change.{uids_in}
+use Rattle.newt_spec_change.specs.Change.{uids_in}
 use Rattle.newt_store_indexed.specs.Filling.{with_all}
 use Rattle.newt_store_indexed.proofs.fill.filled_masks.Goals as goal
 

@@ -3,7 +3,7 @@ use Rattle.newt_index.specs.Pairs.{Sorted}
 use Rattle.newt_spec_store.specs.Keys.{IndexSpec}
 use Rattle.newt_spec_store.specs.Store.{soup_of}
 use Rattle.newt_index_ranges.specs.Rows.{no_pairs, with_entry}
-use Rattle.newt_store_change.specs.Change.{uids_in}
+use Rattle.newt_spec_change.specs.Change.{uids_in}
 use Rattle.newt_store_indexed.specs.Filling.{with_all}
 use Rattle.newt_store_indexed.proofs.fill.filled_range.Goals as goal
 

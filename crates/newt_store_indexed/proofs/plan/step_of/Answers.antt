@@ -1,9 +1,9 @@
 use Rattle.std.proofs.Common.{◌*◌, sym, subst}
 use Rattle.std.specs.Prelude.{IfOk}
 use Rattle.newt_host.specs.Outside.{Spends}
-use Rattle.newt_store_change.specs.declared.change.Change.{Change}
+use Rattle.newt_spec_change.specs.declared.change.Change.{Change}
 use Rattle.newt_store_indexed.specs.Steps.{IsStepOf}
-use Rattle.newt_store_change.specs.Change.{pages_read}
+use Rattle.newt_spec_change.specs.Change.{pages_read}
 use Rattle.newt_store_indexed.proofs.Filled.{moved-step}
 use Rattle.newt_store_indexed.proofs.plan.step_of.Goals as goal
 

@@ -4,7 +4,7 @@ use Rattle.newt_index_ranges.specs.declared.rows.SoupRanges.{SoupRanges}
 use Rattle.newt_index_ranges.specs.Stands.{AreRangesOf}
 use Rattle.newt_store_change.specs.Faults.{FaultsAt}
 use Rattle.newt_spec_store.specs.OfImage.{blocks_of}
-use Rattle.newt_store_change.specs.Change.{changed_by, answer_of, refusal_of}
+use Rattle.newt_spec_change.specs.Change.{changed_by, answer_of, refusal_of}
 use Rattle.newt_store_change.specs.Faults.{RefusesWith}
 use Rattle.newt_store_indexed.specs.Steps.{rows_after}
 use Rattle.newt_store_indexed.proofs.Changing.{ok-all, ok-more, same-answer, is-memory, no-refusal}

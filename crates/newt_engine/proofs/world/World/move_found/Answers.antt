@@ -12,7 +12,7 @@ use Rattle.newt_spec_world.specs.World.{World, mounted_store}
 use Rattle.newt_spec_world.specs.declared.command.Command.TheVariants as command
 use Rattle.newt_laws_world.specs.Cursors.{with_cursors}
 use Rattle.newt_laws_reach.specs.Reach.{Reach, entry_reached, is_of_one, on_entry, settle_reached}
-use Rattle.newt_store_change.specs.Change.{pages_of_entry}
+use Rattle.newt_spec_change.specs.Change.{pages_of_entry}
 use Rattle.newt_engine_card.specs.Bounds.{FetchesAtMost}
 use Rattle.newt_engine_units.specs.Answers.{Answers}
 use Rattle.newt_engine_units.specs.Breaks.{FailsAlone}

@@ -1,7 +1,7 @@
 -- A change of the store of the card that is mounted on the unit changes the unit's store alone.
 use Rattle.std.proofs.Common.{◌≡◌, ℕ, sym, subst, refl}
 use Rattle.newt_engine_units.specs.Calls.{Breaks}
-use Rattle.newt_store_change.specs.Change.{changed_by, answer_of, refusals, most_bytes}
+use Rattle.newt_spec_change.specs.Change.{changed_by, answer_of, refusals, most_bytes}
 use Rattle.newt_engine_units.proofs.Calls.{Called, later, replaced, mounted-bound, not-there, cause-of, on-devices, call-stands, call-does, call-moments, call-costs, call-fetches-on, call-idle, call-breaks, place-is}
 use Rattle.newt_engine_units.proofs.Broken.{its-devices}
 use Rattle.newt_engine_units.proofs.Known.{Laws}

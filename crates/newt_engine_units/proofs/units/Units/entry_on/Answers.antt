@@ -2,7 +2,7 @@
 use Rattle.std.proofs.Common.{◌≡◌, ◌*◌, ℕ, Option, sym, subst}
 use Rattle.std.proofs.lemmas.Result.{IfOk-weaker}
 use Rattle.newt_host.specs.Outside.{Spends}
-use Rattle.newt_store_change.specs.Change.{pages_of_entry}
+use Rattle.newt_spec_change.specs.Change.{pages_of_entry}
 use Rattle.newt_store_change.specs.Entries.{entry_said}
 use Rattle.newt_store_change.specs.declared.entry.Entry.{Entry}
 use Rattle.newt_engine_card.specs.Bounds.{FetchesAtMost, of_unit}

@@ -4,8 +4,8 @@ use Rattle.newt_spec_image.specs.Pages.{cap}
 use Rattle.newt_spec_store.specs.Cost.{cost}
 use Rattle.newt_spec_store.specs.Store.{Store as PlainStore}
 use Rattle.newt_spec_store.specs.OfImage.{blocks_of}
-use Rattle.newt_store_change.specs.declared.change.Change.{Change}
-use Rattle.newt_store_change.specs.Change.{changed_by, refusal_of}
+use Rattle.newt_spec_change.specs.declared.change.Change.{Change}
+use Rattle.newt_spec_change.specs.Change.{changed_by, refusal_of}
 use Rattle.newt_store.specs.Calls.{MakesChange}
 use Rattle.newt_store.specs.Next.{IsEitherStore}
 use Rattle.newt_store_catalog.specs.Stands.{StandsFor}
@@ -14,7 +14,7 @@ use Rattle.newt_host.specs.Outside.{Touches, Spends}
 use Rattle.newt_host.proofs.Outside.{Touches-append}
 use Rattle.newt_store.proofs.Ends.{ends-fails, ends-after, wears-after, wears-none}
 use Rattle.newt_pagebook.specs.Book.{IsOpenFor}
-use Rattle.newt_store_change.specs.Change.{entry_fetched, pages_of_entry, most_bytes}
+use Rattle.newt_spec_change.specs.Change.{entry_fetched, pages_of_entry, most_bytes}
 use Rattle.newt_store.specs.Next.{turn_bytes}
 use Rattle.newt_store_catalog.proofs.Opening.{same-image}
 use Rattle.newt_store.proofs.Applying.{no-patch, spends-more, spends-both, wears-both, none-due, full-due, refuses-full, refuses-first, refused-idle, from-err, sound-over, leaves-changed, leaves-before}

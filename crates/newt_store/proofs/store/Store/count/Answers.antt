@@ -3,7 +3,7 @@ use Rattle.std.proofs.lemmas.Result.{Ok-from_Ok_iff}
 use Rattle.newt_objects_commit.specs.Names.{names_of}
 use Rattle.newt_objects_commit.specs.Places.{place_of}
 use Rattle.newt_spec_store.specs.Store.{soup_of, count_in}
-use Rattle.newt_store_change.specs.Change.{uids_in}
+use Rattle.newt_spec_change.specs.Change.{uids_in}
 use Rattle.newt_store.proofs.Counting.{uids-once, uids-placed, as-many-uids, few-uids}
 use Rattle.newt_store.proofs.store.Store.count.Goals as goal
 

@@ -3,7 +3,7 @@ use Rattle.newt_host.specs.Outside.{Spends}
 use Rattle.newt_host.proofs.Outside.{NoFault-refl, OnlyReads-refl}
 use Rattle.newt_objects_commit.specs.Names.{names_of}
 use Rattle.newt_objects_commit.specs.Places.{place_of}
-use Rattle.newt_store_change.specs.Change.{pages_of_entry}
+use Rattle.newt_spec_change.specs.Change.{pages_of_entry}
 use Rattle.newt_store.proofs.Entries.{found-at, no-entry-at}
 use Rattle.newt_store.proofs.Opened.{can-open, has-record, open-over}
 use Rattle.newt_store.proofs.store.Store.entry.Goals as goal

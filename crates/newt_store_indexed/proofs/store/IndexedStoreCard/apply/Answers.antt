@@ -3,7 +3,7 @@ use Rattle.std.proofs.Common.{◌≡◌, ℕ, IsTrue, List}
 use Rattle.newt_host.specs.Moments.{image}
 use Rattle.newt_objects_commit.proofs.Committing.{blocks-are}
 use Rattle.newt_spec_store.specs.OfImage.{blocks_of}
-use Rattle.newt_store_change.specs.Change.{most_bytes, pages_read, entry_fetched, pages_of_entry}
+use Rattle.newt_spec_change.specs.Change.{most_bytes, pages_read, entry_fetched, pages_of_entry}
 use Rattle.newt_store_indexed.proofs.Carded.{as-card}
 use Rattle.newt_store_indexed.proofs.Changing.{changes-over, changes-stopped, costs-after, costs-stopped}
 use Rattle.newt_store.proofs.Readings.{shows-on}

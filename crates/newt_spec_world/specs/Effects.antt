@@ -18,8 +18,8 @@ use Rattle.newt_spec_world.specs.Changed.{graph_after_set, spec_of_words, info_f
 use Rattle.newt_spec_world.specs.Refused.{Check, real_part, on_some}
 use Rattle.newt_spec_world.specs.declared.command.Command.{Command}
 use Rattle.newt_spec_world.specs.declared.command.Command.TheVariants as command
-use Rattle.newt_store_change.specs.declared.change.Change.{Change}
-use Rattle.newt_store_change.specs.declared.change.Change.TheVariants as change
+use Rattle.newt_spec_change.specs.declared.change.Change.{Change}
+use Rattle.newt_spec_change.specs.declared.change.Change.TheVariants as change
 
 -- a change of the store of a unit (this project's own)
 pub record Effect : Type 0 where
@@ -88,7 +88,7 @@ moves u v uid p q e =
 -- ---- the table
 
 -- The table: what each command that changes stores resolves to. What a change itself is refused for
--- is `refusals` of newt_store_change. (this project's own)
+-- is `refusals` of newt_spec_change. (this project's own)
 unfoldable pub effects : World → Command → Resolved
 effects w (command.Soup u s) = in_store w u (λ t. one u (change.MakeSoup s))
 effects w (command.Drop u s) = in_soup w u s (λ p. one u (change.DropSoup p.sig))
