@@ -3,7 +3,7 @@ use Rattle.std.proofs.Common.{◌≡◌, ℕ, ◌+◌, ◌*◌, ◌≤◌, Bool,
 use Rattle.newt_host.specs.Moments.{changes, image, Moment}
 use Rattle.newt_host.specs.Outside.{Outside, Broke, NoFault, OnlyReads, Spends}
 use Rattle.newt_host.proofs.Outside.{Broke-on, Broke-since, NoFault-append, OnlyReads-refl, OnlyReads-append}
-use Rattle.newt_pagebook.specs.Book.{Numbers, Shown}
+use Rattle.newt_pagebook.specs.Book.{Holding, Meaning}
 use Rattle.newt_pagebook.specs.Calls.{Loads}
 use Rattle.newt_pagebook.specs.Stops.{StopsAt}
 use Rattle.newt_pagebook.specs.declared.book.Stop.{Stop}
@@ -48,64 +48,63 @@ spends_page unit pages s t = record {
   fetched = omega (arith, s.fetched, t.fetched);
 }
 
-module _ {B : Type 0} (place : B → ℕ) (numbers : B → Numbers) (spare : B → ℕ) (standing : Bool → B → Outside → Type 0) (told : Bool) where
-  pub Looks-refl : (book : B) (outside : Outside) → standing told book outside → Looks place numbers spare standing told book book outside outside
+module _ (told : Bool) where
+  pub Looks-refl : (book : Meaning) (outside : Outside) → book.stands told outside → Looks told book book outside outside
   Looks-refl book outside stands = record {
     stands = stands;
-    same_place = refl;
-    same_numbers = refl;
+    same = refl;
     same_spare = refl;
     objects = λ table are. are;
-    looks = OnlyReads-refl (place book) outside;
+    looks = OnlyReads-refl book.holds.unit outside;
   }
 
-  pub Looks-append : {old mid new : B} {before between after : Outside} → Looks place numbers spare standing told old mid before between
-      → Looks place numbers spare standing told mid new between after → Looks place numbers spare standing told old new before after
+  pub same-unit : {old new : Meaning} {before after : Outside} → Looks told old new before after → new.holds.unit ≡ old.holds.unit
+  same-unit a = ap (λ (h : Holding). h.unit) a.same
+
+  pub same-numbers : {old new : Meaning} {before after : Outside} → Looks told old new before after → new.holds.numbers ≡ old.holds.numbers
+  same-numbers a = ap (λ (h : Holding). h.numbers) a.same
+
+  pub Looks-append : {old mid new : Meaning} {before between after : Outside} → Looks told old mid before between
+      → Looks told mid new between after → Looks told old new before after
   Looks-append {old = old} {mid = mid} {new = new} {before = before} {between = between} {after = after} a b = record {
     stands = b.stands;
-    same_place = b.same_place ∙ a.same_place;
-    same_numbers = b.same_numbers ∙ a.same_numbers;
+    same = b.same ∙ a.same;
     same_spare = b.same_spare ∙ a.same_spare;
-    objects = λ table are. subst (λ (u : ℕ). AreOf told table (numbers new) u after) a.same_place
-        (b.objects table (subst (λ (u : ℕ). AreOf told table (numbers mid) u between) (sym a.same_place) (a.objects table are)));
-    looks = OnlyReads-append a.looks (subst (λ (u : ℕ). OnlyReads u between after) a.same_place b.looks);
-  }
-
-  pub looks-read : {old new : B} {before after : Outside} → standing told new after → place new ≡ place old → numbers new ≡ numbers old → spare new ≡ spare old
-      → OnlyReads (place old) before after → Looks place numbers spare standing told old new before after
-  looks-read {old = old} {new = new} {before = before} {after = after} stands at same room reads = record {
-    stands = stands;
-    same_place = at;
-    same_numbers = same;
-    same_spare = room;
-    objects = λ table are. are_still told table table (numbers old) (numbers new) (place old) before after (λ id. refl) same
-        (ap (λ (m : Moment). changes (place old) m) reads.moment) are;
-    looks = reads;
+    objects = λ table are. subst (λ (u : ℕ). AreOf told table new.holds.numbers u after) (same-unit a)
+        (b.objects table (subst (λ (u : ℕ). AreOf told table mid.holds.numbers u between) (sym (same-unit a)) (a.objects table are)));
+    looks = OnlyReads-append a.looks (subst (λ (u : ℕ). OnlyReads u between after) (same-unit a) b.looks);
   }
 
   -- the image is the one that it was
-  pub image-looked : {old new : B} {before after : Outside} → Looks place numbers spare standing told old new before after → image (place new) after.now ≡ image (place old) before.now
-  image-looked {old = old} {after = after} a = ap (λ (u : ℕ). image u after.now) a.same_place ∙ ap (λ (m : Moment). image (place old) m) a.looks.moment
+  pub image-looked : {old new : Meaning} {before after : Outside} → Looks told old new before after → image new.holds.unit after.now ≡ image old.holds.unit before.now
+  image-looked {old = old} {after = after} a = ap (λ (u : ℕ). image u after.now) (same-unit a) ∙ ap (λ (m : Moment). image old.holds.unit m) a.looks.moment
 
   -- a page that was loaded
-  pub looks-loaded : {E : Type 0} (shown : B → Shown) {number : ℕ} {old new : B} {before after : Outside} {result : Result (Unit {0}) E}
-      → Loads place numbers shown spare standing told number old new before after result → Looks place numbers spare standing told old new before after
-  looks-loaded shown loads = looks-read loads.stands loads.same_place loads.same_numbers loads.same_spare loads.reads
+  pub looks-loaded : {E : Type 0} {number : ℕ} {old new : Meaning} {before after : Outside} {result : Result (Unit {0}) E}
+      → Loads told number old new before after result → Looks told old new before after
+  looks-loaded {old = old} {new = new} {before = before} {after = after} loads = record {
+    stands = loads.stands;
+    same = loads.same;
+    same_spare = loads.same_spare;
+    objects = λ table are. are_still told table table old.holds.numbers new.holds.numbers old.holds.unit before after (λ id. refl) (ap (λ (h : Holding). h.numbers) loads.same)
+        (ap (λ (m : Moment). changes old.holds.unit m) loads.reads.moment) are;
+    looks = loads.reads;
+  }
 
   -- a reading after others
-  pub Reads-since : {T : Type 0} {r : Result T Stop} {old mid new : B} {before between after : Outside} → Looks place numbers spare standing told old mid before between → NoFault before between
-      → Reads place numbers spare standing told mid new between after r → Reads place numbers spare standing told old new before after r
+  pub Reads-since : {T : Type 0} {r : Result T Stop} {old mid new : Meaning} {before between after : Outside} → Looks told old mid before between → NoFault before between
+      → Reads told mid new between after r → Reads told old new before after r
   Reads-since {r = r} {old = old} {mid = mid} {before = before} {between = between} {after = after} a none b = record {
     book = Looks-append a b.book;
-    cause = stops_since r (place old) (place mid) before between after a.same_place none b.cause;
+    cause = stops_since r old.holds.unit mid.holds.unit before between after (same-unit a) none b.cause;
     no_fault = none_since r before between after none b.no_fault;
   }
 
   -- and one that stops
-  pub Reads-ended : {T : Type 0} (r : Result T Stop) (stop : Stop) {old new : B} {before after : Outside} → IsErrAnd r (λ f. f ≡ stop) → Looks place numbers spare standing told old new before after
-      → StopsAt (place old) before after stop → Reads place numbers spare standing told old new before after r
+  pub Reads-ended : {T : Type 0} (r : Result T Stop) (stop : Stop) {old new : Meaning} {before after : Outside} → IsErrAnd r (λ f. f ≡ stop) → Looks told old new before after
+      → StopsAt old.holds.unit before after stop → Reads told old new before after r
   Reads-ended r stop {old = old} {before = before} {after = after} fails book cause = record {
     book = book;
-    cause = stops_as r stop (StopsAt (place old) before after) fails cause;
+    cause = stops_as r stop (StopsAt old.holds.unit before after) fails cause;
     no_fault = ends_as r stop (NoFault before after) fails;
   }

@@ -10,9 +10,9 @@ use Rattle.newt_host.specs.Outside.{Outside}
 use Rattle.newt_spec_image.specs.Pages.{Change, pages}
 use Rattle.newt_journal.specs.Journal.{Stands, HeldBy}
 use Rattle.newt_journal.specs.declared.journal.Journal.{Journal}
-use Rattle.newt_pagebook.specs.Book.{PagesAre, IsSameFor}
+use Rattle.newt_pagebook.specs.Book.{IsBook, IsSameFor, Meaning, Shown}
 use Rattle.newt_pagelog.specs.Commits.{HasRoomFor}
-use Rattle.newt_pagelog.specs.Kept.{Entries, AreSound, is_kept, map_of, numbers_in, named_in, page_in}
+use Rattle.newt_pagelog.specs.Kept.{Entries, AreSound, is_kept, map_of, numbers_in, named_in, page_in, small_with}
 use Rattle.newt_pagelog.specs.Placed.{Places}
 
 -- The journal stands for its unit, whose image holds these pages where bytes are told (this project's own).
@@ -51,29 +51,37 @@ pub record StandsWith (told : Bool) (unit : ℕ) (journal : Option Journal) (ent
   pub on : its.unit ≡ unit
   pub holds : IsTrue told → pages (image unit outside.now) ≡ Some (map_of entries)
 
-pub tells_with : (told : Bool) (unit : ℕ) (journal : Option Journal) (entries : Entries) (outside : Outside) → StandsWith told unit journal entries outside → IsTrue told
-    → PagesAre (numbers_in entries) (image unit outside.now) × IsDurable unit outside.now
-tells_with told unit journal entries outside s tells = (
-  record { live = map_of entries; of_image = s.holds tells; named = λ number. named_in entries number },
-  subst (λ (u : ℕ). IsDurable u outside.now) s.on (s.stands.held tells).durable,
-)
+-- what a book means that has these parts
+module _ (unit : ℕ) (journal : Option Journal) (entries : Entries) (shown : Shown) (room : ℕ) where
+  abbrev pub meaning : Meaning
+  meaning = record {
+    holds = record { unit = unit; numbers = numbers_in entries };
+    spare = room;
+    shown = shown;
+    stands = λ told outside. StandsWith told unit journal entries outside;
+  }
 
-pub banks_with : (told : Bool) (unit : ℕ) (journal : Option Journal) (entries : Entries) (outside : Outside) → StandsWith told unit journal entries outside → (13 ≤ outside.blocks unit) × (outside.blocks unit ≤ 4099)
-banks_with told unit journal entries outside s =
-    let blocks : outside.blocks unit ≡ s.its.blocks = ap outside.blocks (sym s.on) ∙ s.stands.has.count in
-    subst (λ (n : ℕ). (13 ≤ n) × (n ≤ 4099)) (sym blocks) (s.its.enough, s.its.not_too_many)
-
-pub kept_with : (told : Bool) (unit : ℕ) (journal : Option Journal) (entries : Entries) (old new : Outside) → StandsWith told unit journal entries old → IsSameFor told unit old new → StandsWith told unit journal entries new
-kept_with told unit journal entries old new s same =
-    let at = s.its.unit in
-    let its : IsSameFor told at old new = subst (λ (u : ℕ). IsSameFor told u old new) (sym s.on) same in
-    record {
-      its = s.its;
-      is = s.is;
-      stands = record {
-        has = record { attached = subst (λ (c : Option (List ℕ)). IsSome c) (sym its.card) s.stands.has.attached; count = its.blocks ∙ s.stands.has.count };
-        held = λ tells. subst (λ (done : List Event). HeldBy s.its done) (sym (its.changes tells)) (s.stands.held tells);
-      };
-      on = s.on;
-      holds = λ tells. ap (λ (done : List Event). pages (bytes_after done)) (same.changes tells) ∙ s.holds tells;
-    }
+  pub is_book : AreSound entries → IsBook meaning
+  is_book sound = record {
+    tells = λ told outside s tells. (
+      record { live = map_of entries; of_image = s.holds tells; named = λ number. named_in entries number },
+      subst (λ (u : ℕ). IsDurable u outside.now) s.on (s.stands.held tells).durable,
+    );
+    small = λ told outside s. small_with entries sound;
+    has_banks = λ told outside s.
+        let blocks : outside.blocks unit ≡ s.its.blocks = ap outside.blocks (sym s.on) ∙ s.stands.has.count in
+        subst (λ (n : ℕ). (13 ≤ n) × (n ≤ 4099)) (sym blocks) (s.its.enough, s.its.not_too_many);
+    kept = λ told old new s same.
+        let at = s.its.unit in
+        let its : IsSameFor told at old new = subst (λ (u : ℕ). IsSameFor told u old new) (sym s.on) same in
+        record {
+          its = s.its;
+          is = s.is;
+          stands = record {
+            has = record { attached = subst (λ (c : Option (List ℕ)). IsSome c) (sym its.card) s.stands.has.attached; count = its.blocks ∙ s.stands.has.count };
+            held = λ tells. subst (λ (done : List Event). HeldBy s.its done) (sym (its.changes tells)) (s.stands.held tells);
+          };
+          on = s.on;
+          holds = λ tells. ap (λ (done : List Event). pages (bytes_after done)) (same.changes tells) ∙ s.holds tells;
+        };
+  }

@@ -28,26 +28,14 @@ pub struct PlainBook {
 }
 
 impl PageBook for PlainBook {
-    ghost use Rattle.newt_pagelog.specs.Kept.{numbers_in, shown_in, small_with};
-    ghost use Rattle.newt_pageplain.specs.Plain.{StandsWith, tells_with, banks_with, kept_with};
+    ghost use Rattle.newt_pagelog.specs.Kept.{shown_in};
+    ghost use Rattle.newt_pageplain.specs.Plain.{is_book, meaning};
 
-    ghost place = { λ b. b.unit };
+    ghost means = { λ b. meaning b.unit b.journal b.pages.entries
+        (shown_in b.pages.entries b.at) b.room };
 
-    ghost numbers = { λ b. numbers_in b.pages.entries };
-
-    ghost shown = { λ b. shown_in b.pages.entries b.at };
-
-    ghost spare = { λ b. b.room };
-
-    ghost stands = { λ told b o. StandsWith told b.unit b.journal b.pages.entries o };
-
-    ghost tells = { λ told b o s. tells_with told b.unit b.journal b.pages.entries o s };
-
-    ghost small = { λ told b o s. small_with b.pages.entries b.sound };
-
-    ghost has_banks = { λ told b o s. banks_with told b.unit b.journal b.pages.entries o s };
-
-    ghost kept = { λ told b old new s. kept_with told b.unit b.journal b.pages.entries old new s };
+    ghost is_book = { λ b. is_book b.unit b.journal b.pages.entries
+        (shown_in b.pages.entries b.at) b.room b.sound };
 
     fn format<H: Host>(alloc: Global, host: &mut H, unit: Unit, batch: &Batch) -> Result<(), Stop> {
         newt_pagelog::format(alloc, host, unit, batch)

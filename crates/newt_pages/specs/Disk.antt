@@ -16,7 +16,7 @@ use Rattle.newt_spec_image.specs.Pages.{Change, Put}
 use Rattle.newt_journal.specs.Journal.{Stands, HeldBy}
 use Rattle.newt_journal.specs.Places.{first_place}
 use Rattle.newt_journal.specs.declared.journal.Journal.{Journal}
-use Rattle.newt_pagebook.specs.Book.{PagesAre, IsSameFor, changed_numbers}
+use Rattle.newt_pagebook.specs.Book.{IsBook, IsSameFor, Meaning, Shown, changed_numbers}
 use Rattle.newt_pagelog.specs.Commits.{HasRoomFor}
 use Rattle.newt_pagelog.specs.Kept.{ArePageNumbers, map_of, page_in, is_kept, numbers_in, named_in, kept_number}
 use Rattle.newt_pagelog.specs.Placed.{Places, lifted, page_of, AreNumbered, IsPlaced, ArePlaced, HoldsAt}
@@ -125,37 +125,45 @@ pub record StandsWith (told : Bool) (unit : ℕ) (journal : Option Journal) (pla
   pub holds : IsTrue told → HoldsAt its (image unit outside.now) places
   pub caches : IsTrue told → EachIsPageAtPlace its (image unit outside.now) cached
 
-pub tells_with : (told : Bool) (unit : ℕ) (journal : Option Journal) (places : Places) (cached : List (ℕ × List ℕ)) (outside : Outside) → StandsWith told unit journal places cached outside → IsTrue told
-    → PagesAre (numbers_in places) (image unit outside.now) × IsDurable unit outside.now
-tells_with told unit journal places cached outside s tells =
-    let h = s.holds tells in
-    let page = page_of s.its h.payloads in (
-      record { live = map_of (lifted page places); of_image = h.holds; named = λ number. named_in (lifted page places) number ∙ ap (λ (ns : List ℕ). set.contains (set.from_list {R = nat_cmp} ns) number) (keys-lifted page places) },
-      subst (λ (u : ℕ). IsDurable u outside.now) s.on (s.stands.held tells).durable,
-    )
-
-pub banks_with : (told : Bool) (unit : ℕ) (journal : Option Journal) (places : Places) (cached : List (ℕ × List ℕ)) (outside : Outside) → StandsWith told unit journal places cached outside → (13 ≤ outside.blocks unit) × (outside.blocks unit ≤ 4099)
-banks_with told unit journal places cached outside s =
-    let blocks : outside.blocks unit ≡ s.its.blocks = ap outside.blocks (sym s.on) ∙ s.stands.has.count in
-    subst (λ (n : ℕ). (13 ≤ n) × (n ≤ 4099)) (sym blocks) (s.its.enough, s.its.not_too_many)
-
-pub kept_with : (told : Bool) (unit : ℕ) (journal : Option Journal) (places : Places) (cached : List (ℕ × List ℕ)) (old new : Outside) → StandsWith told unit journal places cached old → IsSameFor told unit old new → StandsWith told unit journal places cached new
-kept_with told unit journal places cached old new s same =
-    let at = s.its.unit in
-    let its : IsSameFor told at old new = subst (λ (u : ℕ). IsSameFor told u old new) (sym s.on) same in
-    let still : IsTrue told → image unit old.now ≡ image unit new.now = λ tells. ap (λ (done : List Event). bytes_after done) (sym (same.changes tells)) in
-    record {
-      its = s.its;
-      is = s.is;
-      stands = record {
-        has = record { attached = subst (λ (c : Option (List ℕ)). IsSome c) (sym its.card) s.stands.has.attached; count = its.blocks ∙ s.stands.has.count };
-        held = λ tells. subst (λ (done : List Event). HeldBy s.its done) (sym (its.changes tells)) (s.stands.held tells);
-      };
-      on = s.on;
-      placed = s.placed;
-      holds = λ tells. subst (λ (l : List ℕ). HoldsAt s.its l places) (still tells) (s.holds tells);
-      caches = λ tells. subst (λ (l : List ℕ). EachIsPageAtPlace s.its l cached) (still tells) (s.caches tells);
-    }
-
 pub small_with : (places : Places) → AreNumbered places → ArePageNumbers (numbers_in places)
 small_with places numbered number is = numbered.small number (sym (kept_number places number) ∙ is)
+
+-- what a book means that has these parts
+module _ (unit : ℕ) (journal : Option Journal) (places : Places) (cached : List (ℕ × List ℕ)) (shown : Shown) (room : ℕ) where
+  abbrev pub meaning : Meaning
+  meaning = record {
+    holds = record { unit = unit; numbers = numbers_in places };
+    spare = room;
+    shown = shown;
+    stands = λ told outside. StandsWith told unit journal places cached outside;
+  }
+
+  pub is_book : AreNumbered places → IsBook meaning
+  is_book numbered = record {
+    tells = λ told outside s tells.
+        let h = s.holds tells in
+        let page = page_of s.its h.payloads in (
+          record { live = map_of (lifted page places); of_image = h.holds; named = λ number. named_in (lifted page places) number ∙ ap (λ (ns : List ℕ). set.contains (set.from_list {R = nat_cmp} ns) number) (keys-lifted page places) },
+          subst (λ (u : ℕ). IsDurable u outside.now) s.on (s.stands.held tells).durable,
+        );
+    small = λ told outside s. small_with places numbered;
+    has_banks = λ told outside s.
+        let blocks : outside.blocks unit ≡ s.its.blocks = ap outside.blocks (sym s.on) ∙ s.stands.has.count in
+        subst (λ (n : ℕ). (13 ≤ n) × (n ≤ 4099)) (sym blocks) (s.its.enough, s.its.not_too_many);
+    kept = λ told old new s same.
+        let at = s.its.unit in
+        let its : IsSameFor told at old new = subst (λ (u : ℕ). IsSameFor told u old new) (sym s.on) same in
+        let still : IsTrue told → image unit old.now ≡ image unit new.now = λ tells. ap (λ (done : List Event). bytes_after done) (sym (same.changes tells)) in
+        record {
+          its = s.its;
+          is = s.is;
+          stands = record {
+            has = record { attached = subst (λ (c : Option (List ℕ)). IsSome c) (sym its.card) s.stands.has.attached; count = its.blocks ∙ s.stands.has.count };
+            held = λ tells. subst (λ (done : List Event). HeldBy s.its done) (sym (its.changes tells)) (s.stands.held tells);
+          };
+          on = s.on;
+          placed = s.placed;
+          holds = λ tells. subst (λ (l : List ℕ). HoldsAt s.its l places) (still tells) (s.holds tells);
+          caches = λ tells. subst (λ (l : List ℕ). EachIsPageAtPlace s.its l cached) (still tells) (s.caches tells);
+        };
+  }

@@ -37,27 +37,13 @@ pub struct DiskBook {
 }
 
 impl PageBook for DiskBook {
-    ghost use Rattle.newt_pagelog.specs.Kept.{numbers_in};
-    ghost use Rattle.newt_pages.specs.Disk.{StandsWith, shown_in, tells_with, banks_with};
-    ghost use Rattle.newt_pages.specs.Disk.{kept_with, small_with};
+    ghost use Rattle.newt_pages.specs.Disk.{is_book, meaning, shown_in};
 
-    ghost place = { λ b. b.unit };
+    ghost means = { λ b. meaning b.unit b.journal b.places.entries b.cache.entries
+        (shown_in b.cache.entries b.spare b.at) b.room };
 
-    ghost numbers = { λ b. numbers_in b.places.entries };
-
-    ghost shown = { λ b. shown_in b.cache.entries b.spare b.at };
-
-    ghost spare = { λ b. b.room };
-
-    ghost stands = { λ told b o. StandsWith told b.unit b.journal b.places.entries b.cache.entries o };
-
-    ghost tells = { λ told b o s. tells_with told b.unit b.journal b.places.entries b.cache.entries o s };
-
-    ghost small = { λ told b o s. small_with b.places.entries b.numbered };
-
-    ghost has_banks = { λ told b o s. banks_with told b.unit b.journal b.places.entries b.cache.entries o s };
-
-    ghost kept = { λ told b old new s. kept_with told b.unit b.journal b.places.entries b.cache.entries old new s };
+    ghost is_book = { λ b. is_book b.unit b.journal b.places.entries b.cache.entries
+        (shown_in b.cache.entries b.spare b.at) b.room b.numbered };
 
     fn format<H: Host>(alloc: Global, host: &mut H, unit: Unit, batch: &Batch) -> Result<(), Stop> {
         newt_pagelog::format(alloc, host, unit, batch)

@@ -6,7 +6,7 @@ use Rattle.newt_host.specs.Outside.{Spends}
 use Rattle.newt_host.proofs.Outside.{NoFault-append}
 use Rattle.newt_spec_image.specs.Pages.{Pages, pages}
 use Rattle.newt_spec_image.specs.Objects.{Extent, data_at}
-use Rattle.newt_objects.proofs.Calls.{Looks-append, Reads-ended, image-looked, stop_since, spends_page}
+use Rattle.newt_objects.proofs.Calls.{Looks-append, Reads-ended, image-looked, stop_since, spends_page, same-unit}
 use Rattle.newt_objects.proofs.read.read_extent.Goals as goal
 
 -- the data of one page more
@@ -27,23 +27,23 @@ loop-number-preserved g c =
     let outside = g.H.Host.outside in
     let i = c.loop-number.invariant in
     let e = c.in_ok-append_part.ensures in
-    let unit : ℕ = p.place c.args.book.now in
+    let unit : ℕ = (p.means c.args.book.now).holds.unit in
     let index : ℕ = c.loop-number.number-index in
     let numbers : List ℕ = c.args.extent.now.numbers in
     let seen : c.deref-number-items.result.now ≡ numbers = c.deref-number-items.ensures.value ∙ ap (λ (x : Extent). x.numbers) c.extent.view_is in
     let low : index < length numbers = omega (arith, c.loop-number-test.true, ap (λ (l : List ℕ). length l) seen) in
     record {
-      book = Looks-append p.place p.numbers p.spare p.stands g.H.Host.told i.book e.reads.book;
+      book = Looks-append g.H.Host.told i.book e.reads.book;
       no_fault = NoFault-append i.no_fault e.reads.no_fault;
       size = omega (arith, i.size, e.size, c.len.ensures, ap (λ (x : Extent). x.length) c.extent.view_is);
-      costs = spends_page unit index i.costs (subst (λ (u : ℕ). Spends u 0 512 (outside c.loop-number.host) (outside c.append_part.new.host)) i.book.same_place e.costs);
+      costs = spends_page unit index i.costs (subst (λ (u : ℕ). Spends u 0 512 (outside c.loop-number.host) (outside c.append_part.new.host)) (same-unit g.H.Host.told i.book) e.costs);
       so_far = λ told live is.
           let size : ℕ = c.args.extent.now.length in
           let before : List ℕ = flat_map (data_at live) (take index numbers) in
           let part : List ℕ = data_at live (get_or numbers index 0) in
           let so_far : c.loop-number.bytes.items ≡ take size before = i.so_far told live is in
           let most : c.extent.inside.length - c.len.result ≡ size - length (take size before) = omega (arith, c.len.ensures, ap (λ (l : List ℕ). length l) so_far, ap (λ (x : Extent). x.length) c.extent.view_is) in
-          e.appended told live (ap (λ (l : List ℕ). pages l) (image-looked p.place p.numbers p.spare p.stands g.H.Host.told i.book) ∙ is)
+          e.appended told live (ap (λ (l : List ℕ). pages l) (image-looked g.H.Host.told i.book) ∙ is)
           ∙ ap (λ (l : List ℕ). c.loop-number.bytes.items ++ take (c.extent.inside.length - c.len.result) (data_at live (get_or l index 0))) seen
           ∙ ap (λ (k : ℕ). c.loop-number.bytes.items ++ take k part) most
           ∙ ap (λ (l : List ℕ). l ++ take (size - length (take size before)) part) so_far
@@ -56,10 +56,10 @@ returns-in_err-append_part-clause-reads g c =
     let outside = g.H.Host.outside in
     let i = c.loop-number.invariant in
     let e = c.in_err-append_part.ensures in
-    Reads-ended p.place p.numbers p.spare p.stands g.H.Host.told c.from_residual.result c.in_err-append_part.field-0.0 c.from_residual.ensures.1
-    (Looks-append p.place p.numbers p.spare p.stands g.H.Host.told i.book e.reads.book)
-    (stop_since (p.place c.args.book.now) (p.place c.loop-number.book) (outside c.args.host.now) (outside c.loop-number.host) (outside c.append_part.new.host) c.in_err-append_part.field-0.0
-    i.book.same_place i.no_fault e.reads.cause)
+    Reads-ended g.H.Host.told c.from_residual.result c.in_err-append_part.field-0.0 c.from_residual.ensures.1
+    (Looks-append g.H.Host.told i.book e.reads.book)
+    (stop_since (p.means c.args.book.now).holds.unit (p.means c.loop-number.book).holds.unit (outside c.args.host.now) (outside c.loop-number.host) (outside c.append_part.new.host) c.in_err-append_part.field-0.0
+    (same-unit g.H.Host.told i.book) i.no_fault e.reads.cause)
 
 pub returns-clause-bytes : goal.returns-clause-bytes
 returns-clause-bytes g c = λ told live is.

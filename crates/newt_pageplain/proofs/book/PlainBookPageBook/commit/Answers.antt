@@ -12,8 +12,8 @@ use Rattle.newt_pagebook.specs.Book.{IsBeforeOrAfter, IsOpenFor, ReadsChanged, b
 use Rattle.newt_pagebook.specs.declared.book.CommitFault.{CommitFault}
 use Rattle.newt_pagebook.specs.declared.book.CommitFault.TheVariants.{Full, Device}
 use Rattle.newt_pagebook.proofs.Tests.{some_inj}
-use Rattle.newt_pageplain.specs.Plain.{tells_with}
-use Rattle.newt_pagelog.specs.Kept.{numbers_in}
+use Rattle.newt_pageplain.specs.Plain.{is_book}
+use Rattle.newt_pagelog.specs.Kept.{numbers_in, shown_in}
 use Rattle.newt_pagelog.proofs.Failing.{not-err, more-named, not-more}
 use Rattle.newt_pagelog.proofs.Counts.{numbers-after}
 use Rattle.newt_pagelog.proofs.Ending.{Done, done-at, spent-nothing, worn-nothing}
@@ -25,21 +25,22 @@ full-not-device r is so = (cc)
 pub returns-then-live_after-cap : goal.returns-then-live_after-cap
 returns-then-live_after-cap g c =
     let o = g.H.Host.outside c.args.host.now in
-    let u = c.args.self.now.unit in
+    let b = c.args.self.now in
+    let u = b.unit in
     let batch = c.args.batch.now in
     let img = image u o.now in
     let live = set.len (changed_numbers batch (numbers_in c.args.self.now.pages.entries)) in
     record {
       stands = tt;
-      same_place = refl;
+      same_unit = refl;
       numbers_are = tt;
       committed = λ tells. tt;
-      any_moment = λ tells. Leaves-start {P = IsBeforeOrAfter batch img} (λ left may. let same = ((tells_with g.H.Host.told u c.args.self.now.journal c.args.self.now.pages.entries o c.requires.book tells).1 left may) in inl (ap (λ (l : List ℕ). pages l) same, ap (λ (l : List ℕ). version l) same));
+      any_moment = λ tells. Leaves-start {P = IsBeforeOrAfter batch img} (λ left may. let same = (((is_book u b.journal b.pages.entries (shown_in b.pages.entries b.at) b.room b.sound).tells g.H.Host.told o c.requires.book tells).1 left may) in inl (ap (λ (l : List ℕ). pages l) same, ap (λ (l : List ℕ). version l) same));
       full = λ is. more-named c.live_after.result c.cap.result _ _ c.live_after.ensures (c.cap.ensures ∙ ap cap c.blocks-2.ensures) c.if-live_after-cap.true;
       fits = λ more. refl;
       unchanged = λ is. record {
         stands = c.requires.book;
-        same_numbers = refl;
+        same = refl;
         same_page = refl;
         same_spare = refl;
         moment = refl;
@@ -83,7 +84,7 @@ returns-in-Ok g c =
         holds = λ tells. subst (λ (v : ℕ). pages (image v new) ≡ option_map (after batch) (pages (image v old))) on (e.commits.committed tells)
             ∙ ap (option_map (after batch)) (s.holds tells) ∙ ap (λ (m : Pages). Some m) (sym e.pages);
       };
-      same_place = refl;
+      same_unit = refl;
       numbers_are = numbers-after c.args.self.now.pages.entries c.commit_with.new.pages.entries batch e.pages;
       committed = λ tells. subst (λ (v : ℕ). ReadsChanged batch (image v old) (image v new)) on (e.commits.committed tells);
       any_moment = done.any_moment;
@@ -119,7 +120,7 @@ returns-in-Err g c =
     let done = done-at c.in-Some.journal.unit u c.in-Some.journal.blocks live on count e.commits.writes e.appends in
     record {
       stands = tt;
-      same_place = refl;
+      same_unit = refl;
       numbers_are = tt;
       committed = λ tells. tt;
       any_moment = done.any_moment;

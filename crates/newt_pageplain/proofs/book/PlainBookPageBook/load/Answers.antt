@@ -19,8 +19,7 @@ returns g c =
         is_page = λ tells live is. ap (λ (m : Pages). map.get m number) (some_inj live (map_of entries) (sym is ∙ c.requires.book.holds tells)) ∙ get_map entries number;
       };
       stands = c.requires.book;
-      same_place = refl;
-      same_numbers = refl;
+      same = refl;
       same_spare = refl;
       reads = OnlyReads-refl u outside;
       costs = spent-nothing u 0 512 outside;

@@ -18,7 +18,7 @@ returns-in_err-journal g c =
     let reads = c.in_err-journal.ensures.reads in
     record {
       stands = no-value r _ was.0;
-      place_is = no-value r _ was.0;
+      unit_is = no-value r _ was.0;
       not_store = λ bad. c.in_err-journal.ensures.not_store (ap Err (same-err r e NotStore was.1 bad));
       reads = reads.looks;
       cause = λ bad. reads.cause (ap Err (same-err r e Device was.1 bad));
@@ -39,7 +39,7 @@ returns-in_err-pages g c =
     let looks = looks-two its.1 opened.looks reads.looks in
     record {
       stands = no-value r _ was.0;
-      place_is = no-value r _ was.0;
+      unit_is = no-value r _ was.0;
       not_store = λ bad tells. subst (λ (m : Moment). pages (image u m) ≡ None) opened.looks.moment
           (subst (λ (v : ℕ). pages (image v (o c.open_journal.new.host).now) ≡ None) its.1 (c.in_err-pages.ensures.not_store (ap Err (same-err r e NotStore was.1 bad)) tells));
       reads = looks;
@@ -68,7 +68,7 @@ returns g c =
         holds = λ tells. ap (λ (m : Moment). pages (image u m)) read.moment
             ∙ subst (λ (v : ℕ). pages (image v (o c.open_journal.new.host).now) ≡ Some (map_of entries)) its.1 (c.in_ok-pages.ensures.pages tells);
       };
-      place_is = refl;
+      unit_is = refl;
       not_store = λ bad tells. absurd (not-err bad);
       reads = looks;
       cause = λ bad. absurd (not-err bad);

@@ -1,5 +1,6 @@
 use Rattle.std.proofs.Common.{◌≡◌, ℕ, Option, Some, None, refl, sym, ◌∙◌, ap, arith}
 use Rattle.newt_spec_image.specs.Pages.{Pages}
+use Rattle.newt_pagebook.specs.Book.{Holding, Numbers}
 use Rattle.newt_pagelog.specs.Kept.{Entries, page_in, shown_in}
 use Rattle.newt_pagelog.proofs.Maps.{same_entries, same_numbers}
 use Rattle.newt_pagelog.proofs.Replaying.{sound-reordered}
@@ -22,7 +23,7 @@ returns-clause-same c =
     let old = c.args.self.now.pages.entries in
     let new = c.reserve.new.self.entries in
     let same = c.reserve.ensures.entries.2 in
-    (refl, same_numbers old new same, same_shown old new c.args.self.now.at same)
+    (ap (λ (ns : Numbers). record { unit = c.args.self.now.unit; numbers = ns }) (same_numbers old new same), same_shown old new c.args.self.now.at same)
 
 pub returns-clause-book : goal.returns-clause-book
 returns-clause-book c = λ told outside s. record {
@@ -38,7 +39,7 @@ returns-in_err-reserve-clause-same c =
     let old = c.args.self.now.pages.entries in
     let new = c.reserve.new.self.entries in
     let same = c.reserve.ensures.entries.2 in
-    (refl, same_numbers old new same, same_shown old new c.args.self.now.at same)
+    (ap (λ (ns : Numbers). record { unit = c.args.self.now.unit; numbers = ns }) (same_numbers old new same), same_shown old new c.args.self.now.at same)
 
 pub returns-in_err-reserve-clause-book : goal.returns-in_err-reserve-clause-book
 returns-in_err-reserve-clause-book c = λ told outside s. record {

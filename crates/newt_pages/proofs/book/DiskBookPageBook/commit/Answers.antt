@@ -15,7 +15,7 @@ use Rattle.newt_pagelog.specs.Kept.{numbers_in}
 use Rattle.newt_pagelog.specs.Placed.{HoldsAt}
 use Rattle.newt_pagelog.proofs.Failing.{not-err, more-named, not-more}
 use Rattle.newt_pagelog.proofs.Ending.{done-at, spent-nothing, worn-nothing}
-use Rattle.newt_pages.specs.Disk.{EachIsPageAtPlace, tells_with}
+use Rattle.newt_pages.specs.Disk.{EachIsPageAtPlace, is_book, shown_in}
 use Rattle.newt_pages.proofs.Caching.{its-caches-on}
 use Rattle.newt_pages.proofs.book.DiskBookPageBook.commit.Goals as goal
 
@@ -32,15 +32,15 @@ returns-then-live-cap g c =
     let live = set.len (changed_numbers batch (numbers_in b.places.entries)) in
     record {
       stands = tt;
-      same_place = refl;
+      same_unit = refl;
       numbers_are = tt;
       committed = λ tells. tt;
-      any_moment = λ tells. Leaves-start {P = IsBeforeOrAfter batch img} (λ left may. let same = ((tells_with g.H.Host.told u b.journal b.places.entries b.cache.entries o c.requires.book tells).1 left may) in inl (ap (λ (l : List ℕ). pages l) same, ap (λ (l : List ℕ). version l) same));
+      any_moment = λ tells. Leaves-start {P = IsBeforeOrAfter batch img} (λ left may. let same = (((is_book u b.journal b.places.entries b.cache.entries (shown_in b.cache.entries b.spare b.at) b.room b.numbered).tells g.H.Host.told o c.requires.book tells).1 left may) in inl (ap (λ (l : List ℕ). pages l) same, ap (λ (l : List ℕ). version l) same));
       full = λ is. more-named c.live_after-live.result c.cap.result _ _ c.live_after-live.ensures (c.cap.ensures ∙ ap cap c.blocks-2.ensures) c.if-live-cap.true;
       fits = λ more. refl;
       unchanged = λ is. record {
         stands = c.requires.book;
-        same_numbers = refl;
+        same = refl;
         same_page = refl;
         same_spare = refl;
         moment = refl;
@@ -92,7 +92,7 @@ returns-in-Ok g c =
         holds = λ tells. subst (λ (v : ℕ). HoldsAt k (image v new) c.commit_with.new.places.entries) (e.commits.stands.1 ∙ on) (e.takes.book.holds tells);
         caches = λ tells. subst (λ (v : ℕ). EachIsPageAtPlace k (image v new) c.commit_with.new.cache.entries) on (e.caches tells);
       };
-      same_place = refl;
+      same_unit = refl;
       numbers_are = e.takes.numbers;
       committed = λ tells. subst (λ (v : ℕ). ReadsChanged batch (image v old) (image v new)) on (e.commits.committed tells);
       any_moment = done.any_moment;
@@ -129,7 +129,7 @@ returns-in-Err g c =
     let done = done-at c.in-Some.journal.unit u c.in-Some.journal.blocks live on count e.commits.writes e.appends in
     record {
       stands = tt;
-      same_place = refl;
+      same_unit = refl;
       numbers_are = tt;
       committed = λ tells. tt;
       any_moment = done.any_moment;

@@ -36,8 +36,7 @@ returns-in_err-self-in-Some-journal g c =
     record {
       page = no-ok r _ failed;
       stands = stands-brought told b.unit b.journal b.places.entries b.cache.entries (o c.args.host.now) s j c.in-Some-journal.is c.bring.new.cache.entries (o c.bring.new.host) e.reads.moment e.reads.alone e.caches;
-      same_place = refl;
-      same_numbers = refl;
+      same = refl;
       same_spare = refl;
       reads = brought.looks;
       costs = brought.costs;
@@ -60,8 +59,7 @@ returns g c =
       page = has-page told b.unit b.journal b.places.entries b.cache.entries (o c.args.host.now) s j c.in-Some-journal.is c.args.number at _ there c.in_ok-self-in-Some-journal.ensures.brings.found (λ tells payloads is.
           c.in_ok-self-in-Some-journal.ensures.brings.page tells payloads (ap (λ (u : ℕ). records (image u (o c.args.host.now).now)) on ∙ is));
       stands = stands-brought told b.unit b.journal b.places.entries b.cache.entries (o c.args.host.now) s j c.in-Some-journal.is c.bring.new.cache.entries (o c.bring.new.host) e.reads.moment e.reads.alone e.caches;
-      same_place = refl;
-      same_numbers = refl;
+      same = refl;
       same_spare = refl;
       reads = brought.looks;
       costs = brought.costs;

@@ -19,7 +19,7 @@ returns-in_err-journal g c =
     let reads = c.in_err-journal.ensures.reads in
     record {
       stands = no-value r _ was.0;
-      place_is = no-value r _ was.0;
+      unit_is = no-value r _ was.0;
       not_store = λ bad. c.in_err-journal.ensures.not_store (ap Err (same-err r e NotStore was.1 bad));
       reads = reads.looks;
       cause = λ bad. reads.cause (ap Err (same-err r e Device was.1 bad));
@@ -40,7 +40,7 @@ returns-in_err-places g c =
     let looks = looks-two its.1 opened.looks reads.looks in
     record {
       stands = no-value r _ was.0;
-      place_is = no-value r _ was.0;
+      unit_is = no-value r _ was.0;
       not_store = λ bad tells. subst (λ (m : Moment). pages (image u m) ≡ None) opened.looks.moment
           (subst (λ (v : ℕ). pages (image v (o c.open_journal.new.host).now) ≡ None) its.1 (c.in_err-places.ensures.not_store (ap Err (same-err r e NotStore was.1 bad)) tells));
       reads = looks;
@@ -58,7 +58,7 @@ returns-in_err-cache g c =
     let looks = looks-two its.1 c.in_ok-journal.ensures.reads.looks c.in_ok-places.ensures.reads.looks in
     record {
       stands = no-value r _ was.0;
-      place_is = no-value r _ was.0;
+      unit_is = no-value r _ was.0;
       not_store = λ bad. absurd (let is = same-err r Memory NotStore was.1 bad in cc);
       reads = looks;
       cause = λ bad. absurd (let is = same-err r Memory Device was.1 bad in cc);
@@ -88,7 +88,7 @@ returns g c =
         holds = λ tells. subst (λ (l : List ℕ). HoldsAt j l places) (ap (λ (m : Moment). image j.unit m) (sym read.moment) ∙ ap (λ (v : ℕ). image v (o c.replay.new.host).now) its.1) (c.in_ok-places.ensures.pages tells);
         caches = λ tells. cached-none j (image u (o c.replay.new.host).now) c.in_ok-cache.cache.entries c.in_ok-cache.ensures;
       };
-      place_is = refl;
+      unit_is = refl;
       not_store = λ bad tells. absurd (not-err bad);
       reads = looks;
       cause = λ bad. absurd (not-err bad);

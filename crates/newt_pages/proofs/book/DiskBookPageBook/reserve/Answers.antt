@@ -1,12 +1,16 @@
 use Rattle.std.proofs.Common.{refl, sym, ◌∙◌, ap}
 use Rattle.newt_spec_image.specs.Pages.{Pages}
+use Rattle.newt_pagebook.specs.Book.{Holding, Numbers}
 use Rattle.newt_pagelog.specs.Placed.{page_of}
 use Rattle.newt_pages.proofs.Tables.{numbers-same, pages-same}
 use Rattle.std.proofs.Common.{Some}
 use Rattle.newt_pages.proofs.book.DiskBookPageBook.reserve.Goals as goal
 
 pub returns-clause-same : goal.returns-clause-same
-returns-clause-same c = (refl, numbers-same c.args.self.now.places.entries c.reserve.new.self.entries c.reserve.ensures.entries.2, refl)
+returns-clause-same c = (
+  ap (λ (ns : Numbers). record { unit = c.args.self.now.unit; numbers = ns }) (numbers-same c.args.self.now.places.entries c.reserve.new.self.entries c.reserve.ensures.entries.2),
+  refl,
+)
 
 pub returns-clause-book : goal.returns-clause-book
 returns-clause-book c = λ told outside s.
