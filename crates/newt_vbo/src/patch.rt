@@ -36,15 +36,15 @@ fn put_patched<P: PageBook, H: Host>(
     bytes: &[u8],
     batch: &mut Batch,
 ) -> Result<(), RangeFault>
-    requires live { set.contains (P.numbers book.old) number ≡ true }
-    requires stands { P.stands H.told book.old (H.outside host.old) }
+    requires live { set.contains (P.means book.old).holds.numbers number ≡ true }
+    requires stands { (P.means book.old).stands H.told (H.outside host.old) }
     requires inside { from + length bytes.now ≤ 500 }
     requires small { number < 65536 }
     requires new { names batch.old number ≡ false }
     ensures put { OnOk result (PutsPatched H.told
-        (image (P.place book.old) (H.outside host.old).now) number from bytes.now
+        (image (P.means book.old).holds.unit (H.outside host.old).now) number from bytes.now
         batch.old batch.new) }
-    ensures reads { ReadsPart P.place P.numbers P.spare P.stands H.told book.old book.new
+    ensures reads { ReadsPart H.told (P.means book.old) (P.means book.new)
         (H.outside host.old) (H.outside host.new) result }
 {
     book.load(host, number, Use::Again)?;
@@ -69,15 +69,16 @@ pub fn plan_patch<P: PageBook, H: Host>(
 ) -> Result<(), RangeFault>
     requires there { IsSome (held objects.now id) }
     requires apart { (x : Extent) → held objects.now id ≡ Some x → IsUnnamed x batch.old }
-    requires stands { P.stands H.told book.old (H.outside host.old) }
-    requires objects { AreOf H.told (held objects.now) (P.numbers book.old) (P.place book.old)
-        (H.outside host.old) }
-    ensures plans { OnOk result (PlansPatch H.told objects.now id at bytes.now (P.numbers book.old)
-        (image (P.place book.old) (H.outside host.old).now) batch.old batch.new) }
+    requires stands { (P.means book.old).stands H.told (H.outside host.old) }
+    requires objects { AreOf H.told (held objects.now)
+        (P.means book.old).holds.numbers (P.means book.old).holds.unit (H.outside host.old) }
+    ensures plans { OnOk result (PlansPatch H.told objects.now id at bytes.now
+        (P.means book.old).holds.numbers (image (P.means book.old).holds.unit
+        (H.outside host.old).now) batch.old batch.new) }
     ensures unchanged { IsErrOf result RangeFault.Range →
         (book.new ≡ book.old) × (host.new ≡ host.old) × (batch.new ≡ batch.old) }
-    ensures reads { ReadsRange P.place P.numbers P.spare P.stands H.told (held objects.now id)
-        at (length bytes.now) book.old book.new (H.outside host.old) (H.outside host.new) result }
+    ensures reads { ReadsRange H.told (held objects.now id) at (length bytes.now)
+        (P.means book.old) (P.means book.new) (H.outside host.old) (H.outside host.new) result }
 {
     check_range(objects, id, at, bytes.len())?;
     let count = bytes.len() as u32;

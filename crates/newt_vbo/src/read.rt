@@ -33,15 +33,15 @@ fn append_piece<P: PageBook, H: Host>(
     piece: Piece,
     bytes: &mut Vec<u8>,
 ) -> Result<(), RangeFault>
-    requires live { set.contains (P.numbers book.old) number ≡ true }
-    requires stands { P.stands H.told book.old (H.outside host.old) }
+    requires live { set.contains (P.means book.old).holds.numbers number ≡ true }
+    requires stands { (P.means book.old).stands H.told (H.outside host.old) }
     requires inside { piece.from + piece.count ≤ 500 }
     ensures appended { IsTrue H.told → (live : Pages) →
-        pages (image (P.place book.old) (H.outside host.old).now) ≡ Some live →
+        pages (image (P.means book.old).holds.unit (H.outside host.old).now) ≡ Some live →
         OnOk result (bytes.new.items ≡ bytes.old.items
         ++ bytes_from piece.from piece.count (data_at live number)) }
     ensures size { OnOk result (length bytes.new.items ≡ length bytes.old.items + piece.count) }
-    ensures reads { ReadsPart P.place P.numbers P.spare P.stands H.told book.old book.new
+    ensures reads { ReadsPart H.told (P.means book.old) (P.means book.new)
         (H.outside host.old) (H.outside host.new) result }
 {
     book.load(host, number, Use::Again)?;
@@ -62,17 +62,17 @@ pub fn read_range<P: PageBook, H: Host>(
     len: u32,
 ) -> Result<Vec<u8>, RangeFault>
     requires there { IsSome (held objects.now id) }
-    requires stands { P.stands H.told book.old (H.outside host.old) }
-    requires objects { AreOf H.told (held objects.now) (P.numbers book.old) (P.place book.old)
-        (H.outside host.old) }
+    requires stands { (P.means book.old).stands H.told (H.outside host.old) }
+    requires objects { AreOf H.told (held objects.now)
+        (P.means book.old).holds.numbers (P.means book.old).holds.unit (H.outside host.old) }
     ensures bytes { IfOk result (λ bytes. IsTrue H.told → (live : Pages) →
-        pages (image (P.place book.old) (H.outside host.old).now) ≡ Some live →
+        pages (image (P.means book.old).holds.unit (H.outside host.old).now) ≡ Some live →
         IfSome (held objects.now id) (λ x. bytes.items ≡ bytes_from at len (joined live x))) }
     ensures size { IfOk result (λ bytes. length bytes.items ≡ len) }
     ensures unchanged { IsErrOf result RangeFault.Range →
         (book.new ≡ book.old) × (host.new ≡ host.old) }
-    ensures reads { ReadsRange P.place P.numbers P.spare P.stands H.told (held objects.now id)
-        at len book.old book.new (H.outside host.old) (H.outside host.new) result }
+    ensures reads { ReadsRange H.told (held objects.now id) at len
+        (P.means book.old) (P.means book.new) (H.outside host.old) (H.outside host.new) result }
 {
     check_range(objects, id, at, len as usize)?;
     let first = at / 500;

@@ -5,7 +5,7 @@ use Rattle.std.proofs.lemmas.List.{append-nil, length_push, take_all}
 use Rattle.newt_host.specs.Moments.{image, overwritten}
 use Rattle.newt_host.specs.Outside.{Spends}
 use Rattle.newt_host.proofs.Outside.{NoFault-append, NoFault-refl}
-use Rattle.newt_objects.proofs.Calls.{Looks-append, Looks-refl, image-looked}
+use Rattle.newt_objects.proofs.Calls.{Looks-append, Looks-refl, image-looked, same-numbers, same-unit}
 use Rattle.newt_vbo.proofs.Calls.{range_past, range_failed, range_done}
 use Rattle.newt_spec_image.specs.Pages.{Change, pages, after}
 use Rattle.newt_spec_image.specs.Objects.{Extent, IsTableOf}
@@ -29,13 +29,13 @@ use Rattle.newt_vbo.proofs.patch.plan_patch.Goals as goal
 pub loop-part-init : goal.loop-part-init
 loop-part-init g c =
     let outside = g.H.Host.outside in
-    let unit : ℕ = g.P.PageBook.place c.args.book.now in
+    let unit : ℕ = (g.P.PageBook.means c.args.book.now).holds.unit in
     let at : ℕ = c.args.at in
     let bytes : List ℕ = c.args.bytes.now in
     let old : Change = c.args.batch.now in
     let none : at / 500 - at / 500 ≡ 0 = omega arith in
     record {
-      book = Looks-refl g.P.PageBook.place g.P.PageBook.numbers g.P.PageBook.spare g.P.PageBook.stands g.H.Host.told c.args.book.now (outside c.args.host.now) c.requires.stands;
+      book = Looks-refl g.H.Host.told (g.P.PageBook.means c.args.book.now) (outside c.args.host.now) c.requires.stands;
       no_fault = NoFault-refl (outside c.args.host.now);
       costs = spends_none unit (512 * (at / 500 - at / 500)) (outside c.args.host.now);
       deletes = refl;
@@ -44,7 +44,7 @@ loop-part-init g c =
       put = λ x there. sym (ap (λ (n : ℕ). numbers_put old ++ take n (drop (at / 500) x.numbers)) none ∙ append-nil (numbers_put old));
       free = λ x k number there low slot. c.requires.apart x there k number slot;
       whole = λ told live is x there.
-          let table : IsTableOf live (held c.args.objects.now) = told_table g.H.Host.told (held c.args.objects.now) (g.P.PageBook.numbers c.args.book.now) unit (outside c.args.host.now) live c.requires.objects told is in
+          let table : IsTableOf live (held c.args.objects.now) = told_table g.H.Host.told (held c.args.objects.now) (g.P.PageBook.means c.args.book.now).holds.numbers unit (outside c.args.host.now) live c.requires.objects told is in
           unnamed_whole old live x (c.requires.apart x there) (data_whole live (held c.args.objects.now) c.args.id x (image_whole (image unit (outside c.args.host.now).now) live is) table there);
       so_far = λ told live is. patch_none c.args.objects.now c.args.id at (take (before_part (at / 500) at (at + length bytes)) bytes) old live (ap (λ (n : ℕ). take n bytes) (before_first at (length bytes)));
     }
@@ -78,8 +78,8 @@ put_patched-requires-clause-live g c =
     let outside = g.H.Host.outside c.args.host.now in
     let w = the_some (held c.args.objects.now c.args.id) c.requires.there in
     let slot : slice_get w.0.numbers part ≡ Some number = ap (λ (o : Option Extent). option_and_then (λ (x : Extent). slice_get x.numbers part) o) (sym w.1) ∙ sym c.page_of-number.ensures in
-    ap (λ (s : Numbers). set.contains s number) c.loop-part.invariant.book.same_numbers
-    ∙ part_live g.H.Host.told c.args.objects.now (g.P.PageBook.numbers c.args.book.now) (g.P.PageBook.place c.args.book.now) outside c.args.id part number w.0 c.requires.objects w.1 slot
+    ap (λ (s : Numbers). set.contains s number) (same-numbers g.H.Host.told c.loop-part.invariant.book)
+    ∙ part_live g.H.Host.told c.args.objects.now (g.P.PageBook.means c.args.book.now).holds.numbers (g.P.PageBook.means c.args.book.now).holds.unit outside c.args.id part number w.0 c.requires.objects w.1 slot
 
 pub put_patched-requires-clause-new : goal.put_patched-requires-clause-new
 put_patched-requires-clause-new g c =
@@ -99,8 +99,8 @@ put_patched-requires-clause-small g c =
     let outside = g.H.Host.outside c.args.host.now in
     let w = the_some (held c.args.objects.now c.args.id) c.requires.there in
     let slot : slice_get w.0.numbers part ≡ Some number = ap (λ (o : Option Extent). option_and_then (λ (x : Extent). slice_get x.numbers part) o) (sym w.1) ∙ sym c.page_of-number.ensures in
-    g.met.P.PageBook.small g.H.Host.told c.args.book.now outside c.requires.stands number
-    (part_live g.H.Host.told c.args.objects.now (g.P.PageBook.numbers c.args.book.now) (g.P.PageBook.place c.args.book.now) outside c.args.id part number w.0 c.requires.objects w.1 slot)
+    (g.met.P.PageBook.is_book c.args.book.now).small g.H.Host.told outside c.requires.stands number
+    (part_live g.H.Host.told c.args.objects.now (g.P.PageBook.means c.args.book.now).holds.numbers (g.P.PageBook.means c.args.book.now).holds.unit outside c.args.id part number w.0 c.requires.objects w.1 slot)
 
 pub loop-part-preserved : goal.loop-part-preserved
 loop-part-preserved g c =
@@ -108,9 +108,8 @@ loop-part-preserved g c =
     let e = c.put_patched.ensures in
     let p = c.in_ok-put_patched.ensures.put in
     let outside = g.H.Host.outside in
-    let place = g.P.PageBook.place in
-    let numbers = g.P.PageBook.numbers c.args.book.now in
-    let unit : ℕ = place c.args.book.now in
+    let numbers = (g.P.PageBook.means c.args.book.now).holds.numbers in
+    let unit : ℕ = (g.P.PageBook.means c.args.book.now).holds.unit in
     let objects = c.args.objects.now in
     let id : ℕ = c.args.id in
     let part : ℕ = c.loop-part.part in
@@ -126,8 +125,8 @@ loop-part-preserved g c =
     let count : ℕ = c.piece_in-piece.result.count in
     let piece = c.piece_in-piece.ensures in
     let now : List ℕ = image unit (outside c.args.host.now).now in
-    let same : image (place c.loop-part.book) (outside c.loop-part.host).now ≡ now =
-    image-looked g.P.PageBook.place g.P.PageBook.numbers g.P.PageBook.spare g.P.PageBook.stands g.H.Host.told i.book in
+    let same : image (g.P.PageBook.means c.loop-part.book).holds.unit (outside c.loop-part.host).now ≡ now =
+    image-looked g.H.Host.told i.book in
     let page : List ℕ = overwritten p.page (12 + from) (take count (drop start bytes)) in
     let size : start + count - start ≡ count = omega arith in
     let is_put : c.put_patched.new.batch ≡ puts_one mid number page = p.put ∙ ap (λ (n : ℕ). puts_one mid number (overwritten p.page (12 + from) (take n (drop start bytes)))) size in
@@ -137,10 +136,10 @@ loop-part-preserved g c =
     let next : first + (part - first) ≡ part = omega (arith, low) in
     let more : part - first + 1 ≡ part + 1 - first = omega (arith, low) in
     record {
-      book = Looks-append g.P.PageBook.place g.P.PageBook.numbers g.P.PageBook.spare g.P.PageBook.stands g.H.Host.told i.book e.reads.book;
+      book = Looks-append g.H.Host.told i.book e.reads.book;
       no_fault = NoFault-append i.no_fault (c.in_ok-put_patched.ensures.reads.no_fault tt);
       costs = spends_more unit first part (outside c.args.host.now) (outside c.loop-part.host) (outside c.put_patched.new.host) low i.costs
-          (subst (λ (u : ℕ). Spends u 0 512 (outside c.loop-part.host) (outside c.put_patched.new.host)) i.book.same_place e.reads.costs);
+          (subst (λ (u : ℕ). Spends u 0 512 (outside c.loop-part.host) (outside c.put_patched.new.host)) (same-unit g.H.Host.told i.book) e.reads.costs);
       deletes = ap (λ (change : Change). change.deletes) is_put ∙ i.deletes;
       count = omega (arith, low, i.count, ap (λ (change : Change). length change.puts) is_put, length_push mid.puts (number, page));
       same_live = ap (λ (change : Change). changed_numbers change numbers) is_put ∙ numbers_kept mid number page numbers live_number ∙ i.same_live;
@@ -172,7 +171,7 @@ loop-part-preserved g c =
 pub returns-in_err-check_range : goal.returns-in_err-check_range
 returns-in_err-check_range g c =
     let o = g.H.Host.outside c.args.host.now in
-    let unit : ℕ = g.P.PageBook.place c.args.book.now in
+    let unit : ℕ = (g.P.PageBook.means c.args.book.now).holds.unit in
     let at : ℕ = c.args.at in
     let n : ℕ = length c.args.bytes.now in
     let fault : RangeFault = c.in_err-check_range.field-0.0 in
@@ -182,7 +181,7 @@ returns-in_err-check_range g c =
     record {
       plans = no_done r fault _ fails;
       unchanged = λ same. (refl, refl, refl);
-      reads = range_past g.P.PageBook.place g.P.PageBook.numbers g.P.PageBook.spare g.P.PageBook.stands g.H.Host.told (held c.args.objects.now c.args.id) at n r fault c.args.book.now o fails e.only e.past c.requires.stands;
+      reads = range_past g.H.Host.told (held c.args.objects.now c.args.id) at n r fault (g.P.PageBook.means c.args.book.now) o fails e.only e.past c.requires.stands;
     }
 
 pub returns-in_err-put_patched : goal.returns-in_err-put_patched
@@ -190,7 +189,7 @@ returns-in_err-put_patched g c =
     let i = c.loop-part.invariant in
     let e = c.put_patched.ensures in
     let outside = g.H.Host.outside in
-    let unit : ℕ = g.P.PageBook.place c.args.book.now in
+    let unit : ℕ = (g.P.PageBook.means c.args.book.now).holds.unit in
     let at : ℕ = c.args.at in
     let n : ℕ = length c.args.bytes.now in
     let part : ℕ = c.loop-part.part in
@@ -204,16 +203,16 @@ returns-in_err-put_patched g c =
     record {
       plans = no_done r fault _ fails;
       unchanged = λ same. absurd (c.in_err-put_patched.ensures.reads.no_range (ap Err (the_fault r fault Range fails same)));
-      reads = range_failed g.P.PageBook.place g.P.PageBook.numbers g.P.PageBook.spare g.P.PageBook.stands g.H.Host.told (held c.args.objects.now c.args.id) at n r fault fails refl c.in_ok-check_range.ensures.within i.book i.no_fault c.in_err-put_patched.ensures.reads
+      reads = range_failed g.H.Host.told (held c.args.objects.now c.args.id) at n r fault fails refl c.in_ok-check_range.ensures.within i.book i.no_fault c.in_err-put_patched.ensures.reads
           (spends_part unit at n part c.parts_met.result old mid new c.parts_met.ensures c.loop-part.auto.part c.loop-part-test.true i.costs
-          (subst (λ (u : ℕ). Spends u 0 512 mid new) i.book.same_place e.reads.costs));
+          (subst (λ (u : ℕ). Spends u 0 512 mid new) (same-unit g.H.Host.told i.book) e.reads.costs));
     }
 
 pub returns : goal.returns
 returns g c =
     let i = c.loop-part.invariant in
     let o = g.H.Host.outside c.args.host.now in
-    let unit : ℕ = g.P.PageBook.place c.args.book.now in
+    let unit : ℕ = (g.P.PageBook.means c.args.book.now).holds.unit in
     let at : ℕ = c.args.at in
     let bytes : List ℕ = c.args.bytes.now in
     let n : ℕ = length bytes in
@@ -233,6 +232,6 @@ returns g c =
         };
       };
       unchanged = λ same. absurd (no_fault same);
-      reads = range_done g.P.PageBook.place g.P.PageBook.numbers g.P.PageBook.spare g.P.PageBook.stands g.H.Host.told (held c.args.objects.now c.args.id) at n c.in_ok-check_range.ensures.within i.book i.no_fault
+      reads = range_done g.H.Host.told (held c.args.objects.now c.args.id) at n c.in_ok-check_range.ensures.within i.book i.no_fault
           (subst (λ (k : ℕ). Spends unit 0 (512 * k) o (g.H.Host.outside c.loop-part.host)) count i.costs);
     }

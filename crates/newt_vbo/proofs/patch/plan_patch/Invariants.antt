@@ -16,15 +16,15 @@ abbrev pub invariant-loop-part : goal.invariant-loop-part
 invariant-loop-part g l =
     let outside = g.H.Host.outside in let p = g.P.PageBook in
     record {
-      book : Looks p.place p.numbers p.spare p.stands g.H.Host.told l.fn.book l.book (outside l.fn.host) (outside l.host);
+      book : Looks g.H.Host.told (p.means l.fn.book) (p.means l.book) (outside l.fn.host) (outside l.host);
       no_fault : NoFault (outside l.fn.host) (outside l.host);
-      costs : Spends (p.place l.fn.book) 0 (512 * (l.part - l.at / 500)) (outside l.fn.host) (outside l.host);
+      costs : Spends (p.means l.fn.book).holds.unit 0 (512 * (l.part - l.at / 500)) (outside l.fn.host) (outside l.host);
       deletes : l.batch.deletes ≡ l.fn.batch.deletes;
       count : length l.batch.puts ≡ length l.fn.batch.puts + (l.part - l.at / 500);
-      same_live : changed_numbers l.batch (p.numbers l.fn.book) ≡ changed_numbers l.fn.batch (p.numbers l.fn.book);
+      same_live : changed_numbers l.batch (p.means l.fn.book).holds.numbers ≡ changed_numbers l.fn.batch (p.means l.fn.book).holds.numbers;
       put : (x : Extent) → held l.objects l.id ≡ Some x → numbers_put l.batch ≡ numbers_put l.fn.batch ++ take (l.part - l.at / 500) (drop (l.at / 500) x.numbers);
       free : (x : Extent) (k number : ℕ) → held l.objects l.id ≡ Some x → l.part ≤ k → slice_get x.numbers k ≡ Some number → names l.batch number ≡ false;
-      whole : IsTrue g.H.Host.told → (live : Pages) → pages (image (p.place l.fn.book) (outside l.fn.host).now) ≡ Some live → (x : Extent) → held l.objects l.id ≡ Some x → HasWhole (after l.batch live) x;
-      so_far : IsTrue g.H.Host.told → (live : Pages) → pages (image (p.place l.fn.book) (outside l.fn.host).now) ≡ Some live
+      whole : IsTrue g.H.Host.told → (live : Pages) → pages (image (p.means l.fn.book).holds.unit (outside l.fn.host).now) ≡ Some live → (x : Extent) → held l.objects l.id ≡ Some x → HasWhole (after l.batch live) x;
+      so_far : IsTrue g.H.Host.told → (live : Pages) → pages (image (p.means l.fn.book).holds.unit (outside l.fn.host).now) ≡ Some live
           → WouldPatch l.objects l.id l.at (take (before_part l.part l.at (l.at + length l.bytes)) l.bytes) l.fn.batch l.batch live;
     }

@@ -14,8 +14,8 @@ returns-in_err-load g c =
     let fails : Fails r Device = c.from_residual.ensures.1 in
     let p = g.P.PageBook in
     record {
-      put = no_done r Device (PutsPatched g.H.Host.told (image (g.P.PageBook.place c.args.book.now) (g.H.Host.outside c.args.host.now).now) c.args.number c.args.from c.args.bytes.now c.args.batch.now c.args.batch.now) fails;
-      reads = part_device p.place p.numbers p.spare p.stands g.H.Host.told p.shown r fails c.in_err-load.ensures;
+      put = no_done r Device (PutsPatched g.H.Host.told (image (g.P.PageBook.means c.args.book.now).holds.unit (g.H.Host.outside c.args.host.now).now) c.args.number c.args.from c.args.bytes.now c.args.batch.now c.args.batch.now) fails;
+      reads = part_device g.H.Host.told r fails c.in_err-load.ensures;
     }
 
 pub returns-in_err-put : goal.returns-in_err-put
@@ -24,8 +24,8 @@ returns-in_err-put g c =
     let fails : Fails r Memory = c.from_residual-in_err-put.ensures.1 in
     let p = g.P.PageBook in
     record {
-      put = no_done r Memory (PutsPatched g.H.Host.told (image (g.P.PageBook.place c.args.book.now) (g.H.Host.outside c.args.host.now).now) c.args.number c.args.from c.args.bytes.now c.args.batch.now c.put.new.self) fails;
-      reads = part_memory p.place p.numbers p.spare p.stands g.H.Host.told p.shown r fails c.in_ok-load.ensures;
+      put = no_done r Memory (PutsPatched g.H.Host.told (image (g.P.PageBook.means c.args.book.now).holds.unit (g.H.Host.outside c.args.host.now).now) c.args.number c.args.from c.args.bytes.now c.args.batch.now c.put.new.self) fails;
+      reads = part_memory g.H.Host.told r fails c.in_ok-load.ensures;
     }
 
 pub returns : goal.returns
@@ -37,5 +37,5 @@ returns g c =
         was = λ told live is. c.in_ok-load.ensures.page.is_page told live is ∙ sym c.page.ensures;
         put = c.in_ok-put.ensures.ok ∙ ap (λ (l : List ℕ). puts_one c.args.batch.now c.args.number l) c.patched.ensures;
       };
-      reads = part_done p.place p.numbers p.spare p.stands g.H.Host.told p.shown c.in_ok-load.ensures;
+      reads = part_done g.H.Host.told c.in_ok-load.ensures;
     }

@@ -17,7 +17,7 @@ returns-in_err-load g c =
     record {
       appended = λ told live is. no_done r Device (c.args.bytes.now.items ≡ c.args.bytes.now.items ++ bytes_from c.args.piece.from c.args.piece.count (data_at live c.args.number)) fails;
       size = no_done r Device (length c.args.bytes.now.items ≡ length c.args.bytes.now.items + c.args.piece.count) fails;
-      reads = part_device p.place p.numbers p.spare p.stands g.H.Host.told p.shown r fails c.in_err-load.ensures;
+      reads = part_device g.H.Host.told r fails c.in_err-load.ensures;
     }
 
 pub returns-in_err-extend_from_slice : goal.returns-in_err-extend_from_slice
@@ -28,7 +28,7 @@ returns-in_err-extend_from_slice g c =
     record {
       appended = λ told live is. no_done r Memory (c.extend_from_slice.new.self.items ≡ c.args.bytes.now.items ++ bytes_from c.args.piece.from c.args.piece.count (data_at live c.args.number)) fails;
       size = no_done r Memory (length c.extend_from_slice.new.self.items ≡ length c.args.bytes.now.items + c.args.piece.count) fails;
-      reads = part_memory p.place p.numbers p.spare p.stands g.H.Host.told p.shown r fails c.in_ok-load.ensures;
+      reads = part_memory g.H.Host.told r fails c.in_ok-load.ensures;
     }
 
 pub returns : goal.returns
@@ -43,5 +43,5 @@ returns g c =
           more
           ∙ ap (λ (l : List ℕ). old ++ l) (c.bytes_in.ensures.bytes ∙ ap (λ (o : Option (List ℕ)). bytes_from from count (page_data (unwrap_or o []))) (c.page.ensures ∙ sym (c.in_ok-load.ensures.page.is_page told live is)));
       size = ap (λ (l : List ℕ). length l) more ∙ length-append old c.bytes_in.result.now ∙ ap (λ (n : ℕ). length old + n) c.bytes_in.ensures.size;
-      reads = part_done p.place p.numbers p.spare p.stands g.H.Host.told p.shown c.in_ok-load.ensures;
+      reads = part_done g.H.Host.told c.in_ok-load.ensures;
     }

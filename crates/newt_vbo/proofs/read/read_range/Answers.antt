@@ -4,7 +4,7 @@ use Rattle.std.specs.Option.{option_and_then}
 use Rattle.newt_host.specs.Moments.{image, bytes_from}
 use Rattle.newt_host.specs.Outside.{Spends}
 use Rattle.newt_host.proofs.Outside.{NoFault-append, NoFault-refl}
-use Rattle.newt_objects.proofs.Calls.{Looks-append, Looks-refl, image-looked}
+use Rattle.newt_objects.proofs.Calls.{Looks-append, Looks-refl, image-looked, same-numbers, same-unit}
 use Rattle.newt_vbo.proofs.Calls.{range_past, range_failed, range_done}
 use Rattle.newt_spec_image.specs.Pages.{Pages, pages}
 use Rattle.newt_spec_image.specs.Objects.{Extent, IsTableOf, joined}
@@ -25,13 +25,13 @@ use Rattle.newt_vbo.proofs.read.read_range.Goals as goal
 pub loop-part-init : goal.loop-part-init
 loop-part-init g c =
     let o = g.H.Host.outside c.args.host.now in
-    let unit : ℕ = g.P.PageBook.place c.args.book.now in
+    let unit : ℕ = (g.P.PageBook.means c.args.book.now).holds.unit in
     let at : ℕ = c.args.at in
     let len : ℕ = c.args.len in
     let bytes : List ℕ = c.new-bytes.result.items in
     let first : before_part (at / 500) at (at + len) ≡ 0 = before_first at len in
     record {
-      book = Looks-refl g.P.PageBook.place g.P.PageBook.numbers g.P.PageBook.spare g.P.PageBook.stands g.H.Host.told c.args.book.now o c.requires.stands;
+      book = Looks-refl g.H.Host.told (g.P.PageBook.means c.args.book.now) o c.requires.stands;
       no_fault = NoFault-refl o;
       size = ap (λ (l : List ℕ). length l) c.new-bytes.ensures.items ∙ sym first;
       costs = spends_none unit (512 * (at / 500 - at / 500)) o;
@@ -69,12 +69,12 @@ pub append_piece-requires : goal.append_piece-requires
 append_piece-requires g c =
     let i = c.loop-part.invariant in
     let o = g.H.Host.outside c.args.host.now in
-    let unit : ℕ = g.P.PageBook.place c.args.book.now in
+    let unit : ℕ = (g.P.PageBook.means c.args.book.now).holds.unit in
     let w = the_some (held c.args.objects.now c.args.id) c.requires.there in
     let number : ℕ = c.page_of-number.result in
     let slot : slice_get w.0.numbers c.loop-part.part ≡ Some number = ap (λ (o : Option Extent). option_and_then (λ (x : Extent). slice_get x.numbers c.loop-part.part) o) (sym w.1) ∙ sym c.page_of-number.ensures in
     record {
-      live = ap (λ (s : Numbers). set.contains s number) i.book.same_numbers ∙ part_live g.H.Host.told c.args.objects.now (g.P.PageBook.numbers c.args.book.now) unit o c.args.id c.loop-part.part number w.0 c.requires.objects w.1 slot;
+      live = ap (λ (s : Numbers). set.contains s number) (same-numbers g.H.Host.told i.book) ∙ part_live g.H.Host.told c.args.objects.now (g.P.PageBook.means c.args.book.now).holds.numbers unit o c.args.id c.loop-part.part number w.0 c.requires.objects w.1 slot;
       stands = i.book.stands;
       inside = c.piece_in.ensures.inside;
     }
@@ -87,24 +87,23 @@ loop-part-preserved g c =
     let i = c.loop-part.invariant in
     let e = c.append_piece.ensures in
     let outside = g.H.Host.outside in
-    let place = g.P.PageBook.place in
-    let unit : ℕ = place c.args.book.now in
+    let unit : ℕ = (g.P.PageBook.means c.args.book.now).holds.unit in
     let part : ℕ = c.loop-part.part in
     let at : ℕ = c.args.at in
     let end : ℕ = at + c.args.len in
     let first : ℕ = at / 500 in
     let piece = c.piece_in.ensures in
     let now : List ℕ = image unit (outside c.args.host.now).now in
-    let same : image (place c.loop-part.book) (outside c.loop-part.host).now ≡ now =
-    image-looked g.P.PageBook.place g.P.PageBook.numbers g.P.PageBook.spare g.P.PageBook.stands g.H.Host.told i.book in
+    let same : image (g.P.PageBook.means c.loop-part.book).holds.unit (outside c.loop-part.host).now ≡ now =
+    image-looked g.H.Host.told i.book in
     record {
-      book = Looks-append g.P.PageBook.place g.P.PageBook.numbers g.P.PageBook.spare g.P.PageBook.stands g.H.Host.told i.book e.reads.book;
+      book = Looks-append g.H.Host.told i.book e.reads.book;
       no_fault = NoFault-append i.no_fault (c.in_ok-append_piece.ensures.reads.no_fault tt);
       size = c.in_ok-append_piece.ensures.size ∙ ap (λ (n : ℕ). n + c.piece_in.result.count) (i.size ∙ sym piece.first) ∙ piece.last;
       costs = spends_more unit first part (outside c.args.host.now) (outside c.loop-part.host) (outside c.append_piece.new.host) c.loop-part.auto.part i.costs
-          (subst (λ (u : ℕ). Spends u 0 512 (outside c.loop-part.host) (outside c.append_piece.new.host)) i.book.same_place e.reads.costs);
+          (subst (λ (u : ℕ). Spends u 0 512 (outside c.loop-part.host) (outside c.append_piece.new.host)) (same-unit g.H.Host.told i.book) e.reads.costs);
       so_far = λ told live is x there.
-          let table : IsTableOf live (held c.args.objects.now) = told_table g.H.Host.told (held c.args.objects.now) (g.P.PageBook.numbers c.args.book.now) unit (outside c.args.host.now) live c.requires.objects told is in
+          let table : IsTableOf live (held c.args.objects.now) = told_table g.H.Host.told (held c.args.objects.now) (g.P.PageBook.means c.args.book.now).holds.numbers unit (outside c.args.host.now) live c.requires.objects told is in
           let whole : AreWhole live = image_whole now live is in
           let fits : end ≤ x.length = of_some (held c.args.objects.now c.args.id) (λ x. end ≤ x.length) x there c.in_ok-check_range.ensures.within in
           let slot : slice_get x.numbers part ≡ Some c.page_of-number.result = ap (λ (o : Option Extent). option_and_then (λ (x : Extent). slice_get x.numbers part) o) (sym there) ∙ sym c.page_of-number.ensures in
@@ -115,7 +114,7 @@ loop-part-preserved g c =
 pub returns-in_err-check_range : goal.returns-in_err-check_range
 returns-in_err-check_range g c =
     let o = g.H.Host.outside c.args.host.now in
-    let unit : ℕ = g.P.PageBook.place c.args.book.now in
+    let unit : ℕ = (g.P.PageBook.means c.args.book.now).holds.unit in
     let at : ℕ = c.args.at in
     let len : ℕ = c.args.len in
     let fault : RangeFault = c.in_err-check_range.field-0.0 in
@@ -126,7 +125,7 @@ returns-in_err-check_range g c =
       bytes = no_value r fault (λ bytes. IsTrue g.H.Host.told → (live : Pages) → pages (image unit o.now) ≡ Some live → IfSome (held c.args.objects.now c.args.id) (λ x. bytes.items ≡ bytes_from at len (joined live x))) fails;
       size = no_value r fault (λ bytes. length bytes.items ≡ len) fails;
       unchanged = λ same. (refl, refl);
-      reads = range_past g.P.PageBook.place g.P.PageBook.numbers g.P.PageBook.spare g.P.PageBook.stands g.H.Host.told (held c.args.objects.now c.args.id) at len r fault c.args.book.now o fails e.only e.past c.requires.stands;
+      reads = range_past g.H.Host.told (held c.args.objects.now c.args.id) at len r fault (g.P.PageBook.means c.args.book.now) o fails e.only e.past c.requires.stands;
     }
 
 pub returns-in_err-append_piece : goal.returns-in_err-append_piece
@@ -134,7 +133,7 @@ returns-in_err-append_piece g c =
     let i = c.loop-part.invariant in
     let e = c.append_piece.ensures in
     let outside = g.H.Host.outside in
-    let unit : ℕ = g.P.PageBook.place c.args.book.now in
+    let unit : ℕ = (g.P.PageBook.means c.args.book.now).holds.unit in
     let at : ℕ = c.args.at in
     let len : ℕ = c.args.len in
     let part : ℕ = c.loop-part.part in
@@ -149,16 +148,16 @@ returns-in_err-append_piece g c =
       bytes = no_value r fault (λ bytes. IsTrue g.H.Host.told → (live : Pages) → pages (image unit old.now) ≡ Some live → IfSome (held c.args.objects.now c.args.id) (λ x. bytes.items ≡ bytes_from at len (joined live x))) fails;
       size = no_value r fault (λ bytes. length bytes.items ≡ len) fails;
       unchanged = λ same. absurd (c.in_err-append_piece.ensures.reads.no_range (ap Err (the_fault r fault Range fails same)));
-      reads = range_failed g.P.PageBook.place g.P.PageBook.numbers g.P.PageBook.spare g.P.PageBook.stands g.H.Host.told (held c.args.objects.now c.args.id) at len r fault fails refl c.in_ok-check_range.ensures.within i.book i.no_fault c.in_err-append_piece.ensures.reads
+      reads = range_failed g.H.Host.told (held c.args.objects.now c.args.id) at len r fault fails refl c.in_ok-check_range.ensures.within i.book i.no_fault c.in_err-append_piece.ensures.reads
           (spends_part unit at len part c.parts_met.result old mid new c.parts_met.ensures c.loop-part.auto.part c.loop-part-test.true i.costs
-          (subst (λ (u : ℕ). Spends u 0 512 mid new) i.book.same_place e.reads.costs));
+          (subst (λ (u : ℕ). Spends u 0 512 mid new) (same-unit g.H.Host.told i.book) e.reads.costs));
     }
 
 pub returns : goal.returns
 returns g c =
     let i = c.loop-part.invariant in
     let o = g.H.Host.outside c.args.host.now in
-    let unit : ℕ = g.P.PageBook.place c.args.book.now in
+    let unit : ℕ = (g.P.PageBook.means c.args.book.now).holds.unit in
     let at : ℕ = c.args.at in
     let len : ℕ = c.args.len in
     let part : ℕ = c.loop-part.part in
@@ -170,6 +169,6 @@ returns g c =
           (λ x there. i.so_far told live is x there ∙ ap (λ (n : ℕ). bytes_from at n (joined live x)) all);
       size = i.size ∙ all;
       unchanged = λ same. absurd (no_fault same);
-      reads = range_done g.P.PageBook.place g.P.PageBook.numbers g.P.PageBook.spare g.P.PageBook.stands g.H.Host.told (held c.args.objects.now c.args.id) at len c.in_ok-check_range.ensures.within i.book i.no_fault
+      reads = range_done g.H.Host.told (held c.args.objects.now c.args.id) at len c.in_ok-check_range.ensures.within i.book i.no_fault
           (subst (λ (k : ℕ). Spends unit 0 (512 * k) o (g.H.Host.outside c.loop-part.host)) count i.costs);
     }
