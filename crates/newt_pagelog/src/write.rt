@@ -85,8 +85,7 @@ pub fn write_counts<H: Host>(
     ensures keeps { Keeps H.told (unit_of draft.old) 4 result
         (H.outside host.old) (H.outside host.new) }
 {
-    draft.put(host, &counts_piece(puts, deletes))?;
-    Ok(())
+    draft.put(host, &counts_piece(puts, deletes))
 }
 
 /// Writes one put.
@@ -105,8 +104,7 @@ pub fn write_put<H: Host>(
         (H.outside host.old) (H.outside host.new) }
     ensures size { length page.now ≡ 512 }
 {
-    draft.put(host, &put_piece(number, page))?;
-    Ok(())
+    draft.put(host, &put_piece(number, page))
 }
 
 /// Writes the puts of a batch.
@@ -149,10 +147,10 @@ fn write_delete<V, H: Host>(
         (H.outside host.old) (H.outside host.new) }
 {
     if pages.contains_key(&number) {
-        draft.put(host, &number.to_be_bytes())?;
-        return Ok(());
+        draft.put(host, &number.to_be_bytes())
+    } else {
+        Ok(())
     }
-    Ok(())
 }
 
 // Writes the numbers of the pages that are deleted, of those that are there.
@@ -203,8 +201,7 @@ fn write_batch<V, H: Host>(
     let puts = batch.puts();
     write_counts(draft, host, puts.len() as u16, deletes)?;
     write_puts(draft, host, puts)?;
-    write_deletes(draft, host, pages, batch.deletes())?;
-    Ok(())
+    write_deletes(draft, host, pages, batch.deletes())
 }
 
 /// Whether the bank of a journal has room for a batch after the other records.
@@ -262,6 +259,5 @@ pub fn begin_alone<H: Host>(mut journal: Journal, host: &mut H, len: u32) -> Res
         (H.outside host.old) (H.outside host.new) }
 {
     journal.repair(host)?;
-    let draft = journal.switch(host, len)?;
-    Ok(draft)
+    journal.switch(host, len)
 }

@@ -1,10 +1,11 @@
 use Rattle.std.proofs.Common.{◌≡◌, ℕ, ◌+◌, ◌*◌, List, ◌++◌, length, refl, sym, ◌∙◌, ap, arith}
 use Rattle.std.specs.Int.{to_be_bytes, w16}
 use Rattle.std.specs.List.{flat_map, filter}
+use Rattle.std.proofs.lemmas.Result.{on_ok_weaker}
 use Rattle.newt_spec_image.specs.Pages.{written_put, written_delete, written_change}
 use Rattle.newt_journal.specs.Draft.{unit_of}
 use Rattle.newt_pagelog.specs.Kept.{is_kept, needed}
-use Rattle.newt_pagelog.proofs.Stepping.{step, keeps-two, keeps-widen, keeps-on, written-batch, deletes-size, writes-done, writes-failed}
+use Rattle.newt_pagelog.proofs.Stepping.{step, more-two, writes-same, keeps-two, keeps-widen, keeps-on, written-batch, deletes-size, writes-done, writes-failed}
 use Rattle.newt_pagelog.proofs.write.write_batch.Goals as goal
 
 pub returns-in_err-write_counts-clause-keeps : goal.returns-in_err-write_counts-clause-keeps
@@ -27,24 +28,6 @@ returns-in_err-write_puts-clause-keeps g c =
     (keeps-two told u 4 n (o c.args.host.now) (o c.write_counts.new.host) (o c.write_puts.new.host) first.same (writes-done c.in_ok-write_counts.ensures.keeps)
     (keeps-on told (unit_of c.write_counts.new.draft) u n (o c.write_counts.new.host) (o c.write_puts.new.host) first.on (writes-failed c.from_residual-in_err-write_puts.result c.from_residual-in_err-write_puts.ensures.0 c.in_err-write_puts.ensures.keeps)))
 
-pub returns-in_err-write_deletes-clause-keeps : goal.returns-in_err-write_deletes-clause-keeps
-returns-in_err-write_deletes-clause-keeps g c =
-    let o = g.H.Host.outside in
-    let told = g.H.Host.told in
-    let d = c.args.draft.now in
-    let u = unit_of d in
-    let puts = c.puts-puts.result.now in
-    let n = 516 * length puts in
-    let counts : List ℕ = to_be_bytes w16 (length c.puts-puts.result.now) ++ to_be_bytes w16 c.args.deletes in
-    let m = 4 * length (filter (is_kept c.args.pages.now.entries) c.deletes.result.now) in
-    let total = 4 + 516 * length c.args.batch.now.puts + 4 * length (filter (is_kept c.args.pages.now.entries) c.args.batch.now.deletes) in
-    let s = step told u 4 n (4 + n) counts (flat_map written_put puts) (counts ++ flat_map written_put puts) d c.write_counts.new.draft c.write_puts.new.draft (o c.args.host.now) (o c.write_counts.new.host) (o c.write_puts.new.host) refl (omega arith)
-    (writes-done c.in_ok-write_counts.ensures.keeps) c.in_ok-write_counts.ensures.ok (writes-done c.in_ok-write_puts.ensures.keeps) c.in_ok-write_puts.ensures.ok.writes in
-    keeps-widen told u (4 + n + m) total (o c.args.host.now) (o c.write_deletes.new.host)
-    (omega (arith, ap (λ (l : List (ℕ × List ℕ)). length l) c.puts-puts.ensures.puts, ap (λ (l : List ℕ). length (filter (is_kept c.args.pages.now.entries) l)) c.deletes.ensures.deletes))
-    (keeps-two told u (4 + n) m (o c.args.host.now) (o c.write_puts.new.host) (o c.write_deletes.new.host) s.writes.same s.keeps
-    (keeps-on told (unit_of c.write_puts.new.draft) u m (o c.write_puts.new.host) (o c.write_deletes.new.host) s.writes.on (writes-failed c.from_residual-in_err-write_deletes.result c.from_residual-in_err-write_deletes.ensures.0 c.in_err-write_deletes.ensures.keeps)))
-
 pub returns-clause-keeps : goal.returns-clause-keeps
 returns-clause-keeps g c =
     let o = g.H.Host.outside in
@@ -61,7 +44,7 @@ returns-clause-keeps g c =
     keeps-widen told u (4 + n + m) total (o c.args.host.now) (o c.write_deletes.new.host)
     (omega (arith, ap (λ (l : List (ℕ × List ℕ)). length l) c.puts-puts.ensures.puts, ap (λ (l : List ℕ). length (filter (is_kept c.args.pages.now.entries) l)) c.deletes.ensures.deletes))
     (keeps-two told u (4 + n) m (o c.args.host.now) (o c.write_puts.new.host) (o c.write_deletes.new.host) s.writes.same s.keeps
-    (keeps-on told (unit_of c.write_puts.new.draft) u m (o c.write_puts.new.host) (o c.write_deletes.new.host) s.writes.on c.in_ok-write_deletes.ensures.keeps))
+    (keeps-on told (unit_of c.write_puts.new.draft) u m (o c.write_puts.new.host) (o c.write_deletes.new.host) s.writes.on c.write_deletes.ensures.keeps))
 
 pub returns-clause-ok : goal.returns-clause-ok
 returns-clause-ok g c =
@@ -84,10 +67,9 @@ returns-clause-ok g c =
     ∙ written-batch (needed pages c.args.batch.now) (length puts) c.args.deletes (ap (λ (l : List (ℕ × List ℕ)). length l) c.puts-puts.ensures.puts) c.requires.count) in
     let x = c.in_ok-write_counts.ensures.ok in
     let y = c.in_ok-write_puts.ensures in
-    let z = c.in_ok-write_deletes.ensures.ok in
-    record {
-      writes = (step told u (4 + n) m (4 + n + m) (counts ++ flat_map written_put puts) (flat_map written_delete gone) (written_change (needed pages c.args.batch.now)) d c.write_puts.new.draft c.write_deletes.new.draft
-          (o c.args.host.now) (o c.write_puts.new.host) (o c.write_deletes.new.host) all (omega arith) s.keeps s.writes (writes-done c.in_ok-write_deletes.ensures.keeps) c.in_ok-write_deletes.ensures.ok).writes;
+    on_ok_weaker c.write_deletes.result (λ z. record {
+      writes = writes-same told u ((counts ++ flat_map written_put puts) ++ flat_map written_delete gone) (written_change (needed pages c.args.batch.now)) d c.write_deletes.new.draft (o c.args.host.now) (o c.write_deletes.new.host) (sym all)
+          (more-two told u (counts ++ flat_map written_put puts) (flat_map written_delete gone) d c.write_puts.new.draft c.write_deletes.new.draft (o c.args.host.now) (o c.write_puts.new.host) (o c.write_deletes.new.host) s.writes z);
       put = omega (
         arith,
         x.put,
@@ -97,7 +79,7 @@ returns-clause-ok g c =
         ap (λ (l : List (ℕ × List ℕ)). length l) c.puts-puts.ensures.puts,
         ap (λ (l : List ℕ). length (filter (is_kept c.args.pages.now.entries) l)) c.deletes.ensures.deletes,
       );
-    }
+    }) c.write_deletes.ensures.ok
 
 pub write_deletes-requires-clause-room : goal.write_deletes-requires-clause-room
 write_deletes-requires-clause-room g c =

@@ -1,5 +1,6 @@
 use Rattle.std.proofs.Common.{◌++◌}
 use Rattle.std.specs.Int.{to_be_bytes, w32}
+use Rattle.std.proofs.lemmas.Result.{on_ok_weaker}
 use Rattle.newt_journal.specs.Draft.{unit_of}
 use Rattle.newt_pagelog.proofs.Stepping.{put-writes, writes-same}
 use Rattle.newt_pagelog.proofs.write.write_put.Goals as goal
@@ -9,6 +10,5 @@ returns-clause-ok g c =
     let o = g.H.Host.outside in
     let told = g.H.Host.told in
     let d = c.args.draft.now in
-    let x = c.in_ok-put.ensures in
-    writes-same told (unit_of d) c.put_piece.result (to_be_bytes w32 c.args.number ++ c.args.page.now) d c.put.new.self (o c.args.host.now) (o c.put.new.host) c.put_piece.ensures
-    (put-writes told c.put_piece.result d c.put.new.self (o c.args.host.now) (o c.put.new.host) c.put.ensures.record_of x.more c.put.ensures.writes.any_moment)
+    on_ok_weaker c.put.result (λ more. writes-same told (unit_of d) c.put_piece.result (to_be_bytes w32 c.args.number ++ c.args.page.now) d c.put.new.self (o c.args.host.now) (o c.put.new.host) c.put_piece.ensures
+    (put-writes told c.put_piece.result d c.put.new.self (o c.args.host.now) (o c.put.new.host) c.put.ensures.record_of more c.put.ensures.writes.any_moment)) c.put.ensures.more
