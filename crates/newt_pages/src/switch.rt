@@ -34,8 +34,7 @@ fn copy_page<H: Host>(draft: &mut Draft, host: &mut H, number: u32, at: u32) -> 
 {
     let mut page = [0; 512];
     draft.read_at(host, at, &mut page)?;
-    write_put(draft, host, number, &page)?;
-    Ok(())
+    write_put(draft, host, number, &page)
 }
 
 // Copies the page of a number, if there is one.
@@ -106,8 +105,7 @@ fn copy_whole<H: Host>(
 {
     write_counts(draft, host, live, 0)?;
     copy_pages(draft, host, places, bound)?;
-    write_puts(draft, host, puts)?;
-    Ok(())
+    write_puts(draft, host, puts)
 }
 
 /// Writes all pages as one record into the other bank, once the votes are mended: those at the

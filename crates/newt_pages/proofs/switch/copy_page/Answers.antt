@@ -1,4 +1,5 @@
 use Rattle.std.proofs.Common.{ap, arith}
+use Rattle.std.proofs.lemmas.Result.{on_ok_weaker}
 use Rattle.newt_host.specs.Moments.{Moment, image}
 use Rattle.newt_spec_image.specs.Pages.{written_put}
 use Rattle.newt_journal.specs.Journal.{reading}
@@ -22,30 +23,22 @@ write_put-requires-clause-draft g c =
     let o = g.H.Host.outside in
     draft-looked g.H.Host.told c.args.draft.now (o c.args.host.now) (o c.read_at.new.host) c.read_at.ensures.reads.alone c.read_at.ensures.reads.moment c.requires.draft.stands
 
-pub returns-in_err-write_put-clause-stays : goal.returns-in_err-write_put-clause-stays
-returns-in_err-write_put-clause-stays g c =
-    let o = g.H.Host.outside in
-    let told = g.H.Host.told in
-    let u = unit_of c.args.draft.now in
-    stays-two (fetching 512) (writing 516 0 0) (λ tells. ap (λ (m : Moment). reading (image u m)) c.read_at.ensures.reads.moment)
-    (writes-done (stays-looked told u 512 (o c.args.host.now) (o c.read_at.new.host) c.requires.draft.steady c.in_ok-read_at.ensures.reads)) (writes-failed c.from_residual-in_err-write_put.result c.from_residual-in_err-write_put.ensures.0 c.in_err-write_put.ensures.keeps)
-
 pub returns-clause-stays : goal.returns-clause-stays
 returns-clause-stays g c =
     let o = g.H.Host.outside in
     let told = g.H.Host.told in
     let u = unit_of c.args.draft.now in
     stays-two (fetching 512) (writing 516 0 0) (λ tells. ap (λ (m : Moment). reading (image u m)) c.read_at.ensures.reads.moment)
-    (writes-done (stays-looked told u 512 (o c.args.host.now) (o c.read_at.new.host) c.requires.draft.steady c.in_ok-read_at.ensures.reads)) c.in_ok-write_put.ensures.keeps
+    (writes-done (stays-looked told u 512 (o c.args.host.now) (o c.read_at.new.host) c.requires.draft.steady c.in_ok-read_at.ensures.reads)) c.write_put.ensures.keeps
 
 pub returns-clause-ok : goal.returns-clause-ok
 returns-clause-ok g c =
     let o = g.H.Host.outside in
     let told = g.H.Host.told in
     let u = unit_of c.args.draft.now in
-    record {
+    on_ok_weaker c.write_put.result (λ more. record {
       page = c.read_at.new.buf;
       size = c.write_put.ensures.size;
       shows = λ tells payloads is. c.in_ok-read_at.ensures.of_records tells payloads is;
-      writes = writes-looked told u (written_put (c.args.number, c.read_at.new.buf)) c.args.draft.now c.write_put.new.draft (o c.args.host.now) (o c.read_at.new.host) (o c.write_put.new.host) c.read_at.ensures.reads.moment c.in_ok-write_put.ensures.ok;
-    }
+      writes = writes-looked told u (written_put (c.args.number, c.read_at.new.buf)) c.args.draft.now c.write_put.new.draft (o c.args.host.now) (o c.read_at.new.host) (o c.write_put.new.host) c.read_at.ensures.reads.moment more;
+    }) c.write_put.ensures.ok

@@ -1,4 +1,5 @@
 use Rattle.std.proofs.Common.{◌≡◌, ℕ, ◌+◌, ◌*◌, List, ◌++◌, length, sym, ◌∙◌, ap, subst, arith, append_assoc, length-append}
+use Rattle.std.proofs.lemmas.Result.{on_ok_weaker}
 use Rattle.std.specs.Int.{to_be_bytes, w16}
 use Rattle.std.specs.List.{flat_map}
 use Rattle.std.proofs.lemmas.Grind.{flat_map-append}
@@ -34,24 +35,6 @@ returns-in_err-copy_pages-clause-stays g c =
     (stays-on (unit_of c.write_counts.new.draft) u first.on
     (writes-failed c.from_residual-in_err-copy_pages.result c.from_residual-in_err-copy_pages.ensures.0 c.in_err-copy_pages.ensures.stays)))
 
-pub returns-in_err-write_puts-clause-stays : goal.returns-in_err-write_puts-clause-stays
-returns-in_err-write_puts-clause-stays g c =
-    let o = g.H.Host.outside in
-    let u = unit_of c.args.draft.now in
-    let n = length (below 65536 c.args.places.now.entries) in
-    let count = c.requires.count in
-    let first = c.in_ok-write_counts.ensures.ok in
-    let counted = writes-done c.in_ok-write_counts.ensures.keeps in
-    let pages = c.in_ok-copy_pages.ensures.ok in
-    let before = stays-two (writing 4 0 0) (copying n) first.same counted
-    (stays-on (unit_of c.write_counts.new.draft) u first.on (writes-done c.in_ok-copy_pages.ensures.stays)) in
-    let two = more-two g.H.Host.told u _ _ c.args.draft.now c.write_counts.new.draft c.copy_pages.new.draft (o c.args.host.now) (o c.write_counts.new.host) (o c.copy_pages.new.host) first pages.writes in
-    let m = 516 * length c.args.puts.now in
-    writes-widen (both (both (writing 4 0 0) (copying n)) (writing m 0 0)) (writing_all c.args.live)
-    (record { programs = omega (arith, count); fetches = omega (arith, count); erases = omega arith; syncs = omega arith })
-    (stays-two (both (writing 4 0 0) (copying n)) (writing m 0 0) two.same before
-    (stays-on (unit_of c.copy_pages.new.draft) u two.on (writes-failed c.from_residual-in_err-write_puts.result c.from_residual-in_err-write_puts.ensures.0 c.in_err-write_puts.ensures.keeps)))
-
 pub returns-clause-stays : goal.returns-clause-stays
 returns-clause-stays g c =
     let o = g.H.Host.outside in
@@ -68,7 +51,7 @@ returns-clause-stays g c =
     writes-widen (both (both (writing 4 0 0) (copying n)) (writing m 0 0)) (writing_all c.args.live)
     (record { programs = omega (arith, count); fetches = omega (arith, count); erases = omega arith; syncs = omega arith })
     (stays-two (both (writing 4 0 0) (copying n)) (writing m 0 0) two.same before
-    (stays-on (unit_of c.copy_pages.new.draft) u two.on c.in_ok-write_puts.ensures.keeps))
+    (stays-on (unit_of c.copy_pages.new.draft) u two.on c.write_puts.ensures.keeps))
 
 pub returns-clause-ok : goal.returns-clause-ok
 returns-clause-ok g c =
@@ -82,18 +65,17 @@ returns-clause-ok g c =
     let copied = c.in_ok-copy_pages.ensures.ok in
     let flat : List ℕ = flat_map written_put copied.pages in
     let two = more-two told u counts flat d c.write_counts.new.draft c.copy_pages.new.draft (o c.args.host.now) (o c.write_counts.new.host) (o c.copy_pages.new.host) first copied.writes in
-    let three = more-two told u (counts ++ flat) (flat_map written_put puts) d c.copy_pages.new.draft c.write_puts.new.draft (o c.args.host.now) (o c.copy_pages.new.host) (o c.write_puts.new.host) two c.in_ok-write_puts.ensures.ok.writes in
     let count : c.args.live ≡ length (copied.pages ++ puts) = omega (arith, c.requires.count, copied.count, length-append copied.pages puts) in
     let whole : (counts ++ flat) ++ flat_map written_put puts ≡ written_change (all_of (copied.pages ++ puts)) =
     append_assoc counts flat (flat_map written_put puts) ∙ ap (λ (l : List ℕ). counts ++ l) (sym (flat_map-append written_put copied.pages puts)) ∙ written-all (copied.pages ++ puts) c.args.live count in
-    record {
+    on_ok_weaker c.write_puts.result (λ more. record {
       pages = copied.pages;
       shows = λ tells payloads is.
           copied.shows tells payloads (ap (λ (v : ℕ). records (image v (o c.write_counts.new.host).now)) first.on ∙ ap (λ (r : Reading). r.1) (first.same tells) ∙ is)
           ∙ ap (λ (j : Journal). lifted (page_of j payloads) (below 65536 c.args.places.now.entries)) first.holds;
-      put = omega (arith, first.put, copied.put, c.in_ok-write_puts.ensures.ok.put);
-      writes = writes-same told u ((counts ++ flat) ++ flat_map written_put puts) (written_change (all_of (copied.pages ++ puts))) d c.write_puts.new.draft (o c.args.host.now) (o c.write_puts.new.host) whole three;
-    }
+      put = omega (arith, first.put, copied.put, more.put);
+      writes = writes-same told u ((counts ++ flat) ++ flat_map written_put puts) (written_change (all_of (copied.pages ++ puts))) d c.write_puts.new.draft (o c.args.host.now) (o c.write_puts.new.host) whole (more-two told u (counts ++ flat) (flat_map written_put puts) d c.copy_pages.new.draft c.write_puts.new.draft (o c.args.host.now) (o c.copy_pages.new.host) (o c.write_puts.new.host) two more.writes);
+    }) c.write_puts.ensures.ok
 
 pub copy_pages-requires-clause-copying : goal.copy_pages-requires-clause-copying
 copy_pages-requires-clause-copying g c =
