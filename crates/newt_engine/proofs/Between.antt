@@ -31,6 +31,8 @@ use Rattle.newt_laws_answers.specs.There.{OnUnit}
 use Rattle.newt_laws_answers.proofs.Changes.{add-said, remove-said}
 use Rattle.newt_laws_answers.proofs.Refusals.{added-uid}
 use Rattle.newt_laws_answers.proofs.Tests.{add_tests, with_added}
+use Rattle.newt_laws_effects.proofs.Telling.{add-resolves}
+use Rattle.newt_laws_effects.proofs.Written.{one-writes}
 use Rattle.newt_laws_reach.specs.Reach.{entry_reached, on_entry, reach, settle_reached}
 use Rattle.newt_spec_change.specs.Change.{pages_of_entry}
 use Rattle.newt_store_change.specs.Faults.{GoesOn, IsEnd}
@@ -50,7 +52,7 @@ use Rattle.newt_engine_units.proofs.Slots.{but-of}
 use Rattle.newt_engine_cursors.specs.Fits.{DeskFits}
 use Rattle.newt_engine_cursors.specs.Reached.{in_reach}
 use Rattle.newt_engine_commands.proofs.Costing.{Seen, first-costs, its_pages, whole-costs}
-use Rattle.newt_engine_commands.proofs.Moves.{WasAdded, added-makes, between-answers, between-fails, both-moments, first-moments, on-then, removed-makes, was-added}
+use Rattle.newt_engine_commands.proofs.Moves.{WasAdded, added-makes, between-answers, between-fails, both-moments, first-moments, on-then, removed-makes, was-added, writes-first, writes-then}
 use Rattle.newt_engine_commands.proofs.Said.{after-untorn, dues-moments, said-costs, said-made, said-moments}
 use Rattle.newt_engine.specs.Bounds.{CommandCosts, most_settled}
 use Rattle.newt_engine.specs.Calls.{Fails, FailsHalfway}
@@ -101,6 +103,17 @@ module _ {C : Type 0} {reads : List ℕ → Option Store} {place : C → ℕ} {s
 
   -- ---- the entry was added, or was not
 
+  -- the target is written, by the command and by an add alone
+  writes-to : writes w cmd to ≡ true
+  writes-to = writes-first w u to name target sig into uid b.from b.there refl entry b.found b.apart to ∙ ap (λ x. x || (u == to)) (eq-eqb to to refl)
+
+  abbrev adding : Command
+  adding = command.Add to target entry.graph
+
+  adds : (j : ℕ) → writes (world_of reads read p) adding j ≡ (to == j)
+  adds j = ap (λ x. writes x adding j) same ∙ one-writes w adding to (change.Add b.there.soup.sig entry.graph)
+      (add-resolves w to target entry.graph b.there.blocks b.there.store b.there.soup b.there.on b.there.named) j
+
   module _ {later : Units C} {q : Outside} {result : Result ℕ StoreFault} (first : Changes reads place stands told to (change.Add into entry.graph) read later p q result) where
     -- as a command that writes the target
     made-moments : (c : Command) → writes (world_of reads read p) c to ≡ true → Always (Meanwhile reads (due_in read.slots.items) (world_of reads read p) c (answer w cmd).0 p.now) p.now q.now
@@ -109,11 +122,11 @@ module _ {C : Type 0} {reads : List ℕ → Option Store} {place : C → ℕ} {s
 
     pub added-moments : Always (Meanwhile reads (due_in units.slots.items) w cmd (answer w cmd).0 o.now) o.now q.now
     added-moments = first-moments w u to name target sig into uid b.from b.there refl entry b.found b.apart reads (due_in units.slots.items) (world_of reads read p) o.now p.now q.now same b.looks.moment
-        (dues-moments (λ j. sym (b.looks.dues j)) (made-moments cmd (ap (λ x. x || (u == to)) (eq-eqb to to refl))))
+        (dues-moments (λ j. sym (b.looks.dues j)) (made-moments cmd (ap (λ x. writes x cmd to) same ∙ writes-to)))
 
     -- nothing has happened to any other unit
     pub added-others : (j : ℕ) → j ≢ to → changes j q.now ≡ changes j o.now
-    added-others j other = (Always-last (made-moments (command.Add to target entry.graph) (eq-eqb to to refl))).beside j (ne_eqb to j (λ is. other (sym is))) refl (λ is. absurd (none-some j is))
+    added-others j other = (Always-last (made-moments adding (adds to ∙ eq-eqb to to refl))).beside j (adds j ∙ ne_eqb to j (λ is. other (sym is))) refl (λ is. absurd (none-some j is))
         ∙ ap (changes j) b.looks.moment
 
     pub added-costs : CostsOf w cmd result o q
@@ -129,7 +142,7 @@ module _ {C : Type 0} {reads : List ℕ → Option Store} {place : C → ℕ} {s
   -- nothing at all where the target was not to be written
   pub added-untorn : {later : Units C} {q : Outside} {result : Result ℕ StoreFault} → Changes reads place stands told to (change.Add into entry.graph) read later p q result
       → may_tear (world_of reads read p) cmd to ≡ false → q.now ≡ p.now
-  added-untorn first = after-untorn first b.tells on_target (add-said b.there.blocks read.minute into b.there.store b.there.soup b.there.by_sig entry.graph) w same cmd (ap (λ x. x || (u == to)) (eq-eqb to to refl))
+  added-untorn first = after-untorn first b.tells on_target (add-said b.there.blocks read.minute into b.there.store b.there.soup b.there.by_sig entry.graph) w same cmd (ap (λ x. writes x cmd to) same ∙ writes-to)
       (ap (λ x. x && not (to == to)) (ne_eqb u to (λ is. b.apart (sym is))))
       (λ tests. unrefused_on {T = ℕ} {made = λ n. Reply.number n} w _ cmd (Ok b.there.soup.next_uid) (λ x r k. cc)
       (between-answers w u to name target sig into uid b.from b.there refl entry b.found b.apart (with_added w to b.there.soup.name entry.graph) _ b.there.soup.next_uid
@@ -206,7 +219,8 @@ module _ {C : Type 0} {reads : List ℕ → Option Store} {place : C → ℕ} {s
             (subst (λ (m : Moment). Always (Meanwhile reads (due_in units.slots.items) w cmd (answer w cmd).0 o.now) o.now m) (sym settles.moment) (added-moments first))
             (dues-moments (λ j. sym (settles.dues j ∙ first.dues j ∙ b.looks.dues j))
             (said-moments second b.tells on_source (remove-said b.from.blocks settled.minute sig b.from.store b.from.soup b.from.by_sig uid entry b.found) cmd (answer w cmd).0
-            (ap (λ x. x || (u == u)) (ne_eqb to u b.apart) ∙ eq-eqb u u refl) (λ _. removed-makes w u to name target sig into uid b.from b.there refl entry b.found b.apart (world_of reads settled r) n then))))
+            (ap (λ x. writes x cmd u) then.world ∙ writes-then w u to name target sig into uid b.from b.there refl entry b.found b.apart u
+            ∙ ap (λ x. x || (u == u)) (ne_eqb to u b.apart) ∙ eq-eqb u u refl) (λ _. removed-makes w u to name target sig into uid b.from b.there refl entry b.found b.apart (world_of reads settled r) n then))))
 
         pub moved-costs : {T : Type 0} {ended : Result T StoreFault} → (GoesOn ended → GoesOn result) → CommandCosts (with_cursors ks w) cmd (most_settled (with_cursors ks w) cmd) ended o s
         moved-costs goes =
@@ -271,9 +285,9 @@ module _ {C : Type 0} {reads : List ℕ → Option Store} {place : C → ℕ} {s
       torn : (t : IsTrue told) → may_tear (with_cursors start.desk (world_of reads start.units o)) (command.Move u name uid to target) v ≡ true
       torn t = subst (λ j. may_tear (with_cursors start.desk (world_of reads start.units o)) (command.Move u name uid to target) j ≡ true) (its t)
           (tears-with start.desk (world_of reads start.units o) (command.Move u name uid to target) (move_no_cursor u name uid to target) to
-          ∙ ap (λ (x : Option Refusal). (is_none x && ((to == to) || (u == to))) && not ((u == to) && not (to == to))) (passed (b t) first)
-          ∙ ap (λ x. (x || (u == to)) && not ((u == to) && not x)) (eq-eqb to to refl)
-          ∙ ap (λ x. not (x && false)) (ne_eqb u to (λ is. (b t).apart (sym is))))
+          ∙ ap (λ (x : Option Refusal). (is_none x && writes (world_of reads start.units o) (command.Move u name uid to target) to) && not ((u == to) && not (to == to))) (passed (b t) first)
+          ∙ ap (λ x. x && not ((u == to) && not (to == to))) (writes-to (b t))
+          ∙ ap (λ x. not (x && not (to == to))) (ne_eqb u to (λ is. (b t).apart (sym is))))
 
   -- that of the source, when the entry is removed: the target has it
   pub source-fails : {ks : List (Option Cursor)} → DeskFits ks → {last : Units C} {s : Outside} → (v : ℕ) → (v ≡ u) → Breaks reads place stands told settled last r s v → FailsAlone o s v

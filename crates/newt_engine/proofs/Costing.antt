@@ -17,7 +17,7 @@ use Rattle.newt_spec_world.specs.World.{World, settle}
 use Rattle.newt_laws_answers.specs.Bounds.{most_programmed}
 use Rattle.newt_laws_answers.specs.Fetched.{meant, means_entries, most_fetched, pages_meant, pages_there}
 use Rattle.newt_laws_answers.proofs.Fetched.{meant-beside}
-use Rattle.newt_laws_answers.proofs.Most.{cursors-cost-nothing}
+use Rattle.newt_laws_effects.proofs.Most.{cursors-cost-nothing}
 use Rattle.newt_laws_world.specs.Cursors.{with_cursors, uses_cursors}
 use Rattle.newt_store_change.specs.declared.fault.StoreFault.{StoreFault}
 use Rattle.newt_engine_card.specs.Bounds.{Costs, FetchesAtMost, FetchesWithin, FormatsOnce, IsOpenOrSame, LeftAlone, ProgramsAtMost}

@@ -14,7 +14,8 @@ use Rattle.newt_spec_store.specs.Store.{Store}
 use Rattle.newt_spec_world.specs.Changed.{changed, default_without, first_of_list, mark}
 use Rattle.newt_spec_world.specs.First.{media_of}
 use Rattle.newt_spec_world.specs.Refused.{checks}
-use Rattle.newt_spec_world.specs.Step.{is_format_of, looks_anew, looks_at, may_tear, moves_away, thrown_out, with_media, writes}
+use Rattle.newt_spec_world.specs.Derived.{changes_of}
+use Rattle.newt_spec_world.specs.Step.{is_format_of, looks_anew, looks_at, may_tear, moves_away, thrown_out, unsure_look, with_media, writes}
 use Rattle.newt_spec_world.specs.World as plain_world
 use Rattle.newt_spec_world.specs.World.{Device, Media, lost, change_at, change_device, device, flat, mounted, mounted_store, on_unit, store_if_mounted, store_of, store_on_unit}
 use Rattle.newt_spec_world.specs.declared.command.Command.{Command}
@@ -23,8 +24,10 @@ use Rattle.newt_laws_answers.specs.Fetched.{means_entries}
 use Rattle.newt_laws_answers.proofs.Worlds.{card_device}
 use Rattle.newt_laws_reach.specs.Reach.{Reach, reach, store_reach}
 use Rattle.newt_laws_steps.specs.StandsFor.{seen, seen_on}
-use Rattle.newt_laws_world.specs.Cursors.{uses_cursors, with_cursors}
-use Rattle.newt_laws_world.specs.Settled.{MountedApart, moves_keys}
+use Rattle.newt_laws_world.specs.Cursors.{all_closed, uses_cursors, with_cursors}
+use Rattle.newt_laws_world.specs.Settled.{IsSettled, MountedApart, moves_keys}
+use Rattle.newt_laws_world.proofs.Kept.{Every, Wf}
+use Rattle.newt_laws_effects.proofs.Making.{IsShort, one-alone, resolved, short}
 use Rattle.newt_laws_world.proofs.Mounted.{units-from-apart}
 use Rattle.newt_laws_world.proofs.Units.{device-other, device-same, same-or-not}
 use Rattle.newt_engine_hits.specs.Present.{has_sig}
@@ -42,11 +45,12 @@ use Rattle.newt_engine.specs.Calls.{Fails}
 use Rattle.newt_engine.specs.Groups.{is_between}
 use Rattle.newt_engine.specs.Standing.{IsStanding}
 use Rattle.newt_engine.specs.declared.world.World.{World}
-use Rattle.newt_engine.proofs.Alone.{Alone, changed-alone, same-unit, unit-is}
+use Rattle.newt_engine.proofs.Alone.{Alone, changed-alone, stays-within}
 use Rattle.newt_engine.proofs.Applying.{standing-told}
 use Rattle.newt_engine.proofs.Reaching.{has-same, reach-own}
 use Rattle.newt_engine.proofs.Seeing.{look-is}
 use Rattle.newt_engine.proofs.Serving.{tears-with}
+use Rattle.newt_engine.proofs.Settling.{seen-whole}
 use Rattle.newt_engine.proofs.Thrown.{unwritten}
 
 -- ---- nothing is mounted
@@ -121,11 +125,11 @@ mounted-own w t apart u h = go (store_on_unit w t) refl h
 
 -- ---- the unit that the command has written or looked at
 
-reaches-own : (w : plain_world.World) (c : Command) → MountedApart (changed w c) → moves_keys c ≡ true → (u : ℕ) → in_reach (reach w c) (mounted_store (changed w c) u) ≡ true → (writes w c u ≡ true) ⊎ (looks_at c ≡ Some u)
-unfolding reach moves_keys
-reaches-own w (command.Mount t) apart moves u h = inr (mounted-own w t apart u h)
-reaches-own w (command.Format t name sig) apart moves u h = absurd (both-ways moves)
-reaches-own w c apart moves u h = inl (reach-own w c apart moves (λ t e. none-some t e) u h)
+reaches-own : (w : plain_world.World) (c : Command) → Every Wf w → MountedApart w → MountedApart (changed w c) → first_of (checks w c) ≡ None → (u : ℕ)
+    → in_reach (reach w c) (mounted_store (changed w c) u) ≡ true → (writes w c u ≡ true) ⊎ (looks_at c ≡ Some u)
+unfolding reach
+reaches-own w (command.Mount t) all before after passed u h = inr (mounted-own w t after u h)
+reaches-own w c all before after passed u h = inl (reach-own w c all before passed refl u h)
 
 looked-alone : (w : plain_world.World) (c : Command) (u : ℕ) → moves_keys c ≡ true → looks_at c ≡ Some u → (w.default ≡ None → Off w.units) → Alone w (changed w c) u
 unfolding moves_keys
@@ -133,53 +137,25 @@ looked-alone w (command.Mount t) u moves h off = subst (λ n. Alone w (changed w
 looked-alone w (command.Format t name sig) u moves h off = absurd (both-ways moves)
 looked-alone w c u moves h off = absurd (none-some u h)
 
-own-alone : (w : plain_world.World) (c : Command) (u : ℕ) → moves_keys c ≡ true → is_between c ≡ false → (writes w c u ≡ true) ⊎ (looks_at c ≡ Some u) → (w.default ≡ None → Off w.units) → Alone w (changed w c) u
-own-alone w c u moves within (inl h) off = changed-alone w c u h within
-own-alone w c u moves within (inr h) off = looked-alone w c u moves h off
+own-alone : (w : plain_world.World) (c : Command) (u : ℕ) → Every Wf w → first_of (checks w c) ≡ None → moves_keys c ≡ true → is_between c ≡ false → (writes w c u ≡ true) ⊎ (looks_at c ≡ Some u)
+    → (w.default ≡ None → Off w.units) → Alone w (changed w c) u
+own-alone w c u all passed moves within (inl h) off = changed-alone w c u all passed within h
+own-alone w c u all passed moves within (inr h) off = looked-alone w c u moves h off
 
 -- no other is written or looked at
-beside-one : (t u n : ℕ) (o : Option ℕ) → o ≡ None → ((t == u) ≡ true) ⊎ (o ≡ Some u) → n ≢ u → ((t == n) ≡ false) × (o ≡ Some n → ⊥)
-beside-one t u n o e (inl h) other = (ne_eqb t n (λ i. other (sym i ∙ eqb-true t u h)), λ i. none-some n (sym e ∙ i))
-beside-one t u n o e (inr h) other = absurd (none-some u (sym e ∙ h))
-
-beside-own : (w : plain_world.World) (c : Command) (u n : ℕ) → moves_keys c ≡ true → is_between c ≡ false → (writes w c u ≡ true) ⊎ (looks_at c ≡ Some u) → n ≢ u → (writes w c n ≡ false) × (looks_at c ≡ Some n → ⊥)
-unfolding moves_keys
-beside-own w (command.Mount t) u n moves within own other = (refl, λ i. other (sym (some-same t n i) ∙ is own))
-  where
-    is : (false ≡ true) ⊎ (looks_at (command.Mount t) ≡ Some u) → t ≡ u
-    is (inl h) = absurd (both-ways h)
-    is (inr h) = some-same t u h
-beside-own w (command.Index t s parts) u n moves within own other = beside-one t u n None refl own other
-beside-own w (command.SetTags t s path symbols) u n moves within own other = beside-one t u n None refl own other
-beside-own w (command.Add t s g) u n moves within own other = beside-one t u n None refl own other
-beside-own w (command.Addx t s g) u n moves within own other = beside-one t u n None refl own other
-beside-own w (command.Addu s g) u n moves within own other = beside-one (plain_world.default_unit w) u n None refl own other
-beside-own w (command.Set t s uid path g) u n moves within own other = beside-one t u n None refl own other
-beside-own w (command.Change t s uid g) u n moves within own other = beside-one t u n None refl own other
-beside-own w (command.Vwrite t s uid path at bytes) u n moves within own other = beside-one t u n None refl own other
-beside-own w (command.Copy t s uid x y) u n moves within own other = beside-one x u n None refl own other
-beside-own w (command.Move t s uid x y) u n moves within own other = both own
-  where
-    both : ((x == u) || (t == u) ≡ true) ⊎ (looks_at (command.Move t s uid x y) ≡ Some u) → ((x == n) || (t == n) ≡ false) × (looks_at (command.Move t s uid x y) ≡ Some n → ⊥)
-    both (inl h) =
-        let is = same-unit t x u within h in
-        (ap (λ b. b || (t == n)) (beside-one x u n None refl (inl is.1) other).0 ∙ (beside-one t u n None refl (inl is.0) other).0, λ i. none-some n i)
-    both (inr h) = absurd (none-some u h)
-beside-own w c u n moves within own other = absurd (both-ways moves)
+beside-own : (w : plain_world.World) (c : Command) (u n : ℕ) → Every Wf w → first_of (checks w c) ≡ None → is_between c ≡ false → (writes w c u ≡ true) ⊎ (looks_at c ≡ Some u) → n ≢ u
+    → (writes w c n ≡ false) × (looks_at c ≡ Some n → ⊥)
+beside-own w c u n all passed within (inl h) other = (
+  one-alone (changes_of w c) u n (subst IsShort (resolved w c all passed) (short w c (λ m. stays-within c m within))) other h,
+  λ looked. both-ways (sym (unwritten w c u n looked) ∙ h),
+)
+beside-own w c u n all passed within (inr looked) other = (unwritten w c n u looked, λ again. other (some-same n u (sym again ∙ looked)))
 
 -- it is not formatted, nor moved away from
 moves-unformed : (c : Command) (u : ℕ) → moves_keys c ≡ true → is_format_of c u ≡ false
 unfolding moves_keys
 moves-unformed (command.Format t name sig) u moves = absurd (both-ways moves)
 moves-unformed c u moves = refl
-
-stays-within : (c : Command) (u : ℕ) → is_between c ≡ false → moves_away c u ≡ false
-stays-within (command.Move t s uid x y) u h = go (t == u) refl
-  where
-    go : (b : Bool) → (t == u) ≡ b → b && not (x == u) ≡ false
-    go false k = refl
-    go true k = ap not (ap (λ n. n == u) (sym (unit-is t x h)) ∙ k)
-stays-within c u h = refl
 
 -- nor is a unit looked at by a command of entries
 pub means-unlooked : (c : Command) → means_entries c ≡ true → (n : ℕ) → looks_at c ≡ Some n → ⊥
@@ -189,17 +165,13 @@ means-unlooked c means n h = none-some n h
 
 -- ---- what the command sees
 
-writes-media : (w : plain_world.World) (n : ℕ) (m : Media) (c : Command) (u : ℕ) → writes (with_media w n m) c u ≡ writes w c u
-writes-media w n m (command.Addu s g) u = refl
-writes-media w n m c u = refl
-
 module _ (reads : List ℕ → Option Store) (w : plain_world.World) (now : Moment) (c : Command) where
   writes-seen : (u : ℕ) → writes (seen reads w now c) c u ≡ writes w c u
-  writes-seen u = go (looks_anew w c)
+  writes-seen u = go (looks_at c) refl
     where
-      go : (o : Option ℕ) → writes (seen_on reads w now o) c u ≡ writes w c u
-      go None = refl
-      go (Some n) = writes-media w n (media_of (reads (image n now))) c u
+      go : (o : Option ℕ) → looks_at c ≡ o → writes (seen reads w now c) c u ≡ writes w c u
+      go None e = ap (λ o. writes (seen_on reads w now (option_and_then (unsure_look w) o)) c u) e
+      go (Some n) e = unwritten (seen reads w now c) c u n e ∙ sym (unwritten w c u n e)
 
   default-seen : (seen reads w now c).default ≡ w.default
   default-seen = go (looks_anew w c)
@@ -269,27 +241,33 @@ module _ {C : Type 0} {reads : List ℕ → Option Store} {place : C → ℕ} {s
     desk = desk;
     world = λ t. ap (λ ks. thrown_out (with_cursors ks (world_of reads new.units p)) u (λ _. lost)) desk ∙ ap (λ (x : plain_world.World). with_cursors old.desk x) (whole t);
     others = λ t n other. ap (changes n) looks.moment
-        ∙ (let k = beside-own sees c u n moves within (own t) other in (Always-last (way t)).beside n (sym (writes-seen reads w o.now c n) ∙ k.0) (moves-unformed c n moves) (λ looked. absurd (k.1 looked)));
+        ∙ (let k = beside-own sees c u n (formed t) (passed t) within (own t) other in (Always-last (way t)).beside n (sym (writes-seen reads w o.now c n) ∙ k.0) (moves-unformed c n moves) (λ looked. absurd (k.1 looked)));
     same = λ t tears sure store. ap (changes u) looks.moment ∙ its t tears sure (own t);
     failed = failed;
   }
     where
+      whole-seen : IsTrue told → IsTrue (all_closed sees) × Every Wf sees × MountedApart sees × IsSettled (with_cursors old.desk sees)
+      whole-seen t = seen-whole laws told old.units old.desk o begun t c
+
+      formed : IsTrue told → Every Wf sees
+      formed t = (whole-seen t).1
+
       own : IsTrue told → (writes sees c u ≡ true) ⊎ (looks_at c ≡ Some u)
-      own t = reaches-own sees c (apart t) moves u (reached t)
+      own t = reaches-own sees c (formed t) (whole-seen t).2.1 (apart t) (passed t) u (reached t)
 
       only : IsTrue told → (n : ℕ) → looks_at c ≡ Some n → n ≡ u
       only t n looked = go (same-or-not n u)
         where
           go : (n ≡ u) ⊎ (n ≡ u → ⊥) → n ≡ u
           go (inl i) = i
-          go (inr other) = absurd ((beside-own sees c u n moves within (own t) other).1 looked)
+          go (inr other) = absurd ((beside-own sees c u n (formed t) (passed t) within (own t) other).1 looked)
 
       off : IsTrue told → sees.default ≡ None → Off sees.units
       off t e = off-seen reads w o.now c (let s = standing-told begun t in known-off laws old.units o s.eight s.stand (sym (default-seen reads w o.now c) ∙ e))
 
       whole : IsTrue told → thrown_out (world_of reads new.units p) u (λ _. lost) ≡ thrown_out w u (λ _. lost)
       whole t = ap (λ (x : plain_world.World). thrown_out x u (λ _. lost)) (looks.world t ∙ row t)
-          ∙ ap (λ (x : plain_world.World). with_cursors (replicate 32 None) x) (own-alone sees c u moves within (own t) (off t) ∙ seen-alone reads w o.now c u (only t))
+          ∙ ap (λ (x : plain_world.World). with_cursors (replicate 32 None) x) (own-alone sees c u (formed t) (passed t) moves within (own t) (off t) ∙ seen-alone reads w o.now c u (only t))
 
       its : IsTrue told → may_tear (with_cursors old.desk w) c u ≡ false → due_in old.units.slots.items u ≡ false → (writes sees c u ≡ true) ⊎ (looks_at c ≡ Some u) → changes u m.now ≡ changes u o.now
       its t tears sure (inr looked) = (Always-last (way t)).beside u (unwritten w c u u looked) (moves-unformed c u moves) (λ _. sure)

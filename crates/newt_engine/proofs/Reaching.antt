@@ -9,18 +9,26 @@ use Rattle.newt_spec_world.specs.declared.command.Command.{Command}
 use Rattle.newt_spec_world.specs.declared.command.Command.TheVariants as command
 use Rattle.newt_spec_world.specs.Changed.{changed, copy_to, graph_after_set, patched}
 use Rattle.newt_spec_world.specs.World.{World, Device, Media, blank, one, two, lost, change_media, change_soup_in, default_unit, device, entry_in, mounted_store, on_unit, soup_in, store_if_mounted, store_of}
-use Rattle.newt_laws_world.specs.Settled.{MountedApart, moves_keys}
-use Rattle.newt_spec_world.specs.Step.{looks_at, writes}
+use Rattle.newt_laws_world.specs.Settled.{MountedApart}
+use Rattle.newt_spec_world.specs.Derived.{applied, changes_of, made, of_store, writes_of}
+use Rattle.newt_spec_world.specs.Effects.{Effect}
+use Rattle.newt_spec_world.specs.Refused.{checks}
+use Rattle.newt_spec_world.specs.Step.{writes}
+use Rattle.newt_base.specs.Refusals.{first_of}
+use Rattle.newt_laws_effects.specs.Tells.{is_mount, is_of_stores}
+use Rattle.newt_laws_effects.proofs.Making.{applied-sigs, no-effects, tells, world-made}
 use Rattle.newt_engine_hits.specs.Present.{has_sig}
 use Rattle.newt_engine_cursors.specs.Reached.{in_reach}
 use Rattle.newt_laws_world.specs.Worlds.{OnMedia}
 use Rattle.newt_laws_world.proofs.Kept.{Every, Wf}
-use Rattle.newt_laws_world.proofs.Mounted.{units-from-apart}
+use Rattle.newt_laws_world.proofs.Mounted.{SigsFrom, units-from-apart}
 use Rattle.newt_laws_world.proofs.Units.{device-other, device-same, has-mounted, same-or-not}
 use Rattle.newt_laws_answers.specs.Fetched.{if_on, meant, means_entries, next_if_on, pages_there}
 use Rattle.newt_laws_answers.proofs.Fetched.{last-pages, named-pages}
 use Rattle.newt_laws_answers.proofs.Sigs.{soup-of-sig}
-use Rattle.newt_laws_reach.specs.Reach.{Reach, entry_reached, in_soup, in_store, is_of_one, on_entry, on_soup, reach}
+use Rattle.newt_laws_reach.specs.Reach.{Reach, entry_reached, in_soup, in_store, is_of_one, nowhere, on_entry, on_soup, on_store, or_reach, reach, reach_at, reach_by, reach_of}
+use Rattle.newt_spec_change.specs.declared.change.Change.{Change}
+use Rattle.newt_spec_change.specs.declared.change.Change.TheVariants as change
 use Rattle.newt_spec_change.specs.Change.{pages_of_entry}
 
 -- ---- the soup of a name keeps its signature
@@ -217,51 +225,64 @@ pub has-same : (sig : ℕ) (o : Option Store) → has_sig sig o ≡ true → (s 
 has-same sig None h = absurd (both-ways h)
 has-same sig (Some s) h = (s, refl, eqb-true s.sig sig h)
 
--- of a store that another world has too
-own-unit : (v : World) → MountedApart v → (t u : ℕ) (name : List ℕ) (store soup : ℕ) → Follows v t name store soup → has_sig store (mounted_store v u) ≡ true → (t == u) ≡ true
-own-unit v apart t u name store soup f h = go (same-or-not t u)
+module _ (w v : World) (from : SigsFrom v w) (apart : MountedApart w) (u : ℕ) where
+  -- of one change
+  one-own : (e : Effect) → in_reach (reach_at w e) (mounted_store v u) ≡ true → (e.unit == u) ≡ true
+  one-own e h = on (mounted_store w e.unit) refl h
+    where
+      there : (s : Store) → mounted_store w e.unit ≡ Some s → has_sig s.sig (mounted_store v u) ≡ true → (e.unit == u) ≡ true
+      there s k has = go (same-or-not e.unit u)
+        where
+          x : (t : Store) × (mounted_store v u ≡ Some t) × (t.sig ≡ s.sig)
+          x = has-same s.sig (mounted_store v u) has
+
+          y : (t : Store) × (mounted_store w u ≡ Some t) × (x.0.sig ≡ t.sig)
+          y = from u x.0 x.1
+
+          go : (e.unit ≡ u) ⊎ (e.unit ≡ u → ⊥) → (e.unit == u) ≡ true
+          go (inl is) = eq-eqb e.unit u is
+          go (inr other) = absurd (units-from-apart w.units apart e.unit u s y.0 other k y.1 (sym x.2 ∙ y.2))
+
+      by : (s : Store) (d : Change) (o : Option Store) → in_reach (reach_by s d) o ≡ true → has_sig s.sig o ≡ true
+      by s (change.Add sig g) o k = k
+      by s (change.Move source uid target) o k = k
+      by s (change.Replace sig uid g) o k = k
+      by s (change.Patch sig uid node at bytes) o k = k
+      by s (change.AddIndex sig spec) o k = k
+      by s (change.SetTags sig table) o k = k
+      by s d o k = absurd (both-ways k)
+
+      on : (o : Option Store) → mounted_store w e.unit ≡ o → in_reach (of_store o nowhere (λ s. reach_by s e.change)) (mounted_store v u) ≡ true → (e.unit == u) ≡ true
+      on None k h = absurd (both-ways h)
+      on (Some s) k h = there s k (by s e.change (mounted_store v u) h)
+
+  -- of all of them
+  all-own : (es : List Effect) → in_reach (reach_of w es) (mounted_store v u) ≡ true → writes_of es u ≡ true
+  all-own [] h = absurd (both-ways h)
+  all-own (e ∷ es) h = go (reach_at w e) refl h
+    where
+      here : (r : Reach) → reach_at w e ≡ r → in_reach r (mounted_store v u) ≡ true → (e.unit == u) || writes_of es u ≡ true
+      here r k h = ap (λ b. b || writes_of es u) (one-own e (ap (λ q. in_reach q (mounted_store v u)) k ∙ h))
+
+      last : (b : Bool) → b || true ≡ true
+      last true = refl
+      last false = refl
+
+      go : (r : Reach) → reach_at w e ≡ r → in_reach (or_reach r (reach_of w es)) (mounted_store v u) ≡ true → (e.unit == u) || writes_of es u ≡ true
+      go nowhere k h = ap (λ b. (e.unit == u) || b) (all-own es h) ∙ last (e.unit == u)
+      go (on_store store) k h = here (on_store store) k h
+      go (on_soup store soup) k h = here (on_soup store soup) k h
+      go (on_entry store soup uid) k h = here (on_entry store soup uid) k h
+
+-- what a command reaches that is done, other than a mount, is of a store that it writes
+pub reach-own : (w : World) (c : Command) → Every Wf w → MountedApart w → first_of (checks w c) ≡ None → is_mount c ≡ false → (u : ℕ)
+    → in_reach (reach w c) (mounted_store (changed w c) u) ≡ true → writes w c u ≡ true
+reach-own w c all apart passed mount u h = go (is_of_stores c) refl
   where
-    its : (s : Store) × (mounted_store v u ≡ Some s) × (s.sig ≡ store)
-    its = has-same store (mounted_store v u) h
+    reached : (v : World) → in_reach (reach w c) (mounted_store v u) ≡ true → in_reach (reach_of w (changes_of w c)) (mounted_store v u) ≡ true
+    reached v k = ap (λ r. in_reach r (mounted_store v u)) (sym ((tells w c all passed).reach_is mount)) ∙ k
 
-    go : (t ≡ u) ⊎ (t ≡ u → ⊥) → (t == u) ≡ true
-    go (inl e) = eq-eqb t u e
-    go (inr other) = absurd (units-from-apart v.units apart t u f.has its.0 other f.there its.1 (f.store_is ∙ sym its.2))
-
-own-in : (w v : World) → MountedApart v → (t : ℕ) (name : List ℕ) (made : Store → Soup → Reach) → ((s : Store) (p : Soup) (o : Option Store) → in_reach (made s p) o ≡ true → has_sig s.sig o ≡ true)
-    → ((store soup : ℕ) → Follows w t name store soup → Follows v t name store soup) → (u : ℕ) → in_reach (in_store made name (mounted_store w t)) (mounted_store v u) ≡ true → (t == u) ≡ true
-own-in w v apart t name made its follows u h = go (mounted_store w t) refl h
-  where
-    soup : (s : Store) → mounted_store w t ≡ Some s → (o : Option Soup) → soup_named name s ≡ o → in_reach (in_soup (made s) o) (mounted_store v u) ≡ true → (t == u) ≡ true
-    soup s e None k h = absurd (both-ways h)
-    soup s e (Some p) k h = own-unit v apart t u name s.sig p.sig (follows s.sig p.sig (record { has = s; of = p; there = e; store_is = refl; named = k; soup_is = refl })) (its s p (mounted_store v u) h)
-
-    go : (o : Option Store) → mounted_store w t ≡ o → in_reach (in_store made name o) (mounted_store v u) ≡ true → (t == u) ≡ true
-    go None e h = absurd (both-ways h)
-    go (Some s) e h = soup s e (soup_named name s) refl h
-
--- a command that moves keys reaches the store that it writes
-pub reach-own : (w : World) (c : Command) → MountedApart (changed w c) → moves_keys c ≡ true → ((t : ℕ) → looks_at c ≡ Some t → ⊥) → (u : ℕ) → in_reach (reach w c) (mounted_store (changed w c) u) ≡ true → writes w c u ≡ true
-unfolding changed reach moves_keys
-reach-own w (command.Mount t) apart moves unlooked u h = absurd (unlooked t refl)
-reach-own w (command.Index t s parts) apart moves unlooked u h = own-in w (changed w (command.Index t s parts)) apart t s (λ x p. on_soup x.sig p.sig) (λ x p o k. k)
-    (λ store soup. follows-change w t t s s store soup _ (λ p. refl) (λ p. refl)) u h
-reach-own w (command.SetTags t s path symbols) apart moves unlooked u h = own-in w (changed w (command.SetTags t s path symbols)) apart t s (λ x p. on_soup x.sig p.sig) (λ x p o k. k)
-    (λ store soup. follows-change w t t s s store soup _ (λ p. refl) (λ p. refl)) u h
-reach-own w (command.Add t s g) apart moves unlooked u h = own-in w (changed w (command.Add t s g)) apart t s (λ x p. on_entry x.sig p.sig p.next_uid) (λ x p o k. k)
-    (λ store soup. follows-change w t t s s store soup (add_entry w.minute g) (λ p. refl) (λ p. refl)) u h
-reach-own w (command.Addx t s g) apart moves unlooked u h = own-in w (changed w (command.Addx t s g)) apart t s (λ x p. on_entry x.sig p.sig p.next_uid) (λ x p o k. k)
-    (λ store soup. follows-change w t t s s store soup (add_entry w.minute g) (λ p. refl) (λ p. refl)) u h
-reach-own w (command.Addu s g) apart moves unlooked u h = own-in w (changed w (command.Addu s g)) apart (default_unit w) s (λ x p. on_entry x.sig p.sig p.next_uid) (λ x p o k. k)
-    (λ store soup. follows-change w (default_unit w) (default_unit w) s s store soup (add_entry w.minute g) (λ p. refl) (λ p. refl)) u h
-reach-own w (command.Set t s uid path g) apart moves unlooked u h = own-in w (changed w (command.Set t s uid path g)) apart t s (λ x p. on_entry x.sig p.sig uid) (λ x p o k. k)
-    (λ store soup. follows-change w t t s s store soup _ (λ p. refl) (λ p. refl)) u h
-reach-own w (command.Change t s uid g) apart moves unlooked u h = own-in w (changed w (command.Change t s uid g)) apart t s (λ x p. on_entry x.sig p.sig uid) (λ x p o k. k)
-    (λ store soup. follows-change w t t s s store soup _ (λ p. refl) (λ p. refl)) u h
-reach-own w (command.Vwrite t s uid path at bytes) apart moves unlooked u h = own-in w (changed w (command.Vwrite t s uid path at bytes)) apart t s (λ x p. on_entry x.sig p.sig uid) (λ x p o k. k)
-    (λ store soup. follows-change w t t s s store soup _ (λ p. refl) (λ p. refl)) u h
-reach-own w (command.Copy t s uid x y) apart moves unlooked u h = own-in w (changed w (command.Copy t s uid x y)) apart x y (λ x p. on_entry x.sig p.sig p.next_uid) (λ x p o k. k)
-    (λ store soup. follows-copy w x x y y store soup (entry_in w t s uid)) u h
-reach-own w (command.Move t s uid x y) apart moves unlooked u h = ap (λ b. b || (t == u)) (own-in w (changed w (command.Move t s uid x y)) apart x y (λ x p. on_entry x.sig p.sig p.next_uid) (λ x p o k. k)
-    (λ store soup f. follows-change (copy_to w x y (entry_in w t s uid)) x t y s store soup (remove_entry uid) (λ p. refl) (λ p. refl) (follows-copy w x x y y store soup (entry_in w t s uid) f)) u h)
-reach-own w c apart moves unlooked u h = absurd (both-ways moves)
+    go : (b : Bool) → is_of_stores c ≡ b → writes w c u ≡ true
+    go true b = all-own w (applied w (changes_of w c)) (applied-sigs w (changes_of w c)) apart u (changes_of w c)
+        (reached (applied w (changes_of w c)) (subst (λ v. in_reach (reach w c) (mounted_store v u) ≡ true) (world-made w c all passed b) h))
+    go false b = absurd (both-ways (ap (λ r. in_reach (reach_of w (made r)) (mounted_store (changed w c) u)) (sym (no-effects w c b)) ∙ reached (changed w c) h))

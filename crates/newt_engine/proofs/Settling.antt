@@ -13,7 +13,9 @@ use Rattle.newt_spec_query.specs.Cursor.{Cursor}
 use Rattle.newt_spec_store.specs.Store.{Store}
 use Rattle.newt_spec_world.specs.declared.command.Command.{Command}
 use Rattle.newt_spec_world.specs.declared.command.Command.TheVariants as command
+use Rattle.newt_spec_world.specs.Derived.{made, writes_of}
 use Rattle.newt_spec_world.specs.Step.{formats, is_format_of, looks_anew, writes}
+use Rattle.newt_laws_effects.proofs.Written.{effects-by}
 use Rattle.newt_spec_world.specs.Reply as plain
 use Rattle.newt_spec_world.specs.Changed.{changed}
 use Rattle.newt_spec_world.specs.Refused.{checks}
@@ -192,8 +194,7 @@ module _ {C : Type 0} {reads : List ℕ → Option Store} {place : C → ℕ} {s
   )
 
 pub writes_with : (ks : List (Option Cursor)) (w : World) (c : Command) (u : ℕ) → writes (with_cursors ks w) c u ≡ writes w c u
-writes_with ks w (command.Addu s g) u = refl
-writes_with ks w c u = refl
+writes_with ks w c u = ap (λ r. writes_of (made r) u) (effects-by (with_cursors ks w) w (λ n. refl) (λ n. refl) refl c)
 
 -- the moments of the world with its cursors
 pub moments_with : (reads : List ℕ → Option Store) (due : ℕ → Bool) (w : World) (ks : List (Option Cursor)) (c : Command) (v : World) (start now : Moment) → uses_cursors c ≡ false

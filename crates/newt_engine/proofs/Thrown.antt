@@ -11,8 +11,11 @@ use Rattle.newt_spec_graph.proofs.Lists.{among-left, both-ways, none-some, some-
 use Rattle.newt_spec_store.specs.Store.{Store}
 use Rattle.newt_spec_world.specs.Answer.{answer, answered}
 use Rattle.newt_spec_world.specs.Changed.{changed}
-use Rattle.newt_spec_world.specs.Refused.{checks}
+use Rattle.newt_spec_world.specs.Refused.{Check, checks}
 use Rattle.newt_spec_world.specs.Reply.{Reply}
+use Rattle.newt_spec_world.specs.Derived.{made, writes_of}
+use Rattle.newt_spec_world.specs.Effects.{effects}
+use Rattle.newt_laws_effects.proofs.Written.{effects-by}
 use Rattle.newt_spec_world.specs.Step.{Step, thrown, formats, is_accepted, is_format_of, looks_anew, looks_at, may_tear, moves_away, store_after, thrown_out, torn, unsure_look, world_thrown, writes}
 use Rattle.newt_spec_world.specs.World.{World, Device, Media, blank, one, two, lost, device, is_unsure, settle, store_of, store_on_unit, stores_of, stores_on, IsBlankOn}
 use Rattle.newt_spec_world.specs.declared.command.Command.{Command}
@@ -26,7 +29,8 @@ use Rattle.newt_laws_steps.proofs.Held.{stands-left, stands-sure}
 use Rattle.newt_laws_steps.proofs.Kept.{Device-kept, Goes-on, row-kept, stores-by, unsure-by}
 use Rattle.newt_laws_steps.proofs.Meant.{device-m, known-over}
 use Rattle.newt_laws_steps.proofs.MeantAnswer.{answer-m}
-use Rattle.newt_laws_steps.proofs.MeantRows.{first-m}
+use Rattle.newt_laws_steps.proofs.Meant.{store-m}
+use Rattle.newt_laws_steps.proofs.MeantRows.{first-m, no_unit-m}
 use Rattle.newt_laws_steps.proofs.Stepping.{accepted}
 use Rattle.newt_laws_steps.proofs.StoodFor.{known-stands, thrown-stands}
 use Rattle.newt_engine_units.specs.Breaks.{HasStoreToFormat, IsLeftAs, Meanwhile}
@@ -65,12 +69,13 @@ between {old = old} (later event now way p) = later event now (Always-map (λ m 
 
 -- ---- a command that may tear a store
 
-writes-m : (f : ℕ → Media) (w : World) (c : Command) (u : ℕ) → writes (meant_by f w) c u ≡ writes w c u
-writes-m f w (command.Addu s g) u = refl
-writes-m f w c u = refl
+writes-m : (f : ℕ → Media) (w : World) → MountedSure w → (c : Command) (u : ℕ) → writes (meant_by f w) c u ≡ writes w c u
+writes-m f w sure c u =
+    ap (λ r. writes_of (made r) u) (effects-by (meant_by f w) w (λ n. ap (λ (k : Check). k.1) (no_unit-m f w sure n)) (store-m f w sure) refl c)
 
 -- one that looks at a unit writes none
 pub unwritten : (w : World) (c : Command) (u n : ℕ) → looks_at c ≡ Some n → writes w c u ≡ false
+unfolding effects
 unwritten w (command.Format _ _ _) u n h = refl
 unwritten w (command.Mount _) u n h = refl
 unwritten w c u n h = absurd (none-some n h)
@@ -92,6 +97,7 @@ writes-looks w c u h = (written (is_accepted w c) (writes w c u) refl h, go (loo
     go (Some n) e = absurd (both-ways (sym (not-torn (is_accepted w c) (not (moves_away c u))) ∙ ap (λ b. (is_accepted w c && b) && not (moves_away c u)) (sym (unwritten w c u n e)) ∙ h))
 
 written-unformed : (w : World) (c : Command) (u : ℕ) → writes w c u ≡ true → is_format_of c u ≡ false
+unfolding effects
 written-unformed w (command.Format _ _ _) u h = absurd (both-ways h)
 written-unformed w c u h = refl
 
@@ -112,7 +118,7 @@ module _ (f : ℕ → Media) (w : World) (sure : MountedSure w) where
 
       go : (o : Option ℕ) → looks_anew w c ≡ o → may_tear (meant_by f w) c u ≡ may_tear w c u
       go None e = ap (λ (x : Option Refusal). (is_none x && writes (meant_by f w) c u) && not (moves_away c u)) (first-m f w sure c e)
-          ∙ ap (λ b. (is_accepted w c && b) && not (moves_away c u)) (writes-m f w c u)
+          ∙ ap (λ b. (is_accepted w c && b) && not (moves_away c u)) (writes-m f w sure c u)
       go (Some n) e = no-look (looks_at c) refl n e
 
   -- the store after it is that of the answer

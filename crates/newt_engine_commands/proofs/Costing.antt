@@ -6,8 +6,7 @@ use Rattle.newt_graph.specs.Graph.{RawGraph}
 use Rattle.newt_host.specs.Moments.{bytes_after, changes, image}
 use Rattle.newt_host.specs.Outside.{Outside}
 use Rattle.newt_pagebook.specs.Book.{IsOpenFor}
-use Rattle.newt_spec_store.specs.Store.{Store, Soup, Entry, entry_at, entry_of, change_soup, add_entry, remove_entry}
-use Rattle.newt_spec_store.specs.Valid.{valid_entry}
+use Rattle.newt_spec_store.specs.Store.{Store, Soup, Entry, entry_at, entry_of, soup_of, change_soup, add_entry, remove_entry}
 use Rattle.newt_spec_world.specs.declared.command.Command.{Command}
 use Rattle.newt_spec_world.specs.declared.command.Command.TheVariants as command
 use Rattle.newt_spec_world.specs.World.{World, entry_in}
@@ -17,7 +16,7 @@ use Rattle.newt_laws_answers.specs.Fetched.{if_on, most_fetched, next_if_on, pag
 use Rattle.newt_laws_answers.proofs.Answers.{entry-named}
 use Rattle.newt_laws_answers.proofs.Fetched.{first-pages, named-pages}
 use Rattle.newt_laws_answers.proofs.Tests.{add_tests, move_tests, moved_within}
-use Rattle.newt_laws_answers.proofs.Most.{move-to-most, move-from-most, within-most}
+use Rattle.newt_laws_effects.proofs.Most.{move-to-most, move-from-most, within-most}
 use Rattle.newt_store_change.specs.declared.fault.StoreFault.{StoreFault}
 use Rattle.newt_engine_card.specs.Bounds.{Costs, CostsOn, FetchesAtMost, FetchesOn, FetchesWithin, LeftAlone, of_unit}
 use Rattle.newt_spec_change.specs.Change.{pages_of_entry}
@@ -25,8 +24,7 @@ use Rattle.newt_store_change.specs.Faults.{GoesOn}
 use Rattle.newt_engine_units.specs.Calls.{CostsOf}
 use Rattle.newt_engine_units.specs.Found.{HasSoup, HasEntry}
 use Rattle.newt_engine_units.proofs.Costs.{after-read, call-after-read, both-costs, none-fits, on-costs, on-few, on-within, read-few}
-use Rattle.newt_engine_commands.proofs.Commands.{entry-fits}
-use Rattle.newt_engine_commands.proofs.Moves.{move-named, inside-named}
+use Rattle.newt_engine_commands.proofs.Moves.{move-named, inside-by-sig, inside-named}
 use Rattle.newt_engine_commands.proofs.Said.{Spent}
 
 -- ---- what is fetched
@@ -83,9 +81,9 @@ added_bytes blocks g s p w = unless (add_tests blocks w.minute p.name g s p) (ch
 abbrev pub removed_bytes : Store → Soup → Entry → ℕ → ℕ
 removed_bytes s p e uid = change_bytes false s (change_soup p.name (remove_entry uid) s) [] (e ∷ [])
 
--- an entry of a soup is within the limits
-fits : {w : World} {u : ℕ} {name : List ℕ} {sig : ℕ} (h : HasSoup w u name sig) (uid : ℕ) (e : Entry) → entry_of uid h.soup ≡ Some e → valid_entry e ≡ true
-fits {name = name} h uid e found = entry-fits h.store name h.soup uid e h.formed h.named found
+-- a soup is found by its own signature
+own-sig : {w : World} {u : ℕ} {name : List ℕ} {sig : ℕ} (h : HasSoup w u name sig) → soup_of h.soup.sig h.store ≡ Some h.soup
+own-sig h = subst (λ n. soup_of n h.store ≡ Some h.soup) (sym h.sig_is) h.by_sig
 
 -- ---- one change of one store
 
@@ -102,7 +100,8 @@ module _ {w : World} {u : ℕ} {name : List ℕ} {sig uid : ℕ} (x : HasEntry w
       most : unless (move_tests x.of.blocks w.minute x.of.soup.name uid k.soup.name x.entry.graph x.of.store k.soup)
           (change_bytes true x.of.store (moved_within w.minute x.of.soup.name uid k.soup.name x.entry.graph x.of.store) (record { uid = k.soup.next_uid; time = w.minute; graph = x.entry.graph } ∷ []) (x.entry ∷ []))
           ≤ most_programmed w (command.Move u x.of.soup.name uid u k.soup.name) u
-      most = within-most w u x.of.blocks x.of.store x.of.soup.name x.of.soup uid x.of.on x.of.self_named k.soup.name k.soup (inside-named w u name target sig into uid x k) x.entry x.found
+      most = within-most w u x.of.blocks x.of.store x.of.soup uid x.of.on x.of.self_named (own-sig x.of) k.soup (inside-named w u name target sig into uid x k)
+          (subst (λ n. soup_of n x.of.store ≡ Some k.soup) (sym k.sig_is) (inside-by-sig w u name target sig into uid x k)) x.entry x.found
 
       few : 512 * its_pages x.of uid + 512 * its_pages x.of uid ≤ most_fetched w (command.Move u x.of.soup.name uid u k.soup.name) u
       few = twice _ _ (subst (λ n. its_pages x.of uid ≤ pages_there w u (if_on u u n uid ++ next_if_on w u u k.soup.name)) (sym x.of.name_is) (first-low x.of uid (next_if_on w u u k.soup.name)))
@@ -163,11 +162,11 @@ module _ (w : World) (u to : ℕ) (name target : List ℕ) (sig into uid : ℕ) 
 
   to-most : added_bytes k.blocks e.graph k.store k.soup w ≤ most to
   to-most = subst (λ c. added_bytes k.blocks e.graph k.store k.soup w ≤ most_programmed w c to) (move-named w u to name target sig into uid h k)
-      (move-to-most w u h.blocks h.store h.soup.name h.soup uid h.on h.self_named to k.blocks k.store k.soup.name k.soup k.on k.self_named e found (fits h uid e found) differ)
+      (move-to-most w u h.blocks h.store h.soup uid h.on h.self_named (own-sig h) to k.blocks k.store k.soup k.on k.self_named (own-sig k) e found differ)
 
   from-most : first_of (add_tests k.blocks w.minute k.soup.name e.graph k.store k.soup) ≡ None → removed_bytes h.store h.soup e uid ≤ most u
   from-most passed = subst (λ c. removed_bytes h.store h.soup e uid ≤ most_programmed w c u) (move-named w u to name target sig into uid h k)
-      (move-from-most w u h.blocks h.store h.soup.name h.soup uid h.on h.self_named to k.blocks k.store k.soup.name k.soup k.on k.self_named e found (fits h uid e found) differ passed)
+      (move-from-most w u h.blocks h.store h.soup uid h.on h.self_named (own-sig h) to k.blocks k.store k.soup k.on k.self_named (own-sig k) e found differ passed)
 
   module _ (x : World) (same : x ≡ w) {o p q : Outside} (seen : Seen u (512 * its_pages h uid) o p) {T : Type 0} {first : Result T StoreFault} where
     -- it was added, or was not

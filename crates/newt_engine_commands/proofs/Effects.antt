@@ -22,7 +22,7 @@ use Rattle.newt_laws_world.proofs.Kept.{Every, Wf}
 use Rattle.newt_laws_world.specs.Worlds.{OnMedia}
 use Rattle.newt_laws_answers.proofs.Answers.{done, refused}
 use Rattle.newt_laws_answers.proofs.Units.{is-mounted, is-there, on-changed}
-use Rattle.newt_laws_answers.specs.Bounds.{most_programmed}
+use Rattle.newt_laws_answers.specs.Bounds.{most_of, most_programmed}
 use Rattle.newt_laws_answers.specs.Fetched.{means_entries, most_fetched}
 use Rattle.newt_laws_answers.specs.There.{OnUnit}
 use Rattle.newt_laws_steps.specs.StandsFor.{seen}
@@ -32,11 +32,11 @@ use Rattle.newt_store_change.specs.Faults.{Does}
 use Rattle.newt_spec_change.specs.declared.change.Change.{Change}
 use Rattle.newt_store_change.specs.declared.fault.StoreFault.{StoreFault}
 use Rattle.newt_store_change.specs.declared.fault.StoreFault.TheVariants.{Refused, Stop}
-use Rattle.newt_laws_effects.specs.Effects as resolving
-use Rattle.newt_laws_effects.specs.Effects.{Effect, effects}
-use Rattle.newt_laws_effects.specs.Derived.{most_of, of_store, refusal}
+use Rattle.newt_spec_world.specs.Effects as resolving
+use Rattle.newt_spec_world.specs.Effects.{Effect, effects}
+use Rattle.newt_spec_world.specs.Derived.{made, refusal, writes_of}
 use Rattle.newt_laws_effects.specs.Tells.{Tells, is_of_stores}
-use Rattle.newt_laws_effects.proofs.Most.{row-most}
+use Rattle.newt_laws_effects.proofs.Most.{one-most}
 use Rattle.newt_laws_effects.proofs.Refusing.{one-refusal, row-refusal}
 use Rattle.newt_laws_effects.proofs.Telling.{rows-tell}
 use Rattle.newt_engine_units.proofs.Costs.{after-read, call-after-read, costs-of, on-costs, on-few, on-within}
@@ -79,7 +79,7 @@ module _ (w : World) (c : Command) (u : ℕ) (d : Change) (r : Resolves w c u d)
   world-is = tells.world_is r.of_stores
 
   pub written : writes w c u ≡ true
-  written = tells.writes_are u ∙ ap (λ b. b || false) (eq-eqb u u refl)
+  written = ap (λ x. writes_of (made x) u) r.is ∙ ap (λ b. b || false) (eq-eqb u u refl)
 
   pub answer-is : w.cursors ≡ replicate 32 None → refusal_of d r.blocks w.minute r.store ≡ None
       → answer w c ≡ (change_store w u (changed_by d w.minute), fields w (changed w c) c)
@@ -88,23 +88,11 @@ module _ (w : World) (c : Command) (u : ℕ) (d : Change) (r : Resolves w c u d)
 
   -- it programs no more than the command may
   pub most-is : most_bytes d r.blocks w.minute r.store ≤ most_programmed w c u
-  unfolding most_bytes
-  most-is = low (most_bytes d r.blocks w.minute r.store) (most_programmed w c u) (row-most w c u r.formed ∙ ap (λ x. most_of w x u) r.is ∙ same)
+  unfolding most_programmed
+  most-is = low _ _ (ap (λ x. most_of w x u) r.is ∙ one-most w u r.blocks r.store d r.on)
     where
       low : (a b : ℕ) → b ≡ a → a ≤ b
       low a b e = omega (arith, e)
-
-      bytes : ℕ
-      bytes = bytes_of d w.minute r.store
-
-      plus : (n : ℕ) → n + 0 ≡ n
-      plus n = omega arith
-
-      same : most_of w (Ok (record { unit = u; change = d } ∷ [])) u ≡ most_bytes d r.blocks w.minute r.store
-      same =
-          ap (λ o. cond (is_some o) 0 (cond (u == u) (of_store (mounted_store w u) 0 (λ s. bytes_of d w.minute s)) 0 + 0)) (one-refusal w u r.blocks r.store d r.on)
-          ∙ ap (λ (n : ℕ). cond (is_some (refusal_of d r.blocks w.minute r.store)) 0 n)
-          ((λ i. cond (eq-eqb u u refl i) (of_store (is-mounted w u r.blocks r.store r.on i) 0 (λ s. bytes_of d w.minute s)) 0 + 0) ∙ plus bytes)
 
 -- ---- of a call
 

@@ -1,5 +1,5 @@
 -- Entries that are moved.
-use Rattle.std.proofs.Common.{◌≡◌, refl, ap, sym, ◌∙◌, subst, ℕ, List, [], ◌∷◌, ◌++◌, ◌⊎◌, inl, inr, Bool, false, Option, Some, None, option_and_then, replicate}
+use Rattle.std.proofs.Common.{◌≡◌, refl, ap, sym, ◌∙◌, subst, ℕ, List, [], ◌∷◌, ◌++◌, ◌⊎◌, ◌==◌, ◌||◌, inl, inr, Bool, false, Option, Some, None, option_and_then, replicate}
 use Rattle.std.specs.Prelude.{Result, Ok, Err, is_some}
 use Rattle.newt_base.specs.Refusals.{Checks, first_of}
 use Rattle.newt_base.specs.declared.Refusal.{Refusal}
@@ -20,6 +20,8 @@ use Rattle.newt_laws_answers.proofs.Tests.{add_tests, room_tests, move_tests, mo
 use Rattle.newt_laws_answers.specs.There.{OnUnit}
 use Rattle.newt_laws_answers.proofs.Copies.{graph-passes, move-no-entry, move-done, move-refused, within-done, within-refused}
 use Rattle.newt_laws_answers.proofs.Units.{is-there, on-changed, on-other}
+use Rattle.newt_laws_effects.proofs.Written.{changed-named, move-writes}
+use Rattle.newt_spec_world.specs.Step.{writes}
 use Rattle.newt_store_change.specs.declared.fault.StoreFault.{StoreFault}
 use Rattle.newt_store_change.specs.declared.fault.StoreFault.TheVariants.{Refused, Stop}
 use Rattle.newt_engine_units.specs.Answers.{Answers}
@@ -183,6 +185,15 @@ module _ (w : World) (u to : ℕ) (name target : List ℕ) (sig into uid : ℕ) 
 
   -- ---- moments
 
+  -- the units that the command writes, in the world before, and in that with the entry added
+  pub writes-first : (j : ℕ) → writes w between_command j ≡ ((to == j) || (u == j))
+  writes-first j = move-writes w u h.blocks h.store name h.soup uid h.on h.named to k.blocks k.store target k.soup k.on k.named e found j
+
+  pub writes-then : (j : ℕ) → writes added between_command j ≡ ((to == j) || (u == j))
+  writes-then j = move-writes added u h.blocks h.store name h.soup uid on-added h.named to k.blocks (add k.store) target (add_entry w.minute e.graph k.soup) there-added
+      (subst (λ n. soup_named n (add k.store) ≡ Some (add_entry w.minute e.graph k.soup)) k.name_is
+      (changed-named k.store k.soup (add_entry w.minute e.graph) k.self_named refl)) e found j
+
   pub added-makes : (x : World) → x ≡ w → first_of (tests x) ≡ None → store_on_unit between_answer.0 to ≡ Some (change_soup k.soup.name (add_entry x.minute e.graph) k.store)
   added-makes x is t =
       ap {A = World × Reply} (λ y. store_on_unit y.0 to) (between-done (ap (λ y. first_of (tests y)) (sym is) ∙ t))
@@ -210,7 +221,7 @@ module _ (w : World) (u to : ℕ) (name target : List ℕ) (sig into uid : ℕ) 
       others = λ j left empty stays may. last.answering.others j left empty stays (at.others j left (blank-there j empty) (inl refl) may);
     };
     unsure = λ j sync formed. left-after (last.unsure j sync formed) (t.unsure j sync (λ fmt. absurd (both-ways fmt)));
-    beside = λ j unwritten unformed sure. t.beside j unwritten unformed sure ∙ last.beside j unwritten unformed sure;
+    beside = λ j unwritten unformed sure. t.beside j (writes-then j ∙ sym (writes-first j) ∙ unwritten) unformed sure ∙ last.beside j unwritten unformed sure;
   }) (subst (λ (y : World). Always (Meanwhile reads due y between_command between_answer.0 b) b c) was.world second))
     where
       last : Meanwhile reads due w between_command between_answer.0 a b

@@ -13,6 +13,7 @@ use Rattle.newt_spec_world.specs.declared.command.Command.TheVariants as command
 use Rattle.newt_spec_world.specs.Answer.{answer}
 use Rattle.newt_spec_world.specs.Reply.{Reply}
 use Rattle.newt_spec_world.specs.First.{media_of}
+use Rattle.newt_spec_world.specs.Effects.{effects}
 use Rattle.newt_spec_world.specs.Step.{formats, is_accepted, is_format_of, looks_at, thrown_out, unsure_look, with_media, writes}
 use Rattle.newt_spec_world.specs.World.{World, Device, Media, blank, lost, device, stores_of, stores_on, IsBlankOn}
 use Rattle.newt_laws_steps.specs.Answering.{ReadsOneOf, StaysBlank}
@@ -85,6 +86,7 @@ synced-left false u a b is may = left-same u a b (ap (changes u) is)
 
 -- a command that looks at a unit writes none
 looks-write : (w : World) (c : Command) (j : ℕ) {u : ℕ} → looks_at c ≡ Some u → writes w c j ≡ false
+unfolding effects
 looks-write w (command.Format _ _ _) j h = refl
 looks-write w (command.Mount _) j h = refl
 looks-write w c j h = absurd (none-some _ h)

@@ -15,7 +15,6 @@ pub mod Stores
 pub mod Resolves
 pub mod Faces
 pub mod Apart
-pub mod Most
 pub mod Refusals
 pub mod Programs
 pub mod Changes

@@ -11,7 +11,7 @@ use Rattle.newt_laws_world.proofs.Kept.{Every, Wf}
 use Rattle.newt_laws_answers.proofs.Sigs.{named-name, soup-of-sig}
 use Rattle.newt_laws_answers.proofs.Units.{soup-named}
 use Rattle.newt_laws_answers.specs.There.{OnUnit}
-use Rattle.newt_laws_effects.specs.Effects.{Effect, Resolved, needs, passing, in_store, in_soup, in_entry, in_default, both, in_both}
+use Rattle.newt_spec_world.specs.Effects.{Effect, Resolved, needs, passing, in_store, in_soup, in_entry, in_default, both, in_both}
 
 -- an effect
 abbrev pub at : ℕ → Change → Effect

@@ -1,5 +1,6 @@
 pub mod Found
+pub mod Written
 pub mod Telling
 pub mod Refusing
-pub mod Bounding
 pub mod Most
+pub mod Making

@@ -44,9 +44,9 @@ use Rattle.newt_laws_answers.proofs.Copies.{graph-passes, copy-checks, ids-first
 use Rattle.newt_laws_answers.proofs.Declares.{has-is, index-checks, unindex-there, paths_of_words}
 use Rattle.newt_laws_answers.proofs.Replaces.{set-checks}
 use Rattle.newt_laws_answers.proofs.Tests.{move_tests, index_tests}
-use Rattle.newt_laws_effects.specs.Effects.{both, in_both, moves}
-use Rattle.newt_laws_effects.specs.Effects.{Resolved, effects, needs, passing, in_store, in_soup, in_entry, one as only}
-use Rattle.newt_laws_effects.specs.Derived.{refusal, tests_on}
+use Rattle.newt_spec_world.specs.Effects.{both, in_both, moves}
+use Rattle.newt_spec_world.specs.Effects.{Resolved, effects, needs, passing, in_store, in_soup, in_entry, one as only}
+use Rattle.newt_spec_world.specs.Derived.{refusal, tests_on}
 use Rattle.newt_laws_effects.specs.Tells.{is_of_stores}
 use Rattle.newt_laws_effects.proofs.Found.{on-unit, mounted-device, by-sig, name-is}
 use Rattle.newt_laws_effects.proofs.Telling.{large-there}
@@ -61,7 +61,7 @@ pub one-refusal : (w : World) (u blocks : ℕ) (s : Store) (d : Change) → OnUn
 one-refusal w u blocks s d h = ap (λ o. first_of (tests_on d w.minute o ++ [])) h.device_is ∙ first-nil (refusals d blocks w.minute s)
 
 -- tests of which none holds add nothing
-first-more : (xs ys : Checks) → first_of ys ≡ None → first_of (xs ++ ys) ≡ first_of xs
+pub first-more : (xs ys : Checks) → first_of ys ≡ None → first_of (xs ++ ys) ≡ first_of xs
 first-more [] ys h = h
 first-more ((r, true) ∷ xs) ys h = refl
 first-more ((r, false) ∷ xs) ys h = first-more xs ys h

@@ -15,10 +15,10 @@ use Rattle.newt_spec_graph.specs.Larges.{large_at}
 use Rattle.newt_spec_graph.specs.Slots.{value_at, put}
 use Rattle.newt_spec_store.specs.Keys.{Path}
 use Rattle.newt_spec_store.specs.Store.{next_uid_of, Entry, Soup, Store, TagTable, soup_named, soup_of, entry_of, change_soup, change_entry, drop_soup, add_entry, remove_entry, with_graph, with_index, without_index, with_tags, with_info}
-use Rattle.newt_spec_whole.specs.Events.{Event, events, soup_event, entry_event, add_event}
+use Rattle.newt_spec_whole.specs.Events.{Event, events, soup_event, entry_event, add_event, notes_by, all_notes, of_soup, entry_note, add_note}
 use Rattle.newt_spec_world.specs.World.{World, default_unit, mounted_store, soup_in, change_store}
 use Rattle.newt_spec_world.specs.Changed.{changed, graph_after_set, spec_of_words, info_from, patched, patched_at}
-use Rattle.newt_spec_world.specs.Step.{writes}
+use Rattle.newt_spec_world.specs.Derived.{applied, of_store, on_store_of}
 use Rattle.newt_spec_world.specs.declared.command.Command.{Command}
 use Rattle.newt_spec_world.specs.declared.command.Command.TheVariants as command
 use Rattle.newt_spec_world.specs.declared.command.PartWord.{PartWord}
@@ -40,17 +40,9 @@ use Rattle.newt_laws_answers.proofs.Replaces.{entry-alike}
 use Rattle.newt_laws_answers.proofs.Tests.{moved_within}
 use Rattle.newt_laws_answers.proofs.Units.{is-mounted, on-other, store-alike, store-twice}
 use Rattle.newt_laws_answers.specs.There.{OnUnit}
-use Rattle.newt_laws_reach.specs.Reach.{Reach, nowhere, on_entry, on_soup, reach, in_soup as reach_in, in_store as reach_of_store, entry_reach, next_reach}
-use Rattle.newt_laws_effects.specs.Effects.{Effect, Resolved, effects, needs, passing, one as only, moves}
-use Rattle.newt_laws_effects.specs.Derived.{applied, notes_by, notes_of, of_soup, of_store, on_store_of, entry_note, add_note, reach_by, reach_of, or_reach, moves_of}
+use Rattle.newt_laws_reach.specs.Reach.{Reach, nowhere, on_entry, on_soup, reach, in_soup as reach_in, in_store as reach_of_store, entry_reach, next_reach, reach_by, reach_of, or_reach, moves_of}
+use Rattle.newt_spec_world.specs.Effects.{Effect, Resolved, effects, needs, passing, one as only, moves}
 use Rattle.newt_laws_effects.specs.Tells.{Tells, is_of_stores}
-use Rattle.newt_spec_world.specs.World.{store_on_unit, entry_in}
-use Rattle.newt_spec_change.specs.Change.{writes_directory}
-use Rattle.newt_laws_answers.specs.Bounds.{bytes_between, bytes_done, new_in, listed, copied_in, entries_of}
-use Rattle.newt_laws_effects.proofs.Bounding.{Touch, Programs, Puts, one-bytes, bare-bytes, patch-bytes, by-unit}
-use Rattle.newt_laws_effects.proofs.Bounding.{two-bytes, none-between, moved-puts, dropped-puts, dropped-touch}
-use Rattle.newt_laws_effects.proofs.Bounding.{new_entry, new-is, added-puts, before, removed-puts, removed-touch}
-use Rattle.newt_laws_effects.proofs.Bounding.{replaced-puts, replaced-touch}
 use Rattle.newt_laws_effects.proofs.Found.{at, by-name, by-sig, name-is, default-found, soup-found, ok-same, needed, passed, in-store, in-soup, in-default, in-entry, InBoth, in-both}
 
 -- ---- a soup that is there
@@ -77,7 +69,7 @@ module _ (w : World) (all : Every Wf w) (u : ℕ) (name : List ℕ) (blocks : �
       ∙ told kind.Add p.next_uid
 
   -- the notes of one change
-  one-note : (c : Change) (es : List Event) → notes_by u s c ≡ es → notes_of w (at u c ∷ []) ≡ es ++ []
+  one-note : (c : Change) (es : List Event) → notes_by u s c ≡ es → all_notes w (at u c ∷ []) ≡ es ++ []
   one-note c es e = ap {A = List Event} (λ xs. xs ++ []) (at-store [] (λ s. notes_by u s c) ∙ e)
 
   -- what one change reaches
@@ -98,14 +90,6 @@ module _ (w : World) (all : Every Wf w) (u : ℕ) (name : List ℕ) (blocks : �
   -- a change of the soup by its name is one by the name of the command
   soup-changed : (c : Change) (go : Soup → Soup) → changed_by c w.minute s ≡ change_soup p.name go s → changed_by c w.minute s ≡ change_soup name go s
   soup-changed c go e = e ∙ ap (λ n. change_soup n go s) (name-is w all u name blocks s p h f)
-
--- a change of no unit but one
-one-unit : (t u : ℕ) → (t == u) ≡ ((t == u) || false)
-one-unit t u = go (t == u)
-  where
-    go : (b : Bool) → b ≡ (b || false)
-    go true = refl
-    go false = refl
 
 -- what a path reaches is a large binary
 pub large-there : (g : RawGraph) (path : Path) (n : ℕ) → large_at g path ≡ Some n → (class : ℕ) × (large : List ℕ) × (slice_get g.nodes n ≡ Some (Large class large))
@@ -129,84 +113,66 @@ module _ (w : World) (all : Every Wf w) where
   soup-row u s es e =
       let x = in-store w u (λ t. only u (change.MakeSoup s)) es e in
       subst (Tells w (command.Soup u s)) (ok-same (at u (change.MakeSoup s) ∷ []) es x.then) (record {
-        writes_are = one-unit u;
         events_are = ap {A = Option Store} {B = List Event} (λ o. soup_event kind.Make u s (unwrap_or (option_map (λ s. s.next_soup) o) 0) ∷ []) (is-mounted w u x.blocks x.s x.h)
             ∙ sym (ap {A = Option Store} {B = List Event} (λ o. of_store o [] (λ t. notes_by u t (change.MakeSoup s)) ++ []) (is-mounted w u x.blocks x.s x.h));
         reach_is = λ k. sym (ap (λ o. or_reach (of_store o nowhere (λ t. reach_by t (change.MakeSoup s))) nowhere) (is-mounted w u x.blocks x.s x.h));
         moves_are = λ k. refl;
         world_is = λ k. refl;
-        bytes_are = bare-bytes w (command.Soup u s) u x.blocks x.s (change.MakeSoup s) x.h
-            (record { bytes_are = refl; put_are = refl; gone_are = refl }) refl (λ n. refl);
       })
 
   -- one change of a store with a soup
   one-at : (c : Command) (u : ℕ) (name : List ℕ) (blocks : ℕ) (s : Store) (p : Soup) → OnUnit w u blocks s → soup_named name s ≡ Some p
-      → (d : Change) (notes : List Event) (r : Reach) (made : Store → Store) → ((v : ℕ) → writes w c v ≡ (u == v))
+      → (d : Change) (notes : List Event) (r : Reach) (made : Store → Store)
       → events w c ≡ notes → notes_by u s d ≡ notes → notes ++ [] ≡ notes
       → reach w c ≡ r → reach_by s d ≡ r → or_reach r nowhere ≡ r → moves_keys c ≡ moves_of (at u d ∷ [])
-      → changed w c ≡ change_store w u made → changed_by d w.minute s ≡ made s
-      → (changed w c ≡ change_store w u (changed_by d w.minute) → Programs w c (at u d ∷ [])) → Tells w c (at u d ∷ [])
-  one-at c u name blocks s p h f d notes r made writing telling told flat reaching reaches alone moving making makes bytes = record {
-    writes_are = λ v. writing v ∙ one-unit u v;
+      → changed w c ≡ change_store w u made → changed_by d w.minute s ≡ made s → Tells w c (at u d ∷ [])
+  one-at c u name blocks s p h f d notes r made telling told flat reaching reaches alone moving making makes = record {
     events_are = telling ∙ sym (one-note w all u name blocks s p h f d notes told ∙ flat);
     reach_is = λ k. reaching ∙ sym (one-reach w all u name blocks s p h f d r reaches ∙ alone);
     moves_are = λ k. moving;
     world_is = λ k. making ∙ one-world w all u name blocks s p h f d made makes;
-    bytes_are = bytes (making ∙ one-world w all u name blocks s p h f d made makes);
   }
 
   -- an entry is added
   add-at : (c : Command) (u : ℕ) (name : List ℕ) (g : RawGraph) (blocks : ℕ) (s : Store) (p : Soup) → OnUnit w u blocks s → soup_named name s ≡ Some p
-      → ((v : ℕ) → writes w c v ≡ (u == v)) → events w c ≡ add_event w u name ∷ [] → reach w c ≡ next_reach w u name → moves_keys c ≡ true
-      → changed w c ≡ change_store w u (change_soup name (add_entry w.minute g))
-      → (t : ℕ → Touch) → ((n : ℕ) → u ≡ n → t n ≡ Some (new_in w u name g ∷ [], []))
-      → ((n : ℕ) → bytes_done w (changed w c) c n
-      ≡ bytes_between true (store_on_unit w n) (store_on_unit (changed w c) n) (if u == n then t n else None))
-      → Tells w c (at u (change.Add p.sig g) ∷ [])
-  add-at c u name g blocks s p h f writing telling reaching moving making t is done =
-      one-at c u name blocks s p h f (change.Add p.sig g) (add_note u p) (on_entry s.sig p.sig p.next_uid) (change_soup name (add_entry w.minute g)) writing
+      → events w c ≡ add_event w u name ∷ [] → reach w c ≡ next_reach w u name → moves_keys c ≡ true
+      → changed w c ≡ change_store w u (change_soup name (add_entry w.minute g)) → Tells w c (at u (change.Add p.sig g) ∷ [])
+  add-at c u name g blocks s p h f telling reaching moving making =
+      one-at c u name blocks s p h f (change.Add p.sig g) (add_note u p) (on_entry s.sig p.sig p.next_uid) (change_soup name (add_entry w.minute g))
       (telling ∙ told-add w all u name blocks s p h f) (at-soup w all u name blocks s p h f (add_note u)) refl
       (reaching ∙ reached w all u name blocks s p h f (λ s p. on_entry s.sig p.sig p.next_uid)) (at-next w all u name blocks s p h f) refl
       moving making
       (soup-changed w all u name blocks s p h f (change.Add p.sig g) (add_entry w.minute g)
       (refusals.added blocks w.minute p.sig s p (by-sig w all u name blocks s p h f) g))
-      (λ world. one-bytes w c u blocks s (change.Add p.sig g) h (new_entry w all u name blocks s p h f g ∷ []) []
-      (added-puts w all u name blocks s p h f g) t world
-      (λ n e. is n e ∙ ap {A = Entry} {B = Touch} (λ x. Some (x ∷ [], [])) (new-is w all u name blocks s p h f g)) done)
 
   add-row : (u : ℕ) (s : List ℕ) (g : RawGraph) (es : List Effect) → effects w (command.Add u s g) ≡ Ok es → Tells w (command.Add u s g) es
   unfolding effects events reach moves_keys changed
   add-row u s g es e =
       let x = in-soup w u s (λ p. only u (change.Add p.sig g)) es e in
       subst (Tells w (command.Add u s g)) (ok-same (at u (change.Add x.p.sig g) ∷ []) es x.then)
-      (add-at (command.Add u s g) u s g x.blocks x.s x.p x.h x.f (λ v. refl) refl refl refl refl
-      (λ n. Some (new_in w u s g ∷ [], [])) (λ n e. refl) (λ n. refl))
+      (add-at (command.Add u s g) u s g x.blocks x.s x.p x.h x.f refl refl refl refl)
 
   addx-row : (u : ℕ) (s : List ℕ) (g : RawGraph) (es : List Effect) → effects w (command.Addx u s g) ≡ Ok es → Tells w (command.Addx u s g) es
   unfolding effects events reach moves_keys changed
   addx-row u s g es e =
       let x = in-soup w u s (λ p. only u (change.Add p.sig g)) es e in
       subst (Tells w (command.Addx u s g)) (ok-same (at u (change.Add x.p.sig g) ∷ []) es x.then)
-      (add-at (command.Addx u s g) u s g x.blocks x.s x.p x.h x.f (λ v. refl) refl refl refl refl
-      (λ n. Some (new_in w u s g ∷ [], [])) (λ n e. refl) (λ n. refl))
+      (add-at (command.Addx u s g) u s g x.blocks x.s x.p x.h x.f refl refl refl refl)
 
   addu-row : (s : List ℕ) (g : RawGraph) (es : List Effect) → effects w (command.Addu s g) ≡ Ok es → Tells w (command.Addu s g) es
   unfolding effects events reach moves_keys changed
   addu-row s g es e =
       let x = in-default w s (λ p. only (default_unit w) (change.Add p.sig g)) es e in
       subst (Tells w (command.Addu s g)) (ok-same (at (default_unit w) (change.Add x.p.sig g) ∷ []) es x.then)
-      (add-at (command.Addu s g) (default_unit w) s g x.blocks x.s x.p x.h x.f (λ v. refl) refl refl refl refl
-      (λ n. Some (new_in w n s g ∷ [], [])) (λ n e. ap {B = Touch} (λ m. Some (new_in w m s g ∷ [], [])) (sym e)) (λ n. refl))
+      (add-at (command.Addu s g) (default_unit w) s g x.blocks x.s x.p x.h x.f refl refl refl refl)
 
   copy-row : (u : ℕ) (s : List ℕ) (uid v : ℕ) (t : List ℕ) (es : List Effect) → effects w (command.Copy u s uid v t) ≡ Ok es → Tells w (command.Copy u s uid v t) es
   unfolding effects events reach moves_keys
   copy-row u s uid v t es e =
       let x = in-both w u s uid v t (λ p q e. only v (change.Add q.sig e.graph)) es e in
       subst (Tells w (command.Copy u s uid v t)) (ok-same (at v (change.Add x.q.sig x.e.graph) ∷ []) es x.then)
-      (add-at (command.Copy u s uid v t) v t x.e.graph x.other x.t x.q x.k x.g (λ v. refl) refl refl refl
-      (copied w u x.blocks x.s s x.p uid x.h x.f v x.other x.t t x.q x.k x.g x.e x.here)
-      (λ n. Some (copied_in w v t (entry_in w u s uid), []))
-      (λ n e. ap {B = Touch} (λ o. Some (copied_in w v t o, [])) (before w all u s x.blocks x.s x.p x.h x.f uid x.e x.here)) (λ n. refl))
+      (add-at (command.Copy u s uid v t) v t x.e.graph x.other x.t x.q x.k x.g refl refl refl
+      (copied w u x.blocks x.s s x.p uid x.h x.f v x.other x.t t x.q x.k x.g x.e x.here))
 
   -- ---- soups
 
@@ -215,23 +181,17 @@ module _ (w : World) (all : Every Wf w) where
   drop-row u s es e =
       let x = in-soup w u s (λ p. only u (change.DropSoup p.sig)) es e in
       subst (Tells w (command.Drop u s)) (ok-same (at u (change.DropSoup x.p.sig) ∷ []) es x.then)
-      (one-at (command.Drop u s) u s x.blocks x.s x.p x.h x.f (change.DropSoup x.p.sig) (entry_note kind.Gone u 0 x.p) nowhere (drop_soup s) (λ v. refl)
+      (one-at (command.Drop u s) u s x.blocks x.s x.p x.h x.f (change.DropSoup x.p.sig) (entry_note kind.Gone u 0 x.p) nowhere (drop_soup s)
       (told w all u s x.blocks x.s x.p x.h x.f kind.Gone 0) (at-soup w all u s x.blocks x.s x.p x.h x.f (entry_note kind.Gone u 0)) refl refl refl refl refl refl
-      (refusals.dropped x.blocks w.minute x.p.sig x.s x.p (by-sig w all u s x.blocks x.s x.p x.h x.f) ∙ ap (λ n. drop_soup n x.s) (name-is w all u s x.blocks x.s x.p x.h x.f))
-      (λ world. one-bytes w (command.Drop u s) u x.blocks x.s (change.DropSoup x.p.sig) x.h [] x.p.entries
-      (dropped-puts w all u s x.blocks x.s x.p x.h x.f) (λ n. Some ([], entries_of (soup_in w u s))) world
-      (dropped-touch w all u s x.blocks x.s x.p x.h x.f) (λ n. refl)))
+      (refusals.dropped x.blocks w.minute x.p.sig x.s x.p (by-sig w all u s x.blocks x.s x.p x.h x.f) ∙ ap (λ n. drop_soup n x.s) (name-is w all u s x.blocks x.s x.p x.h x.f)))
 
   -- a soup's declarations, or its info frame
   declare-at : (c : Command) (u : ℕ) (name : List ℕ) (blocks : ℕ) (s : Store) (p : Soup) → OnUnit w u blocks s → soup_named name s ≡ Some p
-      → (d : Change) (r : Reach) (go : Soup → Soup) → ((v : ℕ) → writes w c v ≡ (u == v)) → events w c ≡ [] → notes_by u s d ≡ []
+      → (d : Change) (r : Reach) (go : Soup → Soup) → events w c ≡ [] → notes_by u s d ≡ []
       → reach w c ≡ r → reach_by s d ≡ r → or_reach r nowhere ≡ r → moves_keys c ≡ moves_of (at u d ∷ [])
-      → changed w c ≡ change_store w u (change_soup name go) → changed_by d w.minute s ≡ change_soup p.name go s
-      → Puts d w.minute s [] [] → ((n : ℕ) → bytes_done w (changed w c) c n ≡ bytes_between (writes_directory d)
-      (store_on_unit w n) (store_on_unit (changed w c) n) (if u == n then Some ([], []) else None)) → Tells w c (at u d ∷ [])
-  declare-at c u name blocks s p h f d r go writing telling told reaching reaches alone moving making makes puts done =
-      one-at c u name blocks s p h f d [] r (change_soup name go) writing telling told refl reaching reaches alone moving making (soup-changed w all u name blocks s p h f d go makes)
-      (λ world. bare-bytes w c u blocks s d h puts world done)
+      → changed w c ≡ change_store w u (change_soup name go) → changed_by d w.minute s ≡ change_soup p.name go s → Tells w c (at u d ∷ [])
+  declare-at c u name blocks s p h f d r go telling told reaching reaches alone moving making makes =
+      one-at c u name blocks s p h f d [] r (change_soup name go) telling told refl reaching reaches alone moving making (soup-changed w all u name blocks s p h f d go makes)
 
   index-row : (u : ℕ) (s : List ℕ) (parts : List PartWord) (es : List Effect) → effects w (command.Index u s parts) ≡ Ok es → Tells w (command.Index u s parts) es
   unfolding effects events reach moves_keys changed
@@ -241,10 +201,9 @@ module _ (w : World) (all : Every Wf w) where
       let y = passed BadIndex (has_paths (map (λ x. x.path) parts) x.p.specs) (passing (real_part parts) (last x.p)) es x.then in
       let z = passed (real_part parts).0 (real_part parts).1 (last x.p) es y.1 in
       subst (Tells w (command.Index u s parts)) (ok-same (at u (change.AddIndex x.p.sig (spec_of_words parts)) ∷ []) es z.1)
-      (declare-at (command.Index u s parts) u s x.blocks x.s x.p x.h x.f (change.AddIndex x.p.sig (spec_of_words parts)) (on_soup x.s.sig x.p.sig) (with_index (spec_of_words parts)) (λ v. refl) refl refl
+      (declare-at (command.Index u s parts) u s x.blocks x.s x.p x.h x.f (change.AddIndex x.p.sig (spec_of_words parts)) (on_soup x.s.sig x.p.sig) (with_index (spec_of_words parts)) refl refl
       (reached w all u s x.blocks x.s x.p x.h x.f (λ s p. on_soup s.sig p.sig)) refl refl refl refl
-      (refusals.indexed x.blocks w.minute x.p.sig x.s x.p (by-sig w all u s x.blocks x.s x.p x.h x.f) (spec_of_words parts))
-      (record { bytes_are = refl; put_are = refl; gone_are = refl }) (λ n. refl))
+      (refusals.indexed x.blocks w.minute x.p.sig x.s x.p (by-sig w all u s x.blocks x.s x.p x.h x.f) (spec_of_words parts)))
 
   unindex-row : (u : ℕ) (s : List ℕ) (paths : List Path) (es : List Effect) → effects w (command.Unindex u s paths) ≡ Ok es → Tells w (command.Unindex u s paths) es
   unfolding effects events reach moves_keys changed
@@ -253,9 +212,8 @@ module _ (w : World) (all : Every Wf w) where
       let x = in-soup w u s (λ p. passing (BadIndex, not (has_paths paths p.specs)) (last p)) es e in
       let y = passed BadIndex (not (has_paths paths x.p.specs)) (last x.p) es x.then in
       subst (Tells w (command.Unindex u s paths)) (ok-same (at u (change.DropIndex x.p.sig paths) ∷ []) es y.1)
-      (declare-at (command.Unindex u s paths) u s x.blocks x.s x.p x.h x.f (change.DropIndex x.p.sig paths) nowhere (without_index paths) (λ v. refl) refl refl refl refl refl refl refl
-      (refusals.unindexed x.blocks w.minute x.p.sig x.s x.p (by-sig w all u s x.blocks x.s x.p x.h x.f) paths)
-      (record { bytes_are = refl; put_are = refl; gone_are = refl }) (λ n. refl))
+      (declare-at (command.Unindex u s paths) u s x.blocks x.s x.p x.h x.f (change.DropIndex x.p.sig paths) nowhere (without_index paths) refl refl refl refl refl refl refl
+      (refusals.unindexed x.blocks w.minute x.p.sig x.s x.p (by-sig w all u s x.blocks x.s x.p x.h x.f) paths))
 
   tags-row : (u : ℕ) (s : List ℕ) (path : Path) (symbols : List (List ℕ)) (es : List Effect) → effects w (command.SetTags u s path symbols) ≡ Ok es → Tells w (command.SetTags u s path symbols) es
   unfolding effects events reach moves_keys changed
@@ -265,49 +223,40 @@ module _ (w : World) (all : Every Wf w) where
       let x = in-soup w u s (λ p. passing (Limit, nat_lt 64 (length symbols)) (last p)) es e in
       let y = passed Limit (nat_lt 64 (length symbols)) (last x.p) es x.then in
       subst (Tells w (command.SetTags u s path symbols)) (ok-same (at u (change.SetTags x.p.sig table) ∷ []) es y.1)
-      (declare-at (command.SetTags u s path symbols) u s x.blocks x.s x.p x.h x.f (change.SetTags x.p.sig table) (on_soup x.s.sig x.p.sig) (with_tags (Some table)) (λ v. refl) refl refl
+      (declare-at (command.SetTags u s path symbols) u s x.blocks x.s x.p x.h x.f (change.SetTags x.p.sig table) (on_soup x.s.sig x.p.sig) (with_tags (Some table)) refl refl
       (reached w all u s x.blocks x.s x.p x.h x.f (λ s p. on_soup s.sig p.sig)) refl refl refl refl
-      (refusals.tagged-as x.blocks w.minute x.p.sig x.s x.p (by-sig w all u s x.blocks x.s x.p x.h x.f) table)
-      (record { bytes_are = refl; put_are = refl; gone_are = refl }) (λ n. refl))
+      (refusals.tagged-as x.blocks w.minute x.p.sig x.s x.p (by-sig w all u s x.blocks x.s x.p x.h x.f) table))
 
   info-row : (u : ℕ) (s : List ℕ) (g : RawGraph) (es : List Effect) → effects w (command.SetInfo u s g) ≡ Ok es → Tells w (command.SetInfo u s g) es
   unfolding effects events reach moves_keys changed
   info-row u s g es e =
       let x = in-soup w u s (λ p. only u (change.SetInfo p.sig (info_from g))) es e in
       subst (Tells w (command.SetInfo u s g)) (ok-same (at u (change.SetInfo x.p.sig (info_from g)) ∷ []) es x.then)
-      (declare-at (command.SetInfo u s g) u s x.blocks x.s x.p x.h x.f (change.SetInfo x.p.sig (info_from g)) nowhere (with_info (info_from g)) (λ v. refl) refl refl refl refl refl refl refl
-      (refusals.informed-as x.blocks w.minute x.p.sig x.s x.p (by-sig w all u s x.blocks x.s x.p x.h x.f) (info_from g))
-      (record { bytes_are = refl; put_are = refl; gone_are = refl }) (λ n. refl))
+      (declare-at (command.SetInfo u s g) u s x.blocks x.s x.p x.h x.f (change.SetInfo x.p.sig (info_from g)) nowhere (with_info (info_from g)) refl refl refl refl refl refl refl
+      (refusals.informed-as x.blocks w.minute x.p.sig x.s x.p (by-sig w all u s x.blocks x.s x.p x.h x.f) (info_from g)))
 
   -- ---- entries
 
   -- an entry gets another graph
   change-at : (c : Command) (u : ℕ) (name : List ℕ) (uid : ℕ) (blocks : ℕ) (s : Store) (p : Soup) → OnUnit w u blocks s → soup_named name s ≡ Some p
-      → (d : Change) (go : Entry → Entry) → ((v : ℕ) → writes w c v ≡ (u == v)) → events w c ≡ entry_event w kind.Change u name uid ∷ []
+      → (d : Change) (go : Entry → Entry) → events w c ≡ entry_event w kind.Change u name uid ∷ []
       → notes_by u s d ≡ of_soup (soup_of p.sig s) (entry_note kind.Change u uid)
       → reach w c ≡ entry_reach w u name uid → reach_by s d ≡ on_entry s.sig p.sig uid → moves_keys c ≡ moves_of (at u d ∷ [])
-      → changed w c ≡ change_store w u (change_soup name (change_entry uid go)) → changed_by d w.minute s ≡ change_soup p.name (change_entry uid go) s
-      → (changed w c ≡ change_store w u (changed_by d w.minute) → Programs w c (at u d ∷ [])) → Tells w c (at u d ∷ [])
-  change-at c u name uid blocks s p h f d go writing telling notes reaching reaches moving making makes bytes =
-      one-at c u name blocks s p h f d (entry_note kind.Change u uid p) (on_entry s.sig p.sig uid) (change_soup name (change_entry uid go)) writing
+      → changed w c ≡ change_store w u (change_soup name (change_entry uid go)) → changed_by d w.minute s ≡ change_soup p.name (change_entry uid go) s → Tells w c (at u d ∷ [])
+  change-at c u name uid blocks s p h f d go telling notes reaching reaches moving making makes =
+      one-at c u name blocks s p h f d (entry_note kind.Change u uid p) (on_entry s.sig p.sig uid) (change_soup name (change_entry uid go))
       (telling ∙ told w all u name blocks s p h f kind.Change uid) (notes ∙ at-soup w all u name blocks s p h f (entry_note kind.Change u uid)) refl
       (reaching ∙ reached w all u name blocks s p h f (λ s p. on_entry s.sig p.sig uid)) reaches refl
-      moving making (soup-changed w all u name blocks s p h f d (change_entry uid go) makes) bytes
+      moving making (soup-changed w all u name blocks s p h f d (change_entry uid go) makes)
 
   -- an entry gets a new graph, and the minute
   replace-at : (c : Command) (u : ℕ) (name : List ℕ) (uid : ℕ) (g : RawGraph) (blocks : ℕ) (s : Store) (p : Soup) (e : Entry) → OnUnit w u blocks s → soup_named name s ≡ Some p
-      → entry_of uid p ≡ Some e → ((v : ℕ) → writes w c v ≡ (u == v)) → events w c ≡ entry_event w kind.Change u name uid ∷ [] → reach w c ≡ entry_reach w u name uid → moves_keys c ≡ true
+      → entry_of uid p ≡ Some e → events w c ≡ entry_event w kind.Change u name uid ∷ [] → reach w c ≡ entry_reach w u name uid → moves_keys c ≡ true
       → changed w c ≡ change_store w u (change_soup name (change_entry uid (with_graph w.minute g)))
-      → ((n : ℕ) → bytes_done w (changed w c) c n ≡ bytes_between false (store_on_unit w n) (store_on_unit (changed w c) n)
-      (if u == n then Some (listed (entry_in (changed w c) u name uid), listed (entry_in w u name uid)) else None))
       → Tells w c (at u (change.Replace p.sig uid g) ∷ [])
-  replace-at c u name uid g blocks s p e h f here writing telling reaching moving making done =
-      change-at c u name uid blocks s p h f (change.Replace p.sig uid g) (with_graph w.minute g) writing telling refl reaching refl moving making
+  replace-at c u name uid g blocks s p e h f here telling reaching moving making =
+      change-at c u name uid blocks s p h f (change.Replace p.sig uid g) (with_graph w.minute g) telling refl reaching refl moving making
       (refusals.replaced-as blocks w.minute p.sig s p (by-sig w all u name blocks s p h f) uid e here g)
-      (λ world. one-bytes w c u blocks s (change.Replace p.sig uid g) h (with_graph w.minute g e ∷ []) (e ∷ [])
-      (replaced-puts w all u name blocks s p h f uid e here g)
-      (λ n. Some (listed (entry_in (changed w c) u name uid), listed (entry_in w u name uid))) world
-      (λ n k. replaced-touch w all u name blocks s p h f uid e here (changed w c) g making) done)
 
   set-row : (u : ℕ) (s : List ℕ) (uid : ℕ) (path : Path) (g : RawGraph) (es : List Effect) → effects w (command.Set u s uid path g) ≡ Ok es → Tells w (command.Set u s uid path g) es
   unfolding effects events reach moves_keys changed
@@ -320,16 +269,16 @@ module _ (w : World) (all : Every Wf w) where
       let new = graph_after_set path g x.e.graph in
       let setting : Entry → Entry = λ e. with_graph w.minute (graph_after_set path g e.graph) e in
       subst (Tells w (command.Set u s uid path g)) (ok-same (at u (change.Replace x.p.sig uid new) ∷ []) es z.1)
-      (replace-at (command.Set u s uid path g) u s uid new x.blocks x.s x.p x.e x.h x.f x.here (λ v. refl) refl refl refl
+      (replace-at (command.Set u s uid path g) u s uid new x.blocks x.s x.p x.e x.h x.f x.here refl refl refl
       (store-alike w u x.blocks x.s (change_soup s (change_entry uid setting)) (change_soup s (change_entry uid (with_graph w.minute new))) x.h
-      (entry-alike s uid setting (with_graph w.minute new) x.s x.p x.e x.f x.here refl)) (λ n. refl))
+      (entry-alike s uid setting (with_graph w.minute new) x.s x.p x.e x.f x.here refl)))
 
   change-row : (u : ℕ) (s : List ℕ) (uid : ℕ) (g : RawGraph) (es : List Effect) → effects w (command.Change u s uid g) ≡ Ok es → Tells w (command.Change u s uid g) es
   unfolding effects events reach moves_keys changed
   change-row u s uid g es k =
       let x = in-entry w u s uid (λ p e. only u (change.Replace p.sig uid g)) es k in
       subst (Tells w (command.Change u s uid g)) (ok-same (at u (change.Replace x.p.sig uid g) ∷ []) es x.then)
-      (replace-at (command.Change u s uid g) u s uid g x.blocks x.s x.p x.e x.h x.f x.here (λ v. refl) refl refl refl refl (λ n. refl))
+      (replace-at (command.Change u s uid g) u s uid g x.blocks x.s x.p x.e x.h x.f x.here refl refl refl refl)
 
   vwrite-row : (u : ℕ) (s : List ℕ) (uid : ℕ) (path : Path) (from : ℕ) (bytes : List ℕ) (es : List Effect) → effects w (command.Vwrite u s uid path from bytes) ≡ Ok es
       → Tells w (command.Vwrite u s uid path from bytes) es
@@ -342,31 +291,26 @@ module _ (w : World) (all : Every Wf w) where
       let old : Entry → Entry = λ e. record e { graph = patched path from bytes e.graph } in
       let new : Entry → Entry = λ e. record e { graph = patched_at (Some n.0) from bytes e.graph } in
       subst (Tells w (command.Vwrite u s uid path from bytes)) (ok-same (at u (change.Patch x.p.sig uid n.0 from bytes) ∷ []) es n.2)
-      (change-at (command.Vwrite u s uid path from bytes) u s uid x.blocks x.s x.p x.h x.f (change.Patch x.p.sig uid n.0 from bytes) new (λ v. refl) refl refl refl refl refl
+      (change-at (command.Vwrite u s uid path from bytes) u s uid x.blocks x.s x.p x.h x.f (change.Patch x.p.sig uid n.0 from bytes) new refl refl refl refl refl
       (store-alike w u x.blocks x.s (change_soup s (change_entry uid old)) (change_soup s (change_entry uid new)) x.h
       (entry-alike s uid old new x.s x.p x.e x.f x.here (ap {A = Option ℕ} {B = Entry} (λ o. record x.e { graph = patched_at o from bytes x.e.graph }) n.1)))
-      (refusals.patched-as x.blocks w.minute x.p.sig x.s x.p (by-sig w all u s x.blocks x.s x.p x.h x.f) uid x.e x.here n.0 from bytes l.0 l.1 l.2)
-      (λ world. patch-bytes w (command.Vwrite u s uid path from bytes) u x.blocks x.s x.p.sig uid n.0 from bytes x.h (λ n. refl)))
+      (refusals.patched-as x.blocks w.minute x.p.sig x.s x.p (by-sig w all u s x.blocks x.s x.p x.h x.f) uid x.e x.here n.0 from bytes l.0 l.1 l.2))
 
   remove-row : (u : ℕ) (s : List ℕ) (uid : ℕ) (es : List Effect) → effects w (command.Remove u s uid) ≡ Ok es → Tells w (command.Remove u s uid) es
   unfolding effects events reach moves_keys changed
   remove-row u s uid es k =
       let x = in-entry w u s uid (λ p e. only u (change.Remove p.sig uid)) es k in
       subst (Tells w (command.Remove u s uid)) (ok-same (at u (change.Remove x.p.sig uid) ∷ []) es x.then)
-      (one-at (command.Remove u s uid) u s x.blocks x.s x.p x.h x.f (change.Remove x.p.sig uid) (entry_note kind.Remove u uid x.p) nowhere (change_soup s (remove_entry uid)) (λ v. refl)
+      (one-at (command.Remove u s uid) u s x.blocks x.s x.p x.h x.f (change.Remove x.p.sig uid) (entry_note kind.Remove u uid x.p) nowhere (change_soup s (remove_entry uid))
       (told w all u s x.blocks x.s x.p x.h x.f kind.Remove uid) (at-soup w all u s x.blocks x.s x.p x.h x.f (entry_note kind.Remove u uid)) refl refl refl refl refl refl
       (soup-changed w all u s x.blocks x.s x.p x.h x.f (change.Remove x.p.sig uid) (remove_entry uid)
-      (refusals.removed x.blocks w.minute x.p.sig x.s x.p (by-sig w all u s x.blocks x.s x.p x.h x.f) uid x.e x.here))
-      (λ world. one-bytes w (command.Remove u s uid) u x.blocks x.s (change.Remove x.p.sig uid) x.h [] (x.e ∷ [])
-      (removed-puts w all u s x.blocks x.s x.p x.h x.f uid x.e x.here) (λ n. Some ([], listed (entry_in w u s uid))) world
-      (λ n e. removed-touch w all u s x.blocks x.s x.p x.h x.f uid x.e x.here) (λ n. refl)))
+      (refusals.removed x.blocks w.minute x.p.sig x.s x.p (by-sig w all u s x.blocks x.s x.p x.h x.f) uid x.e x.here)))
 
   -- within one store
   move-within : (u : ℕ) (s : List ℕ) (uid : ℕ) (t : List ℕ) (blocks : ℕ) (here : Store) (p q : Soup) (e : Entry) → OnUnit w u blocks here → soup_named s here ≡ Some p
       → soup_named t here ≡ Some q → entry_of uid p ≡ Some e → Tells w (command.Move u s uid u t) (at u (change.Move p.sig uid q.sig) ∷ [])
   unfolding events reach moves_keys
   move-within u s uid t blocks here p q e h f g entry = record {
-    writes_are = λ v. twice (u == v);
     events_are =
         (λ i. told-add w all u t blocks here q h g i ++ told w all u s blocks here p h f kind.Remove uid i)
         ∙ sym (one-note w all u s blocks here p h f (change.Move p.sig uid q.sig) (add_note u q ++ entry_note kind.Remove u uid p)
@@ -376,9 +320,6 @@ module _ (w : World) (all : Every Wf w) where
         (at-next w all u t blocks here q h g));
     moves_are = λ k. refl;
     world_is = λ k. world;
-    bytes_are = λ n. by-unit w (command.Move u s uid u t) u blocks here (change.Move p.sig uid q.sig) h (new_entry w all u t blocks here q h g e.graph ∷ []) (e ∷ [])
-        (moved-puts w all u blocks here h s p f t q g uid e entry) world n (u == n) (touch (u == n))
-        (λ k. (k, ap touch k ∙ touched)) (ap touch) refl;
   }
     where
       world : changed w (command.Move u s uid u t) ≡ change_store w u (changed_by (change.Move p.sig uid q.sig) w.minute)
@@ -388,25 +329,12 @@ module _ (w : World) (all : Every Wf w) where
           (refusals.moved blocks w.minute p.sig here p (by-sig w all u s blocks here p h f) uid e entry q.sig q (by-sig w all u t blocks here q h g)
           ∙ (λ i. moved_within w.minute (name-is w all u s blocks here p h f i) uid (name-is w all u t blocks here q h g i) e.graph here))
 
-      -- what is put and let go, in the words of the move
-      touch : Bool → Touch
-      touch b = if b then Some (copied_in w u t (entry_in w u s uid), if b then listed (entry_in w u s uid) else []) else if b then Some ([], listed (entry_in w u s uid)) else None
-
-      touched : touch true ≡ Some (new_entry w all u t blocks here q h g e.graph ∷ [], e ∷ [])
-      touched = ap {B = Touch} (λ o. Some (copied_in w u t o, listed o)) (before w all u s blocks here p h f uid e entry)
-          ∙ ap {A = Entry} {B = Touch} (λ x. Some (x ∷ [], e ∷ [])) (new-is w all u t blocks here q h g e.graph)
-
-      twice : (b : Bool) → (b || b) ≡ (b || false)
-      twice true = refl
-      twice false = refl
-
   -- between two
   move-between : (u : ℕ) (s : List ℕ) (uid v : ℕ) (t : List ℕ) (blocks : ℕ) (a : Store) (p : Soup) (other : ℕ) (b : Store) (q : Soup) (e : Entry) → (u ≡ v → ⊥)
       → OnUnit w u blocks a → soup_named s a ≡ Some p → OnUnit w v other b → soup_named t b ≡ Some q → entry_of uid p ≡ Some e
       → Tells w (command.Move u s uid v t) (at v (change.Add q.sig e.graph) ∷ at u (change.Remove p.sig uid) ∷ [])
   unfolding events reach moves_keys
   move-between u s uid v t blocks a p other b q e differ h f k g entry = record {
-    writes_are = λ n. ends (v == n) (u == n);
     events_are =
         (λ i. told-add w all v t other b q k g i ++ told w all u s blocks a p h f kind.Remove uid i)
         ∙ sym (λ i. (at-store w all v t other b q k g [] (λ s. notes_by v s adds) ∙ at-soup w all v t other b q k g (add_note v)) i
@@ -416,10 +344,6 @@ module _ (w : World) (all : Every Wf w) where
         ∙ at-next w all v t other b q k g));
     moves_are = λ x. refl;
     world_is = λ x. world;
-    bytes_are = λ n. two-bytes w (command.Move u s uid v t) u v blocks other a b adds goes differ h k (new_entry w all v t other b q k g e.graph ∷ []) [] [] (e ∷ [])
-        (added-puts w all v t other b q k g e.graph) (removed-puts w all u s blocks a p h f uid e entry) world n (v == n) (touch (v == n) (u == n))
-        (λ x y. (x, (λ i. touch (x i) (y i)) ∙ touched)) (λ x y. (x, (λ i. touch (x i) (y i)) ∙ removed-touch w all u s blocks a p h f uid e entry))
-        (λ x y. λ i. touch (x i) (y i)) refl;
   }
     where
       adds : Change
@@ -436,19 +360,6 @@ module _ (w : World) (all : Every Wf w) where
           ∙ store-alike (change_store w v (changed_by adds w.minute)) u blocks a (change_soup s (remove_entry uid)) (changed_by goes w.minute)
           (on-other w u v blocks a (changed_by adds w.minute) differ h)
           (sym (soup-changed w all u s blocks a p h f goes (remove_entry uid) (refusals.removed blocks w.minute p.sig a p (by-sig w all u s blocks a p h f) uid e entry)))
-
-      -- what is put and let go, in the words of the move: in the target and in the source
-      touch : Bool → Bool → Touch
-      touch x y = if x then Some (copied_in w v t (entry_in w u s uid), if y then listed (entry_in w u s uid) else []) else if y then Some ([], listed (entry_in w u s uid)) else None
-
-      touched : touch true false ≡ Some (new_entry w all v t other b q k g e.graph ∷ [], [])
-      touched = ap {B = Touch} (λ o. Some (copied_in w v t o, [])) (before w all u s blocks a p h f uid e entry)
-          ∙ ap {A = Entry} {B = Touch} (λ x. Some (x ∷ [], [])) (new-is w all v t other b q k g e.graph)
-
-      ends : (x y : Bool) → (x || y) ≡ (x || (y || false))
-      ends true y = refl
-      ends false true = refl
-      ends false false = refl
 
   move-row : (u : ℕ) (s : List ℕ) (uid v : ℕ) (t : List ℕ) (es : List Effect) → effects w (command.Move u s uid v t) ≡ Ok es → Tells w (command.Move u s uid v t) es
   unfolding effects
@@ -489,20 +400,16 @@ rows-tell w (command.Copy u s uid v t) es all e = copy-row w all u s uid v t es 
 rows-tell w (command.Move u s uid v t) es all e = move-row w all u s uid v t es e
 rows-tell w (command.Vwrite u s uid path from bytes) es all e = vwrite-row w all u s uid path from bytes es e
 rows-tell w (command.Mount u) es all e = subst (Tells w (command.Mount u)) (ok-same [] es e) (record {
-  writes_are = λ v. refl;
   events_are = refl;
   reach_is = λ k. absurd (both-ways (sym k));
   moves_are = λ k. absurd (both-ways (sym k));
   world_is = λ k. absurd (both-ways k);
-  bytes_are = λ u. none-between true _ _ None refl;
 })
 rows-tell w c es all e = subst (Tells w c) (ok-same [] es e) (record {
-  writes_are = λ v. refl;
   events_are = refl;
   reach_is = λ k. refl;
   moves_are = λ k. refl;
   world_is = λ k. absurd (both-ways k);
-  bytes_are = λ u. none-between true _ _ None refl;
 })
 
 pub row-tells : (w : World) (c : Command) (es : List Effect) → AllValid w → effects w c ≡ Ok es → Tells w c es

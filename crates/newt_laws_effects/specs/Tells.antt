@@ -1,17 +1,14 @@
 -- That the tables of commands follow from what a command resolves to.
-use Rattle.std.specs.Prelude.{◌≡◌, ℕ, Bool, true, false, List}
-use Rattle.newt_spec_whole.specs.Events.{events}
+use Rattle.std.specs.Prelude.{◌≡◌, Bool, true, false, List}
+use Rattle.newt_spec_whole.specs.Events.{all_notes, events}
 use Rattle.newt_spec_world.specs.Changed.{changed}
-use Rattle.newt_spec_world.specs.Step.{writes}
+use Rattle.newt_spec_world.specs.Derived.{applied}
 use Rattle.newt_spec_world.specs.World.{World}
 use Rattle.newt_spec_world.specs.declared.command.Command.{Command}
 use Rattle.newt_spec_world.specs.declared.command.Command.TheVariants as command
-use Rattle.newt_laws_answers.specs.Bounds.{bytes_done}
-use Rattle.newt_laws_reach.specs.Reach.{reach}
+use Rattle.newt_laws_reach.specs.Reach.{moves_of, reach, reach_of}
 use Rattle.newt_laws_world.specs.Settled.{moves_keys}
-use Rattle.newt_laws_effects.specs.Effects.{Effect}
-use Rattle.newt_laws_effects.specs.Derived.{applied, writes_of, notes_of, reach_of, moves_of}
-use Rattle.newt_laws_effects.specs.Derived.{programmed_of}
+use Rattle.newt_spec_world.specs.Effects.{Effect}
 
 -- the command has a row of `effects` (a word of these definitions)
 unfoldable pub is_of_stores : Command → Bool
@@ -39,9 +36,7 @@ is_mount _ = false
 
 -- each table of the commands is what follows from the changes (this project's own)
 pub record Tells (w : World) (c : Command) (es : List Effect) : Type 0 where
-  pub writes_are : (u : ℕ) → writes w c u ≡ writes_of es u
-  pub events_are : events w c ≡ notes_of w es
+  pub events_are : events w c ≡ all_notes w es
   pub reach_is : is_mount c ≡ false → reach w c ≡ reach_of w es
   pub moves_are : is_mount c ≡ false → moves_keys c ≡ moves_of es
   pub world_is : is_of_stores c ≡ true → changed w c ≡ applied w es
-  pub bytes_are : (u : ℕ) → bytes_done w (changed w c) c u ≡ programmed_of w es u

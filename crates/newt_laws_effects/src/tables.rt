@@ -1,13 +1,12 @@
 //! The tables of commands follow from the changes.
-ghost use Rattle.std.specs.Prelude.{◌≡◌, List, Ok, true, ℕ};
+ghost use Rattle.std.specs.Prelude.{◌≡◌, List, Ok, true};
 ghost use Rattle.newt_base.specs.Refusals.{first_of};
+ghost use Rattle.newt_spec_world.specs.Derived.{refusal};
 ghost use Rattle.newt_spec_world.specs.Refused.{checks};
 ghost use Rattle.newt_spec_world.specs.World.{World};
 ghost use Rattle.newt_spec_world.specs.declared.command.Command.{Command as IsCommand};
-ghost use Rattle.newt_laws_answers.specs.Bounds.{most_programmed};
 ghost use Rattle.newt_laws_world.specs.Worlds.{AllValid};
-ghost use Rattle.newt_laws_effects.specs.Effects.{Effect, effects};
-ghost use Rattle.newt_laws_effects.specs.Derived.{most_of, refusal};
+ghost use Rattle.newt_spec_world.specs.Effects.{Effect, effects};
 ghost use Rattle.newt_laws_effects.specs.Tells.{Tells, is_of_stores};
 
 /// Where a command resolves to changes, each table of commands is what follows from these.
@@ -21,10 +20,4 @@ pub fn changes_tell_the_tables()
 pub fn changes_tell_the_refusals()
     ensures { (w : World) (c : IsCommand) → AllValid w → is_of_stores c ≡ true
         → first_of (checks w c) ≡ refusal w (effects w c) }
-{}
-
-/// A command programs at most what its changes program, and nothing where it is refused.
-pub fn changes_tell_the_bytes()
-    ensures { (w : World) (c : IsCommand) (u : ℕ) → AllValid w
-        → most_programmed w c u ≡ most_of w (effects w c) u }
 {}

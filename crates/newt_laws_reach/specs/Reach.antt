@@ -1,9 +1,15 @@
 -- Which cursors a command can give another key.
-use Rattle.std.specs.Prelude.{ℕ, Bool, false, ◌&&◌, ◌==◌, List, map, cond, true, if◌then◌else◌}
+use Rattle.std.specs.Prelude.{ℕ, Bool, false, ◌&&◌, ◌||◌, ◌==◌, List, [], ◌∷◌, map, cond}
+use Rattle.std.specs.Prelude.{true, if◌then◌else◌}
 use Rattle.std.specs.Prelude.{Option, Some, None, option_map}
 use Rattle.newt_spec_store.specs.Store.{Store, Soup, Entry, soup_named, entry_at}
+use Rattle.newt_spec_store.specs.Store.{soup_of, next_uid_of}
 use Rattle.newt_spec_query.specs.Hits.{Hit}
 use Rattle.newt_spec_query.specs.Cursor.{Cursor, Place, on}
+use Rattle.newt_spec_change.specs.declared.change.Change.{Change}
+use Rattle.newt_spec_change.specs.declared.change.Change.TheVariants as change
+use Rattle.newt_spec_world.specs.Effects.{Effect}
+use Rattle.newt_spec_world.specs.Derived.{on_store_of}
 use Rattle.newt_spec_world.specs.declared.command.Command.{Command}
 use Rattle.newt_spec_world.specs.declared.command.Command.TheVariants as command
 use Rattle.newt_spec_world.specs.World.{World, default_unit, mounted_store}
@@ -93,3 +99,46 @@ reach w (command.Copy u s uid v t) = next_reach w v t
 reach w (command.Move u s uid v t) = next_reach w v t
 reach w (command.Vwrite u s uid path at bytes) = entry_reach w u s uid
 reach w _ = nowhere
+
+-- ---- what changes reach
+
+-- what each change of a store reaches: an entry that is made or changed, and the entries of a soup
+-- whose declarations grow (this project's own)
+abbrev pub reach_by : Store → Change → Reach
+reach_by s (change.Add sig g) = on_entry s.sig sig (next_uid_of (soup_of sig s))
+reach_by s (change.Move source uid target) = on_entry s.sig target (next_uid_of (soup_of target s))
+reach_by s (change.Replace sig uid g) = on_entry s.sig sig uid
+reach_by s (change.Patch sig uid node at bytes) = on_entry s.sig sig uid
+reach_by s (change.AddIndex sig spec) = on_soup s.sig sig
+reach_by s (change.SetTags sig table) = on_soup s.sig sig
+reach_by s c = nowhere
+
+-- what one change reaches (this project's own)
+abbrev pub reach_at : World → Effect → Reach
+reach_at w e = on_store_of w e.unit nowhere (λ s. reach_by s e.change)
+
+-- the first reach, or the second where the first is nowhere (this project's own)
+abbrev pub or_reach : Reach → Reach → Reach
+or_reach nowhere r = r
+or_reach first r = first
+
+-- what the changes reach: what the first of them reaches that reaches something (this project's
+-- own)
+abbrev pub reach_of : World → List Effect → Reach
+reach_of w [] = nowhere
+reach_of w (e ∷ es) = or_reach (reach_at w e) (reach_of w es)
+
+-- a hit can have another key after the change (this project's own)
+abbrev pub moves_key : Change → Bool
+moves_key (change.Add sig g) = true
+moves_key (change.Move source uid target) = true
+moves_key (change.Replace sig uid g) = true
+moves_key (change.Patch sig uid node at bytes) = true
+moves_key (change.AddIndex sig spec) = true
+moves_key (change.SetTags sig table) = true
+moves_key c = false
+
+-- a hit can have another key after one of these changes (this project's own)
+abbrev pub moves_of : List Effect → Bool
+moves_of [] = false
+moves_of (e ∷ es) = moves_key e.change || moves_of es

@@ -1,12 +1,17 @@
 -- The notes of each command. That a note of a soup says what was done is Newton's (Newton
 -- Programmer's Guide 2.0, soup change notification). Which commands give which notes is this
 -- project's own.
-use Rattle.std.specs.Prelude.{ℕ, List, [], ◌∷◌, Option, Some, None, option_map, unwrap_or}
+use Rattle.std.specs.Prelude.{ℕ, List, [], ◌∷◌, ◌++◌, Option, Some, None, option_map, unwrap_or}
 use Rattle.newt_notify.specs.declared.note.Note.{Note}
 use Rattle.newt_notify.specs.declared.note.Kind.{Kind}
 use Rattle.newt_notify.specs.declared.note.Kind.TheVariants.{Make, Gone, Add, Change, Remove}
 use Rattle.newt_notify.specs.Watch.{Watching, noted}
+use Rattle.newt_spec_store.specs.Store.{Soup, Store, soup_of}
+use Rattle.newt_spec_change.specs.declared.change.Change as changes
+use Rattle.newt_spec_change.specs.declared.change.Change.TheVariants as change
 use Rattle.newt_spec_world.specs.World.{World, default_unit, soup_in, mounted_store}
+use Rattle.newt_spec_world.specs.Effects.{Effect}
+use Rattle.newt_spec_world.specs.Derived.{on_store_of}
 use Rattle.newt_spec_world.specs.Answer.{new_uid}
 use Rattle.newt_spec_world.specs.declared.command.Command.{Command}
 use Rattle.newt_spec_world.specs.declared.command.Command.TheVariants as command
@@ -62,3 +67,40 @@ events_of w (Some c) = events w c
 abbrev pub note_all : List Event → List (Option Watching) → List (Option Watching)
 note_all [] ws = ws
 note_all (e ∷ es) ws = note_all es (noted e.0 e.1 ws)
+
+-- ---- the notes of changes
+
+-- what is said of a soup; nothing where there is no soup (a word of these definitions)
+abbrev pub of_soup : {X : Type 0} → Option Soup → (Soup → List X) → List X
+of_soup None go = []
+of_soup (Some p) go = go p
+
+-- the note of this kind of an entry of a soup (this project's own)
+abbrev pub entry_note : Kind → ℕ → ℕ → Soup → List Event
+entry_note k u uid p = (p.name, record { kind = k; unit = u; soup = p.sig; uid = uid }) ∷ []
+
+-- the note that an entry is added to a soup (this project's own)
+abbrev pub add_note : ℕ → Soup → List Event
+add_note u p = entry_note Add u p.next_uid p
+
+-- the notes of each change of the store of a unit, from the store before it (this project's own)
+abbrev pub notes_by : ℕ → Store → changes.Change → List Event
+notes_by u s (change.MakeSoup name) = soup_event Make u name s.next_soup ∷ []
+notes_by u s (change.DropSoup sig) = of_soup (soup_of sig s) (entry_note Gone u 0)
+notes_by u s (change.Add sig g) = of_soup (soup_of sig s) (add_note u)
+notes_by u s (change.Remove sig uid) = of_soup (soup_of sig s) (entry_note Remove u uid)
+notes_by u s (change.Move source uid target) =
+    of_soup (soup_of target s) (add_note u) ++ of_soup (soup_of source s) (entry_note Remove u uid)
+notes_by u s (change.Replace sig uid g) = of_soup (soup_of sig s) (entry_note Change u uid)
+notes_by u s (change.Patch sig uid node at bytes) =
+    of_soup (soup_of sig s) (entry_note Change u uid)
+notes_by u s c = []
+
+-- the notes of one change (this project's own)
+abbrev pub notes_at : World → Effect → List Event
+notes_at w e = on_store_of w e.unit [] (λ s. notes_by e.unit s e.change)
+
+-- the notes of all changes (this project's own)
+abbrev pub all_notes : World → List Effect → List Event
+all_notes w [] = []
+all_notes w (e ∷ es) = notes_at w e ++ all_notes w es

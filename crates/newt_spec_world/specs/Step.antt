@@ -1,16 +1,17 @@
 -- How a world goes on from one command to the next where devices may fail. A device that fails is
 -- thrown out: its unit is mounted no more, and the command is answered by an error that names it.
 -- All of it is this project's own.
-use Rattle.std.specs.Prelude.{◌≡◌, ◌≢◌, ◌⊎◌, ℕ, Bool, true, false, not, ◌==◌, ◌&&◌, ◌||◌, IsTrue, [], ◌∷◌, Option, Some, None, is_none, option_and_then, unwrap_or, if◌then◌else◌}
+use Rattle.std.specs.Prelude.{◌≡◌, ◌≢◌, ◌⊎◌, ℕ, Bool, true, false, not, ◌==◌, ◌&&◌, IsTrue, [], ◌∷◌, Option, Some, None, is_none, option_and_then, unwrap_or, if◌then◌else◌}
 use Rattle.newt_base.specs.Refusals.{Checks, first_of}
 use Rattle.newt_spec_store.specs.Store.{Store}
 use Rattle.newt_spec_store.specs.Valid.{valid}
 use Rattle.newt_spec_world.specs.declared.command.Command.{Command}
 use Rattle.newt_spec_world.specs.declared.command.Command.TheVariants as command
 use Rattle.newt_spec_world.specs.Reply.{Reply}
-use Rattle.newt_spec_world.specs.World.{World, Device, Media, blank, one, two, lost, default_unit, device, store_on_unit, unsure_on, change_device, settle}
+use Rattle.newt_spec_world.specs.World.{World, Device, Media, blank, one, two, lost, device, store_on_unit, unsure_on, change_device, settle}
 use Rattle.newt_spec_world.specs.Changed.{changed, default_without}
 use Rattle.newt_spec_world.specs.Refused.{checks, no_unit, bad_blocks, is_mounted}
+use Rattle.newt_spec_world.specs.Derived.{changes_of, writes_of}
 use Rattle.newt_spec_world.specs.Answer.{answer}
 
 -- ---- what is found on a unit whose content is not known
@@ -55,24 +56,10 @@ pub record Found (w : World) (u : ℕ) (v : World) : Type 0 where
 
 -- ---- what is left of a unit whose device fails
 
--- the command writes the store of the unit, by its row in the table (this project's own)
+-- the command writes the store of the unit: one of the changes that it resolves to is of that store
+-- (this project's own)
 abbrev pub writes : World → Command → ℕ → Bool
-writes w (command.Soup t s) u = t == u
-writes w (command.Drop t s) u = t == u
-writes w (command.Index t s parts) u = t == u
-writes w (command.Unindex t s paths) u = t == u
-writes w (command.SetTags t s path symbols) u = t == u
-writes w (command.SetInfo t s g) u = t == u
-writes w (command.Add t s g) u = t == u
-writes w (command.Addx t s g) u = t == u
-writes w (command.Addu s g) u = default_unit w == u
-writes w (command.Set t s uid path g) u = t == u
-writes w (command.Change t s uid g) u = t == u
-writes w (command.Remove t s uid) u = t == u
-writes w (command.Vwrite t s uid path at bytes) u = t == u
-writes w (command.Copy t s uid x y) u = x == u
-writes w (command.Move t s uid x y) u = (x == u) || (t == u)
-writes w c u = false
+writes w c u = writes_of (changes_of w c) u
 
 -- the command is a move from this unit to another one (this project's own)
 abbrev pub moves_away : Command → ℕ → Bool

@@ -22,7 +22,7 @@ use Rattle.newt_engine_commands.proofs.Costing.{its_pages, first-low, half}
 use Rattle.newt_engine_units.proofs.Costs.{none-fits}
 use Rattle.newt_engine_commands.proofs.Effects.{after-obeys, known-formed, none-low, soup-resolves}
 use Rattle.newt_laws_effects.proofs.Found.{both-found}
-use Rattle.newt_laws_effects.specs.Effects.{effects, needs, one as only}
+use Rattle.newt_spec_world.specs.Effects.{effects, needs, one as only}
 use Rattle.newt_laws_effects.specs.Tells.{is_of_stores}
 use Rattle.newt_spec_change.specs.declared.change.Change.TheVariants as change
 use Rattle.newt_spec_world.specs.Answer.{fields}

@@ -12,6 +12,7 @@ use Rattle.newt_engine_units.proofs.Obeying.{ends-change, none-ends}
 use Rattle.newt_engine_units.proofs.Settings.{Setting, still, stand-told, has-entry}
 use Rattle.newt_laws_answers.proofs.Changes.{move-said}
 use Rattle.newt_laws_answers.proofs.Refusals.{moved-uid}
+use Rattle.newt_laws_effects.proofs.Written.{move-writes}
 use Rattle.newt_engine_commands.proofs.Said.{said-made, said-moments, said-costs, said-untorn}
 use Rattle.newt_engine_commands.proofs.copies.move_found.Given.{Over}
 use Rattle.newt_engine_commands.proofs.copies.move_found.Goals as goal
@@ -35,13 +36,15 @@ returns-then-has_entry g c =
       moved = λ t name target h k.
           let x = has-entry at t c.args.unit name c.args.soup c.args.uid h (sym (c.if-has_entry.ensures (g.H.Host.outside c.args.host.now) at.eight (stand-told at t) h.blocks h.store h.on)) in
           let into = inside-by-sig w c.args.unit name target c.args.soup c.args.into c.args.uid x k in
+          let written = move-writes w c.args.unit x.of.blocks x.of.store name x.of.soup c.args.uid x.of.on x.of.named c.args.unit k.blocks k.store target k.soup k.on k.named x.entry x.found c.args.unit
+          ∙ ap (λ b. b || b) (eq-eqb c.args.unit c.args.unit refl) in
           let said = move-said x.of.blocks w.minute c.args.soup x.of.store x.of.soup x.of.by_sig c.args.uid x.entry x.found c.args.into k.soup into in
           record {
             answered = inside-answers w c.args.unit name target c.args.soup c.args.into c.args.uid x k refl _ _
                 (said-made e t x.of.on said (λ n. n ≡ k.soup.next_uid) (λ n is. is ∙ moved-uid x.of.blocks w.minute c.args.soup x.of.store x.of.soup x.of.by_sig c.args.uid x.entry x.found c.args.into k.soup into));
-            moments = said-moments e t x.of.on said _ _ (ap (λ b. b || b) (eq-eqb c.args.unit c.args.unit refl)) (inside-makes w c.args.unit name target c.args.soup c.args.into c.args.uid x k refl);
+            moments = said-moments e t x.of.on said _ _ written (inside-makes w c.args.unit name target c.args.soup c.args.into c.args.uid x k refl);
             untorn = said-untorn e t x.of.on said (command.Move c.args.unit name c.args.uid c.args.unit target) (λ n. Reply.number n) k.soup.next_uid (λ n. n ≡ k.soup.next_uid)
-                (ap (λ b. b || b) (eq-eqb c.args.unit c.args.unit refl)) (ap (λ b. b && not b) (eq-eqb c.args.unit c.args.unit refl)) (λ r q. cc) refl
+                written (ap (λ b. b && not b) (eq-eqb c.args.unit c.args.unit refl)) (λ r q. cc) refl
                 (inside-answers w c.args.unit name target c.args.soup c.args.into c.args.uid x k refl _);
             costs = inside-costs x k (said-costs e t x.of.on said);
           };

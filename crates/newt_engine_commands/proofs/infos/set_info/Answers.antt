@@ -14,7 +14,7 @@ use Rattle.newt_spec_graph.proofs.Lists.{both-ways}
 use Rattle.newt_laws_effects.proofs.Found.{soup-found}
 use Rattle.newt_engine_commands.proofs.Effects.{change-obeys, done-obeys, known-formed, soup-resolves}
 use Rattle.newt_laws_effects.specs.Tells.{is_of_stores}
-use Rattle.newt_laws_effects.specs.Effects.{effects, Resolved, one as only}
+use Rattle.newt_spec_world.specs.Effects.{effects, Resolved, one as only}
 use Rattle.newt_spec_change.specs.declared.change.Change.TheVariants as change
 use Rattle.newt_spec_world.specs.Answer.{fields}
 use Rattle.newt_engine_commands.proofs.infos.set_info.Given.{Over}

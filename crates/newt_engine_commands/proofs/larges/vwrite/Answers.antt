@@ -23,7 +23,7 @@ use Rattle.newt_engine_commands.proofs.Costing.{its_pages, half-more, named-low,
 use Rattle.newt_engine_units.proofs.Costs.{same-fits}
 use Rattle.newt_engine_commands.proofs.Effects.{after-obeys, done-obeys, known-formed, soup-resolves}
 use Rattle.newt_laws_effects.proofs.Found.{entry-found}
-use Rattle.newt_laws_effects.specs.Effects.{effects, needs, one as only}
+use Rattle.newt_spec_world.specs.Effects.{effects, needs, one as only}
 use Rattle.newt_laws_effects.specs.Tells.{is_of_stores}
 use Rattle.newt_spec_change.specs.declared.change.Change.TheVariants as change
 use Rattle.newt_spec_world.specs.Answer.{fields}

@@ -10,7 +10,7 @@ use Rattle.newt_engine_units.proofs.Settings.{Setting, stand-told, entry-refused
 use Rattle.newt_laws_effects.proofs.Found.{entry-found}
 use Rattle.newt_engine_commands.proofs.Effects.{change-obeys, done-obeys, known-formed, none-low, soup-resolves}
 use Rattle.newt_laws_effects.specs.Tells.{is_of_stores}
-use Rattle.newt_laws_effects.specs.Effects.{effects, one as only}
+use Rattle.newt_spec_world.specs.Effects.{effects, one as only}
 use Rattle.newt_spec_change.specs.declared.change.Change.TheVariants as change
 use Rattle.newt_spec_world.specs.Answer.{fields}
 use Rattle.newt_engine_commands.proofs.replaces.change.Given.{Over}

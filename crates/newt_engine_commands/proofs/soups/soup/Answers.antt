@@ -14,7 +14,7 @@ use Rattle.newt_spec_world.specs.Answer.{or_nil}
 use Rattle.newt_laws_effects.proofs.Found.{store-found}
 use Rattle.newt_engine_commands.proofs.Effects.{change-obeys, known-formed}
 use Rattle.newt_laws_effects.specs.Tells.{is_of_stores}
-use Rattle.newt_laws_effects.specs.Effects.{effects, one as only}
+use Rattle.newt_spec_world.specs.Effects.{effects, one as only}
 use Rattle.newt_spec_change.specs.declared.change.Change.TheVariants as change
 use Rattle.newt_spec_world.specs.Answer.{fields}
 use Rattle.newt_engine_commands.proofs.soups.soup.Given.{Over}

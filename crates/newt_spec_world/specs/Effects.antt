@@ -88,7 +88,7 @@ moves u v uid p q e =
 -- ---- the table
 
 -- The table: what each command that changes stores resolves to. What a change itself is refused for
--- is `refusals` of newt_store_change. (this project's own)
+-- is `refusals` of newt_spec_change. (this project's own)
 unfoldable pub effects : World → Command → Resolved
 effects w (command.Soup u s) = in_store w u (λ t. one u (change.MakeSoup s))
 effects w (command.Drop u s) = in_soup w u s (λ p. one u (change.DropSoup p.sig))
